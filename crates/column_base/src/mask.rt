@@ -1,0 +1,129 @@
+//! Which rows are selected.
+ghost use Rattle.std.specs.Prelude.{◌≡◌, ℕ, ◌<◌, ◌↔◌, IsTrue, true, Some, [], length, slice_get, count_by, All, Contains, IfOk, IsOkUnless};
+ghost use Rattle.std.specs.List.Sorted.{IsStrictlyIncreasing};
+ghost use Rattle.column_base.specs.Mask.{mask_bits, IsNormalMask};
+
+use crate::bits::{BitBuffer, BitBufferMut};
+use crate::error::{VortexError, VortexResult};
+use std::alloc::Allocator;
+
+/// A bit for each row, which says whether the row is selected.
+#[derive(Drop)]
+pub enum Mask<A: Allocator> {
+    /// So many rows, all of them selected.
+    AllTrue(usize),
+    /// So many rows, none of them selected.
+    AllFalse(usize),
+    /// A row for each bit, selected where the bit is true.
+    Values(BitBuffer<A>),
+}
+
+impl<A: Allocator> Mask<A> {
+    /// The mask of these bits, with no bits of its own where all are equal: `AllTrue` where no bit
+    /// is false, `AllFalse` where no bit is true and there is one. Takes no memory.
+    pub fn from_buffer(bits: BitBuffer<A>) -> Self
+        ensures bits { mask_bits result ≡ bits }
+        ensures normal { IsNormalMask result }
+    {
+        let count = bits.len();
+        let selected = bits.true_count();
+        if selected == count {
+            Mask::AllTrue(count)
+        } else if selected == 0 {
+            Mask::AllFalse(count)
+        } else {
+            Mask::Values(bits)
+        }
+    }
+
+    /// How many rows there are.
+    pub fn len(&self) -> usize
+        ensures { result ≡ length (mask_bits self.now) }
+    {
+        match self {
+            Mask::AllTrue(count) => *count,
+            Mask::AllFalse(count) => *count,
+            Mask::Values(bits) => bits.len(),
+        }
+    }
+
+    /// Is there no row?
+    pub fn is_empty(&self) -> bool
+        ensures { IsTrue result ↔ (mask_bits self.now ≡ []) }
+    {
+        match self {
+            Mask::AllTrue(count) => *count == 0,
+            Mask::AllFalse(count) => *count == 0,
+            Mask::Values(bits) => bits.is_empty(),
+        }
+    }
+
+    /// How many rows are selected.
+    pub fn true_count(&self) -> usize
+        ensures { result ≡ count_by (λ bit. bit) (mask_bits self.now) }
+    {
+        match self {
+            Mask::AllTrue(count) => *count,
+            Mask::AllFalse(_) => 0,
+            Mask::Values(bits) => bits.true_count(),
+        }
+    }
+
+    /// Is the row at `index` selected?
+    pub fn value(&self, index: usize) -> bool
+        requires { index < length (mask_bits self.now) }
+        ensures { slice_get (mask_bits self.now) index ≡ Some result }
+    {
+        match self {
+            Mask::AllTrue(_) => true,
+            Mask::AllFalse(_) => false,
+            Mask::Values(bits) => bits.value(index),
+        }
+    }
+}
+
+impl<A: Allocator + Copy> Mask<A> {
+    /// The mask of `len` rows that selects those at `indices`, in the form that `from_buffer`
+    /// gives. Refused for want of memory alone.
+    pub fn from_indices(alloc: A, len: usize, indices: &[usize]) -> VortexResult<Mask<A>>
+        requires ascending { IsStrictlyIncreasing indices.now }
+        requires in_bounds { All (λ index. index < len) indices.now }
+        ensures selected { IfOk result (λ mask. (i : ℕ) → i < len → ((slice_get (mask_bits mask) i ≡ Some true) ↔ Contains indices.now i)) }
+        ensures len { IfOk result (λ mask. length (mask_bits mask) ≡ len) }
+        ensures normal { IfOk result (λ mask. IsNormalMask mask) }
+        ensures only { IsOkUnless result VortexError.OutOfMemory }
+    {
+        let mut bits = BitBufferMut::full(alloc, false, len)?;
+        for index in indices {
+            bits.fill_range(*index, *index + 1, true);
+        }
+        Ok(Mask::from_buffer(bits.freeze()))
+    }
+
+    /// The same mask in the same form. Refused for want of memory alone.
+    pub fn try_clone(&self, alloc: A) -> VortexResult<Mask<A>>
+        ensures same { IfOk result (λ copy. copy ≡ self.now) }
+        ensures only { IsOkUnless result VortexError.OutOfMemory }
+    {
+        match self {
+            Mask::AllTrue(count) => Ok(Mask::AllTrue(*count)),
+            Mask::AllFalse(count) => Ok(Mask::AllFalse(*count)),
+            Mask::Values(bits) => Ok(Mask::Values(bits.try_clone(alloc)?)),
+        }
+    }
+}
+
+#[cfg(test)]
+mod tests {
+    use super::*;
+    use std::test::Fail;
+
+    #[test]
+    fn rows_are_selected(rt: HostRuntime) -> Result<(), Fail> {
+        let mask = Mask::from_indices(rt.alloc(), 4, &[1, 3])?;
+        let copy = mask.try_clone(rt.alloc())?;
+        assert_eq!(rt; copy.len(), 4);
+        assert_eq!(rt; copy.true_count(), 2);
+        Ok(())
+    }
+}

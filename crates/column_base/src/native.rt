@@ -1,0 +1,79 @@
+//! Native whole numbers: what generic code may rely on, and the eight types that meet it.
+ghost use Rattle.std.specs.Prelude.{◌≡◌, ◌↔◌, ℤ, ℕ, pos, [], map, IsSome, IfSome};
+ghost use Rattle.column_base.specs.Number.{IsNumbered, Narrows};
+ghost use Rattle.column_base.specs.Numbers.{numbers, ptype_of};
+ghost use Rattle.column_base.specs.Types.{HasNumber, IsUnsigned};
+ghost use Rattle.column_base.specs.declared.dtype.PType.{PType};
+
+mod signed;
+mod unsigned;
+
+use crate::dtype::PType;
+use crate::values::PrimitiveValues;
+use std::alloc::Allocator;
+
+/// A native type of whole numbers. Equality and order are those of the numbers, a number has at
+/// most one value, and the default is 0.
+pub trait NativePType: Copy + Default + Eq + Ord + Drop {
+    const PTYPE: PType;
+
+    ghost PTYPE: { PType };
+
+    // The number that a value stands for.
+    ghost number: { Self → ℤ };
+
+    /// The value's number.
+    fn widen(self) -> i128
+        ensures { result ≡ number self };
+
+    /// The value of the number `n`, or `None` exactly where the type does not have it.
+    fn narrow(n: i128) -> Option<Self>
+        ensures { Narrows number (HasNumber PTYPE) n result };
+
+    /// A buffer of this type without numbers.
+    fn empty<A: Allocator>(alloc: A) -> PrimitiveValues<A>
+        ensures shows { numbers result ≡ [] }
+        ensures typed { ptype_of result ≡ PTYPE };
+
+    /// Puts the items in the place of the numbers of a buffer of this type.
+    fn swap_in<A: Allocator>(items: &mut Vec<Self, A>, values: &mut PrimitiveValues<A>)
+        requires { ptype_of values.old ≡ PTYPE }
+        ensures shows { numbers values.new ≡ map number items.old.items }
+        ensures typed { ptype_of values.new ≡ PTYPE };
+
+    /// The buffer of these items. Nothing is copied, and no memory is asked for.
+    final fn wrap<A: Allocator + Copy>(mut items: Vec<Self, A>) -> PrimitiveValues<A>
+        ensures shows { numbers result ≡ map number items.items }
+        ensures typed { ptype_of result ≡ PTYPE }
+    {
+        let mut values = Self::empty(*items.allocator());
+        Self::swap_in(&mut items, &mut values);
+        values
+    }
+
+    /// The items of a buffer, where it is of this type.
+    fn slice_of<A: Allocator>(values: &PrimitiveValues<A>) -> Option<&[Self]>
+        ensures typed { IsSome result ↔ (ptype_of values.now ≡ PTYPE) }
+        ensures shows { IfSome result (λ items. map number items.now ≡ numbers values.now) };
+
+    /// The items of a buffer by value, where it is of this type.
+    fn into_vec<A: Allocator>(values: PrimitiveValues<A>) -> Option<Vec<Self, A>>
+        ensures typed { IsSome result ↔ (ptype_of values ≡ PTYPE) }
+        ensures shows { IfSome result (λ items. map number items.items ≡ numbers values) };
+
+    ghost law: { IsNumbered Self.eq Self.cmp Self.is_default number };
+}
+
+/// One of the four unsigned types.
+pub trait UnsignedPType: NativePType {
+    // The number that a value stands for, as a natural number.
+    ghost natural: { Self → ℕ };
+
+    /// The value as a `u64`, which has the numbers of all four types.
+    fn to_u64(self) -> u64
+        ensures { result ≡ natural self };
+
+    ghost natural_law: { (a : Self) → Self.number a ≡ pos (natural a) };
+
+    ghost unsigned_law: { IsUnsigned Self.PTYPE };
+}

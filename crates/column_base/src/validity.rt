@@ -1,0 +1,112 @@
+//! Which rows are there, and which are null.
+ghost use Rattle.std.specs.Prelude.{◌≡◌, ◌<◌, ◌↔◌, true, false, length, All, IfOk, IsOkUnless};
+ghost use Rattle.column_base.specs.ValidityForm.{NoneNull, AllNull, HasLength, HasRow, IsNormal, flags, flag_at, length_of, nullability_in};
+ghost use Rattle.column_base.specs.Validity.{form_of};
+
+use crate::bits::BitBuffer;
+use crate::dtype::Nullability;
+use crate::error::{VortexError, VortexResult};
+use std::alloc::Allocator;
+
+/// Which rows of a column are there, and which are null.
+#[derive(Drop)]
+pub enum Validity<A: Allocator> {
+    /// The type has no null, so all rows are there.
+    NonNullable,
+    /// The type has null, and all rows are there.
+    AllValid,
+    /// All rows are null.
+    AllInvalid,
+    /// A row for each bit, null where the bit is false.
+    Bits(BitBuffer<A>),
+}
+
+impl<A: Allocator> Validity<A> {
+    /// The validity of these bits, with no bits of its own where all are equal: `AllValid` where
+    /// no bit is false, `AllInvalid` where no bit is true and there is one. Takes no memory.
+    pub fn from_bits(bits: BitBuffer<A>) -> Self
+        ensures flags { flags (form_of result) (length bits) ≡ bits }
+        ensures fits { HasLength (form_of result) (length bits) }
+        ensures normal { IsNormal (form_of result) }
+        ensures all_valid { (form_of result ≡ NoneNull) ↔ All (λ bit. bit ≡ true) bits }
+        ensures all_null { (form_of result ≡ AllNull) ↔ ((0 < length bits) × All (λ bit. bit ≡ false) bits) }
+    {
+        let valid = bits.true_count();
+        if valid == bits.len() {
+            Validity::AllValid
+        } else if valid == 0 {
+            Validity::AllInvalid
+        } else {
+            Validity::Bits(bits)
+        }
+    }
+
+    /// Whether the type of the rows has null.
+    pub fn nullability(&self) -> Nullability
+        ensures { result ≡ nullability_in (form_of self.now) }
+    {
+        match self {
+            Validity::NonNullable => Nullability::NonNullable,
+            Validity::AllValid => Nullability::Nullable,
+            Validity::AllInvalid => Nullability::Nullable,
+            Validity::Bits(_) => Nullability::Nullable,
+        }
+    }
+
+    /// How many rows it speaks of: as many as it has bits, and `None` where it has no bits, since
+    /// it then serves any number of rows.
+    pub fn len(&self) -> Option<usize>
+        ensures { result ≡ length_of (form_of self.now) }
+    {
+        match self {
+            Validity::NonNullable => None,
+            Validity::AllValid => None,
+            Validity::AllInvalid => None,
+            Validity::Bits(bits) => Some(bits.len()),
+        }
+    }
+
+    /// Is the row at `index` there?
+    pub fn is_valid(&self, index: usize) -> bool
+        requires { HasRow (form_of self.now) index }
+        ensures { result ≡ flag_at (form_of self.now) index }
+    {
+        match self {
+            Validity::NonNullable => true,
+            Validity::AllValid => true,
+            Validity::AllInvalid => false,
+            Validity::Bits(bits) => bits.value(index),
+        }
+    }
+}
+
+impl<A: Allocator + Copy> Validity<A> {
+    /// The same validity in the same form. Refused for want of memory alone.
+    pub fn try_clone(&self, alloc: A) -> VortexResult<Validity<A>>
+        ensures same { IfOk result (λ copy. form_of copy ≡ form_of self.now) }
+        ensures only { IsOkUnless result VortexError.OutOfMemory }
+    {
+        match self {
+            Validity::NonNullable => Ok(Validity::NonNullable),
+            Validity::AllValid => Ok(Validity::AllValid),
+            Validity::AllInvalid => Ok(Validity::AllInvalid),
+            Validity::Bits(bits) => Ok(Validity::Bits(bits.try_clone(alloc)?)),
+        }
+    }
+}
+
+#[cfg(test)]
+mod tests {
+    use super::*;
+    use crate::bits::BitBufferMut;
+    use std::test::Fail;
+
+    #[test]
+    fn validity_is_copied(rt: HostRuntime) -> Result<(), Fail> {
+        let mut bits = BitBufferMut::full(rt.alloc(), true, 3)?;
+        bits.fill_range(0, 1, false);
+        let copy = Validity::from_bits(bits.freeze()).try_clone(rt.alloc())?;
+        assert_eq!(rt; copy.len(), Some(3));
+        Ok(())
+    }
+}

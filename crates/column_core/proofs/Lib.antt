@@ -1,0 +1,3 @@
+pub mod OptionalRows
+pub mod SameValues
+pub mod Digits

@@ -1,0 +1,12 @@
+pub mod Value
+pub mod PrimitiveForm
+pub mod Primitive
+pub mod Leaf
+pub mod FlatColumn
+pub mod ScalarForm
+pub mod Scalar
+pub mod ScalarView
+pub mod SameType
+pub mod SameScalar
+pub mod Counted
+pub mod Digits

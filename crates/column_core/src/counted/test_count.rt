@@ -1,0 +1,36 @@
+//! A count of tests that contracts alone see. It takes no bytes, and its functions do nothing when
+//! the program runs.
+//!
+//! Its makers are proved by hand, as only such a proof can say what the count is. So this module has
+//! nothing else, and the count can be made at 0 or grow by one, but cannot be copied or set.
+ghost use Rattle.std.specs.Prelude.{◌≡◌, ◌+◌, ℕ};
+ghost use Rattle.std.specs.Borrow.{ftrue};
+
+use std::marker::Model;
+
+/// How many tests were made.
+#[derive(Drop)]
+pub(crate) struct TestCount {
+    pub(crate) ghost count: { ℕ },
+}
+
+// A struct without fields owns nothing, whatever its count.
+impl Model for TestCount {
+    ghost also_owns = { λ _. ftrue };
+}
+
+impl TestCount {
+    /// The count of no tests.
+    pub(crate) fn new() -> TestCount
+        ensures { result.count ≡ 0 }
+    {
+        TestCount {}
+    }
+
+    /// The count with one test more.
+    pub(crate) fn plus_one(&self) -> TestCount
+        ensures { result.count ≡ self.now.count + 1 }
+    {
+        TestCount {}
+    }
+}

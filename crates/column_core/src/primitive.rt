@@ -1,0 +1,186 @@
+//! Flat columns of whole numbers.
+ghost use Rattle.std.specs.Prelude.{◌≡◌, ◌≢◌, ◌<◌, ◌↔◌, Some, length, map, option_map, slice_get, IfOk, IfErr, IsOk, IsOkUnless, IsSomeAnd, IsTrue, [], pos};
+ghost use Rattle.column_base.specs.Numbers.{numbers, ptype_of};
+ghost use Rattle.column_base.specs.declared.dtype.Nullability.{Nullability};
+ghost use Rattle.column_base.specs.declared.dtype.DType.TheVariants as column;
+ghost use Rattle.column_base.specs.ValidityForm.{HasLength, length_of};
+ghost use Rattle.column_base.specs.Validity.{form_of};
+ghost use Rattle.column_core.specs.Value.{Single, Number};
+ghost use Rattle.column_core.specs.PrimitiveForm.{primitive_dtype, primitive_rows};
+ghost use Rattle.column_core.specs.Primitive.{primitive_of};
+ghost use Rattle.column_core.specs.ScalarView.{sees, IsViewOf};
+
+use crate::view::ScalarView;
+use column_base::{
+    DType, Nullability, PType, PrimitiveValues, Validity, VortexError, VortexResult,
+};
+use std::alloc::Allocator;
+use std::marker::Model;
+
+/// Whole numbers of one native type, of which some rows may be null. Under null a number is stored
+/// that no row shows.
+#[derive(Drop)]
+pub struct PrimitiveArray<A: Allocator> {
+    values: PrimitiveValues<A>,
+    validity: Validity<A>,
+}
+
+impl<A: Allocator> Model for PrimitiveArray<A> {
+    ghost use Rattle.std.specs.Prelude.{length};
+    ghost use Rattle.column_base.specs.Numbers.{numbers};
+    ghost use Rattle.column_base.specs.ValidityForm.{HasLength};
+    ghost use Rattle.column_base.specs.Validity.{form_of};
+    ghost use Rattle.column_core.specs.PrimitiveForm.{PrimitiveForm};
+    ghost use Rattle.column_core.specs.Primitive.{primitive_of};
+
+    ghost Value = { PrimitiveForm };
+
+    ghost view = { λ a. primitive_of a.values a.validity };
+
+    ghost invariant = { λ a. HasLength (form_of a.validity) (length (numbers a.values)) };
+}
+
+impl<A: Allocator> PrimitiveArray<A> {
+    /// The column of these numbers, null where the validity says so. Refused as `ColumnLength`,
+    /// with both lengths, where the validity is of another number of rows.
+    pub fn try_new(values: PrimitiveValues<A>, validity: Validity<A>) -> VortexResult<Self>
+        ensures ok { IfOk result (λ array. array ≡ primitive_of values validity) }
+        ensures accepts { IsOk result ↔ HasLength (form_of validity) (length (numbers values)) }
+        ensures refused { IfErr result (λ error. IsSomeAnd (length_of (form_of validity))
+            (λ count. error ≡ VortexError.ColumnLength (length (numbers values)) count)) }
+    {
+        if let Some(count) = validity.len() {
+            if count != values.len() {
+                return Err(VortexError::ColumnLength {
+                    left: values.len(),
+                    right: count,
+                });
+            }
+        }
+        Ok(PrimitiveArray { values, validity })
+    }
+
+    /// The column of parts that `try_new` accepts.
+    pub fn new_unchecked(values: PrimitiveValues<A>, validity: Validity<A>) -> Self
+        requires { HasLength (form_of validity) (length (numbers values)) }
+        ensures { result ≡ primitive_of values validity }
+    {
+        PrimitiveArray { values, validity }
+    }
+
+    /// How many rows there are.
+    pub fn len(&self) -> usize
+        ensures numbers { result ≡ length self.now.numbers }
+        ensures rows { result ≡ length (primitive_rows self.now) }
+    {
+        self.values.len()
+    }
+
+    /// Are there no rows?
+    pub fn is_empty(&self) -> bool
+        ensures { IsTrue result ↔ (self.now.numbers ≡ []) }
+    {
+        self.values.is_empty()
+    }
+
+    /// The native type of the numbers.
+    pub fn ptype(&self) -> PType
+        ensures { result ≡ self.now.ptype }
+    {
+        self.values.ptype()
+    }
+
+    /// The type of the rows.
+    pub fn dtype(&self) -> DType
+        ensures { result ≡ primitive_dtype self.now }
+    {
+        DType::Primitive(self.values.ptype(), self.validity.nullability())
+    }
+
+    /// The numbers as they are stored, under null too.
+    pub fn values(&self) -> &PrimitiveValues<A>
+        ensures shows { numbers result.now ≡ self.now.numbers }
+        ensures typed { ptype_of result.now ≡ self.now.ptype }
+    {
+        &self.values
+    }
+
+    /// Which rows are valid.
+    pub fn validity(&self) -> &Validity<A>
+        ensures form { form_of result.now ≡ self.now.validity }
+        ensures counted { HasLength self.now.validity (length self.now.numbers) }
+    {
+        &self.validity
+    }
+
+    /// The numbers and the validity.
+    pub fn into_parts(self) -> (PrimitiveValues<A>, Validity<A>)
+        ensures whole { self ≡ primitive_of result.0 result.1 }
+        ensures counted { HasLength (form_of result.1) (length (numbers result.0)) }
+    {
+        (self.values, self.validity)
+    }
+
+    /// The row at `index`.
+    pub fn get(&self, index: usize) -> ScalarView<'_, A>
+        requires { index < length self.now.numbers }
+        ensures row { slice_get (map (option_map Single) (primitive_rows self.now)) index ≡ Some (sees result) }
+        ensures of_type { IsViewOf (primitive_dtype self.now) result }
+    {
+        if self.validity.is_valid(index) {
+            number_view(&self.values, index)
+        } else {
+            ScalarView::Null
+        }
+    }
+}
+
+impl<A: Allocator + Copy> PrimitiveArray<A> {
+    /// The same column in the same form, in memory of its own. Refused as `OutOfMemory` alone.
+    pub fn try_clone(&self, alloc: A) -> VortexResult<PrimitiveArray<A>>
+        ensures only { IsOkUnless result VortexError.OutOfMemory }
+        ensures form { IfOk result (λ array. array ≡ self.now) }
+    {
+        let values = self.values.try_clone(alloc)?;
+        let validity = self.validity.try_clone(alloc)?;
+        Ok(PrimitiveArray { values, validity })
+    }
+}
+
+// The number at `index`, seen as its type is.
+fn number_view<A: Allocator>(values: &PrimitiveValues<A>, index: usize) -> ScalarView<'_, A>
+    requires { index < length (numbers values.now) }
+    ensures row { option_map (λ n. Some (Single (Number n))) (slice_get (numbers values.now) index) ≡ Some (sees result) }
+    ensures of_type { (nullability : Nullability) → IsViewOf (column.Primitive (ptype_of values.now) nullability) result }
+{
+    match values {
+        PrimitiveValues::U8(items) => ScalarView::Unsigned(u64::from(items[index])),
+        PrimitiveValues::U16(items) => ScalarView::Unsigned(u64::from(items[index])),
+        PrimitiveValues::U32(items) => ScalarView::Unsigned(u64::from(items[index])),
+        PrimitiveValues::U64(items) => ScalarView::Unsigned(items[index]),
+        PrimitiveValues::I8(items) => ScalarView::Signed(i64::from(items[index])),
+        PrimitiveValues::I16(items) => ScalarView::Signed(i64::from(items[index])),
+        PrimitiveValues::I32(items) => ScalarView::Signed(i64::from(items[index])),
+        PrimitiveValues::I64(items) => ScalarView::Signed(items[index]),
+    }
+}
+
+#[cfg(test)]
+mod tests {
+    use super::*;
+    use column_base::BitBuffer;
+    use std::test::Fail;
+
+    #[test]
+    fn clone_keeps_numbers_and_nulls(rt: HostRuntime) -> Result<(), Fail> {
+        let numbers = Vec::from_slice(rt.alloc(), &[-7i64, 0, 5])?;
+        let flags = Vec::from_slice(rt.alloc(), &[true, false, true])?;
+        let validity = Validity::Bits(BitBuffer::from_vec(flags));
+        let array = PrimitiveArray::try_new(PrimitiveValues::I64(numbers), validity)?;
+        let copy = array.try_clone(rt.alloc())?;
+        assert_eq!(rt; copy.len(), 3);
+        assert!(rt; matches!(copy.get(0), ScalarView::Signed(-7)));
+        assert!(rt; matches!(copy.get(1), ScalarView::Null));
+        Ok(())
+    }
+}

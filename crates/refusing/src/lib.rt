@@ -1,0 +1,10 @@
+// An allocator for tests, which refuses chosen requests for memory and passes the others on.
+#![tactic(auto)]
+
+mod allocator;
+mod plan;
+#[cfg(test)]
+mod tests;
+
+pub use allocator::Refusing;
+pub use plan::Refusals;

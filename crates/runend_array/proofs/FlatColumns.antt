@@ -1,0 +1,179 @@
+-- Flat columns of numbers that an encoder or a decoder has computed.
+use Rattle.std.proofs.Common.{◌≡◌, ℕ, ℤ, pos, zero, suc, ◌+◌, ◌^◌, ◌<◌, List, [], ◌∷◌, Bool, Option, Some, None, length, map, replicate, refl, sym, subst, ◌∙◌, ap, arith}
+use Rattle.std.specs.Prelude.{unsigned_abs}
+use Rattle.std.specs.List.{slice_get}
+use Rattle.std.specs.Option.{option_map}
+use Rattle.std.proofs.lemmas.List.{length-map, length-replicate}
+use Rattle.std.proofs.lemmas.Option.{slice_get-map, get_or_from_slice_get, slice_get_within}
+use Rattle.column_base.specs.declared.dtype.PType.TheVariants.{U64}
+use Rattle.column_base.specs.Types.{IsLeastFor}
+use Rattle.column_base.proofs.ValidityRows.{length-flags}
+use Rattle.column_base.specs.ValidityForm.{ValidityForm, NeverNull, HasLength, IsNormal, flags, nullability_in}
+use Rattle.column_core.specs.Value.{FlatValue, Number, Value, Single}
+use Rattle.column_core.specs.PrimitiveForm.{PrimitiveForm, primitive_with, primitive_dtype, optionals, optional_numbers, row_flags, AreZeroAtNulls}
+use Rattle.column_core.specs.Leaf.{OfNumbers}
+use Rattle.runend_array.specs.Window.{run_at, last_end, IsWindow}
+use Rattle.runend_array.specs.Cover.{Covers, IsTightCover}
+use Rattle.runend_array.specs.Column.{OfLeaf, OfConstant, ends_of, run_rows}
+use Rattle.runend_array.specs.Encoding.{number_rows, IsAllInvalid, IsEncoding, IsFlatEncoding, IsDecodedFlat, HasNullsAlone, stored_numbers}
+use Rattle.runend_array.proofs.Lists.{slice_get-replicate}
+use Rattle.runend_array.proofs.RunAt.{run_of_row_within}
+use Rattle.runend_array.proofs.Shown.{equal_from_Covers, shown_at-here}
+use Rattle.runend_array.proofs.Grow.{IsTightCover-from_Tiles}
+use Rattle.runend_array.proofs.Decoded.{Covers-map}
+use Rattle.runend_array.proofs.Optionals.{Covers-optionals}
+use Rattle.runend_array.proofs.RunRows.{Covers-run_rows}
+use Rattle.runend_array.proofs.StoredNumbers.{naturals-of_pos, optionals-stored_numbers, AreZeroAtNulls-stored_numbers, AreZeroAtNulls-at, AreZeroAtNulls-from_each}
+use Rattle.runend_array.proofs.NullRows.{values_of, length-number_rows, nulls-from_AllNull, null-at_each}
+
+-- optional numbers as values are equal only where they are
+option_map-one : {X Y : Type 0} (f : X → Y) → ((x y : X) → f x ≡ f y → x ≡ y) → (a b : Option X) → option_map f a ≡ option_map f b → a ≡ b
+option_map-one f one None None e = refl
+option_map-one f one None (Some y) e = cc
+option_map-one f one (Some x) None e = cc
+option_map-one f one (Some x) (Some y) e = let same : f x ≡ f y = cc in ap Some (one x y same)
+
+-- the item at an index
+item_at : {X : Type 0} (xs : List X) (k : ℕ) → k < length xs → (x : X) × (slice_get xs k ≡ Some x)
+item_at [] k h = absurd (omega arith)
+item_at (x ∷ xs) zero h = (x, refl)
+item_at (x ∷ xs) (suc k) h = item_at xs k (omega arith)
+
+-- a tight cover stays one under a function that tells all values apart
+IsTightCover-map : {X Y : Type 0} (f : X → Y) → ((x y : X) → f x ≡ f y → x ≡ y) → (rows : List X) (ends : List ℕ) (values : List X)
+    → IsTightCover rows ends values → IsTightCover (map f rows) ends (map f values)
+IsTightCover-map {X} {Y} f one rows ends values c =
+    let long : length (map f rows) ≡ length rows = length-map rows f in
+    let counted : length (map f values) ≡ length values = length-map values f in
+    record {
+      covers = subst (λ (n : ℕ). Covers (map f rows) ends (map f values) 0 n) (sym long) (Covers-map f rows ends values 0 (length rows) c.covers);
+      exact = record { start = refl; stop = c.exact.stop ∙ sym long };
+      tight = record {
+        filled = c.tight.filled;
+        differ = λ k d h same.
+            let first = item_at values k (omega arith) in
+            let next = item_at values (k + 1) (omega arith) in
+            let first_mapped = get_or_from_slice_get (map f values) k (f first.0) d (slice_get-map f values k ∙ ap (option_map f) first.1) in
+            let next_mapped = get_or_from_slice_get (map f values) (k + 1) (f next.0) d (slice_get-map f values (k + 1) ∙ ap (option_map f) next.1) in
+            let equal : first.0 ≡ next.0 = one first.0 next.0 (sym first_mapped ∙ same ∙ next_mapped) in
+            c.tight.differ k first.0 (omega arith)
+            (get_or_from_slice_get values k first.0 first.0 first.1 ∙ equal ∙ sym (get_or_from_slice_get values (k + 1) next.0 first.0 next.1));
+      };
+    }
+
+IsTightCover-values_of : (rows : List (Option ℤ)) (ends : List ℕ) (values : List (Option ℤ)) → IsTightCover rows ends values → IsTightCover (values_of rows) ends (values_of values)
+IsTightCover-values_of rows ends values c =
+    IsTightCover-map (option_map (λ (v : FlatValue). Single v)) (option_map-one (λ (v : FlatValue). Single v) (λ x y e. cc)) _ ends _
+    (IsTightCover-map (option_map (λ (n : ℤ). Number n)) (option_map-one (λ (n : ℤ). Number n) (λ x y e. cc)) rows ends values c)
+
+-- the parts that an encoder makes are an encoding
+pub IsFlatEncoding-made : (array ends values : PrimitiveForm) (rows : List (Option ℤ)) (es : List ℕ) (numbers : List ℤ) (bits : List Bool)
+    → optional_numbers array ≡ rows → IsTightCover rows es (optionals numbers bits) → ends.numbers ≡ map (λ (end : ℕ). pos end) es → ends.validity ≡ NeverNull
+    → IsLeastFor (last_end es) ends.ptype → values.ptype ≡ array.ptype → values.numbers ≡ numbers → length bits ≡ length numbers
+    → flags values.validity (length bits) ≡ bits → IsNormal values.validity → nullability_in values.validity ≡ nullability_in array.validity
+    → AreZeroAtNulls numbers bits → IsFlatEncoding array ends values
+IsFlatEncoding-made array ends values rows es numbers bits rows_are cover ends_are required least typed plain paired flagged normal nullable zeroed =
+    let back : ends_of ends ≡ es = ap (map unsigned_abs) ends_are ∙ naturals-of_pos es in
+    let marks : row_flags values ≡ bits = ap (λ (ns : List ℤ). flags values.validity (length ns)) plain ∙ ap (flags values.validity) (sym paired) ∙ flagged in
+    let shown : optional_numbers values ≡ optionals numbers bits = ap (λ (ns : List ℤ). optionals ns (row_flags values)) plain ∙ ap (optionals numbers) marks in
+    record {
+      cover = rw (back, shown, rows_are) (IsTightCover-values_of rows es (optionals numbers bits) cover);
+      dtype = rw (typed, nullable) refl;
+      required = required;
+      narrow = rw back least;
+      computed = record { zeroed = rw (marks, plain) zeroed; normal = normal };
+    }
+
+-- an encoding by flat values is one where the validity does not say that all rows are null
+pub IsEncoding-from_flat : (array ends values : PrimitiveForm) → (¬ IsAllInvalid array) → IsFlatEncoding array ends values → IsEncoding array ends (OfLeaf (OfNumbers values))
+IsEncoding-from_flat array ends values some flat = record {
+  cover = flat.cover;
+  dtype = flat.dtype;
+  required = flat.required;
+  narrow = λ _. flat.narrow;
+  flat = λ _. flat.computed;
+  wide = λ all. absurd (some all);
+  null = λ all. absurd (some all);
+}
+
+-- rows of which the validity says that all are null are one run of null
+pub IsEncoding-of_nulls : (array ends : PrimitiveForm) (n : ℕ) → IsAllInvalid array → n ≡ length array.numbers → n < 2 ^ 64
+    → ends ≡ primitive_with U64 (pos n ∷ []) NeverNull → IsEncoding array ends (OfConstant (record { dtype = primitive_dtype array; value = None; count = 1 }))
+IsEncoding-of_nulls array ends n all counted small made =
+    let fits = subst (λ (v : ValidityForm). HasLength v (length array.numbers)) (sym all.0) tt in
+    let long : length (number_rows array) ≡ n = length-number_rows array fits ∙ sym counted in
+    let some = all.1 in
+    record {
+      cover = rw made
+          (IsTightCover-from_Tiles (number_rows array) (n ∷ []) (None ∷ []) (omega arith) (omega arith, tt, sym long)
+          (λ i h. null-at_each (number_rows array) i (nulls-from_AllNull array all.0 fits) h ∙ sym (shown_at-here n [] None [] i (omega arith))));
+      dtype = refl;
+      required = rw made refl;
+      narrow = λ not_all. absurd (not_all all);
+      flat = λ not_all. absurd (not_all all);
+      wide = λ _. rw made refl;
+      null = λ _. refl;
+    }
+
+-- a list of copies is covered by copies
+pub Covers-copies : {X : Type 0} (x : X) (ends : List ℕ) (offset count runs : ℕ) → IsWindow ends offset count → runs ≡ length ends
+    → Covers (replicate count x) ends (replicate runs x) offset count
+Covers-copies x ends offset count runs window all = record {
+  window = window;
+  paired = length-replicate runs x ∙ all;
+  counted = length-replicate count x;
+  each = λ i h.
+      let within = run_of_row_within ends offset count i window h in
+      slice_get-replicate count i x h ∙ sym (slice_get-replicate runs (run_at ends (offset + i)) x (omega arith));
+}
+
+-- where each value is null, each row is
+pub run_rows-of_nulls : (ends : List ℕ) (values : List (Option Value)) (offset count : ℕ) → IsWindow ends offset count → length values ≡ length ends
+    → HasNullsAlone values → replicate count None ≡ run_rows ends values offset count
+run_rows-of_nulls ends values offset count window paired nulls =
+    equal_from_Covers (replicate count None) (run_rows ends values offset count) ends values offset count
+    (record {
+      window = window;
+      paired = paired;
+      counted = length-replicate count None;
+      each = λ i h.
+          let within = run_of_row_within ends offset count i window h in
+          slice_get-replicate count i None h ∙ sym (null-at_each values (run_at ends (offset + i)) nulls.1 (omega arith));
+    })
+    (Covers-run_rows ends values offset count window paired)
+
+-- what is stored in rows that are covered by values with 0 under null, and by their flags
+AreZeroAtNulls-covered : (numbers : List ℤ) (bits : List Bool) (ends : List ℕ) (run_numbers : List ℤ) (run_bits : List Bool) (offset count : ℕ)
+    → Covers numbers ends run_numbers offset count → Covers bits ends run_bits offset count → AreZeroAtNulls run_numbers run_bits → AreZeroAtNulls numbers bits
+AreZeroAtNulls-covered numbers bits ends run_numbers run_bits offset count c d zeroed = AreZeroAtNulls-from_each numbers bits (λ i n here flag.
+    let counted = c.counted in
+    let within = slice_get_within numbers i n here in
+    AreZeroAtNulls-at run_numbers run_bits (run_at ends (offset + i)) n zeroed (sym (c.each i (omega arith)) ∙ here) (sym (d.each i (omega arith)) ∙ flag))
+
+-- numbers and flags that are decoded apart are the rows that the runs show
+pub IsDecodedFlat-made : (ends : List ℕ) (values : PrimitiveForm) (offset count : ℕ) (array : PrimitiveForm) → IsWindow ends offset count → length values.numbers ≡ length ends
+    → HasLength values.validity (length values.numbers) → array.ptype ≡ values.ptype
+    → (rows : List (Option ℤ)) → optional_numbers values ≡ rows → Covers array.numbers ends (stored_numbers rows) offset count
+    → Covers (flags array.validity count) ends (flags values.validity (length ends)) offset count
+    → IsNormal array.validity → nullability_in array.validity ≡ nullability_in values.validity → IsDecodedFlat ends values offset count array
+IsDecodedFlat-made ends values offset count array window paired fits typed rows_shown rows_are covers marks normal nullable =
+    let numbers : Covers array.numbers ends (stored_numbers (optional_numbers values)) offset count = rw rows_are covers in
+    let run_marks : flags values.validity (length ends) ≡ row_flags values = ap (flags values.validity) (sym paired) in
+    let row_marks : flags array.validity count ≡ row_flags array = ap (flags array.validity) (sym numbers.counted) in
+    let flagged = length-flags values.validity (length values.numbers) fits in
+    let covered : Covers (row_flags array) ends (row_flags values) offset count = rw (run_marks, row_marks) at marks in
+    let shown : Covers (optional_numbers array) ends (optional_numbers values) offset count =
+    rw (optionals-stored_numbers values.numbers (row_flags values) flagged) at
+    (Covers-optionals array.numbers (row_flags array) ends (stored_numbers (optional_numbers values)) (row_flags values) offset count numbers covered) in
+    let rows = Covers-map (option_map (λ (v : FlatValue). Single v)) _ ends _ offset count
+    (Covers-map (option_map (λ (n : ℤ). Number n)) (optional_numbers array) ends (optional_numbers values) offset count shown) in
+    record {
+      rows = equal_from_Covers (number_rows array) (run_rows ends (number_rows values) offset count) ends (number_rows values) offset count rows
+          (Covers-run_rows ends (number_rows values) offset count window rows.paired);
+      dtype = rw (typed, nullable) refl;
+      computed = record {
+        zeroed = AreZeroAtNulls-covered array.numbers (row_flags array) ends (stored_numbers (optional_numbers values)) (row_flags values) offset count numbers covered
+            (AreZeroAtNulls-stored_numbers values.numbers (row_flags values));
+        normal = normal;
+      };
+    }

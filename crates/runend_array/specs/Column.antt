@@ -1,0 +1,114 @@
+-- What a column is: flat data or one value many times, under levels of runs.
+use Rattle.std.specs.Prelude.{◌≡◌, ℕ, ◌+◌, List, [], length, map, Option, None, option_map, unsigned_abs, replicate, slice_index_or}
+use Rattle.std.specs.List.{range_with_len}
+use Rattle.column_base.specs.declared.dtype.PType.{PType}
+use Rattle.column_base.specs.declared.dtype.PType.TheVariants.{U64}
+use Rattle.column_base.specs.declared.dtype.Nullability.TheVariants.{NonNullable}
+use Rattle.column_base.specs.declared.dtype.DType.{DType}
+use Rattle.column_base.specs.declared.dtype.DType.TheVariants as column
+use Rattle.column_base.specs.Types.{IsUnsigned}
+use Rattle.column_core.specs.Value.{FlatValue, Value, Single, PlainColumn}
+use Rattle.column_core.specs.PrimitiveForm.{PrimitiveForm}
+use Rattle.column_core.specs.Leaf.{Leaf, OfNumbers, leaf_rows, leaf_dtype}
+use Rattle.runend_array.specs.Window.{run_at, IsWindow}
+
+-- one optional value of a type, in each of `count` rows
+pub record Constant : Type 0 where
+  pub dtype : DType
+  pub value : Option FlatValue
+  pub count : ℕ
+
+-- the form of a column; runs have the type of their ends, the ends, the values, the offset and the number of rows
+pub data Column : Type 0 where
+  OfLeaf : Leaf → Column
+  OfConstant : Constant → Column
+  OfRuns : PType → List ℕ → Column → ℕ → ℕ → Column
+
+-- the form of a run column
+pub record Runs : Type 0 where
+  pub ends_type : PType
+  pub ends : List ℕ
+  pub values : Column
+  pub offset : ℕ
+  pub count : ℕ
+
+-- the run column with these parts
+abbrev pub runs_with : PType → List ℕ → Column → ℕ → ℕ → Runs
+runs_with ends_type ends values offset count = record { ends_type = ends_type; ends = ends; values = values; offset = offset; count = count }
+
+-- a run column, as a column
+abbrev pub column_of_runs : Runs → Column
+column_of_runs r = OfRuns r.ends_type r.ends r.values r.offset r.count
+
+-- each row of a window shows the value of its run
+abbrev pub run_rows : {B : Type 0} → List ℕ → List (Option B) → ℕ → ℕ → List (Option B)
+run_rows ends values offset count = map (λ position. slice_index_or values (run_at ends position) None) (range_with_len offset count)
+
+-- the rows
+abbrev pub column_rows : Column → List (Option Value)
+column_rows (OfLeaf leaf) = map (option_map Single) (leaf_rows leaf)
+column_rows (OfConstant constant) = replicate constant.count (option_map Single constant.value)
+column_rows (OfRuns ends_type ends values offset count) = run_rows ends (column_rows values) offset count
+
+-- the type of the rows
+abbrev pub column_dtype : Column → DType
+column_dtype (OfLeaf leaf) = leaf_dtype leaf
+column_dtype (OfConstant constant) = constant.dtype
+column_dtype (OfRuns ends_type ends values offset count) = column_dtype values
+
+-- the plain column: its type and its rows, whatever the form
+abbrev pub plain_of : Column → PlainColumn
+plain_of c = record { dtype = column_dtype c; rows = column_rows c }
+
+-- how many levels of runs there are
+abbrev pub depth : Column → ℕ
+depth (OfLeaf leaf) = 0
+depth (OfConstant constant) = 0
+depth (OfRuns ends_type ends values offset count) = depth values + 1
+
+-- a flat form
+abbrev pub IsFlat : Column → Type 0
+IsFlat (OfLeaf leaf) = Unit {0}
+IsFlat (OfConstant constant) = ⊥
+IsFlat (OfRuns ends_type ends values offset count) = ⊥
+
+-- a type of ends: unsigned and without null
+abbrev pub IsEndsType : DType → Type 0
+IsEndsType (column.Primitive t NonNullable) = IsUnsigned t
+IsEndsType t = ⊥
+
+-- a column of ends: flat, unsigned and without null
+abbrev pub IsPlainEnds : Column → Type 0
+IsPlainEnds (OfLeaf leaf) = IsEndsType (leaf_dtype leaf)
+IsPlainEnds (OfConstant constant) = ⊥
+IsPlainEnds (OfRuns ends_type ends values offset count) = ⊥
+
+-- the ends of a flat column of whole numbers
+abbrev pub ends_of : PrimitiveForm → List ℕ
+ends_of form = map unsigned_abs form.numbers
+
+-- the ends of a column of ends
+abbrev pub end_numbers : Column → List ℕ
+end_numbers (OfLeaf (OfNumbers form)) = ends_of form
+end_numbers (OfConstant constant) = []
+end_numbers (OfRuns ends_type ends values offset count) = []
+
+-- the native type of a column of ends
+abbrev pub end_ptype : Column → PType
+end_ptype (OfLeaf (OfNumbers form)) = form.ptype
+end_ptype (OfConstant constant) = U64
+end_ptype (OfRuns ends_type ends values offset count) = U64
+
+-- a run column: a valid window, with one value for each run
+pub record AreRuns (r : Runs) : Type 0 where
+  pub window : IsWindow r.ends r.offset r.count
+  pub paired : length (column_rows r.values) ≡ length r.ends
+
+-- the run column of a column of ends and a column of values
+abbrev pub runs_of : Column → Column → ℕ → ℕ → Runs
+runs_of ends values offset count = runs_with (end_ptype ends) (end_numbers ends) values offset count
+
+-- the parts make a run column
+pub record AreParts (ends values : Column) (offset count : ℕ) : Type 0 where
+  pub plain : IsPlainEnds ends
+  pub runs : AreRuns (runs_of ends values offset count)

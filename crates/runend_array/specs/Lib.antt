@@ -1,0 +1,11 @@
+pub mod Window
+pub mod Cover
+pub mod Column
+pub mod ColumnCode
+pub mod Fault
+pub mod Array
+pub mod Falls
+pub mod Encoding
+pub mod RunWriterForm
+pub mod SessionForm
+pub mod SessionLends

@@ -1,0 +1,432 @@
+//! The run column: runs of equal rows, seen through a window.
+ghost use Rattle.std.specs.Prelude.{◌≡◌, ℕ, ◌+◌, ◌-◌, ◌<◌, ◌≤◌, ◌↔◌, Some, pos, length, min, count_by, nat_le, nat_lt, slice_get, IsTrue, IfOk, IsErrOf, IsOkUnless, MatchOption, MatchResult, map};
+ghost use Rattle.column_core.specs.Leaf.{OfNumbers};
+ghost use Rattle.column_core.specs.ScalarView.{sees, IsViewOf};
+ghost use Rattle.runend_array.specs.Array.{column_of, dtype_of, rows};
+ghost use Rattle.runend_array.specs.Window.{run_at, last_end};
+ghost use Rattle.runend_array.specs.Column.{AreParts, AreRuns, IsPlainEnds, OfLeaf, Runs, column_dtype, column_of_runs, column_rows, end_numbers, end_ptype, runs_of};
+ghost use Rattle.column_core.specs.PrimitiveForm.{primitive_dtype};
+ghost use Rattle.runend_array.specs.Encoding.{IsComputed, IsEncodedColumn, IsPlainNumbers, IsWholeNumbers, number_rows};
+ghost use Rattle.runend_array.specs.Fault.{PartsFault};
+
+use crate::array_ref::{ArrayRef, out_of_bounds};
+use crate::compress::runend_encode;
+use crate::session::ExecutionCtx;
+use crate::validate::validate_ends;
+use crate::{compress, ops};
+use column_core::{DType, Nullability, PrimitiveArray, ScalarView, VortexError, VortexResult};
+use std::alloc::Allocator;
+use std::marker::Model;
+
+/// Run k shows value k in the rows before its end and after the end before it. Of these rows the
+/// column shows `length` many, from `offset` on.
+#[cycle(array)]
+#[derive(Drop)]
+pub struct RunEndArray<A: Allocator> {
+    ends: ArrayRef<A>,
+    values: ArrayRef<A>,
+    offset: usize,
+    length: usize,
+}
+
+impl<A: Allocator> Model for RunEndArray<A> {
+    ghost use Rattle.std.specs.Prelude.{◌+◌};
+    ghost use Rattle.runend_array.specs.Column.{Runs, AreParts, runs_of, depth};
+
+    ghost Value = { Runs };
+
+    ghost use Rattle.runend_array.specs.ColumnCode.{runs_code};
+
+    ghost coded = { runs_code };
+
+    ghost use Rattle.runend_array.specs.Array.{column_of};
+
+    ghost view = { λ a. runs_of (column_of a.ends) (column_of a.values) a.offset a.length };
+
+    ghost invariant = { λ a. AreParts (column_of a.ends) (column_of a.values) a.offset a.length };
+
+    ghost size = { λ r. depth r.values + 1 };
+
+    ghost use Rattle.runend_array.specs.Falls.{deep_le-parts};
+
+    ghost size_decreases = { λ a h. Prim.search (deep_le-parts, h) };
+}
+
+/// The two columns inside a run column.
+#[derive(Drop)]
+pub struct RunEndSlots<A: Allocator> {
+    /// Where each run ends, in rows.
+    pub ends: ArrayRef<A>,
+    /// What each run shows.
+    pub values: ArrayRef<A>,
+}
+
+impl<A: Allocator> RunEndSlots<A> {
+    /// The names of the slots, in their order.
+    pub const NAMES: [&'static str; 2] = ["ends", "values"];
+    /// The place of the ends among the slots.
+    pub const ENDS: usize = 0;
+    /// The place of the values among the slots.
+    pub const VALUES: usize = 1;
+}
+
+/// What a run column holds beside its slots: the offset, in rows.
+#[derive(Clone, Debug, Drop)]
+pub struct RunEndData {
+    offset: usize,
+}
+
+impl Model for RunEndData {
+    ghost use Rattle.std.specs.Prelude.{ℕ};
+
+    ghost Value = { ℕ };
+
+    ghost view = { λ d. d.offset };
+}
+
+/// The slots of a run column, and its offset in rows.
+#[derive(Drop)]
+pub struct RunEndDataParts<A: Allocator> {
+    pub ends: ArrayRef<A>,
+    pub values: ArrayRef<A>,
+    pub offset: usize,
+}
+
+/// The run-end encoding.
+#[derive(Clone, Debug, Drop)]
+pub struct RunEnd;
+
+impl RunEnd {
+    /// The run column of these ends and values, from the first row to the last end. Refused by
+    /// `EndsNotUnsigned`, `LengthsDiffer` or `EndsNotStrict`, in this order. Takes no memory.
+    pub fn try_new<A: Allocator + Copy>(
+        ends: ArrayRef<A>,
+        values: ArrayRef<A>,
+        ctx: &mut ExecutionCtx<A>,
+    ) -> VortexResult<RunEndArray<A>>
+        ensures parts { let count = last_end (end_numbers (column_of ends)) in
+            MatchResult result
+            (λ array. AreParts (column_of ends) (column_of values) 0 count × (array ≡ runs_of (column_of ends) (column_of values) 0 count))
+            (λ error. PartsFault (column_of ends) (column_of values) 0 count error) }
+        ensures session { ctx.new ≡ ctx.old }
+    {
+        let Some(length) = last_of(&ends) else {
+            return Err(VortexError::EndsNotUnsigned);
+        };
+        RunEnd::try_new_offset_length(ends, values, 0, length, ctx)
+    }
+
+    /// The run column of these parts. Refused by the first fault: `EndsNotUnsigned`, `LengthsDiffer`,
+    /// `NoRunsWindow`, `EndsNotStrict`, `WindowOverflow`, `FirstEndBelowOffset`, `LastEndBelowWindow`.
+    /// Takes no memory.
+    pub fn try_new_offset_length<A: Allocator + Copy>(
+        ends: ArrayRef<A>,
+        values: ArrayRef<A>,
+        offset: usize,
+        length: usize,
+        ctx: &mut ExecutionCtx<A>,
+    ) -> VortexResult<RunEndArray<A>>
+        ensures parts { MatchResult result
+            (λ array. AreParts (column_of ends) (column_of values) offset length × (array ≡ runs_of (column_of ends) (column_of values) offset length))
+            (λ error. PartsFault (column_of ends) (column_of values) offset length error) }
+        ensures session { ctx.new ≡ ctx.old }
+    {
+        RunEndData::validate_parts(&ends, &values, offset, length, ctx)?;
+        Ok(RunEnd::new_unchecked(ends, values, offset, length))
+    }
+
+    /// The run column of ends and values that `try_new` accepts. Takes no memory.
+    pub fn new<A: Allocator + Copy>(
+        ends: ArrayRef<A>,
+        values: ArrayRef<A>,
+        ctx: &mut ExecutionCtx<A>,
+    ) -> RunEndArray<A>
+        requires { AreParts (column_of ends) (column_of values) 0 (last_end (end_numbers (column_of ends))) }
+        ensures whole { result ≡ runs_of (column_of ends) (column_of values) 0 (last_end (end_numbers (column_of ends))) }
+        ensures session { ctx.new ≡ ctx.old }
+    {
+        let _ = &ctx;
+        let length = last_of(&ends).unwrap_or(0);
+        RunEnd::new_unchecked(ends, values, 0, length)
+    }
+
+    /// The run column of parts that `try_new_offset_length` accepts. Takes no memory.
+    pub fn new_unchecked<A: Allocator + Copy>(
+        ends: ArrayRef<A>,
+        values: ArrayRef<A>,
+        offset: usize,
+        length: usize,
+    ) -> RunEndArray<A>
+        requires { AreParts (column_of ends) (column_of values) offset length }
+        ensures { result ≡ runs_of (column_of ends) (column_of values) offset length }
+    {
+        RunEndArray {
+            ends,
+            values,
+            offset,
+            length,
+        }
+    }
+
+    /// The run column of the encoding of a plain column of whole numbers: a tight exact cover of its
+    /// rows, with ends as narrow as can be. Refused as `OnlyPrimitive` exactly for other forms and
+    /// types, else as `OutOfMemory` alone.
+    pub fn encode<A: Allocator + Copy>(
+        array: ArrayRef<A>,
+        ctx: &mut ExecutionCtx<A>,
+    ) -> VortexResult<RunEndArray<A>>
+        ensures refused { IsErrOf result VortexError.OnlyPrimitive ↔ (¬ IsPlainNumbers (column_of array)) }
+        ensures only { IsPlainNumbers (column_of array) → IsOkUnless result VortexError.OutOfMemory }
+        ensures encoded { IfOk result (λ runs. IsEncodedColumn (column_of array) runs) }
+        ensures session { ctx.new ≡ ctx.old }
+    {
+        let ArrayRef::Primitive(plain) = &array else {
+            return Err(VortexError::OnlyPrimitive);
+        };
+        let (ends, values) = runend_encode(plain, ctx)?;
+        let ends = ArrayRef::Primitive(ends);
+        Ok(RunEnd::new_unchecked(ends, values, 0, plain.len()))
+    }
+}
+
+impl RunEndData {
+    /// The data of a run column with this offset. Nothing is tested.
+    pub fn new(offset: usize) -> Self
+        ensures { result ≡ offset }
+    {
+        RunEndData { offset }
+    }
+
+    /// The same as `new`.
+    pub fn new_unchecked(offset: usize) -> Self
+        ensures { result ≡ offset }
+    {
+        RunEndData { offset }
+    }
+
+    /// The data of the encoding of a plain column of whole numbers: offset 0. Refused as
+    /// `OnlyPrimitive` exactly for other forms and types. Takes no memory.
+    pub fn encode<A: Allocator + Copy>(
+        array: &ArrayRef<A>,
+        ctx: &mut ExecutionCtx<A>,
+    ) -> VortexResult<Self>
+        ensures refused { IsErrOf result VortexError.OnlyPrimitive ↔ (¬ IsPlainNumbers (column_of array.now)) }
+        ensures only { IsOkUnless result VortexError.OnlyPrimitive }
+        ensures offset { IfOk result (λ made. made ≡ 0) }
+        ensures session { ctx.new ≡ ctx.old }
+    {
+        let _ = &ctx;
+        match array {
+            ArrayRef::Primitive(_) => Ok(RunEndData::new_unchecked(0)),
+            _ => Err(VortexError::OnlyPrimitive),
+        }
+    }
+
+    /// Do the parts make a run column? Else the first fault: `EndsNotUnsigned`, `LengthsDiffer`,
+    /// `NoRunsWindow`, `EndsNotStrict`, `WindowOverflow`, `FirstEndBelowOffset`, `LastEndBelowWindow`.
+    /// Takes no memory.
+    pub fn validate_parts<A: Allocator + Copy>(
+        ends: &ArrayRef<A>,
+        values: &ArrayRef<A>,
+        offset: usize,
+        length: usize,
+        ctx: &mut ExecutionCtx<A>,
+    ) -> VortexResult<()>
+        ensures parts { MatchResult result
+            (λ _. AreParts (column_of ends.now) (column_of values.now) offset length)
+            (λ error. PartsFault (column_of ends.now) (column_of values.now) offset length error) }
+        ensures session { ctx.new ≡ ctx.old }
+    {
+        let _ = &ctx;
+        let Some(plain) = plain_ends(ends) else {
+            return Err(VortexError::EndsNotUnsigned);
+        };
+        validate_ends(plain, values.len(), offset, length)
+    }
+
+    /// The offset, beside the slots.
+    pub fn into_parts<A: Allocator>(
+        self,
+        ends: ArrayRef<A>,
+        values: ArrayRef<A>,
+    ) -> RunEndDataParts<A>
+        ensures offset { result.offset ≡ self }
+        ensures ends { result.ends ≡ ends }
+        ensures values { result.values ≡ values }
+    {
+        RunEndDataParts {
+            ends,
+            values,
+            offset: self.offset,
+        }
+    }
+}
+
+/// The ends, where the column is flat, unsigned and without null.
+pub(crate) fn plain_ends<A: Allocator + Copy>(ends: &ArrayRef<A>) -> Option<&PrimitiveArray<A>>
+    ensures { MatchOption result
+        (¬ IsPlainEnds (column_of ends.now))
+        (λ plain. IsPlainEnds (column_of ends.now) × (column_of ends.now ≡ OfLeaf (OfNumbers plain.now))) }
+{
+    match ends {
+        ArrayRef::Primitive(plain)
+            if plain.dtype().nullability() == Nullability::NonNullable
+                && plain.ptype().is_unsigned_int() => { Some(plain) }
+        _ => None,
+    }
+}
+
+// The last end, or 0 without ends; nothing where the column is none of ends.
+fn last_of<A: Allocator + Copy>(ends: &ArrayRef<A>) -> Option<usize>
+    ensures { MatchOption result
+        (¬ IsPlainEnds (column_of ends.now))
+        (λ last. IsPlainEnds (column_of ends.now) × (last ≡ last_end (end_numbers (column_of ends.now)))) }
+{
+    let plain = plain_ends(ends)?;
+    Some(ops::last_end_of(plain))
+}
+
+impl<A: Allocator + Copy> RunEndArray<A> {
+    /// How many rows there are.
+    pub fn len(&self) -> usize
+        ensures { result ≡ self.now.count }
+    {
+        self.length
+    }
+
+    /// Are there no rows?
+    pub fn is_empty(&self) -> bool
+        ensures { IsTrue result ↔ (self.now.count ≡ 0) }
+    {
+        self.length == 0
+    }
+
+    #[cycle(dtype)]
+    pub(crate) fn values_dtype(&self) -> DType
+        ensures { result ≡ column_dtype self.now.values }
+    {
+        self.values.dtype()
+    }
+
+    #[cycle(scalar_at)]
+    pub(crate) fn row_at(&self, index: usize) -> VortexResult<ScalarView<'_, A>>
+        ensures row { IfOk result (λ view. slice_get (column_rows (column_of_runs self.now)) index ≡ Some (sees view)) }
+        ensures of_type { IfOk result (λ view. IsViewOf (column_dtype self.now.values) view) }
+        ensures refused { IsErrOf result (VortexError.OutOfBounds (pos index) self.now.count) ↔ (self.now.count ≤ index) }
+        ensures only { IsOkUnless result (VortexError.OutOfBounds (pos index) self.now.count) }
+    {
+        if index >= self.length {
+            return Err(out_of_bounds(index, self.length));
+        }
+        let run = ops::run_of(&self.ends, self.offset + index);
+        match self.values.scalar_at(run) {
+            Ok(view) => Ok(view),
+            Err(_) => unreachable!(),
+        }
+    }
+
+    #[cycle(clone_in)]
+    pub(crate) fn clone_in(&self, alloc: A) -> VortexResult<RunEndArray<A>>
+        ensures only { IsOkUnless result VortexError.OutOfMemory }
+        ensures form { IfOk result (λ array. array ≡ self.now) }
+    {
+        let ends = self.ends.clone_in(alloc)?;
+        let values = self.values.clone_in(alloc)?;
+        Ok(RunEndArray {
+            ends,
+            values,
+            offset: self.offset,
+            length: self.length,
+        })
+    }
+
+    #[cycle(canonicalize_in)]
+    pub(crate) fn canonicalize_in(&self, alloc: A) -> VortexResult<PrimitiveArray<A>>
+        ensures only { IsWholeNumbers (column_dtype self.now.values) → IsOkUnless result VortexError.OutOfMemory }
+        ensures unsupported { (¬ IsWholeNumbers (column_dtype self.now.values)) → IsErrOf result VortexError.Unsupported }
+        ensures rows { IfOk result (λ array. number_rows array ≡ column_rows (column_of_runs self.now)) }
+        ensures dtype { IfOk result (λ array. primitive_dtype array ≡ column_dtype self.now.values) }
+        ensures form { IfOk result (λ array. IsComputed array) }
+    {
+        let values = self.values.canonicalize_in(alloc)?;
+        let Some(ends) = plain_ends(&self.ends) else {
+            unreachable!()
+        };
+        prove_eq!(values.len(), ends.len());
+        compress::decode_flat(alloc, ends, &values, self.offset, self.length)
+    }
+}
+
+/// The slots of a run column.
+pub trait RunEndArraySlotsExt<A: Allocator> {
+    // The form of the run column.
+    ghost runs: { Self → Runs };
+
+    /// The ends: a flat column without null, of an unsigned type, whose numbers strictly increase.
+    fn ends(&self) -> &ArrayRef<A>
+        ensures plain { IsPlainEnds (column_of result.now) }
+        ensures numbers { end_numbers (column_of result.now) ≡ (runs self.now).ends }
+        ensures ptype { end_ptype (column_of result.now) ≡ (runs self.now).ends_type }
+        ensures valid { AreRuns (runs self.now) };
+
+    /// The values, one for each run.
+    fn values(&self) -> &ArrayRef<A>
+        ensures form { column_of result.now ≡ (runs self.now).values }
+        ensures valid { AreRuns (runs self.now) };
+}
+
+/// What a run column tells beside its slots.
+pub trait RunEndArrayExt<A: Allocator>: RunEndArraySlotsExt<A> {
+    /// How many rows of the runs lie before the window.
+    fn offset(&self) -> usize
+        ensures { result ≡ (Self.runs self.now).offset };
+
+    /// The type of the rows.
+    fn dtype(&self) -> DType
+        ensures { result ≡ column_dtype (Self.runs self.now).values };
+
+    /// The run of row `index`, or the last run where no run ends past it.
+    fn find_physical_index(&self, index: usize) -> usize
+        requires some { 0 < length (Self.runs self.now).ends }
+        requires within { index ≤ (Self.runs self.now).count }
+        ensures place { let r = Self.runs self.now in
+            result ≡ min (count_by (λ e. nat_le e (r.offset + index)) r.ends) (length r.ends - 1) }
+        ensures run { let r = Self.runs self.now in index < r.count → result ≡ run_at r.ends (r.offset + index) };
+
+    /// Where the runs of the rows before row `index` stop: one run past the last of them.
+    fn find_slice_end_index(&self, index: usize) -> usize
+        requires some { 0 < length (Self.runs self.now).ends }
+        requires within { index ≤ (Self.runs self.now).count }
+        ensures place { let r = Self.runs self.now in
+            result ≡ min (count_by (λ e. nat_lt e (r.offset + index)) r.ends + 1) (length r.ends) };
+}
+
+impl<A: Allocator + Copy> RunEndArraySlotsExt<A> for RunEndArray<A> {
+    ghost runs = { λ r. r };
+
+    fn ends(&self) -> &ArrayRef<A> {
+        &self.ends
+    }
+
+    fn values(&self) -> &ArrayRef<A> {
+        &self.values
+    }
+}
+
+impl<A: Allocator + Copy> RunEndArrayExt<A> for RunEndArray<A> {
+    fn offset(&self) -> usize {
+        self.offset
+    }
+
+    fn dtype(&self) -> DType {
+        self.values_dtype()
+    }
+
+    fn find_physical_index(&self, index: usize) -> usize {
+        ops::find_physical_index(&self.ends, self.offset + index)
+    }
+
+    fn find_slice_end_index(&self, index: usize) -> usize {
+        ops::find_slice_end_index(&self.ends, self.offset + index)
+    }
+}

@@ -1,0 +1,63 @@
+//! The encoder of whole numbers, and their decoder.
+ghost use Rattle.std.specs.Prelude.{◌≡◌, length as item_count, IfOk, IsOkUnless};
+ghost use Rattle.column_core.specs.PrimitiveForm.{primitive_dtype};
+ghost use Rattle.runend_array.specs.Window.{IsWindow};
+ghost use Rattle.runend_array.specs.Column.{IsEndsType, ends_of, run_rows};
+ghost use Rattle.runend_array.specs.Array.{column_of, dtype_of, rows};
+ghost use Rattle.runend_array.specs.Encoding.{IsEncoding, IsDecodedForm, number_rows};
+
+mod decode;
+mod encode;
+mod narrow;
+mod run_writer;
+mod shown;
+mod written;
+
+use crate::array_ref::ArrayRef;
+use crate::session::ExecutionCtx;
+use column_core::{PrimitiveArray, VortexError, VortexResult};
+pub(crate) use decode::{decode_flat, decode_primitive};
+use std::alloc::Allocator;
+pub(crate) use written::write_constant;
+
+/// The ends and the values of the runs of a column: a run for each longest stretch of equal rows,
+/// null being equal to null. Ends are as narrow as can be. A column whose validity says that all of
+/// its rows are null, of which there is one at least, gives one end in u64 and one constant null.
+/// Refused as `OutOfMemory` alone.
+pub fn runend_encode<A: Allocator + Copy>(
+    array: &PrimitiveArray<A>,
+    ctx: &mut ExecutionCtx<A>,
+) -> VortexResult<(PrimitiveArray<A>, ArrayRef<A>)>
+    ensures only { IsOkUnless result VortexError.OutOfMemory }
+    ensures encoding { IfOk result (λ parts. IsEncoding array.now parts.0 (column_of parts.1)) }
+    ensures session { ctx.new ≡ ctx.old }
+{
+    let alloc = *ctx.allocator();
+    if encode::is_all_null(array) {
+        return encode::encode_nulls(alloc, array);
+    }
+    let (ends, values) = encode::encode_plain(alloc, array)?;
+    Ok((ends, ArrayRef::Primitive(values)))
+}
+
+/// The rows that runs show, from row `offset` on, `length` many. A constant null where there is a run
+/// and all values are null, else a flat column with 0 under null. The parts are a valid window over
+/// flat unsigned ends without null. Refused as `OutOfMemory` alone.
+pub fn runend_decode_primitive<A: Allocator + Copy>(
+    ends: PrimitiveArray<A>,
+    values: PrimitiveArray<A>,
+    offset: usize,
+    length: usize,
+    ctx: &mut ExecutionCtx<A>,
+) -> VortexResult<ArrayRef<A>>
+    requires plain { IsEndsType (primitive_dtype ends) }
+    requires window { IsWindow (ends_of ends) offset length }
+    requires paired { item_count values.numbers ≡ item_count ends.numbers }
+    ensures only { IsOkUnless result VortexError.OutOfMemory }
+    ensures rows { IfOk result (λ array. rows array ≡ run_rows (ends_of ends) (number_rows values) offset length) }
+    ensures dtype { IfOk result (λ array. dtype_of array ≡ primitive_dtype values) }
+    ensures form { IfOk result (λ array. IsDecodedForm (number_rows values) (column_of array)) }
+    ensures session { ctx.new ≡ ctx.old }
+{
+    decode_primitive(*ctx.allocator(), &ends, &values, offset, length)
+}

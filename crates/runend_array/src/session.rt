@@ -1,0 +1,154 @@
+//! Sessions: which kernels are registered, the thresholds by which they choose, and the context that
+//! a call is given.
+ghost use Rattle.std.specs.Prelude.{◌≡◌, ◌≢◌, true, false};
+ghost use Rattle.runend_array.specs.SessionForm.{is_registered_in, no_thresholds};
+ghost use Rattle.runend_array.specs.declared.session.Kernel.{Kernel};
+
+use std::alloc::Allocator;
+use std::marker::Model;
+
+/// A kernel that serves run columns. Where it is not registered, a column is decoded first; rows,
+/// types, answers and refusals are the same.
+#[derive(Clone, Copy, Debug, PartialEq, Eq)]
+pub enum Kernel {
+    Slice,
+    Filter,
+    Take,
+    TakeFrom,
+    Compare,
+    Cast,
+    FillNull,
+    ScalarFn,
+    Sum,
+    MinMax,
+    IsConstant,
+    IsSorted,
+}
+
+/// By which kernels choose between equal ways. They decide form and cost alone. The default is 0
+/// throughout.
+#[derive(Clone, Copy, Debug, Default, PartialEq, Eq)]
+pub struct Thresholds {
+    /// Runs from which on a bool decoder starts with all rows as the majority of runs.
+    pub prefill_runs: usize,
+    /// Selected rows below which a filter takes rows directly.
+    pub min_run_filter_rows: usize,
+    /// A filter takes rows directly where selected rows times this are fewer than the runs.
+    pub filter_factor: usize,
+    /// Runs for each index up to which a merge serves sorted indices.
+    pub sorted_runs_per_index: usize,
+    /// Rows for each index up to which a table of the runs of all rows serves.
+    pub table_len_per_index: usize,
+    /// Runs from which on indices may be sorted for a merge.
+    pub unsorted_min_runs: usize,
+    /// Runs for each index up to which indices may be sorted for a merge.
+    pub unsorted_runs_per_index: usize,
+}
+
+/// Which kernels are registered, and the thresholds by which they choose.
+#[derive(Drop)]
+pub struct VortexSession {
+    registered: [bool; 12],
+    thresholds: Thresholds,
+}
+
+impl Model for VortexSession {
+    ghost use Rattle.runend_array.specs.SessionForm.{SessionForm};
+
+    ghost Value = { SessionForm };
+
+    ghost view = { λ s. record { flags = s.registered; thresholds = s.thresholds } };
+}
+
+impl VortexSession {
+    /// A session with no kernel, whose thresholds are all 0.
+    pub fn empty() -> Self
+        ensures none { (k : Kernel) → is_registered_in result k ≡ false }
+        ensures thresholds { result.thresholds ≡ no_thresholds }
+    {
+        VortexSession {
+            registered: [false; 12],
+            thresholds: Thresholds::default(),
+        }
+    }
+
+    /// Registers the kernel, which may be registered already. The thresholds and the other kernels
+    /// stay as they are.
+    pub fn register(&mut self, kernel: Kernel)
+        ensures registered { is_registered_in self.new kernel ≡ true }
+        ensures others { (k : Kernel) → k ≢ kernel → is_registered_in self.new k ≡ is_registered_in self.old k }
+        ensures thresholds { self.new.thresholds ≡ self.old.thresholds }
+    {
+        self.registered[kernel as usize] = true;
+    }
+
+    /// Whether the kernel is registered.
+    pub fn is_registered(&self, kernel: Kernel) -> bool
+        ensures { result ≡ is_registered_in self.now kernel }
+    {
+        self.registered[kernel as usize]
+    }
+
+    /// The thresholds by which kernels choose.
+    pub fn thresholds(&self) -> Thresholds
+        ensures { result ≡ self.now.thresholds }
+    {
+        self.thresholds
+    }
+
+    /// Sets the thresholds. Each kernel stays registered or not.
+    pub fn set_thresholds(&mut self, thresholds: Thresholds)
+        ensures set { self.new.thresholds ≡ thresholds }
+        ensures kernels { (k : Kernel) → is_registered_in self.new k ≡ is_registered_in self.old k }
+    {
+        self.thresholds = thresholds;
+    }
+}
+
+/// What a call is given: its session, and the allocator of what it makes.
+#[derive(Drop)]
+pub struct ExecutionCtx<A: Allocator> {
+    session: VortexSession,
+    alloc: A,
+}
+
+impl<A: Allocator> Model for ExecutionCtx<A> {
+    ghost use Rattle.runend_array.specs.SessionForm.{SessionForm};
+
+    ghost Value = { SessionForm };
+
+    ghost view = { λ context. context.session };
+}
+
+impl<A: Allocator + Copy> ExecutionCtx<A> {
+    ghost use Rattle.std.specs.Prelude.{◌≡◌};
+    ghost use Rattle.std.specs.Borrow.{sem};
+    ghost use Rattle.runend_array.specs.SessionLends.{lends_session};
+
+    /// A context of this session, whose calls take memory from `alloc`.
+    pub fn new(session: VortexSession, alloc: A) -> Self
+        ensures { result ≡ session }
+    {
+        ExecutionCtx { session, alloc }
+    }
+
+    /// The session.
+    pub fn session(&self) -> &VortexSession
+        ensures { result.now ≡ self.now }
+    {
+        &self.session
+    }
+
+    /// The session, to be changed: the context has it as it was last written.
+    pub fn session_mut(&mut self) -> &mut VortexSession
+        ensures* writes_back { sem 𝓛 (lends_session A.row A.Allocator self.entry result) }
+        ensures value { result.now ≡ self.old }
+    {
+        &mut self.session
+    }
+
+    /// The allocator.
+    pub fn allocator(&self) -> &A {
+        &self.alloc
+    }
+}

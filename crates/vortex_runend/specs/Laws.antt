@@ -1,0 +1,29 @@
+-- The laws of encodings, stated over lists of optional values, so of whole numbers too.
+use Rattle.std.specs.Prelude.{◌≡◌, ◌≢◌, ◌+◌, ◌≤◌, ◌↔◌, ℕ, List, Option, Some, length, slice_get}
+use Rattle.column_core.specs.Value.{Value}
+use Rattle.runend_array.specs.Cover.{Covers, IsTightCover}
+
+-- two tight exact covers of a list have equal ends and equal optional values
+abbrev pub TightCoverIsUnique : Type 0
+TightCoverIsUnique = (rows : List (Option Value)) (ends ends' : List ℕ) (values values' : List (Option Value))
+    → IsTightCover rows ends values → IsTightCover rows ends' values' → (ends ≡ ends') × (values ≡ values')
+
+-- no cover of a list, whatever its offset and whatever it hides, has fewer runs than a tight exact cover
+abbrev pub NoCoverIsShorter : Type 0
+NoCoverIsShorter = (rows : List (Option Value)) (ends ends' : List ℕ) (values values' : List (Option Value)) (offset count : ℕ)
+    → IsTightCover rows ends values → Covers rows ends' values' offset count → length ends ≤ length ends'
+
+-- two lists are equal exactly where their tight exact covers have equal ends and equal optional values
+abbrev pub EqualListsEqualEncodings : Type 0
+EqualListsEqualEncodings = (rows rows' : List (Option Value)) (ends ends' : List ℕ) (values values' : List (Option Value))
+    → IsTightCover rows ends values → IsTightCover rows' ends' values' → (rows ≡ rows') ↔ ((ends ≡ ends') × (values ≡ values'))
+
+-- neighbouring values of a tight exact cover differ, null being equal to null
+abbrev pub NeighboursDiffer : Type 0
+NeighboursDiffer = (rows : List (Option Value)) (ends : List ℕ) (values : List (Option Value)) (k : ℕ) (value next : Option Value)
+    → IsTightCover rows ends values → slice_get values k ≡ Some value → slice_get values (k + 1) ≡ Some next → value ≢ next
+
+-- what a tight exact cover of a list shows is the list
+abbrev pub DecodingAnEncoding : Type 0
+DecodingAnEncoding = (rows rows' : List (Option Value)) (ends : List ℕ) (values : List (Option Value))
+    → IsTightCover rows ends values → Covers rows' ends values 0 (length rows) → rows' ≡ rows

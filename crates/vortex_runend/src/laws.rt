@@ -1,0 +1,59 @@
+//! The laws of encodings, each proved of every list of optional values, so of whole numbers too.
+//!
+//! An encoding of a list is its tight exact cover: runs of which none is empty, none can be joined
+//! with the next, and none is hidden. But for the last, each function here does nothing: its clause is
+//! the law.
+ghost use Rattle.std.specs.Prelude.{◌≡◌, IfOk, IsOkUnless};
+ghost use Rattle.runend_array.specs.Array.{column_of, dtype_of, rows};
+ghost use Rattle.runend_array.specs.Encoding.{IsPlainNumbers};
+ghost use Rattle.vortex_runend.specs.Laws.{DecodingAnEncoding, EqualListsEqualEncodings, NeighboursDiffer, NoCoverIsShorter, TightCoverIsUnique};
+
+use runend_array::{ArrayRef, ExecutionCtx, RunEnd, VortexError, VortexResult};
+use std::alloc::Allocator;
+
+/// A list has one encoding: two tight exact covers of it have equal ends and equal values.
+/// For compressors: whichever way an encoder goes about it, the runs that it finds are the same.
+pub fn tight_cover_is_unique()
+    ensures { TightCoverIsUnique }
+{}
+
+/// No cover of a list has fewer runs than its encoding, whatever rows that cover hides and wherever it starts.
+/// For compressors: no other choice of runs stores the list in fewer.
+pub fn no_cover_is_shorter()
+    ensures { NoCoverIsShorter }
+{}
+
+/// Two lists are equal exactly where their encodings have equal ends and equal values.
+/// For compressors and group-by: lists can be compared by their encodings, with no decoding.
+pub fn equal_lists_equal_encodings()
+    ensures { EqualListsEqualEncodings }
+{}
+
+/// The values of neighbouring runs of an encoding differ, null being equal to null.
+/// For group-by: each run begins a new group, so groups of neighbouring rows are the runs.
+pub fn neighbours_differ()
+    ensures { NeighboursDiffer }
+{}
+
+/// What the encoding of a list decodes to is the list.
+/// For compressors: encoding loses no row, no order of rows and no null.
+pub fn decoding_an_encoding()
+    ensures { DecodingAnEncoding }
+{}
+
+/// Encodes a plain column of whole numbers, of any of the eight types, and decodes what comes out: the
+/// rows and the type are those of the column. Refused as `OutOfMemory` alone. For compressors.
+pub fn encode_then_decode<A: Allocator + Copy>(
+    array: ArrayRef<A>,
+    ctx: &mut ExecutionCtx<A>,
+) -> VortexResult<ArrayRef<A>>
+    requires { IsPlainNumbers (column_of array) }
+    ensures only { IsOkUnless result VortexError.OutOfMemory }
+    ensures rows { IfOk result (λ decoded. rows decoded ≡ rows array) }
+    ensures dtype { IfOk result (λ decoded. dtype_of decoded ≡ dtype_of array) }
+    ensures session { ctx.new ≡ ctx.old }
+{
+    let runs = RunEnd::encode(array, ctx)?;
+    let runs = Box::new(*ctx.allocator(), runs)?;
+    ArrayRef::RunEnd(runs).canonicalize(ctx)
+}
