@@ -168,14 +168,17 @@ fn number_view<A: Allocator>(values: &PrimitiveValues<A>, index: usize) -> Scala
 #[cfg(test)]
 mod tests {
     use super::*;
-    use column_base::BitBuffer;
+    use column_base::BitBufferMut;
     use std::test::Fail;
 
     #[test]
     fn clone_keeps_numbers_and_nulls(rt: HostRuntime) -> Result<(), Fail> {
         let numbers = Vec::from_slice(rt.alloc(), &[-7i64, 0, 5])?;
-        let flags = Vec::from_slice(rt.alloc(), &[true, false, true])?;
-        let validity = Validity::Bits(BitBuffer::from_vec(flags));
+        let mut flags = BitBufferMut::with_capacity(rt.alloc(), 3)?;
+        for flag in [true, false, true] {
+            flags.append(flag)?;
+        }
+        let validity = Validity::Bits(flags.freeze());
         let array = PrimitiveArray::try_new(PrimitiveValues::I64(numbers), validity)?;
         let copy = array.try_clone(rt.alloc())?;
         assert_eq!(rt; copy.len(), 3);

@@ -1,5 +1,5 @@
 -- Numbers as a computed column stores them: 0 under null.
-use Rattle.std.proofs.Common.{◌≡◌, ◌≢◌, ℕ, ℤ, pos, zero, suc, ◌<◌, get_or, List, [], ◌∷◌, ◌++◌, Bool, true, false, not, Option, Some, None, if◌then◌else◌, length, map, replicate, refl, sym, ◌∙◌, ap, arith}
+use Rattle.std.proofs.Common.{◌≡◌, ◌≢◌, ℕ, ℤ, pos, zero, suc, ◌<◌, get_or, List, [], ◌∷◌, ◌++◌, Bool, true, false, not, Option, Some, None, if◌then◌else◌, length, map, replicate, refl, sym, ◌∙◌, ap, arith, min, ◌+◌, ◌-◌}
 use Rattle.std.specs.Prelude.{unsigned_abs, unwrap_or, slice_index, All, IsSome}
 use Rattle.std.specs.List.{slice_get}
 use Rattle.std.specs.Option.{option_map, option_eq, is_some, UnwrapsOrElse}
@@ -12,7 +12,9 @@ use Rattle.column_base.specs.ValidityForm.{ValidityForm, HasLength, flags, flag_
 use Rattle.column_base.proofs.ValidityRows.{flags-at, length-flags}
 use Rattle.column_core.specs.PrimitiveForm.{optionals, AreZeroAtNulls}
 use Rattle.column_core.proofs.OptionalRows.{length-optionals, optionals-at, null-at}
+use Rattle.runend_array.specs.Window.{IsWindow}
 use Rattle.runend_array.specs.Encoding.{stored_numbers}
+use Rattle.runend_array.proofs.Decoded.{Decoded, Decoded-next}
 
 -- optional values that compare equal have one number, and others do not
 same-from_option_eq : {S : Type 0} (eq : S → S → Bool) (cmp : S → S → Ordering) (is_default : S → Type 0) (number : S → ℤ) → IsNumbered eq cmp is_default number
@@ -148,6 +150,10 @@ length-stored_numbers number xs form fits =
     let paired = length-flags form (length xs) fits in
     length-map rows (λ (o : Option ℤ). unwrap_or o (pos 0)) ∙ length-optionals (map number xs) (flags form (length xs)) (omega arith) ∙ long
 
+-- the flag of a row, as it is read
+pub flags-read : (form : ValidityForm) (n row : ℕ) (flag : Bool) → HasLength form n → row < n → flag ≡ flag_at form row → slice_get (flags form n) row ≡ Some flag
+flags-read form n row flag fits within read = flags-at form n row fits within ∙ ap Some (sym read)
+
 -- what a row shows, by its flag
 pub optionals-valid : {S : Type 0} (number : S → ℤ) (items : List S) (form : ValidityForm) (row : ℕ) (x : S) → HasLength form (length items) → row < length items
     → x ≡ get_or items row x → flag_at form row ≡ true → slice_get (optionals (map number items) (flags form (length items))) row ≡ Some (Some (number x))
@@ -162,3 +168,12 @@ pub optionals-null : {S : Type 0} (number : S → ℤ) (items : List S) (form : 
 optionals-null number items form row fits within null =
     let long = length-map items number in
     null-at (map number items) (flags form (length items)) row (omega arith) (flags-at form (length items) row fits within ∙ ap Some null)
+
+-- a run's number is repeated up to where the run reaches
+pub Decoded-next_mapped : {S : Type 0} (number : S → ℤ) (ends : List ℕ) (values : List ℤ) (offset count run : ℕ) (rows : List S) (x : S) (reach : ℕ) → IsWindow ends offset count
+    → run < length ends → slice_get values run ≡ Some (number x) → reach ≡ min (slice_index ends run - offset) count → (written : List S)
+    → written ≡ rows ++ replicate (reach - length rows) x → Decoded ends values offset count run (map number rows) → Decoded ends values offset count (run + 1) (map number written)
+Decoded-next_mapped number ends values offset count run rows x reach window within value reached written appended decoded =
+    let counted = length-map rows number in
+    rw (appended, map-append_copies number rows (reach - length rows) x)
+    (Decoded-next ends values offset count run (map number rows) (number x) (reach - length rows) window within value (omega arith) decoded)

@@ -1,10 +1,10 @@
-use Rattle.std.proofs.Common.{◌≡◌, ◌-◌, ◌<◌, length, map, min, sym, ◌∙◌, ap, arith, Some}
+use Rattle.std.proofs.Common.{◌≡◌, ◌-◌, ◌<◌, length, map, min, sym, ◌∙◌, arith}
 use Rattle.std.specs.Prelude.{slice_index, unsigned_abs}
 use Rattle.column_base.specs.ValidityForm.{flags}
 use Rattle.column_base.specs.Validity.{form_of}
-use Rattle.column_base.proofs.ValidityRows.{flags-at, length-flags}
+use Rattle.column_base.proofs.ValidityRows.{length-flags}
 use Rattle.runend_array.proofs.Decoded.{Decoded-next, Decoded-all}
-use Rattle.runend_array.proofs.StoredNumbers.{length-naturals}
+use Rattle.runend_array.proofs.StoredNumbers.{flags-read, length-naturals}
 use Rattle.runend_array.proofs.compress.decode.decode_flags.Goals as goal
 
 pub loop-run-preserved : goal.loop-run-preserved
@@ -14,7 +14,7 @@ loop-run-preserved g c =
     let n = length c.args.ends.now in
     let form = form_of c.args.validity.now in
     let run = c.loop-run.run in
-    let value = flags-at form n run c.requires.fits c.loop-run-test.true ∙ ap Some (sym c.is_valid.ensures) in
+    let value = flags-read form n run c.is_valid.result c.requires.fits c.loop-run-test.true c.is_valid.ensures in
     let missing = c.saturating_sub-missing.result in
     let copies : missing ≡ min (slice_index ends run - c.args.offset) c.args.count - length c.loop-run.rows = omega (arith, c.reach_of.ensures) in
     let within : run < length ends = omega (arith, length-naturals number c.args.ends.now) in

@@ -1,0 +1,128 @@
+//! Columns made of slices, and what they are compared with.
+use std::alloc::Allocator;
+use std::fmt::Debug;
+use std::process::Abort;
+use vortex_runend::compress::runend_decode_primitive;
+use vortex_runend::{
+    ArrayRef, BitBufferMut, ExecutionCtx, NativePType, PrimitiveArray, RunEnd, RunEndArray,
+    RunEndArrayExt, RunEndArraySlotsExt, RunEndData, ScalarView, Validity, VortexError,
+    VortexResult, VortexSession,
+};
+
+/// A context in which no kernel is registered.
+pub(crate) fn context<A: Allocator + Copy>(alloc: A) -> ExecutionCtx<A> {
+    ExecutionCtx::new(VortexSession::empty(), alloc)
+}
+
+/// A column of a type without null.
+pub(crate) fn required<T: NativePType, A: Allocator + Copy>(
+    alloc: A,
+    items: &[T],
+) -> VortexResult<PrimitiveArray<A>> {
+    PrimitiveArray::try_new(
+        T::wrap(Vec::from_slice(alloc, items)?),
+        Validity::NonNullable,
+    )
+}
+
+/// A column with a bit for each row, null where the flag is false.
+pub(crate) fn nullable<T: NativePType, A: Allocator + Copy>(
+    alloc: A,
+    items: &[T],
+    flags: &[bool],
+) -> VortexResult<PrimitiveArray<A>> {
+    let mut bits = BitBufferMut::with_capacity(alloc, flags.len())?;
+    for flag in flags {
+        bits.append(*flag)?;
+    }
+    let values = T::wrap(Vec::from_slice(alloc, items)?);
+    PrimitiveArray::try_new(values, Validity::Bits(bits.freeze()))
+}
+
+/// The run column of these ends and values, `length` rows from row `offset` on.
+pub(crate) fn run_column<A: Allocator + Copy>(
+    ends: PrimitiveArray<A>,
+    values: ArrayRef<A>,
+    offset: usize,
+    length: usize,
+    ctx: &mut ExecutionCtx<A>,
+) -> VortexResult<ArrayRef<A>> {
+    let ends = ArrayRef::Primitive(ends);
+    let runs = RunEnd::try_new_offset_length(ends, values, offset, length, ctx)?;
+    Ok(ArrayRef::RunEnd(Box::new(*ctx.allocator(), runs)?))
+}
+
+/// What the decoder makes of parts that are valid; else their fault.
+pub(crate) fn decoded<A: Allocator + Copy>(
+    ends: PrimitiveArray<A>,
+    values: PrimitiveArray<A>,
+    offset: usize,
+    length: usize,
+    ctx: &mut ExecutionCtx<A>,
+) -> VortexResult<ArrayRef<A>> {
+    let ends = ArrayRef::Primitive(ends);
+    let values = ArrayRef::Primitive(values);
+    RunEndData::validate_parts(&ends, &values, offset, length, ctx)?;
+    match (ends, values) {
+        (ArrayRef::Primitive(ends), ArrayRef::Primitive(values)) => {
+            if ends.len() != values.len() {
+                return Err(VortexError::Unsupported);
+            }
+            runend_decode_primitive(ends, values, offset, length, ctx)
+        }
+        _ => unreachable!(),
+    }
+}
+
+/// Are the numbers as they are stored of this type, and these?
+pub(crate) fn assert_stored<T: NativePType + Debug, A: Allocator>(
+    rt: &impl Abort,
+    array: &PrimitiveArray<A>,
+    numbers: &[T],
+) {
+    match T::slice_of(array.values()) {
+        Some(items) => assert_eq!(rt; items, numbers),
+        None => panic!(rt; "numbers of another type"),
+    }
+}
+
+/// Are the rows these, of a signed type?
+pub(crate) fn assert_rows<A: Allocator + Copy>(
+    rt: &impl Abort,
+    array: &ArrayRef<A>,
+    rows: &[Option<i64>],
+) {
+    assert_eq!(rt; array.len(), rows.len());
+    for index in 0..rows.len() {
+        let row = match array.scalar_at(index) {
+            Ok(ScalarView::Null) => None,
+            Ok(ScalarView::Signed(number)) => Some(number),
+            _ => panic!(rt; "no signed row at {index}"),
+        };
+        assert_eq!(rt; row, rows[index], "at {index}");
+    }
+}
+
+/// Are the ends of the runs of this type, and these, and their values these?
+pub(crate) fn assert_runs<T: NativePType + Debug, A: Allocator + Copy>(
+    rt: &impl Abort,
+    runs: &RunEndArray<A>,
+    ends: &[T],
+    values: &[Option<i64>],
+) {
+    match runs.ends() {
+        ArrayRef::Primitive(plain) => assert_stored(rt, plain, ends),
+        _ => panic!(rt; "ends that are not flat"),
+    }
+    assert_rows(rt, runs.values(), values);
+}
+
+/// Has the run column this window?
+pub(crate) fn assert_window<A: Allocator + Copy>(
+    rt: &impl Abort,
+    runs: &RunEndArray<A>,
+    offset: usize,
+    length: usize,
+) {
+    assert_eq!(rt; (runs.offset(), runs.len()), (offset, length));
+}

@@ -1,0 +1,3 @@
+pub mod KnownInput
+pub mod WordForms
+pub mod WordSplits
