@@ -60,58 +60,30 @@ fn ends_of_another_type_are_refused(rt: HostRuntime) -> Result<(), Fail> {
 fn the_first_fault_is_told(rt: HostRuntime) -> Result<(), Fail> {
     let signed = fault_of(rt.alloc(), &[2i32, 5, 10], &[1, 2], 0, 10)?;
     assert_eq!(rt; signed, Some(VortexError::EndsNotUnsigned));
-    for (ends, values, offset, length, fault) in [
-        (
-            &[3u32, 3][..],
-            &[1][..],
-            0,
-            3,
-            VortexError::LengthsDiffer { ends: 2, values: 1 },
-        ),
-        (
-            &[2, 5, 10][..],
-            &[1, 2][..],
-            0,
-            10,
-            VortexError::LengthsDiffer { ends: 3, values: 2 },
-        ),
-        (
-            &[][..],
-            &[][..],
-            0,
-            3,
-            VortexError::NoRunsWindow {
-                offset: 0,
-                length: 3,
-            },
-        ),
-        (
-            &[][..],
-            &[][..],
-            1,
-            0,
-            VortexError::NoRunsWindow {
-                offset: 1,
-                length: 0,
-            },
-        ),
-        (
-            &[3, 3][..],
-            &[1, 2][..],
-            0,
-            3,
-            VortexError::EndsNotStrict { run: 1 },
-        ),
-        (
-            &[3, 3][..],
-            &[1, 2][..],
-            usize::MAX,
-            1,
-            VortexError::EndsNotStrict { run: 1 },
-        ),
-    ] {
-        let found = fault_of(rt.alloc(), ends, values, offset, length)?;
-        assert_eq!(rt; found, Some(fault));
+    let one_value = fault_of(rt.alloc(), &[3u32, 3], &[1], 0, 3)?;
+    let fault = VortexError::LengthsDiffer { ends: 2, values: 1 };
+    assert_eq!(rt; one_value, Some(fault));
+    let two_values = fault_of(rt.alloc(), &[2u32, 5, 10], &[1, 2], 0, 10)?;
+    let fault = VortexError::LengthsDiffer { ends: 3, values: 2 };
+    assert_eq!(rt; two_values, Some(fault));
+    Ok(())
+}
+
+#[test]
+fn windows_over_no_runs_are_refused(rt: HostRuntime) -> Result<(), Fail> {
+    let none: [u32; 0] = [];
+    for (offset, length) in [(0, 3), (1, 0)] {
+        let found = fault_of(rt.alloc(), &none, &[], offset, length)?;
+        assert_eq!(rt; found, Some(VortexError::NoRunsWindow { offset, length }));
+    }
+    Ok(())
+}
+
+#[test]
+fn equal_ends_are_told_before_the_window(rt: HostRuntime) -> Result<(), Fail> {
+    for (offset, length) in [(0, 3), (usize::MAX, 1)] {
+        let found = fault_of(rt.alloc(), &[3u32, 3], &[1, 2], offset, length)?;
+        assert_eq!(rt; found, Some(VortexError::EndsNotStrict { run: 1 }));
     }
     Ok(())
 }
