@@ -1,9 +1,11 @@
 -- Lemmas on which rows a validity speaks of, and what it says of each.
-use Rattle.std.proofs.Common.{◌≡◌, ◌<◌, ℕ, Bool, true, false, Some, length, arith}
-use Rattle.std.specs.Prelude.{slice_get, replicate}
+use Rattle.std.proofs.Common.{◌≡◌, ◌<◌, ℕ, List, Bool, refl, subst, true, false, Some, length, arith}
+use Rattle.std.specs.Prelude.{slice_get, replicate, All, ◌↔◌}
 use Rattle.std.proofs.lemmas.List.{get_or-replicate, length-replicate}
+use Rattle.std.proofs.lemmas.List.Elements.{All-replicate}
 use Rattle.std.proofs.lemmas.Option.{slice_get-get_or}
-use Rattle.column_base.specs.ValidityForm.{ValidityForm, NeverNull, NoneNull, AllNull, ByBits, HasLength, HasRow, flags, flag_at}
+use Rattle.column_base.specs.ValidityForm.{ValidityForm, NeverNull, NoneNull, AllNull, ByBits, HasLength, HasRow, flags, flag_at, nullability_in}
+use Rattle.column_base.specs.declared.dtype.Nullability.TheVariants.{NonNullable, Nullable}
 pub use Rattle.column_base.proofs.BitLists.{all_set, none_set}
 
 -- each of n copies is the bit that is copied
@@ -34,3 +36,12 @@ has_row NeverNull n i fits h = tt
 has_row NoneNull n i fits h = tt
 has_row AllNull n i fits h = tt
 has_row (ByBits bits) n i fits h = omega arith
+
+-- a validity of bits that says that no row is null exactly where all bits are true is of a type with null
+pub nullable-of_bits : (form : ValidityForm) (bits : List Bool) → flags form (length bits) ≡ bits → (form ≡ NoneNull) ↔ All (λ bit. bit ≡ true) bits
+    → nullability_in form ≡ Nullable
+nullable-of_bits NeverNull bits flagged valid =
+    let same : NeverNull ≡ NoneNull = valid.1 (subst (λ (bs : List Bool). All (λ bit. bit ≡ true) bs) flagged (All-replicate (λ (bit : Bool). bit ≡ true) (length bits) true refl)) in cc
+nullable-of_bits NoneNull bits flagged valid = refl
+nullable-of_bits AllNull bits flagged valid = refl
+nullable-of_bits (ByBits own) bits flagged valid = refl

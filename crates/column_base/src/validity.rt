@@ -1,5 +1,5 @@
 //! Which rows are there, and which are null.
-ghost use Rattle.std.specs.Prelude.{◌≡◌, ◌<◌, ◌↔◌, true, false, length, All, IfOk, IsOkUnless};
+ghost use Rattle.std.specs.Prelude.{◌≡◌, ◌-◌, ◌<◌, ◌≤◌, ◌↔◌, ℕ, true, false, length, slice_range, All, IfOk, IfSome, IsNone, IsOkUnless};
 ghost use Rattle.column_base.specs.ValidityForm.{NoneNull, AllNull, HasLength, HasRow, IsNormal, flags, flag_at, length_of, nullability_in};
 ghost use Rattle.column_base.specs.Validity.{form_of};
 
@@ -7,6 +7,7 @@ use crate::bits::BitBuffer;
 use crate::dtype::Nullability;
 use crate::error::{VortexError, VortexResult};
 use std::alloc::Allocator;
+use std::ops::Range;
 
 /// Which rows of a column are there, and which are null.
 #[derive(Drop)]
@@ -91,6 +92,27 @@ impl<A: Allocator + Copy> Validity<A> {
             Validity::AllValid => Ok(Validity::AllValid),
             Validity::AllInvalid => Ok(Validity::AllInvalid),
             Validity::Bits(bits) => Ok(Validity::Bits(bits.try_clone(alloc)?)),
+        }
+    }
+
+    /// The validity of the rows from `range.start` to `range.end - 1`, with bits only where it says of
+    /// both kinds of rows that they are there. Refused for want of memory alone.
+    pub fn slice(&self, alloc: A, range: Range<usize>) -> VortexResult<Validity<A>>
+        requires ordered { range.start ≤ range.end }
+        requires in_bounds { IfSome (length_of (form_of self.now)) (λ count. range.end ≤ count) }
+        ensures flags { IfOk result (λ part. (count : ℕ) → HasLength (form_of self.now) count → range.end ≤ count →
+            flags (form_of part) (range.end - range.start) ≡ slice_range (flags (form_of self.now) count) range.start range.end) }
+        ensures fits { IfOk result (λ part. HasLength (form_of part) (range.end - range.start)) }
+        ensures normal { IfOk result (λ part. IsNormal (form_of part)) }
+        ensures without_bits { IfOk result (λ part. IsNone (length_of (form_of self.now)) → form_of part ≡ form_of self.now) }
+        ensures nullability { IfOk result (λ part. nullability_in (form_of part) ≡ nullability_in (form_of self.now)) }
+        ensures only { IsOkUnless result VortexError.OutOfMemory }
+    {
+        match self {
+            Self::NonNullable => Ok(Self::NonNullable),
+            Self::AllValid => Ok(Self::AllValid),
+            Self::AllInvalid => Ok(Self::AllInvalid),
+            Self::Bits(bits) => Ok(Self::from_bits(bits.slice(alloc, range)?)),
         }
     }
 }

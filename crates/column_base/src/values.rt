@@ -1,11 +1,12 @@
 //! Buffers of numbers of one native type.
-ghost use Rattle.std.specs.Prelude.{◌≡◌, ◌<◌, ◌↔◌, Some, [], IsTrue, length, map, slice_get, IfOk, IsOkUnless};
+ghost use Rattle.std.specs.Prelude.{◌≡◌, ◌<◌, ◌≤◌, ◌↔◌, Some, [], IsTrue, length, map, slice_get, slice_range, IfOk, IsOkUnless};
 ghost use Rattle.column_base.specs.Numbers.{numbers, ptype_of};
 
 use crate::dtype::PType;
 use crate::error::{VortexError, VortexResult};
 use crate::native::NativePType;
 use std::alloc::Allocator;
+use std::ops::Range;
 
 /// Numbers of one native type, in order.
 #[derive(Drop)]
@@ -91,6 +92,18 @@ impl<A: Allocator + Copy> PrimitiveValues<A> {
     {
         match_each_native!(self, items => copy_of(alloc, items.as_slice()))
     }
+
+    /// The numbers from `range.start` to `range.end - 1`, of the same type, in memory of their own.
+    /// Refused as `OutOfMemory` alone.
+    pub fn slice(&self, alloc: A, range: Range<usize>) -> VortexResult<PrimitiveValues<A>>
+        requires ordered { range.start ≤ range.end }
+        requires in_bounds { range.end ≤ length (numbers self.now) }
+        ensures only { IsOkUnless result VortexError.OutOfMemory }
+        ensures shows { IfOk result (λ part. numbers part ≡ slice_range (numbers self.now) range.start range.end) }
+        ensures typed { IfOk result (λ part. ptype_of part ≡ ptype_of self.now) }
+    {
+        match_each_native!(self, items => part_of(alloc, items.as_slice(), range.start, range.end))
+    }
 }
 
 fn ptype_of_items<T: NativePType>(_items: &[T]) -> PType
@@ -115,4 +128,21 @@ fn copy_of<T: NativePType, A: Allocator + Copy>(
     ensures typed { IfOk result (λ values. ptype_of values ≡ T.PTYPE) }
 {
     Ok(T::wrap(Vec::from_slice(alloc, items)?))
+}
+
+// The numbers from `start` to `stop - 1`.
+#[tactic(auto, using(crate::proofs::Ranges::slice_range_of_map))]
+fn part_of<T: NativePType, A: Allocator + Copy>(
+    alloc: A,
+    items: &[T],
+    start: usize,
+    stop: usize,
+) -> VortexResult<PrimitiveValues<A>>
+    requires ordered { start ≤ stop }
+    requires in_bounds { stop ≤ length items.now }
+    ensures only { IsOkUnless result VortexError.OutOfMemory }
+    ensures shows { IfOk result (λ part. numbers part ≡ slice_range (map T.number items.now) start stop) }
+    ensures typed { IfOk result (λ part. ptype_of part ≡ T.PTYPE) }
+{
+    copy_of(alloc, &items[start..stop])
 }

@@ -1,9 +1,10 @@
 -- Lemmas on the rows of a column of whole numbers.
-use Rattle.std.proofs.Common.{◌≡◌, ◌∙◌, ◌<◌, ◌≤◌, ℕ, ℤ, pos, zero, suc, List, [], ◌∷◌, ◌++◌, Bool, true, false, Option, Some, None, length, map, refl, sym, ap, arith, get_or}
-use Rattle.std.specs.Prelude.{slice_get, option_map, if◌then◌else◌}
+use Rattle.std.proofs.Common.{◌≡◌, ◌∙◌, ◌-◌, ◌<◌, ◌≤◌, ℕ, ℤ, take, drop, pos, zero, suc, List, [], ◌∷◌, ◌++◌, Bool, true, false, Option, Some, None, length, map, refl, sym, ap, arith, get_or}
+use Rattle.std.specs.Prelude.{slice_get, slice_range, option_map, if◌then◌else◌}
 use Rattle.std.proofs.lemmas.List.{length-map}
 use Rattle.std.proofs.lemmas.Option.{slice_get-map, slice_get-get_or}
-use Rattle.column_base.specs.ValidityForm.{HasLength, flag_at}
+use Rattle.column_base.specs.ValidityForm.{HasLength, flag_at, flags}
+use Rattle.column_base.proofs.Ranges.{length-slice_range, slice_range_of_map}
 use Rattle.column_base.proofs.ValidityRows.{flags-at, length-flags}
 use Rattle.column_core.specs.Value.{FlatValue, Number, Value, Single}
 use Rattle.column_core.specs.PrimitiveForm.{PrimitiveForm, optionals, optional_numbers, primitive_rows, row_flags, AreZeroAtNulls}
@@ -92,3 +93,37 @@ pub null-row : (f : PrimitiveForm) (k : ℕ) → HasLength f.validity (length f.
 null-row f k has within flag =
     let invalid : slice_get (row_flags f) k ≡ Some false = flags-at f.validity (length f.numbers) k has within ∙ ap Some flag in
     value-at f k None (null-at f.numbers (row_flags f) k within invalid)
+
+-- optional numbers from some place on
+optionals-drop : (ns : List ℤ) (bs : List Bool) (k : ℕ) → length bs ≡ length ns → optionals (drop k ns) (drop k bs) ≡ drop k (optionals ns bs)
+optionals-drop [] [] zero h = refl
+optionals-drop [] [] (suc k) h = refl
+optionals-drop [] (b ∷ bs) k h = cc
+optionals-drop (n ∷ ns) [] k h = cc
+optionals-drop (n ∷ ns) (b ∷ bs) zero h = refl
+optionals-drop (n ∷ ns) (b ∷ bs) (suc k) h = optionals-drop ns bs k (omega arith)
+
+-- optional numbers up to some place
+optionals-take : (ns : List ℤ) (bs : List Bool) (k : ℕ) → optionals (take k ns) (take k bs) ≡ take k (optionals ns bs)
+optionals-take ns bs zero = refl
+optionals-take [] bs (suc k) = refl
+optionals-take (n ∷ ns) [] (suc k) = refl
+optionals-take (n ∷ ns) (b ∷ bs) (suc k) = ap (λ os. (if b then Some n else None) ∷ os) (optionals-take ns bs k)
+
+-- a range of optional numbers, of ranges of numbers and flags
+optionals-slice_range : (ns : List ℤ) (bs : List Bool) (start stop : ℕ) → length bs ≡ length ns
+    → optionals (slice_range ns start stop) (slice_range bs start stop) ≡ slice_range (optionals ns bs) start stop
+optionals-slice_range ns bs start stop h = optionals-take (drop start ns) (drop start bs) (stop - start) ∙ ap (take (stop - start)) (optionals-drop ns bs start h)
+
+-- the rows of a range of numbers and flags are a range of the rows
+pub rows-of_range : (whole part : PrimitiveForm) (start stop : ℕ) → start ≤ stop → stop ≤ length whole.numbers → HasLength whole.validity (length whole.numbers)
+    → part.numbers ≡ slice_range whole.numbers start stop → flags part.validity (stop - start) ≡ slice_range (row_flags whole) start stop
+    → primitive_rows part ≡ slice_range (primitive_rows whole) start stop
+rows-of_range whole part start stop ordered within fits stored flagged =
+    let counted : length part.numbers ≡ stop - start = ap length stored ∙ length-slice_range whole.numbers start stop ordered within in
+    let marks : row_flags part ≡ slice_range (row_flags whole) start stop = ap (flags part.validity) counted ∙ flagged in
+    let shown : optional_numbers part ≡ slice_range (optional_numbers whole) start stop =
+    ap (λ (ns : List ℤ). optionals ns (row_flags part)) stored
+    ∙ ap (optionals (slice_range whole.numbers start stop)) marks
+    ∙ optionals-slice_range whole.numbers (row_flags whole) start stop (length-flags whole.validity (length whole.numbers) fits) in
+    ap (map (option_map (λ (n : ℤ). Number n))) shown ∙ sym (slice_range_of_map (option_map (λ (n : ℤ). Number n)) (optional_numbers whole) start stop)

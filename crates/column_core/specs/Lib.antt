@@ -10,3 +10,4 @@ pub mod SameType
 pub mod SameScalar
 pub mod Counted
 pub mod Digits
+pub mod Ranges

@@ -1,14 +1,16 @@
 //! Flat columns of any type.
-ghost use Rattle.std.specs.Prelude.{◌≡◌, ◌<◌, Some, length, map, option_map, slice_get, IfOk, IsOkUnless};
+ghost use Rattle.std.specs.Prelude.{◌≡◌, ◌<◌, ◌↔◌, Some, length, map, option_map, slice_get, slice_range, IfOk, IsErrOf, IsOkUnless};
 ghost use Rattle.column_core.specs.Value.{Single};
 ghost use Rattle.column_core.specs.Leaf.{leaf_rows, leaf_dtype};
 ghost use Rattle.column_core.specs.FlatColumn.{leaf_of};
 ghost use Rattle.column_core.specs.ScalarView.{sees, IsViewOf};
+ghost use Rattle.column_core.specs.Ranges.{IsBadRange};
 
 use crate::primitive::PrimitiveArray;
 use crate::view::ScalarView;
 use column_base::{DType, VortexError, VortexResult};
 use std::alloc::Allocator;
+use std::ops::Range;
 
 /// A column whose rows are stored one by one.
 #[derive(Drop)]
@@ -56,6 +58,24 @@ impl<A: Allocator + Copy> FlatColumn<A> {
     {
         match self {
             FlatColumn::Primitive(array) => Ok(FlatColumn::Primitive(array.try_clone(alloc)?)),
+        }
+    }
+
+    /// The rows from `range.start` to `range.end - 1`, in memory of their own. Refused as `BadRange`,
+    /// with both bounds and the number of rows, exactly where the range begins after its end or ends
+    /// after the last row, and that before any memory is taken; else as `OutOfMemory` alone.
+    pub fn slice(&self, alloc: A, range: Range<usize>) -> VortexResult<FlatColumn<A>>
+        ensures refused { let count = length (leaf_rows (leaf_of self.now)) in
+            IsErrOf result (VortexError.BadRange range.start range.end count) ↔ IsBadRange range.start range.end count }
+        ensures only { ¬ IsBadRange range.start range.end (length (leaf_rows (leaf_of self.now))) → IsOkUnless result VortexError.OutOfMemory }
+        ensures rows { IfOk result (λ part. leaf_rows (leaf_of part) ≡ slice_range (leaf_rows (leaf_of self.now)) range.start range.end) }
+        ensures dtype { IfOk result (λ part. leaf_dtype (leaf_of part) ≡ leaf_dtype (leaf_of self.now)) }
+    {
+        match self {
+            FlatColumn::Primitive(array) => {
+                let part = array.slice(alloc, range)?;
+                Ok(FlatColumn::Primitive(part))
+            }
         }
     }
 }

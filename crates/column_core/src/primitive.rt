@@ -1,13 +1,14 @@
 //! Flat columns of whole numbers.
-ghost use Rattle.std.specs.Prelude.{◌≡◌, ◌≢◌, ◌<◌, ◌↔◌, Some, length, map, option_map, slice_get, IfOk, IfErr, IsOk, IsOkUnless, IsSomeAnd, IsTrue, [], pos};
+ghost use Rattle.std.specs.Prelude.{◌≡◌, ◌≢◌, ◌<◌, ◌↔◌, IsErrOf, slice_range, Some, length, map, option_map, slice_get, IfOk, IfErr, IsOk, IsOkUnless, IsSomeAnd, IsTrue, [], pos};
 ghost use Rattle.column_base.specs.Numbers.{numbers, ptype_of};
 ghost use Rattle.column_base.specs.declared.dtype.Nullability.{Nullability};
 ghost use Rattle.column_base.specs.declared.dtype.DType.TheVariants as column;
-ghost use Rattle.column_base.specs.ValidityForm.{HasLength, length_of};
+ghost use Rattle.column_base.specs.ValidityForm.{HasLength, IsNormal, length_of};
 ghost use Rattle.column_base.specs.Validity.{form_of};
 ghost use Rattle.column_core.specs.Value.{Single, Number};
 ghost use Rattle.column_core.specs.PrimitiveForm.{primitive_dtype, primitive_rows};
 ghost use Rattle.column_core.specs.Primitive.{primitive_of};
+ghost use Rattle.column_core.specs.Ranges.{IsBadRange};
 ghost use Rattle.column_core.specs.ScalarView.{sees, IsViewOf};
 
 use crate::view::ScalarView;
@@ -16,6 +17,7 @@ use column_base::{
 };
 use std::alloc::Allocator;
 use std::marker::Model;
+use std::ops::Range;
 
 /// Whole numbers of one native type, of which some rows may be null. Under null a number is stored
 /// that no row shows.
@@ -143,6 +145,32 @@ impl<A: Allocator + Copy> PrimitiveArray<A> {
     {
         let values = self.values.try_clone(alloc)?;
         let validity = self.validity.try_clone(alloc)?;
+        Ok(PrimitiveArray { values, validity })
+    }
+
+    /// The rows from `range.start` to `range.end - 1`, with the numbers as they are stored, in memory
+    /// of their own. Refused as `BadRange`, with both bounds and the number of rows, exactly where the
+    /// range begins after its end or ends after the last row, and that before any memory is taken;
+    /// else as `OutOfMemory` alone.
+    pub fn slice(&self, alloc: A, range: Range<usize>) -> VortexResult<PrimitiveArray<A>>
+        ensures refused { let count = length (primitive_rows self.now) in
+            IsErrOf result (VortexError.BadRange range.start range.end count) ↔ IsBadRange range.start range.end count }
+        ensures only { ¬ IsBadRange range.start range.end (length (primitive_rows self.now)) → IsOkUnless result VortexError.OutOfMemory }
+        ensures rows { IfOk result (λ part. primitive_rows part ≡ slice_range (primitive_rows self.now) range.start range.end) }
+        ensures dtype { IfOk result (λ part. primitive_dtype part ≡ primitive_dtype self.now) }
+        ensures stored { IfOk result (λ part. part.numbers ≡ slice_range self.now.numbers range.start range.end) }
+        ensures normal { IfOk result (λ part. IsNormal part.validity) }
+    {
+        let length = self.len();
+        if range.start > range.end || range.end > length {
+            return Err(VortexError::BadRange {
+                start: range.start,
+                stop: range.end,
+                length,
+            });
+        }
+        let values = self.values.slice(alloc, range.start..range.end)?;
+        let validity = self.validity.slice(alloc, range)?;
         Ok(PrimitiveArray { values, validity })
     }
 }

@@ -1,8 +1,10 @@
 //! Columns made of slices, and what they are compared with.
 use std::alloc::Allocator;
 use std::fmt::Debug;
+use std::ops::Range;
 use std::process::Abort;
 use vortex_runend::compress::runend_decode_primitive;
+use vortex_runend::compute::slice;
 use vortex_runend::{
     ArrayRef, BitBufferMut, ExecutionCtx, NativePType, PrimitiveArray, RunEnd, RunEndArray,
     RunEndArrayExt, RunEndArraySlotsExt, RunEndData, ScalarView, Validity, VortexError,
@@ -74,6 +76,18 @@ pub(crate) fn decoded<A: Allocator + Copy>(
     }
 }
 
+/// A slice of a run column.
+pub(crate) fn sliced<A: Allocator + Copy>(
+    array: &ArrayRef<A>,
+    range: Range<usize>,
+    ctx: &mut ExecutionCtx<A>,
+) -> VortexResult<ArrayRef<A>> {
+    match array {
+        ArrayRef::RunEnd(runs) => slice(runs, range, ctx),
+        _ => Err(VortexError::Unsupported),
+    }
+}
+
 /// Are the numbers as they are stored of this type, and these?
 pub(crate) fn assert_stored<T: NativePType + Debug, A: Allocator>(
     rt: &impl Abort,
@@ -125,4 +139,23 @@ pub(crate) fn assert_window<A: Allocator + Copy>(
     length: usize,
 ) {
     assert_eq!(rt; (runs.offset(), runs.len()), (offset, length));
+}
+
+/// Is it a run column with these ends, values and rows, from this offset on?
+pub(crate) fn assert_run_column<T: NativePType + Debug, A: Allocator + Copy>(
+    rt: &impl Abort,
+    array: &ArrayRef<A>,
+    ends: &[T],
+    values: &[Option<i64>],
+    offset: usize,
+    rows: &[Option<i64>],
+) {
+    match array {
+        ArrayRef::RunEnd(runs) => {
+            assert_runs(rt, runs, ends, values);
+            assert_window(rt, runs, offset, rows.len());
+        }
+        _ => panic!(rt; "no run column"),
+    }
+    assert_rows(rt, array, rows);
 }

@@ -1,4 +1,4 @@
-//! Tests of worked vectors that cross crates: columns are encoded, decoded, searched and refused, and
+//! Tests of worked vectors that cross crates: columns are encoded, decoded, sliced, searched and refused, and
 //! the rows, ends and faults that come out are compared with those worked out by hand.
 #![tactic(auto)]
 
@@ -12,5 +12,9 @@ mod encode;
 mod lookups;
 #[cfg(test)]
 mod memory;
+#[cfg(test)]
+mod probes;
+#[cfg(test)]
+mod slices;
 #[cfg(test)]
 mod windows;

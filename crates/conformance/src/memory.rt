@@ -1,6 +1,6 @@
 //! What is answered where memory is refused, at each request in turn.
 use crate::columns::{
-    assert_rows, assert_stored, context, decoded, nullable, required, run_column,
+    assert_rows, assert_stored, context, decoded, nullable, required, run_column, sliced,
 };
 use refusing::Refusing;
 use std::alloc::Allocator;
@@ -96,6 +96,31 @@ fn canonicalize_refused_at_each_request(rt: HostRuntime) -> Result<(), Fail> {
             Ok(flat) => {
                 assert_eq!(rt; heap.refused(), 0);
                 assert_rows(&rt, &flat, &DECODED);
+                break;
+            }
+            Err(error) => {
+                assert_eq!(rt; error, VortexError::OutOfMemory);
+                last = first;
+            }
+        }
+    }
+    assert!(rt; last >= 1);
+    Ok(())
+}
+
+#[test]
+fn slice_refused_at_each_request(rt: HostRuntime) -> Result<(), Fail> {
+    let ample = Refusing::never(rt.alloc());
+    let mut last = 0;
+    for first in 1..100u64 {
+        let heap = Refusing::from(rt.alloc(), first);
+        let column = runs_with_null(&ample)?;
+        let part = sliced(&column, 2..7, &mut context(&heap));
+        assert_rows(&rt, &column, &DECODED);
+        match part {
+            Ok(part) => {
+                assert_eq!(rt; heap.refused(), 0);
+                assert_rows(&rt, &part, &DECODED[2..7]);
                 break;
             }
             Err(error) => {

@@ -16,3 +16,4 @@ pub mod Widths
 pub mod FlatColumns
 pub mod WrittenConstants
 pub mod Encodings
+pub mod Narrowed

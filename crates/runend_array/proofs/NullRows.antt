@@ -15,6 +15,7 @@ use Rattle.column_core.specs.Value.{FlatValue, Number, Value, Single, MayBeNull}
 use Rattle.column_core.specs.PrimitiveForm.{PrimitiveForm, optionals, row_flags}
 use Rattle.column_core.proofs.OptionalRows.{length-primitive_rows}
 use Rattle.runend_array.specs.Encoding.{HasNullsAlone, number_rows}
+pub use Rattle.column_base.proofs.ValidityRows.{nullable-of_bits}
 
 -- each optional number as a value of a row
 abbrev pub values_of : List (Option ℤ) → List (Option Value)
@@ -23,17 +24,6 @@ values_of numbers = map (option_map (λ (v : FlatValue). Single v)) (map (option
 -- there is a row for each number
 pub length-number_rows : (form : PrimitiveForm) → HasLength form.validity (length form.numbers) → length (number_rows form) ≡ length form.numbers
 length-number_rows form fits = length-map _ (option_map (λ (v : FlatValue). Single v)) ∙ length-primitive_rows form fits
-
--- flags that bits give leave room for null
-pub nullable-of_bits : (form : ValidityForm) (bits : List Bool) → flags form (length bits) ≡ bits → ((form ≡ NoneNull) ↔ All (λ flag. flag ≡ true) bits)
-    → nullability_in form ≡ Nullable
-nullable-of_bits NeverNull bits same valid =
-    let all = All-same (λ flag. flag ≡ true) bits (replicate (length bits) true) (sym same) (All-replicate (λ flag. flag ≡ true) (length bits) true refl) in
-    let other = valid.1 all in
-    cc
-nullable-of_bits NoneNull bits same valid = refl
-nullable-of_bits AllNull bits same valid = refl
-nullable-of_bits (ByBits own) bits same valid = refl
 
 -- rows are all null exactly where no flag is true
 nulls-from_flags : (numbers : List ℤ) (bits : List Bool) → length bits ≡ length numbers → All (λ flag. flag ≡ false) bits → All (λ v. v ≡ None) (values_of (optionals numbers bits))

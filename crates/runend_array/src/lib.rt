@@ -6,6 +6,7 @@ mod array_ref;
 pub mod compress;
 mod constant;
 pub mod ops;
+mod probe;
 mod session;
 mod validate;
 
@@ -20,4 +21,5 @@ pub use column_core::{
     ScalarView, SetIndices, UnsignedPType, Validity, VortexError, VortexResult,
 };
 pub use constant::ConstantArray;
+pub use probe::RunEndProbe;
 pub use session::{ExecutionCtx, Kernel, Thresholds, VortexSession};

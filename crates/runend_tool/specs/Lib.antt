@@ -1,2 +1,4 @@
 pub mod Words
 pub mod Parse
+pub mod Slices
+pub mod Listed

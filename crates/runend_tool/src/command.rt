@@ -1,7 +1,10 @@
 //! The commands of the script.
-use crate::parse::{parse_count, parse_type};
+use crate::parse::{parse_count, parse_ptype, parse_type};
 use crate::words::Words;
 use column_base::{Nullability, PType};
+
+/// The word between the ends and the values of a `runs` line.
+pub const SLASH: &str = "/";
 
 /// What a line of the script says.
 #[derive(Clone, Copy)]
@@ -19,6 +22,8 @@ pub enum Line<'a> {
 pub enum Command<'a> {
     /// A flat column of the listed rows replaces the column. The words are yet to be read.
     Col(PType, Nullability, Words<'a>),
+    /// A run column of the listed runs replaces the column. The words are yet to be read.
+    Runs(RunsLine<'a>),
     /// The column is written as runs.
     Encode,
     /// The column is written row by row.
@@ -29,9 +34,30 @@ pub enum Command<'a> {
     Rows,
     /// The row of this number, counted from 0, is shown.
     At(u64),
+    /// The rows from the first number to before the second, counted from 0, replace the column.
+    Slice(u64, u64),
 }
 
-/// What the line says. The words behind the type of a `col` line are not looked at.
+/// What a `runs` line says of the run column.
+#[derive(Clone, Copy)]
+pub struct RunsLine<'a> {
+    /// The type of the rows: of what numbers, and whether null is among them.
+    pub ptype: PType,
+    pub nullability: Nullability,
+    /// Of what numbers the ends are.
+    pub ends_ptype: PType,
+    /// How many rows of the runs lie before the window.
+    pub offset: u64,
+    /// How many rows the window has.
+    pub length: u64,
+    /// The words from the first end on. The ends stop before the first slash.
+    pub ends: Words<'a>,
+    /// The words behind that slash, the values.
+    pub values: Words<'a>,
+}
+
+/// What the line says. The words behind the type of a `col` line are not looked at, nor are the ends
+/// and values of a `runs` line.
 pub fn read_line(line: &str) -> Line<'_> {
     let mut words = Words::new(line);
     let Some(name) = words.next() else {
@@ -50,6 +76,7 @@ fn read_command<'a>(name: &str, mut words: Words<'a>) -> Option<Command<'a>> {
             let (ptype, nullability) = parse_type(words.next()?)?;
             Some(Command::Col(ptype, nullability, words))
         }
+        "runs" => read_runs(words),
         "encode" => ended(words, Command::Encode),
         "decode" => ended(words, Command::Decode),
         "show" => ended(words, Command::Show),
@@ -58,8 +85,32 @@ fn read_command<'a>(name: &str, mut words: Words<'a>) -> Option<Command<'a>> {
             let index = parse_count(words.next()?)?;
             ended(words, Command::At(index))
         }
+        "slice" => {
+            let start = parse_count(words.next()?)?;
+            let stop = parse_count(words.next()?)?;
+            ended(words, Command::Slice(start, stop))
+        }
         _ => None,
     }
+}
+
+// The command of a `runs` line with these words. A slash parts the ends from the values.
+fn read_runs(mut words: Words<'_>) -> Option<Command<'_>> {
+    let (ptype, nullability) = parse_type(words.next()?)?;
+    let ends_ptype = parse_ptype(words.next()?)?;
+    let offset = parse_count(words.next()?)?;
+    let length = parse_count(words.next()?)?;
+    let ends = words;
+    let _slash = words.find(|word| *word == SLASH)?;
+    Some(Command::Runs(RunsLine {
+        ptype,
+        nullability,
+        ends_ptype,
+        offset,
+        length,
+        ends,
+        values: words,
+    }))
 }
 
 // The command, where no word is left.

@@ -1,10 +1,16 @@
 //! Runs a script of commands on one column.
-ghost use Rattle.std.specs.Prelude.{◌≡◌, IsOkUnless, OnErr};
+ghost use Rattle.std.specs.Prelude.{◌≡◌, ◌⊎◌, IfOk, IfSome, IsOkUnless, MatchResult, OnErr};
+ghost use Rattle.std.specs.Iterator.{IsFinite};
+ghost use Rattle.runend_array.specs.Array.{column_of};
+ghost use Rattle.runend_array.specs.Column.{AreParts, column_of_runs, runs_of};
+ghost use Rattle.runend_array.specs.Fault.{PartsFault};
+ghost use Rattle.runend_tool.specs.Listed.{AreRunsOf, IsFlatOf};
 
 use crate::answer::{form_line, refusal_line, rows_line, value_line};
-use crate::command::{Command, Line, read_line};
+use crate::command::{Command, Line, RunsLine, SLASH, read_line};
+use crate::slices::part_of;
 use crate::values::read_values;
-use column_base::{VortexError, VortexResult};
+use column_base::{Nullability, PType, VortexError, VortexResult};
 use std::alloc::Allocator;
 use vortex_runend::{ArrayRef, ExecutionCtx, PrimitiveArray, RunEnd};
 
@@ -96,18 +102,84 @@ fn perform<A: Allocator + Copy>(
     ensures kept { OnErr result (column.new ≡ column.old) }
     ensures session { ctx.new ≡ ctx.old }
 {
-    if let Command::Col(ptype, nullability, words) = command {
-        let Some(listed) = read_values(*ctx.allocator(), ptype, nullability, words)? else {
-            return Ok(Reply::Bad);
-        };
-        let array = PrimitiveArray::new_unchecked(listed.numbers, listed.validity);
-        *column = Some(ArrayRef::Primitive(array));
-        return Ok(Reply::Done);
-    }
-    match column {
-        Some(array) => perform_on(command, array, ctx),
-        None => Ok(Reply::Bad),
-    }
+    let made = match command {
+        Command::Col(ptype, nullability, words) => {
+            plain_of(*ctx.allocator(), ptype, nullability, words)?
+        }
+        Command::Runs(line) => runs_of_line(line, ctx)?,
+        _ => {
+            return match column {
+                Some(array) => perform_on(command, array, ctx),
+                None => Ok(Reply::Bad),
+            };
+        }
+    };
+    let Some(array) = made else {
+        return Ok(Reply::Bad);
+    };
+    *column = Some(array);
+    Ok(Reply::Done)
+}
+
+// The flat column of the rows that the words stand for, or `None` where a word stands for none.
+fn plain_of<'a, I: Iterator<Item = &'a str> + Drop, A: Allocator + Copy>(
+    alloc: A,
+    ptype: PType,
+    nullability: Nullability,
+    words: I,
+) -> VortexResult<Option<ArrayRef<A>>>
+    requires can { I.can_next words }
+    requires finite { IsFinite (I.remaining words) }
+    ensures only { IsOkUnless result VortexError.OutOfMemory }
+    ensures flat { IfOk result (λ made. IfSome made (λ array. IsFlatOf ptype (column_of array))) }
+{
+    let Some(listed) = read_values(alloc, ptype, nullability, words)? else {
+        return Ok(None);
+    };
+    let array = PrimitiveArray::new_unchecked(listed.numbers, listed.validity);
+    Ok(Some(ArrayRef::Primitive(array)))
+}
+
+// The run column of the line, or `None` where a word of it stands for no end or no row. Refused as
+// `try_new_offset_length` is, and as `OutOfMemory`.
+fn runs_of_line<A: Allocator + Copy>(
+    line: RunsLine<'_>,
+    ctx: &mut ExecutionCtx<A>,
+) -> VortexResult<Option<ArrayRef<A>>>
+    ensures runs { IfOk result (λ made. IfSome made
+        (λ array. AreRunsOf line.entry.ptype line.entry.ends_ptype line.entry.offset line.entry.length (column_of array))) }
+    ensures session { ctx.new ≡ ctx.old }
+{
+    let alloc = *ctx.allocator();
+    let words = line.ends.take_while(|word| *word != SLASH);
+    let Some(ends) = plain_of(alloc, line.ends_ptype, Nullability::NonNullable, words)? else {
+        return Ok(None);
+    };
+    let Some(values) = plain_of(alloc, line.ptype, line.nullability, line.values)? else {
+        return Ok(None);
+    };
+    let offset = line.offset as usize;
+    let length = line.length as usize;
+    let array = runs_of_parts(ends, values, offset, length, ctx)?;
+    Ok(Some(array))
+}
+
+// The run column of these parts. Refused as `try_new_offset_length` is, and as `OutOfMemory`.
+fn runs_of_parts<A: Allocator + Copy>(
+    ends: ArrayRef<A>,
+    values: ArrayRef<A>,
+    offset: usize,
+    length: usize,
+    ctx: &mut ExecutionCtx<A>,
+) -> VortexResult<ArrayRef<A>>
+    ensures parts { MatchResult result
+        (λ array. AreParts (column_of ends) (column_of values) offset length × (column_of array ≡ column_of_runs (runs_of (column_of ends) (column_of values) offset length)))
+        (λ error. (error ≡ VortexError.OutOfMemory) ⊎ PartsFault (column_of ends) (column_of values) offset length error) }
+    ensures session { ctx.new ≡ ctx.old }
+{
+    let runs = RunEnd::try_new_offset_length(ends, values, offset, length, ctx)?;
+    let boxed = Box::new(*ctx.allocator(), runs)?;
+    Ok(ArrayRef::RunEnd(boxed))
 }
 
 // Does the command on the column that stands.
@@ -134,7 +206,11 @@ fn perform_on<A: Allocator + Copy>(
             let row = column.scalar_at(index as usize)?;
             Ok(Reply::Line(value_line(*ctx.allocator(), row)?))
         }
-        Command::Col(_, _, _) => Ok(Reply::Bad),
+        Command::Slice(start, stop) => {
+            *column = part_of(column, start as usize..stop as usize, ctx)?;
+            Ok(Reply::Done)
+        }
+        Command::Col(_, _, _) | Command::Runs(_) => Ok(Reply::Bad),
     }
 }
 

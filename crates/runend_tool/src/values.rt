@@ -1,11 +1,11 @@
 //! The values that a line of the script lists.
 ghost use Rattle.std.specs.Prelude.{◌≡◌, length, IfOk, IfSome, IsOkUnless};
+ghost use Rattle.std.specs.Iterator.{IsFinite};
 ghost use Rattle.column_base.specs.Numbers.{numbers, ptype_of};
 ghost use Rattle.column_base.specs.ValidityForm.{HasLength};
 ghost use Rattle.column_base.specs.Validity.{form_of};
 
 use crate::parse::parse_row;
-use crate::words::Words;
 use column_base::{
     BitBufferMut, NativePType, Nullability, PType, PrimitiveValues, Validity, VortexError,
     VortexResult,
@@ -21,33 +21,37 @@ pub struct Listed<A: Allocator> {
 
 /// The rows that the words stand for, or `None` where one of them stands for no row of the type.
 /// Under null the number 0 is stored. Refused as `OutOfMemory` alone.
-pub fn read_values<A: Allocator + Copy>(
+pub fn read_values<'a, I: Iterator<Item = &'a str> + Drop, A: Allocator + Copy>(
     alloc: A,
     ptype: PType,
     nullability: Nullability,
-    words: Words<'_>,
+    words: I,
 ) -> VortexResult<Option<Listed<A>>>
+    requires can { I.can_next words }
+    requires finite { IsFinite (I.remaining words) }
     ensures only { IsOkUnless result VortexError.OutOfMemory }
     ensures typed { IfOk result (λ read. IfSome read (λ listed. ptype_of listed.numbers ≡ ptype)) }
     ensures counted { IfOk result (λ read. IfSome read (λ listed. HasLength (form_of listed.validity) (length (numbers listed.numbers)))) }
 {
     match ptype {
-        PType::U8 => read_natives::<u8, A>(alloc, nullability, words),
-        PType::U16 => read_natives::<u16, A>(alloc, nullability, words),
-        PType::U32 => read_natives::<u32, A>(alloc, nullability, words),
-        PType::U64 => read_natives::<u64, A>(alloc, nullability, words),
-        PType::I8 => read_natives::<i8, A>(alloc, nullability, words),
-        PType::I16 => read_natives::<i16, A>(alloc, nullability, words),
-        PType::I32 => read_natives::<i32, A>(alloc, nullability, words),
-        PType::I64 => read_natives::<i64, A>(alloc, nullability, words),
+        PType::U8 => read_natives::<u8, I, A>(alloc, nullability, words),
+        PType::U16 => read_natives::<u16, I, A>(alloc, nullability, words),
+        PType::U32 => read_natives::<u32, I, A>(alloc, nullability, words),
+        PType::U64 => read_natives::<u64, I, A>(alloc, nullability, words),
+        PType::I8 => read_natives::<i8, I, A>(alloc, nullability, words),
+        PType::I16 => read_natives::<i16, I, A>(alloc, nullability, words),
+        PType::I32 => read_natives::<i32, I, A>(alloc, nullability, words),
+        PType::I64 => read_natives::<i64, I, A>(alloc, nullability, words),
     }
 }
 
-fn read_natives<T: NativePType, A: Allocator + Copy>(
+fn read_natives<'a, T: NativePType, I: Iterator<Item = &'a str> + Drop, A: Allocator + Copy>(
     alloc: A,
     nullability: Nullability,
-    words: Words<'_>,
+    words: I,
 ) -> VortexResult<Option<Listed<A>>>
+    requires can { I.can_next words }
+    requires finite { IsFinite (I.remaining words) }
     ensures only { IsOkUnless result VortexError.OutOfMemory }
     ensures typed { IfOk result (λ read. IfSome read (λ listed. ptype_of listed.numbers ≡ T.PTYPE)) }
     ensures counted { IfOk result (λ read. IfSome read (λ listed. HasLength (form_of listed.validity) (length (numbers listed.numbers)))) }

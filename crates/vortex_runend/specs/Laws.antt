@@ -1,5 +1,5 @@
 -- The laws of encodings, stated over lists of optional values, so of whole numbers too.
-use Rattle.std.specs.Prelude.{◌≡◌, ◌≢◌, ◌+◌, ◌≤◌, ◌↔◌, ℕ, List, Option, Some, length, slice_get}
+use Rattle.std.specs.Prelude.{◌≡◌, ◌≢◌, ◌+◌, ◌≤◌, ◌↔◌, ℕ, List, Option, Some, length, slice_get, slice_range}
 use Rattle.column_core.specs.Value.{Value}
 use Rattle.runend_array.specs.Cover.{Covers, IsTightCover}
 
@@ -27,3 +27,9 @@ NeighboursDiffer = (rows : List (Option Value)) (ends : List ℕ) (values : List
 abbrev pub DecodingAnEncoding : Type 0
 DecodingAnEncoding = (rows rows' : List (Option Value)) (ends : List ℕ) (values : List (Option Value))
     → IsTightCover rows ends values → Covers rows' ends values 0 (length rows) → rows' ≡ rows
+
+-- a range of a range, both within their lists, is the range at the added positions, which is within the list too
+abbrev pub SliceOfSlice : Type 0
+SliceOfSlice = (rows : List (Option Value)) (start stop first last : ℕ)
+    → start ≤ stop → stop ≤ length rows → first ≤ last → last ≤ length (slice_range rows start stop)
+    → (slice_range (slice_range rows start stop) first last ≡ slice_range rows (start + first) (start + last)) × (start + last ≤ length rows)

@@ -1,4 +1,5 @@
-//! The laws of encodings, each proved of every list of optional values, so of whole numbers too.
+//! The laws of encodings and of slices, each proved of every list of optional values, so of whole
+//! numbers too.
 //!
 //! An encoding of a list is its tight exact cover: runs of which none is empty, none can be joined
 //! with the next, and none is hidden. But for the last, each function here does nothing: its clause is
@@ -6,7 +7,7 @@
 ghost use Rattle.std.specs.Prelude.{◌≡◌, IfOk, IsOkUnless};
 ghost use Rattle.runend_array.specs.Array.{column_of, dtype_of, rows};
 ghost use Rattle.runend_array.specs.Encoding.{IsPlainNumbers};
-ghost use Rattle.vortex_runend.specs.Laws.{DecodingAnEncoding, EqualListsEqualEncodings, NeighboursDiffer, NoCoverIsShorter, TightCoverIsUnique};
+ghost use Rattle.vortex_runend.specs.Laws.{DecodingAnEncoding, EqualListsEqualEncodings, NeighboursDiffer, NoCoverIsShorter, SliceOfSlice, TightCoverIsUnique};
 
 use runend_array::{ArrayRef, ExecutionCtx, RunEnd, VortexError, VortexResult};
 use std::alloc::Allocator;
@@ -39,6 +40,12 @@ pub fn neighbours_differ()
 /// For compressors: encoding loses no row, no order of rows and no null.
 pub fn decoding_an_encoding()
     ensures { DecodingAnEncoding }
+{}
+
+/// A slice of a slice is the slice at the added positions, and that is in range too.
+/// For scanners: a range of a range needs no column in between.
+pub fn slice_of_slice()
+    ensures { SliceOfSlice }
 {}
 
 /// Encodes a plain column of whole numbers, of any of the eight types, and decodes what comes out: the

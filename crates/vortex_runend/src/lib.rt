@@ -2,6 +2,7 @@
 //! the laws of encodings, and the names of the crates below.
 #![tactic(auto)]
 
+pub mod compute;
 mod kernel;
 pub mod laws;
 
@@ -10,6 +11,7 @@ pub use runend_array::{
     ArrayRef, BitBuffer, BitBufferMut, ConstantArray, CountedEnds, DType, DecimalDType,
     ElementDType, ExecutionCtx, FlatColumn, Kernel, Mask, NativePType, Nullability, PType,
     PrimitiveArray, PrimitiveValues, RunEnd, RunEndArray, RunEndArrayExt, RunEndArraySlotsExt,
-    RunEndData, RunEndDataParts, RunEndSlots, Scalar, ScalarValue, ScalarView, SetIndices,
-    Thresholds, UnsignedPType, Validity, VortexError, VortexResult, VortexSession, compress, ops,
+    RunEndData, RunEndDataParts, RunEndProbe, RunEndSlots, Scalar, ScalarValue, ScalarView,
+    SetIndices, Thresholds, UnsignedPType, Validity, VortexError, VortexResult, VortexSession,
+    compress, ops,
 };

@@ -11,11 +11,13 @@ fn kind_of(line: &str) -> &'static str {
         Line::Blank => "blank",
         Line::Bad => "bad",
         Line::Command(Command::Col(_, _, _)) => "col",
+        Line::Command(Command::Runs(_)) => "runs",
         Line::Command(Command::Encode) => "encode",
         Line::Command(Command::Decode) => "decode",
         Line::Command(Command::Show) => "show",
         Line::Command(Command::Rows) => "rows",
         Line::Command(Command::At(_)) => "at",
+        Line::Command(Command::Slice(_, _)) => "slice",
     }
 }
 
@@ -44,6 +46,27 @@ fn kinds_of_lines(rt: HostRuntime) {
         ("at +1", "bad"),
         ("at", "bad"),
         ("at 1 2", "bad"),
+        ("slice 0 18446744073709551615", "slice"),
+        ("slice 1", "bad"),
+        ("slice 1 2 3", "bad"),
+        ("slice -1 2", "bad"),
+    ] {
+        assert_eq!(rt; kind_of(line), kind, "in {line:?}");
+    }
+}
+
+#[test]
+fn kinds_of_lines_of_runs(rt: HostRuntime) {
+    for (line, kind) in [
+        ("runs i32 u32 0 10 2 5 10 / 1 2 3", "runs"),
+        ("runs u8? u64 0 0 /", "runs"),
+        (" runs  i8 i8 0 1  x / y ", "runs"),
+        ("runs i32 u32 0 10 2 5 10", "bad"),
+        ("runs i32 u32 0 10 2 5 10/ 1 2 3", "bad"),
+        ("runs i32 u32? 0 10 10 / 1", "bad"),
+        ("runs i32 u32 0 / 1", "bad"),
+        ("runs i32 u32 -1 10 10 / 1", "bad"),
+        ("runs i32", "bad"),
     ] {
         assert_eq!(rt; kind_of(line), kind, "in {line:?}");
     }

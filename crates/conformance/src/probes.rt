@@ -1,0 +1,99 @@
+//! Reads of single rows, by probes and by `scalar_at`.
+use crate::columns::{context, required, run_column};
+use std::alloc::{Allocator, Global};
+use std::process::Abort;
+use std::test::Fail;
+use vortex_runend::{
+    ArrayRef, PrimitiveArray, PrimitiveValues, RunEndProbe, ScalarView, Validity, VortexError,
+    VortexResult,
+};
+
+// The row of a run column of a signed type, as a probe reads it.
+fn probed<A: Allocator + Copy>(array: &ArrayRef<A>, index: usize) -> VortexResult<Option<i64>> {
+    let ArrayRef::RunEnd(runs) = array else {
+        return Err(VortexError::Unsupported);
+    };
+    let probe = RunEndProbe::new(runs);
+    match probe.execute_scalar(index)? {
+        ScalarView::Null => Ok(None),
+        ScalarView::Signed(number) => Ok(Some(number)),
+        _ => Err(VortexError::TypeMismatch),
+    }
+}
+
+// Three runs, of which `length` rows are shown.
+fn three_runs(alloc: Global, length: usize) -> VortexResult<ArrayRef<Global>> {
+    let ends = required(alloc, &[2u32, 5, 10])?;
+    let values = ArrayRef::Primitive(required(alloc, &[1i32, 2, 3])?);
+    run_column(ends, values, 1, length, &mut context(alloc))
+}
+
+#[test]
+fn a_probe_reads_rows(rt: HostRuntime) -> Result<(), Fail> {
+    let column = three_runs(rt.alloc(), 9)?;
+    assert_eq!(rt; probed(&column, 0)?, Some(1));
+    assert_eq!(rt; probed(&column, 1)?, Some(2));
+    assert_eq!(rt; probed(&column, 8)?, Some(3));
+    Ok(())
+}
+
+#[test]
+fn a_probe_past_the_last_row_is_refused(rt: HostRuntime) -> Result<(), Fail> {
+    let column = three_runs(rt.alloc(), 9)?;
+    assert_eq!(rt;
+        probed(&column, 9),
+        Err(VortexError::OutOfBounds {
+            index: 9,
+            length: 9
+        })
+    );
+    Ok(())
+}
+
+#[test]
+fn a_probe_of_no_rows_is_refused(rt: HostRuntime) -> Result<(), Fail> {
+    let column = three_runs(rt.alloc(), 0)?;
+    assert_eq!(rt;
+        probed(&column, 0),
+        Err(VortexError::OutOfBounds {
+            index: 0,
+            length: 0
+        })
+    );
+    Ok(())
+}
+
+const MANY: u32 = 4_194_304;
+
+// So many runs of one row each, of which each shows its number.
+fn many_runs(alloc: Global) -> VortexResult<ArrayRef<Global>> {
+    let mut ends = Vec::new(alloc);
+    let mut numbers = Vec::new(alloc);
+    for number in 0..MANY {
+        numbers.push(number)?;
+        ends.push(number + 1)?;
+    }
+    let ends = PrimitiveArray::try_new(PrimitiveValues::U32(ends), Validity::NonNullable)?;
+    let values = PrimitiveArray::try_new(PrimitiveValues::U32(numbers), Validity::NonNullable)?;
+    let values = ArrayRef::Primitive(values);
+    run_column(ends, values, 0, MANY as usize, &mut context(alloc))
+}
+
+// Does each row show its number?
+fn assert_row_numbers<A: Allocator + Copy>(rt: &impl Abort, array: &ArrayRef<A>) {
+    for index in 0..array.len() {
+        let number = match array.scalar_at(index) {
+            Ok(ScalarView::Unsigned(number)) => number,
+            _ => panic!(rt; "no unsigned row at {index}"),
+        };
+        assert_eq!(rt; number, index as u64);
+    }
+}
+
+#[test]
+fn each_row_of_many_runs_is_read(rt: HostRuntime) -> Result<(), Fail> {
+    let column = many_runs(rt.alloc())?;
+    assert_eq!(rt; column.len(), 4_194_304);
+    assert_row_numbers(&rt, &column);
+    Ok(())
+}
