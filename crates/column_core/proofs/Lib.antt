@@ -1,3 +1,4 @@
 pub mod OptionalRows
+pub mod VarBinRows
 pub mod SameValues
 pub mod Digits

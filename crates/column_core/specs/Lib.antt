@@ -1,5 +1,10 @@
 pub mod Value
+pub mod Optionals
 pub mod PrimitiveForm
+pub mod BoolForm
+pub mod DecimalForm
+pub mod VarBinForm
+pub mod VarBinFault
 pub mod Primitive
 pub mod Leaf
 pub mod FlatColumn

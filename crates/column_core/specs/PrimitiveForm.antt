@@ -1,10 +1,12 @@
 -- What a flat column of whole numbers is.
-use Rattle.std.specs.Prelude.{◌≡◌, ℤ, pos, List, [], ◌∷◌, Bool, false, Option, Some, None, if◌then◌else◌, length, map, option_map}
+use Rattle.std.specs.Prelude.{ℤ, pos, List, Bool, Option, length, map, option_map}
 use Rattle.column_base.specs.declared.dtype.PType.{PType}
 use Rattle.column_base.specs.declared.dtype.DType.{DType}
 use Rattle.column_base.specs.declared.dtype.DType.TheVariants as column
 use Rattle.column_base.specs.ValidityForm.{ValidityForm, flags, nullability_in}
 use Rattle.column_core.specs.Value.{FlatValue, Number}
+use Rattle.column_core.specs.Optionals.{AreBlankAtNulls}
+pub use Rattle.column_core.specs.Optionals.{optionals}
 
 -- the form: the numbers as they are stored, also under null, and which rows are valid
 pub record PrimitiveForm : Type 0 where
@@ -15,12 +17,6 @@ pub record PrimitiveForm : Type 0 where
 -- the form with these parts
 abbrev pub primitive_with : PType → List ℤ → ValidityForm → PrimitiveForm
 primitive_with ptype numbers validity = record { ptype = ptype; numbers = numbers; validity = validity }
-
--- each number where its flag is true, and null elsewhere
-abbrev pub optionals : List ℤ → List Bool → List (Option ℤ)
-optionals [] bs = []
-optionals (n ∷ ns) [] = []
-optionals (n ∷ ns) (b ∷ bs) = (if b then Some n else None) ∷ optionals ns bs
 
 -- the flags of the rows: whether each is valid
 abbrev pub row_flags : PrimitiveForm → List Bool
@@ -40,9 +36,7 @@ primitive_dtype form = column.Primitive form.ptype (nullability_in form.validity
 
 -- each number whose flag is false is 0
 abbrev pub AreZeroAtNulls : List ℤ → List Bool → Type 0
-AreZeroAtNulls [] bs = Unit {0}
-AreZeroAtNulls (n ∷ ns) [] = Unit {0}
-AreZeroAtNulls (n ∷ ns) (b ∷ bs) = (b ≡ false → n ≡ pos 0) × AreZeroAtNulls ns bs
+AreZeroAtNulls numbers bits = AreBlankAtNulls (pos 0) numbers bits
 
 -- under null 0 is stored
 abbrev pub IsZeroAtNulls : PrimitiveForm → Type 0

@@ -1,14 +1,19 @@
 //! Flat columns of any type.
 ghost use Rattle.std.specs.Prelude.{◌≡◌, ◌<◌, ◌↔◌, Some, length, map, option_map, slice_get, slice_range, IfOk, IsErrOf, IsOkUnless};
 ghost use Rattle.column_core.specs.Value.{Single};
-ghost use Rattle.column_core.specs.Leaf.{leaf_rows, leaf_dtype};
+ghost use Rattle.column_core.specs.Leaf.{leaf_count, leaf_rows, leaf_dtype, leaf_validity};
+ghost use Rattle.column_base.specs.Validity.{form_of};
+ghost use Rattle.column_base.specs.ValidityForm.{HasLength};
 ghost use Rattle.column_core.specs.FlatColumn.{leaf_of};
 ghost use Rattle.column_core.specs.ScalarView.{sees, IsViewOf};
 ghost use Rattle.column_core.specs.Ranges.{IsBadRange};
 
+use crate::boolean::BoolArray;
+use crate::decimal::DecimalArray;
 use crate::primitive::PrimitiveArray;
+use crate::varbinview::VarBinViewArray;
 use crate::view::ScalarView;
-use column_base::{DType, VortexError, VortexResult};
+use column_base::{DType, Validity, VortexError, VortexResult};
 use std::alloc::Allocator;
 use std::ops::Range;
 
@@ -16,6 +21,9 @@ use std::ops::Range;
 #[derive(Drop)]
 pub enum FlatColumn<A: Allocator> {
     Primitive(PrimitiveArray<A>),
+    Bool(BoolArray<A>),
+    Decimal(DecimalArray<A>),
+    VarBinView(VarBinViewArray<A>),
 }
 
 impl<A: Allocator> FlatColumn<A> {
@@ -25,6 +33,9 @@ impl<A: Allocator> FlatColumn<A> {
     {
         match self {
             FlatColumn::Primitive(array) => array.len(),
+            FlatColumn::Bool(array) => array.len(),
+            FlatColumn::Decimal(array) => array.len(),
+            FlatColumn::VarBinView(array) => array.len(),
         }
     }
 
@@ -34,11 +45,28 @@ impl<A: Allocator> FlatColumn<A> {
     {
         match self {
             FlatColumn::Primitive(array) => array.dtype(),
+            FlatColumn::Bool(array) => array.dtype(),
+            FlatColumn::Decimal(array) => array.dtype(),
+            FlatColumn::VarBinView(array) => array.dtype(),
+        }
+    }
+
+    /// Which rows are valid.
+    pub fn validity(&self) -> &Validity<A>
+        ensures form { form_of result.now ≡ leaf_validity (leaf_of self.now) }
+        ensures counted { HasLength (leaf_validity (leaf_of self.now)) (leaf_count (leaf_of self.now)) }
+        ensures rows { length (leaf_rows (leaf_of self.now)) ≡ leaf_count (leaf_of self.now) }
+    {
+        match self {
+            FlatColumn::Primitive(array) => array.validity(),
+            FlatColumn::Bool(array) => array.validity(),
+            FlatColumn::Decimal(array) => array.validity(),
+            FlatColumn::VarBinView(array) => array.validity(),
         }
     }
 
     /// The row at `index`, borrowed.
-    #[tactic(auto, using(crate::proofs::OptionalRows::rows_within_numbers))]
+    #[tactic(auto, using(crate::proofs::OptionalRows::rows_within))]
     pub fn get(&self, index: usize) -> ScalarView<'_, A>
         requires { index < length (leaf_rows (leaf_of self.now)) }
         ensures row { slice_get (map (option_map Single) (leaf_rows (leaf_of self.now))) index ≡ Some (sees result) }
@@ -46,6 +74,9 @@ impl<A: Allocator> FlatColumn<A> {
     {
         match self {
             FlatColumn::Primitive(array) => array.get(index),
+            FlatColumn::Bool(array) => array.get(index),
+            FlatColumn::Decimal(array) => array.get(index),
+            FlatColumn::VarBinView(array) => array.get(index),
         }
     }
 }
@@ -58,6 +89,9 @@ impl<A: Allocator + Copy> FlatColumn<A> {
     {
         match self {
             FlatColumn::Primitive(array) => Ok(FlatColumn::Primitive(array.try_clone(alloc)?)),
+            FlatColumn::Bool(array) => Ok(FlatColumn::Bool(array.try_clone(alloc)?)),
+            FlatColumn::Decimal(array) => Ok(FlatColumn::Decimal(array.try_clone(alloc)?)),
+            FlatColumn::VarBinView(array) => Ok(FlatColumn::VarBinView(array.try_clone(alloc)?)),
         }
     }
 
@@ -76,6 +110,18 @@ impl<A: Allocator + Copy> FlatColumn<A> {
                 let part = array.slice(alloc, range)?;
                 Ok(FlatColumn::Primitive(part))
             }
+            FlatColumn::Bool(array) => {
+                let part = array.slice(alloc, range)?;
+                Ok(FlatColumn::Bool(part))
+            }
+            FlatColumn::Decimal(array) => {
+                let part = array.slice(alloc, range)?;
+                Ok(FlatColumn::Decimal(part))
+            }
+            FlatColumn::VarBinView(array) => {
+                let part = array.slice(alloc, range)?;
+                Ok(FlatColumn::VarBinView(part))
+            }
         }
     }
 }
@@ -83,7 +129,7 @@ impl<A: Allocator + Copy> FlatColumn<A> {
 #[cfg(test)]
 mod tests {
     use super::*;
-    use column_base::{Nullability, PType, PrimitiveValues, Validity};
+    use column_base::{DecimalDType, Nullability, PType, PrimitiveValues, Validity};
     use std::test::Fail;
 
     #[test]
@@ -96,6 +142,23 @@ mod tests {
             copy.dtype(),
             DType::Primitive(PType::U16, Nullability::NonNullable)
         );
+        Ok(())
+    }
+
+    #[test]
+    fn slice_of_decimals_keeps_type_and_rows(rt: HostRuntime) -> Result<(), Fail> {
+        let numbers = Vec::from_slice(rt.alloc(), &[12345i128, 0, -12300])?;
+        let decimal = DecimalDType {
+            precision: 10,
+            scale: 2,
+        };
+        let array = DecimalArray::try_new(numbers, decimal, Validity::AllValid)?;
+        let part = FlatColumn::Decimal(array).slice(rt.alloc(), 2..3)?;
+        assert_eq!(rt;
+            part.dtype(),
+            DType::Decimal(decimal, Nullability::Nullable)
+        );
+        assert!(rt; matches!(part.get(0), ScalarView::Decimal(-12300)));
         Ok(())
     }
 }

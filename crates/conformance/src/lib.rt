@@ -9,12 +9,30 @@ mod decode;
 #[cfg(test)]
 mod encode;
 #[cfg(test)]
+mod kind_slices;
+#[cfg(test)]
+mod kinds;
+#[cfg(test)]
+mod lists;
+#[cfg(test)]
 mod lookups;
 #[cfg(test)]
 mod memory;
 #[cfg(test)]
+mod nested;
+#[cfg(test)]
+mod parts;
+#[cfg(test)]
 mod probes;
 #[cfg(test)]
+mod shown;
+#[cfg(test)]
 mod slices;
+#[cfg(test)]
+mod texts;
+#[cfg(test)]
+mod typed;
+#[cfg(test)]
+mod validities;
 #[cfg(test)]
 mod windows;

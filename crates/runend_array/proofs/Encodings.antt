@@ -1,21 +1,18 @@
 -- What an encoding is to a run column, and what decoding gives.
-use Rattle.std.proofs.Common.{◌≡◌, ◌<◌, ℕ, List, Option, length, refl, sym, subst, ap, ◌∙◌, arith, inl, inr, ◌⊎◌, Ok, Err}
-use Rattle.std.specs.Prelude.{Result, IfOk, IsSomeAnd}
+use Rattle.std.proofs.Common.{◌≡◌, ◌<◌, ℕ, length, refl, sym, subst, arith, inl, inr, ◌⊎◌}
+use Rattle.std.specs.Prelude.{IsSomeAnd}
 use Rattle.std.proofs.lemmas.Bool.{cases_lt}
 use Rattle.column_base.specs.declared.dtype.PType.{PType}
 use Rattle.column_base.specs.declared.dtype.PType.TheVariants.{U8, U16, U32, U64, I8, I16, I32, I64}
-use Rattle.column_base.specs.declared.dtype.DType.{DType}
-use Rattle.column_base.specs.declared.error.VortexError.{VortexError}
 use Rattle.column_base.specs.Types.{IsUnsigned, unsigned_bits}
 use Rattle.column_base.specs.ValidityForm.{ValidityForm, NeverNull, NoneNull, AllNull, ByBits, nullability_in}
 use Rattle.column_base.specs.declared.dtype.DType.TheVariants as column
-use Rattle.column_core.specs.Value.{Value}
-use Rattle.column_core.specs.PrimitiveForm.{PrimitiveForm, primitive_dtype}
-use Rattle.column_core.specs.Leaf.{OfNumbers}
+use Rattle.column_core.specs.PrimitiveForm.{PrimitiveForm}
+use Rattle.column_core.specs.Leaf.{OfNumbers, OfTruths, OfDecimals, OfVarBins}
 use Rattle.runend_array.specs.Window.{IsWindow}
-use Rattle.runend_array.specs.Column.{Column, OfLeaf, OfConstant, OfRuns, Runs, AreParts, IsEndsType, column_of_runs, column_rows, column_dtype, ends_of, run_rows, runs_of}
+use Rattle.runend_array.specs.Column.{Column, OfLeaf, OfConstant, OfLists, OfRuns, Runs, AreParts, IsEndsType, column_of_runs, column_rows, column_dtype, ends_of, runs_of}
 use Rattle.runend_array.proofs.RunRows.{Covers_iff_run_rows}
-use Rattle.runend_array.specs.Encoding.{IsDecodedFlat, IsEncoded, IsEncodedColumn, IsEncoding, number_rows}
+use Rattle.runend_array.specs.Encoding.{IsEncoded, IsEncodedColumn, IsEncoding, number_rows}
 
 -- a validity says that all of some rows are null, or it does not
 decide_all_null : (v : ValidityForm) (n : ℕ) → ((v ≡ AllNull) × (0 < n)) ⊎ (¬ ((v ≡ AllNull) × (0 < n)))
@@ -68,31 +65,25 @@ encoded_of_parts array ends values count e counted = record {
   null = e.null;
 }
 
--- decoded rows, over the ends and the values that a column has
-pub decoded_rows : (r : Result PrimitiveForm VortexError) (places ends : List ℕ) (shown : List (Option Value)) (values : PrimitiveForm) (offset count : ℕ)
-    → places ≡ ends → number_rows values ≡ shown → IfOk r (λ array. IsDecodedFlat ends values offset count array)
-    → IfOk r (λ array. number_rows array ≡ run_rows places shown offset count)
-decoded_rows (Ok array) places ends shown values offset count e v flat =
-    flat.rows ∙ ap (λ (xs : List (Option Value)). run_rows ends xs offset count) v ∙ ap (λ (xs : List ℕ). run_rows xs shown offset count) (sym e)
-decoded_rows (Err error) places ends shown values offset count e v flat = tt
-
--- and their type
-pub decoded_dtype : (r : Result PrimitiveForm VortexError) (ends : List ℕ) (values : PrimitiveForm) (dtype : DType) (offset count : ℕ)
-    → primitive_dtype values ≡ dtype → IfOk r (λ array. IsDecodedFlat ends values offset count array) → IfOk r (λ array. primitive_dtype array ≡ dtype)
-decoded_dtype (Ok array) ends values dtype offset count e flat = flat.dtype ∙ e
-decoded_dtype (Err error) ends values dtype offset count e flat = tt
-
 -- an encoded column shows the rows of the column that was encoded
 pub encoded_rows : (c : Column) (runs : Runs) → IsEncodedColumn c runs → column_rows (column_of_runs runs) ≡ column_rows c
 encoded_rows (OfLeaf (OfNumbers form)) runs e =
     let cover = e.cover.covers in
     rw (e.window.0, e.window.1)
     (sym ((Covers_iff_run_rows (number_rows form) runs.ends (column_rows runs.values) 0 (length (number_rows form)) cover.window cover.paired).0 cover))
+encoded_rows (OfLeaf (OfTruths form)) runs e = absurd e
+encoded_rows (OfLeaf (OfDecimals form)) runs e = absurd e
+encoded_rows (OfLeaf (OfVarBins form)) runs e = absurd e
 encoded_rows (OfConstant constant) runs e = absurd e
+encoded_rows (OfLists lists) runs e = absurd e
 encoded_rows (OfRuns ends_type ends values offset count) runs e = absurd e
 
 -- and has its type
 pub encoded_dtype : (c : Column) (runs : Runs) → IsEncodedColumn c runs → column_dtype (column_of_runs runs) ≡ column_dtype c
 encoded_dtype (OfLeaf (OfNumbers form)) runs e = e.dtype
+encoded_dtype (OfLeaf (OfTruths form)) runs e = absurd e
+encoded_dtype (OfLeaf (OfDecimals form)) runs e = absurd e
+encoded_dtype (OfLeaf (OfVarBins form)) runs e = absurd e
 encoded_dtype (OfConstant constant) runs e = absurd e
+encoded_dtype (OfLists lists) runs e = absurd e
 encoded_dtype (OfRuns ends_type ends values offset count) runs e = absurd e

@@ -4,10 +4,9 @@ use Rattle.std.specs.Prelude.{unsigned_abs}
 use Rattle.std.specs.List.{slice_get}
 use Rattle.std.specs.Option.{option_map}
 use Rattle.std.proofs.lemmas.List.{length-map, length-replicate}
-use Rattle.std.proofs.lemmas.Option.{slice_get-map, get_or_from_slice_get, slice_get_within}
+use Rattle.std.proofs.lemmas.Option.{slice_get-map, get_or_from_slice_get}
 use Rattle.column_base.specs.declared.dtype.PType.TheVariants.{U64}
 use Rattle.column_base.specs.Types.{IsLeastFor}
-use Rattle.column_base.proofs.ValidityRows.{length-flags}
 use Rattle.column_base.specs.ValidityForm.{ValidityForm, NeverNull, HasLength, IsNormal, flags, nullability_in}
 use Rattle.column_core.specs.Value.{FlatValue, Number, Value, Single}
 use Rattle.column_core.specs.PrimitiveForm.{PrimitiveForm, primitive_with, primitive_dtype, optionals, optional_numbers, row_flags, AreZeroAtNulls}
@@ -15,15 +14,14 @@ use Rattle.column_core.specs.Leaf.{OfNumbers}
 use Rattle.runend_array.specs.Window.{run_at, last_end, IsWindow}
 use Rattle.runend_array.specs.Cover.{Covers, IsTightCover}
 use Rattle.runend_array.specs.Column.{OfLeaf, OfConstant, ends_of, run_rows}
-use Rattle.runend_array.specs.Encoding.{number_rows, IsAllInvalid, IsEncoding, IsFlatEncoding, IsDecodedFlat, HasNullsAlone, stored_numbers}
+use Rattle.runend_array.specs.Encoding.{number_rows, IsAllInvalid, IsEncoding, IsFlatEncoding, HasNullsAlone}
 use Rattle.runend_array.proofs.Lists.{slice_get-replicate}
 use Rattle.runend_array.proofs.RunAt.{run_of_row_within}
 use Rattle.runend_array.proofs.Shown.{equal_from_Covers, shown_at-here}
 use Rattle.runend_array.proofs.Grow.{IsTightCover-from_Tiles}
 use Rattle.runend_array.proofs.Decoded.{Covers-map}
-use Rattle.runend_array.proofs.Optionals.{Covers-optionals}
 use Rattle.runend_array.proofs.RunRows.{Covers-run_rows}
-use Rattle.runend_array.proofs.StoredNumbers.{naturals-of_pos, optionals-stored_numbers, AreZeroAtNulls-stored_numbers, AreZeroAtNulls-at, AreZeroAtNulls-from_each}
+use Rattle.runend_array.proofs.StoredNumbers.{naturals-of_pos}
 use Rattle.runend_array.proofs.NullRows.{values_of, length-number_rows, nulls-from_AllNull, null-at_each}
 
 -- optional numbers as values are equal only where they are
@@ -81,7 +79,7 @@ IsFlatEncoding-made array ends values rows es numbers bits rows_are cover ends_a
       dtype = rw (typed, nullable) refl;
       required = required;
       narrow = rw back least;
-      computed = record { zeroed = rw (marks, plain) zeroed; normal = normal };
+      computed = record { blanked = rw (marks, plain) zeroed; normal = normal };
     }
 
 -- an encoding by flat values is one where the validity does not say that all rows are null
@@ -141,39 +139,3 @@ run_rows-of_nulls ends values offset count window paired nulls =
           slice_get-replicate count i None h ∙ sym (null-at_each values (run_at ends (offset + i)) nulls.1 (omega arith));
     })
     (Covers-run_rows ends values offset count window paired)
-
--- what is stored in rows that are covered by values with 0 under null, and by their flags
-AreZeroAtNulls-covered : (numbers : List ℤ) (bits : List Bool) (ends : List ℕ) (run_numbers : List ℤ) (run_bits : List Bool) (offset count : ℕ)
-    → Covers numbers ends run_numbers offset count → Covers bits ends run_bits offset count → AreZeroAtNulls run_numbers run_bits → AreZeroAtNulls numbers bits
-AreZeroAtNulls-covered numbers bits ends run_numbers run_bits offset count c d zeroed = AreZeroAtNulls-from_each numbers bits (λ i n here flag.
-    let counted = c.counted in
-    let within = slice_get_within numbers i n here in
-    AreZeroAtNulls-at run_numbers run_bits (run_at ends (offset + i)) n zeroed (sym (c.each i (omega arith)) ∙ here) (sym (d.each i (omega arith)) ∙ flag))
-
--- numbers and flags that are decoded apart are the rows that the runs show
-pub IsDecodedFlat-made : (ends : List ℕ) (values : PrimitiveForm) (offset count : ℕ) (array : PrimitiveForm) → IsWindow ends offset count → length values.numbers ≡ length ends
-    → HasLength values.validity (length values.numbers) → array.ptype ≡ values.ptype
-    → (rows : List (Option ℤ)) → optional_numbers values ≡ rows → Covers array.numbers ends (stored_numbers rows) offset count
-    → Covers (flags array.validity count) ends (flags values.validity (length ends)) offset count
-    → IsNormal array.validity → nullability_in array.validity ≡ nullability_in values.validity → IsDecodedFlat ends values offset count array
-IsDecodedFlat-made ends values offset count array window paired fits typed rows_shown rows_are covers marks normal nullable =
-    let numbers : Covers array.numbers ends (stored_numbers (optional_numbers values)) offset count = rw rows_are covers in
-    let run_marks : flags values.validity (length ends) ≡ row_flags values = ap (flags values.validity) (sym paired) in
-    let row_marks : flags array.validity count ≡ row_flags array = ap (flags array.validity) (sym numbers.counted) in
-    let flagged = length-flags values.validity (length values.numbers) fits in
-    let covered : Covers (row_flags array) ends (row_flags values) offset count = rw (run_marks, row_marks) at marks in
-    let shown : Covers (optional_numbers array) ends (optional_numbers values) offset count =
-    rw (optionals-stored_numbers values.numbers (row_flags values) flagged) at
-    (Covers-optionals array.numbers (row_flags array) ends (stored_numbers (optional_numbers values)) (row_flags values) offset count numbers covered) in
-    let rows = Covers-map (option_map (λ (v : FlatValue). Single v)) _ ends _ offset count
-    (Covers-map (option_map (λ (n : ℤ). Number n)) (optional_numbers array) ends (optional_numbers values) offset count shown) in
-    record {
-      rows = equal_from_Covers (number_rows array) (run_rows ends (number_rows values) offset count) ends (number_rows values) offset count rows
-          (Covers-run_rows ends (number_rows values) offset count window rows.paired);
-      dtype = rw (typed, nullable) refl;
-      computed = record {
-        zeroed = AreZeroAtNulls-covered array.numbers (row_flags array) ends (stored_numbers (optional_numbers values)) (row_flags values) offset count numbers covered
-            (AreZeroAtNulls-stored_numbers values.numbers (row_flags values));
-        normal = normal;
-      };
-    }

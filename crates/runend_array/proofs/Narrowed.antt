@@ -8,7 +8,7 @@ use Rattle.std.proofs.lemmas.List.FromFn.{get_or-map-range_with_len}
 use Rattle.std.proofs.lemmas.Option.{slice_get-get_or, same_Some}
 use Rattle.column_base.proofs.Ranges.{length-slice_range, get_or-slice_range}
 use Rattle.runend_array.specs.Column.{run_rows}
-use Rattle.runend_array.specs.Window.{run_at, last_end, IsWindow}
+use Rattle.runend_array.specs.Window.{run_at, IsWindow}
 use Rattle.runend_array.proofs.RunAt.{ended_before, ends_past, run_at_is, run_at-count_by, run_at-le-run_at, run_of_row_within}
 use Rattle.runend_array.proofs.RunRows.{length-run_rows}
 

@@ -1,6 +1,6 @@
 -- Numbers as a computed column stores them: 0 under null.
-use Rattle.std.proofs.Common.{◌≡◌, ◌≢◌, ℕ, ℤ, pos, zero, suc, ◌<◌, get_or, List, [], ◌∷◌, ◌++◌, Bool, true, false, not, Option, Some, None, if◌then◌else◌, length, map, replicate, refl, sym, ◌∙◌, ap, arith, min, ◌+◌, ◌-◌}
-use Rattle.std.specs.Prelude.{unsigned_abs, unwrap_or, slice_index, All, IsSome}
+use Rattle.std.proofs.Common.{◌≡◌, ◌≢◌, ℕ, ℤ, pos, zero, suc, ◌<◌, get_or, List, [], ◌∷◌, ◌++◌, Bool, true, false, not, Option, Some, None, if◌then◌else◌, length, map, replicate, refl, sym, ◌∙◌, ap, arith}
+use Rattle.std.specs.Prelude.{unsigned_abs, slice_index, All, IsSome}
 use Rattle.std.specs.List.{slice_get}
 use Rattle.std.specs.Option.{option_map, option_eq, is_some, UnwrapsOrElse}
 use Rattle.std.specs.declared.cmp.Ordering.{Ordering}
@@ -9,12 +9,9 @@ use Rattle.std.proofs.lemmas.List.Elements.{All-push}
 use Rattle.std.proofs.lemmas.Option.{slice_get-map, slice_get_read, get_or_from_slice_get}
 use Rattle.column_base.specs.Number.{IsNumbered}
 use Rattle.column_base.specs.ValidityForm.{ValidityForm, HasLength, flags, flag_at}
-use Rattle.column_base.proofs.ValidityRows.{flags-at, length-flags}
-use Rattle.column_core.specs.PrimitiveForm.{optionals, AreZeroAtNulls}
-use Rattle.column_core.proofs.OptionalRows.{length-optionals, optionals-at, null-at}
-use Rattle.runend_array.specs.Window.{IsWindow}
-use Rattle.runend_array.specs.Encoding.{stored_numbers}
-use Rattle.runend_array.proofs.Decoded.{Decoded, Decoded-next}
+use Rattle.column_base.proofs.ValidityRows.{flags-at}
+use Rattle.column_core.specs.PrimitiveForm.{optionals}
+use Rattle.column_core.proofs.OptionalRows.{optionals-at, null-at}
 
 -- optional values that compare equal have one number, and others do not
 same-from_option_eq : {S : Type 0} (eq : S → S → Bool) (cmp : S → S → Ordering) (is_default : S → Type 0) (number : S → ℤ) → IsNumbered eq cmp is_default number
@@ -62,20 +59,6 @@ pub stored-zero : {S : Type 0} (eq : S → S → Bool) (cmp : S → S → Orderi
 stored-zero eq cmp is_default number law None x b e u f = law.zeroth x u
 stored-zero eq cmp is_default number law (Some y) x b e u f = cc
 
--- and on its own
-stored-number : {S : Type 0} (eq : S → S → Bool) (cmp : S → S → Ordering) (is_default : S → Type 0) (number : S → ℤ) → IsNumbered eq cmp is_default number
-    → (row : Option S) (x : S) → UnwrapsOrElse row is_default x → unwrap_or (option_map number row) (pos 0) ≡ number x
-stored-number eq cmp is_default number law None x u = sym (law.zeroth x u)
-stored-number eq cmp is_default number law (Some y) x u = sym (ap number u)
-
-pub stored_numbers-at : {S : Type 0} (eq : S → S → Bool) (cmp : S → S → Ordering) (is_default : S → Type 0) (number : S → ℤ) → IsNumbered eq cmp is_default number
-    → (rows : List (Option ℤ)) (k : ℕ) (row : Option S) (x : S) → slice_get rows k ≡ Some (option_map number row) → UnwrapsOrElse row is_default x
-    → slice_get (stored_numbers rows) k ≡ Some (number x)
-stored_numbers-at eq cmp is_default number law rows k row x h u =
-    slice_get-map (λ (o : Option ℤ). unwrap_or o (pos 0)) rows k
-    ∙ ap (option_map (λ (o : Option ℤ). unwrap_or o (pos 0))) h
-    ∙ ap Some (stored-number eq cmp is_default number law row x u)
-
 -- numbers and flags that are pushed
 pub optionals-push_mapped : {S : Type 0} (number : S → ℤ) (xs : List S) (x : S) → map number (xs ++ x ∷ []) ≡ map number xs ++ number x ∷ []
 optionals-push_mapped number xs x = map-append number xs (x ∷ [])
@@ -88,38 +71,6 @@ map-replicate number (suc n) x = ap (λ (zs : List ℤ). number x ∷ zs) (map-r
 pub map-append_copies : {S : Type 0} (number : S → ℤ) (xs : List S) (n : ℕ) (x : S) → map number (xs ++ replicate n x) ≡ map number xs ++ replicate n (number x)
 map-append_copies number [] n x = map-replicate number n x
 map-append_copies number (y ∷ xs) n x = ap (λ (zs : List ℤ). number y ∷ zs) (map-append_copies number xs n x)
-
--- rows that are stored with 0 under null show what they did
-pub optionals-stored_numbers : (numbers : List ℤ) (flags : List Bool) → length flags ≡ length numbers
-    → optionals (stored_numbers (optionals numbers flags)) flags ≡ optionals numbers flags
-optionals-stored_numbers [] flags paired = refl
-optionals-stored_numbers (n ∷ numbers) [] paired = cc
-optionals-stored_numbers (n ∷ numbers) (true ∷ flags) paired = ap (λ (rows : List (Option ℤ)). Some n ∷ rows) (optionals-stored_numbers numbers flags (omega arith))
-optionals-stored_numbers (n ∷ numbers) (false ∷ flags) paired = ap (λ (rows : List (Option ℤ)). None ∷ rows) (optionals-stored_numbers numbers flags (omega arith))
-
-pub AreZeroAtNulls-stored_numbers : (numbers : List ℤ) (flags : List Bool) → AreZeroAtNulls (stored_numbers (optionals numbers flags)) flags
-AreZeroAtNulls-stored_numbers [] flags = tt
-AreZeroAtNulls-stored_numbers (n ∷ numbers) [] = tt
-AreZeroAtNulls-stored_numbers (n ∷ numbers) (true ∷ flags) = ((λ (e : true ≡ false). cc), AreZeroAtNulls-stored_numbers numbers flags)
-AreZeroAtNulls-stored_numbers (n ∷ numbers) (false ∷ flags) = ((λ _. refl), AreZeroAtNulls-stored_numbers numbers flags)
-
--- 0 under null, told by index
-pub AreZeroAtNulls-at : (numbers : List ℤ) (flags : List Bool) (k : ℕ) (n : ℤ) → AreZeroAtNulls numbers flags → slice_get numbers k ≡ Some n → slice_get flags k ≡ Some false
-    → n ≡ pos 0
-AreZeroAtNulls-at [] flags k n zeroed here flag = cc
-AreZeroAtNulls-at (m ∷ numbers) [] k n zeroed here flag = cc
-AreZeroAtNulls-at (m ∷ numbers) (b ∷ flags) zero n zeroed here flag =
-    let null : b ≡ false = cc in
-    let none = zeroed.0 null in
-    cc
-AreZeroAtNulls-at (m ∷ numbers) (b ∷ flags) (suc k) n zeroed here flag = AreZeroAtNulls-at numbers flags k n zeroed.1 here flag
-
-pub AreZeroAtNulls-from_each : (numbers : List ℤ) (flags : List Bool) → ((k : ℕ) (n : ℤ) → slice_get numbers k ≡ Some n → slice_get flags k ≡ Some false → n ≡ pos 0)
-    → AreZeroAtNulls numbers flags
-AreZeroAtNulls-from_each [] flags each = tt
-AreZeroAtNulls-from_each (m ∷ numbers) [] each = tt
-AreZeroAtNulls-from_each (m ∷ numbers) (b ∷ flags) each =
-    ((λ null. each 0 m refl (ap Some null)), AreZeroAtNulls-from_each numbers flags (λ k. each (suc k)))
 
 -- ends that are stored as numbers of an unsigned type
 pub slice_index-naturals : {S : Type 0} (number : S → ℤ) (natural : S → ℕ) → ((x : S) → number x ≡ pos (natural x)) → (xs : List S) (k : ℕ) (x : S) → slice_get xs k ≡ Some x
@@ -138,17 +89,9 @@ pub All-push_some : {S : Type 0} (flags : List Bool) (row : Option S) → All (�
 All-push_some flags None all some = cc
 All-push_some flags (Some x) all some = All-push (λ flag. flag ≡ true) flags true all refl
 
--- as many ends as stored ones, and as many stored numbers as items
+-- as many ends as stored ones
 pub length-naturals : {S : Type 0} (number : S → ℤ) (xs : List S) → length (map unsigned_abs (map number xs)) ≡ length xs
 length-naturals number xs = length-map (map number xs) unsigned_abs ∙ length-map xs number
-
-pub length-stored_numbers : {S : Type 0} (number : S → ℤ) (xs : List S) (form : ValidityForm) → HasLength form (length xs)
-    → length (stored_numbers (optionals (map number xs) (flags form (length xs)))) ≡ length xs
-length-stored_numbers number xs form fits =
-    let rows = optionals (map number xs) (flags form (length xs)) in
-    let long = length-map xs number in
-    let paired = length-flags form (length xs) fits in
-    length-map rows (λ (o : Option ℤ). unwrap_or o (pos 0)) ∙ length-optionals (map number xs) (flags form (length xs)) (omega arith) ∙ long
 
 -- the flag of a row, as it is read
 pub flags-read : (form : ValidityForm) (n row : ℕ) (flag : Bool) → HasLength form n → row < n → flag ≡ flag_at form row → slice_get (flags form n) row ≡ Some flag
@@ -168,12 +111,3 @@ pub optionals-null : {S : Type 0} (number : S → ℤ) (items : List S) (form : 
 optionals-null number items form row fits within null =
     let long = length-map items number in
     null-at (map number items) (flags form (length items)) row (omega arith) (flags-at form (length items) row fits within ∙ ap Some null)
-
--- a run's number is repeated up to where the run reaches
-pub Decoded-next_mapped : {S : Type 0} (number : S → ℤ) (ends : List ℕ) (values : List ℤ) (offset count run : ℕ) (rows : List S) (x : S) (reach : ℕ) → IsWindow ends offset count
-    → run < length ends → slice_get values run ≡ Some (number x) → reach ≡ min (slice_index ends run - offset) count → (written : List S)
-    → written ≡ rows ++ replicate (reach - length rows) x → Decoded ends values offset count run (map number rows) → Decoded ends values offset count (run + 1) (map number written)
-Decoded-next_mapped number ends values offset count run rows x reach window within value reached written appended decoded =
-    let counted = length-map rows number in
-    rw (appended, map-append_copies number rows (reach - length rows) x)
-    (Decoded-next ends values offset count run (map number rows) (number x) (reach - length rows) window within value (omega arith) decoded)

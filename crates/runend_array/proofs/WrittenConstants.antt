@@ -1,88 +1,69 @@
--- Constants of whole numbers that are written out as copies.
-use Rattle.std.proofs.Common.{◌≡◌, ℕ, ℤ, pos, zero, suc, List, ◌∷◌, true, false, Option, Some, None, replicate, refl, ◌∙◌, ap}
+-- Constants that are written out as copies.
+use Rattle.std.proofs.Common.{◌≡◌, ℕ, zero, suc, List, [], ◌∷◌, true, false, Bool, Option, Some, None, map, replicate, refl, ap}
 use Rattle.std.specs.Option.{option_map}
 use Rattle.std.proofs.lemmas.List.{length-replicate}
-use Rattle.column_base.specs.declared.dtype.PType.{PType}
 use Rattle.column_base.specs.declared.dtype.Nullability.{Nullability}
 use Rattle.column_base.specs.declared.dtype.Nullability.TheVariants.{NonNullable, Nullable}
-use Rattle.column_base.specs.declared.dtype.DType.TheVariants as column
-use Rattle.column_base.specs.ValidityForm.{AllNull, IsNormal, flags, nullability_in}
-use Rattle.column_core.specs.Value.{Number, Value, Single, MayBeNull}
-use Rattle.column_core.specs.PrimitiveForm.{PrimitiveForm, primitive_with, optionals, AreZeroAtNulls}
-use Rattle.column_core.specs.Leaf.{OfNumbers}
-use Rattle.runend_array.specs.Column.{Constant}
-use Rattle.runend_array.specs.Encoding.{number_rows, without_nulls, IsWrittenOut}
-use Rattle.runend_array.proofs.NullRows.{values_of}
+use Rattle.column_base.specs.ValidityForm.{HasLength, AllNull, IsNormal, flags, nullability_in}
+use Rattle.column_core.specs.Value.{FlatValue, Value, Single, MayBeNull}
+use Rattle.column_core.specs.Optionals.{optionals, AreBlankAtNulls}
+use Rattle.runend_array.specs.Encoding.{without_nulls, AreComputed}
+use Rattle.runend_array.proofs.DecodedItems.{rows_of}
 
 -- copies, none of them null
-rows-of_copies : (n : ℕ) (z : ℤ) → values_of (optionals (replicate n z) (replicate n true)) ≡ replicate n (Some (Single (Number z)))
-rows-of_copies zero z = refl
-rows-of_copies (suc n) z = ap (λ (rows : List (Option Value)). Some (Single (Number z)) ∷ rows) (rows-of_copies n z)
-
-zeroed-of_copies : (n : ℕ) (z : ℤ) → AreZeroAtNulls (replicate n z) (replicate n true)
-zeroed-of_copies zero z = tt
-zeroed-of_copies (suc n) z = ((λ (e : true ≡ false). cc), zeroed-of_copies n z)
+rows-of_copies : {B : Type 0} (value : B → FlatValue) (n : ℕ) (x : B) → map (option_map Single) (map (option_map value) (optionals (replicate n x) (replicate n true))) ≡ replicate n (Some (Single (value x)))
+rows-of_copies value zero x = refl
+rows-of_copies value (suc n) x = ap (λ (rows : List (Option Value)). Some (Single (value x)) ∷ rows) (rows-of_copies value n x)
 
 -- copies, all of them null
-rows-of_nulls : (n : ℕ) (z : ℤ) → values_of (optionals (replicate n z) (replicate n false)) ≡ replicate n None
-rows-of_nulls zero z = refl
-rows-of_nulls (suc n) z = ap (λ (rows : List (Option Value)). None ∷ rows) (rows-of_nulls n z)
+rows-of_nulls : {B : Type 0} (value : B → FlatValue) (n : ℕ) (x : B) → map (option_map Single) (map (option_map value) (optionals (replicate n x) (replicate n false))) ≡ replicate n None
+rows-of_nulls value zero x = refl
+rows-of_nulls value (suc n) x = ap (λ (rows : List (Option Value)). None ∷ rows) (rows-of_nulls value n x)
 
-zeroed-of_nulls : (n : ℕ) (z : ℤ) → z ≡ pos 0 → AreZeroAtNulls (replicate n z) (replicate n false)
-zeroed-of_nulls zero z e = tt
-zeroed-of_nulls (suc n) z e = ((λ _. e), zeroed-of_nulls n z e)
+-- the blank item is stored under null where it is stored everywhere, and where no row is null
+blanked-of_nulls : {B : Type 0} (blank : B) (n : ℕ) (bits : List Bool) → AreBlankAtNulls blank (replicate n blank) bits
+blanked-of_nulls blank zero bits = tt
+blanked-of_nulls blank (suc n) [] = tt
+blanked-of_nulls blank (suc n) (b ∷ bits) = ((λ _. refl), blanked-of_nulls blank n bits)
+
+blanked-of_copies : {B : Type 0} (blank : B) (n : ℕ) (x : B) → AreBlankAtNulls blank (replicate n x) (replicate n true)
+blanked-of_copies blank zero x = tt
+blanked-of_copies blank (suc n) x = ((λ (e : true ≡ false). cc), blanked-of_copies blank n x)
 
 -- a validity without null, of that nullability
-flags-without_nulls : (nullability : Nullability) (n : ℕ) → flags (without_nulls nullability) n ≡ replicate n true
+pub flags-without_nulls : (nullability : Nullability) (n : ℕ) → flags (without_nulls nullability) n ≡ replicate n true
 flags-without_nulls NonNullable n = refl
 flags-without_nulls Nullable n = refl
 
-nullability-without_nulls : (nullability : Nullability) → nullability_in (without_nulls nullability) ≡ nullability
+pub nullability-without_nulls : (nullability : Nullability) → nullability_in (without_nulls nullability) ≡ nullability
 nullability-without_nulls NonNullable = refl
 nullability-without_nulls Nullable = refl
 
-normal-without_nulls : (nullability : Nullability) → IsNormal (without_nulls nullability)
+pub normal-without_nulls : (nullability : Nullability) → IsNormal (without_nulls nullability)
 normal-without_nulls NonNullable = tt
 normal-without_nulls Nullable = tt
 
-nullable : (nullability : Nullability) → MayBeNull nullability → nullability ≡ Nullable
+pub fits-without_nulls : (nullability : Nullability) (n : ℕ) → HasLength (without_nulls nullability) n
+fits-without_nulls NonNullable n = tt
+fits-without_nulls Nullable n = tt
+
+pub nullable : (nullability : Nullability) → MayBeNull nullability → nullability ≡ Nullable
 nullable NonNullable may = absurd may
 nullable Nullable may = refl
 
 -- null, written out
-pub number_rows-written_null : (constant : Constant) (t : PType) (z : ℤ) (array : PrimitiveForm) → None ≡ constant.value
-    → array ≡ primitive_with t (replicate constant.count z) AllNull → number_rows array ≡ replicate constant.count (option_map Single constant.value)
-number_rows-written_null constant t z array none made =
-    rw (made, ← none)
-    (ap (λ (n : ℕ). values_of (optionals (replicate constant.count z) (replicate n false))) (length-replicate constant.count z) ∙ rows-of_nulls constant.count z)
+pub rows-written_null : {B : Type 0} (value : B → FlatValue) (n : ℕ) (x : B) → map (option_map Single) (rows_of value (replicate n x) AllNull) ≡ replicate n None
+rows-written_null value n x = rw (length-replicate n x) (rows-of_nulls value n x)
 
-pub IsWrittenOut-null : (constant : Constant) (t : PType) (z : ℤ) (array : PrimitiveForm) → z ≡ pos 0 → None ≡ constant.value
-    → array ≡ primitive_with t (replicate constant.count z) AllNull → IsWrittenOut constant (OfNumbers array)
-IsWrittenOut-null constant t z array zeroth none made =
-    rw (made, ← none) (
-      record {
-        zeroed = rw (length-replicate constant.count z) (zeroed-of_nulls constant.count z zeroth);
-        normal = tt;
-      },
-      (λ _. refl),
-      (λ some. cc),
-    )
+pub computed-written_null : {B : Type 0} (blank : B) (n : ℕ) → AreComputed blank (replicate n blank) AllNull
+computed-written_null blank n = record { blanked = blanked-of_nulls blank n _; normal = tt }
 
--- a number, written out
-pub number_rows-written_number : (constant : Constant) (t : PType) (nullability : Nullability) (z : ℤ) (array : PrimitiveForm) → Some (Number z) ≡ constant.value
-    → array ≡ primitive_with t (replicate constant.count z) (without_nulls nullability) → number_rows array ≡ replicate constant.count (option_map Single constant.value)
-number_rows-written_number constant t nullability z array number made =
-    rw (made, ← number, flags-without_nulls nullability)
-    (ap (λ (n : ℕ). values_of (optionals (replicate constant.count z) (replicate n true))) (length-replicate constant.count z) ∙ rows-of_copies constant.count z)
+-- a value, written out
+pub rows-written : {B : Type 0} (value : B → FlatValue) (n : ℕ) (x : B) (nullability : Nullability) → map (option_map Single) (rows_of value (replicate n x) (without_nulls nullability)) ≡ replicate n (Some (Single (value x)))
+rows-written value n x nullability = rw (length-replicate n x, flags-without_nulls nullability n) (rows-of_copies value n x)
 
-pub IsWrittenOut-number : (constant : Constant) (t : PType) (nullability : Nullability) (z : ℤ) (array : PrimitiveForm) → constant.dtype ≡ column.Primitive t nullability
-    → Some (Number z) ≡ constant.value → array ≡ primitive_with t (replicate constant.count z) (without_nulls nullability) → IsWrittenOut constant (OfNumbers array)
-IsWrittenOut-number constant t nullability z array typed number made =
-    rw (made, typed, ← number) (
-      record {
-        zeroed = rw (flags-without_nulls nullability, length-replicate constant.count z) (zeroed-of_copies constant.count z);
-        normal = normal-without_nulls nullability;
-      },
-      (λ none. cc),
-      (λ _. refl),
-    )
+pub computed-written : {B : Type 0} (blank : B) (n : ℕ) (x : B) (nullability : Nullability) → AreComputed blank (replicate n x) (without_nulls nullability)
+computed-written blank n x nullability = record {
+  blanked = rw (length-replicate n x, flags-without_nulls nullability n) (blanked-of_copies blank n x);
+  normal = normal-without_nulls nullability;
+}

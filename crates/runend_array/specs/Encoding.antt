@@ -1,19 +1,21 @@
 -- What encoders and decoders answer.
-use Rattle.std.specs.Prelude.{◌≡◌, ℕ, ◌<◌, ℤ, pos, List, length, map, Option, None, option_map, unwrap_or, All, IsSome}
+use Rattle.std.specs.Prelude.{◌≡◌, ℕ, ◌<◌, pos, List, false, length, map, Option, None, option_map, unwrap_or, All}
 use Rattle.column_base.specs.declared.dtype.PType.{PType}
 use Rattle.column_base.specs.declared.dtype.PType.TheVariants.{U64}
 use Rattle.column_base.specs.declared.dtype.Nullability.{Nullability}
 use Rattle.column_base.specs.declared.dtype.Nullability.TheVariants.{NonNullable, Nullable}
 use Rattle.column_base.specs.declared.dtype.DType.{DType}
 use Rattle.column_base.specs.declared.dtype.DType.TheVariants as column
-use Rattle.column_base.specs.Types.{IsLeastFor, nullability_of}
-use Rattle.column_base.specs.ValidityForm.{ValidityForm, NeverNull, NoneNull, AllNull, IsNormal}
+use Rattle.column_base.specs.Types.{IsLeastFor}
+use Rattle.column_base.specs.ValidityForm.{ValidityForm, NeverNull, NoneNull, AllNull, IsNormal, flags}
 use Rattle.column_core.specs.Value.{Value, Single}
-use Rattle.column_core.specs.PrimitiveForm.{PrimitiveForm, primitive_rows, primitive_dtype, IsZeroAtNulls}
-use Rattle.column_core.specs.Leaf.{Leaf, OfNumbers}
+use Rattle.column_core.specs.Optionals.{AreBlankAtNulls}
+use Rattle.column_core.specs.PrimitiveForm.{PrimitiveForm, primitive_rows, primitive_dtype}
+use Rattle.column_core.specs.VarBinForm.{zero_view}
+use Rattle.column_core.specs.Leaf.{Leaf, OfNumbers, OfTruths, OfDecimals, OfVarBins, leaf_rows, leaf_dtype}
 use Rattle.runend_array.specs.Window.{last_end}
 use Rattle.runend_array.specs.Cover.{IsTightCover}
-use Rattle.runend_array.specs.Column.{Column, OfLeaf, OfConstant, OfRuns, Constant, Runs, column_rows, column_dtype, ends_of, run_rows}
+use Rattle.runend_array.specs.Column.{Column, OfLeaf, OfConstant, OfLists, OfRuns, Runs, column_rows, column_dtype, ends_of, run_rows}
 
 -- whole numbers, of whatever native type
 abbrev pub IsWholeNumbers : DType → Type 0
@@ -28,29 +30,42 @@ IsNumbersOf ptype t = ⊥
 -- a plain column of whole numbers
 abbrev pub IsPlainNumbers : Column → Type 0
 IsPlainNumbers (OfLeaf (OfNumbers form)) = Unit {0}
-IsPlainNumbers (OfConstant constant) = ⊥
-IsPlainNumbers (OfRuns ends_type ends values offset count) = ⊥
+IsPlainNumbers c = ⊥
 
 -- the rows of a flat column of whole numbers
 abbrev pub number_rows : PrimitiveForm → List (Option Value)
 number_rows form = map (option_map Single) (primitive_rows form)
 
--- a flat column as a call computes it: 0 is stored under null, and bits stand only for rows of both kinds
-pub record IsComputed (form : PrimitiveForm) : Type 0 where
-  pub zeroed : IsZeroAtNulls form
-  pub normal : IsNormal form.validity
+-- items as a call computes them: the blank one is stored under null, and bits stand only for rows of both kinds
+pub record AreComputed {B : Type 0} (blank : B) (items : List B) (validity : ValidityForm) : Type 0 where
+  pub blanked : AreBlankAtNulls blank items (flags validity (length items))
+  pub normal : IsNormal validity
 
+-- a flat column of whole numbers as a call computes it: 0 is stored under null
+abbrev pub IsComputed : PrimitiveForm → Type 0
+IsComputed form = AreComputed (pos 0) form.numbers form.validity
+
+-- a flat column as a call computes it: 0, false or the view of nothing is stored under null
 abbrev pub IsComputedLeaf : Leaf → Type 0
 IsComputedLeaf (OfNumbers form) = IsComputed form
+IsComputedLeaf (OfTruths form) = AreComputed false form.bits form.validity
+IsComputedLeaf (OfDecimals form) = AreComputed (pos 0) form.numbers form.validity
+IsComputedLeaf (OfVarBins form) = AreComputed zero_view form.views form.validity
 
+-- a flat form as a call computes it
 abbrev pub IsComputedFlat : Column → Type 0
 IsComputedFlat (OfLeaf leaf) = IsComputedLeaf leaf
 IsComputedFlat (OfConstant constant) = ⊥
+IsComputedFlat (OfLists lists) = Unit {0}
 IsComputedFlat (OfRuns ends_type ends values offset count) = ⊥
 
--- each number, and 0 for null
-abbrev pub stored_numbers : List (Option ℤ) → List ℤ
-stored_numbers numbers = map (λ number. unwrap_or number (pos 0)) numbers
+-- the rows of a flat column, as values
+abbrev pub single_rows : Leaf → List (Option Value)
+single_rows leaf = map (option_map Single) (leaf_rows leaf)
+
+-- each item, and the blank one for null
+abbrev pub blanked : {B : Type 0} → B → List (Option B) → List B
+blanked blank rows = map (λ row. unwrap_or row blank) rows
 
 -- the validity of rows of which none is null
 abbrev pub without_nulls : Nullability → ValidityForm
@@ -94,14 +109,19 @@ pub record IsEncoded (array : PrimitiveForm) (runs : Runs) : Type 0 where
 -- what only a plain column of whole numbers has
 abbrev pub IsEncodedColumn : Column → Runs → Type 0
 IsEncodedColumn (OfLeaf (OfNumbers form)) runs = IsEncoded form runs
-IsEncodedColumn (OfConstant constant) runs = ⊥
-IsEncodedColumn (OfRuns ends_type ends values offset count) runs = ⊥
+IsEncodedColumn c runs = ⊥
 
 -- there is a run value, and each is null
 abbrev pub HasNullsAlone : {X : Type 0} → List (Option X) → Type 0
 HasNullsAlone values = (0 < length values) × All (λ v. v ≡ None) values
 
 -- the flat column of the rows that runs with these ends and values show
+pub record IsDecodedLeaf (ends : List ℕ) (values : Leaf) (offset count : ℕ) (array : Leaf) : Type 0 where
+  pub rows : single_rows array ≡ run_rows ends (single_rows values) offset count
+  pub dtype : leaf_dtype array ≡ leaf_dtype values
+  pub computed : IsComputedLeaf array
+
+-- the same of whole numbers
 pub record IsDecodedFlat (ends : List ℕ) (values : PrimitiveForm) (offset count : ℕ) (array : PrimitiveForm) : Type 0 where
   pub rows : number_rows array ≡ run_rows ends (number_rows values) offset count
   pub dtype : primitive_dtype array ≡ primitive_dtype values
@@ -111,15 +131,5 @@ pub record IsDecodedFlat (ends : List ℕ) (values : PrimitiveForm) (offset coun
 abbrev pub IsDecodedForm : List (Option Value) → Column → Type 0
 IsDecodedForm values (OfConstant constant) = HasNullsAlone values × (constant.value ≡ None)
 IsDecodedForm values (OfLeaf leaf) = (¬ HasNullsAlone values) × IsComputedLeaf leaf
+IsDecodedForm values (OfLists lists) = ⊥
 IsDecodedForm values (OfRuns ends_type ends run_values offset count) = ⊥
-
--- a constant, written out: null with a validity that says so, else with a validity without null
-abbrev pub IsWrittenOut : Constant → Leaf → Type 0
-IsWrittenOut constant (OfNumbers form) = IsComputed form × (constant.value ≡ None → form.validity ≡ AllNull) × (IsSome constant.value → form.validity ≡ without_nulls (nullability_of constant.dtype))
-
--- the flat form of a column: a flat column as it stands, a constant written out, and what the runs of a run column show
-abbrev pub IsCanonical : Column → Column → Type 0
-IsCanonical (OfLeaf leaf) c = c ≡ OfLeaf leaf
-IsCanonical (OfConstant constant) (OfLeaf leaf) = IsWrittenOut constant leaf
-IsCanonical (OfRuns ends_type ends values offset count) c = IsComputedFlat c
-IsCanonical (OfConstant constant) c = ⊥

@@ -1,10 +1,17 @@
--- Why parts are no run column: the first fault, in the order in which they are tested.
-use Rattle.std.specs.Prelude.{◌≡◌, ◌≢◌, ℕ, ◌+◌, ◌-◌, ◌^◌, ◌<◌, ◌≤◌, List, length, slice_index}
+-- Why parts are no run column, or no column of lists: the first fault, in the order in which they are tested.
+use Rattle.std.specs.Prelude.{◌≡◌, ◌≢◌, ◌⊎◌, ℕ, pos, ◌+◌, ◌-◌, ◌^◌, ◌<◌, ◌≤◌, List, length, slice_index, IsTrue, Option, Some}
 use Rattle.std.specs.List.Sorted.{IsStrictlyIncreasing}
 use Rattle.column_base.specs.declared.error.VortexError.{VortexError}
-use Rattle.column_base.specs.declared.error.VortexError.TheVariants.{EndsNotUnsigned, LengthsDiffer, NoRunsWindow, EndsNotStrict, WindowOverflow, FirstEndBelowOffset, LastEndBelowWindow}
+use Rattle.column_base.specs.declared.error.VortexError.TheVariants.{EndsNotUnsigned, LengthsDiffer, NoRunsWindow, EndsNotStrict, WindowOverflow, FirstEndBelowOffset, LastEndBelowWindow, OutOfBounds, ColumnLength, TypeMismatch}
+use Rattle.column_base.specs.ValidityForm.{length_of}
+use Rattle.column_core.specs.Leaf.{leaf_rows}
+use Rattle.column_core.specs.declared.flat.FlatColumn.{FlatColumn}
 use Rattle.runend_array.specs.Window.{last_end}
+use Rattle.runend_array.specs.Lists.{Lists, RowValidityForm, ByRows, ByRuns, HasRows, IsWithinElements, index_count, list_count, row_flag_at}
 use Rattle.runend_array.specs.Column.{Column, column_rows, IsPlainEnds, end_numbers}
+use Rattle.runend_array.specs.Array.{AreListTypes, lists_of}
+use Rattle.runend_array.specs.declared.array_ref.ArrayRef.{ArrayRef}
+use Rattle.runend_array.specs.declared.row_validity.RowValidity.{RowValidity}
 
 -- the first run whose end is not above the end before it
 pub record IsFirstFall (ends : List ℕ) (run : ℕ) : Type 0 where
@@ -33,3 +40,26 @@ WindowFault ends values offset count error = ⊥
 abbrev pub PartsFault : Column → Column → ℕ → ℕ → VortexError → Type 0
 PartsFault ends values offset count EndsNotUnsigned = ¬ IsPlainEnds ends
 PartsFault ends values offset count error = IsPlainEnds ends × WindowFault (end_numbers ends) (length (column_rows values)) offset count error
+
+-- the first valid row whose elements do not lie within those that there are
+pub record IsFirstOutside (lists : Lists) (row : ℕ) : Type 0 where
+  pub within : row < list_count lists
+  pub valid : IsTrue (row_flag_at lists.validity row)
+  pub outside : ¬ IsWithinElements lists row
+  pub least : (k : ℕ) → k < row → IsTrue (row_flag_at lists.validity k) → IsWithinElements lists k
+
+-- how many rows a validity speaks of, where its form says so
+abbrev pub rows_told : RowValidityForm → Option ℕ
+rows_told (ByRows form) = length_of form
+rows_told (ByRuns ends_type ends bits offset count) = Some count
+
+-- the first fault of the parts of a column of lists, of which offsets, sizes and validity are of the right types
+abbrev pub ListsFault : Lists → VortexError → Type 0
+ListsFault lists (ColumnLength left right) = (left ≡ list_count lists) × (left ≢ right) × ((right ≡ index_count lists.sizes) ⊎ ((index_count lists.sizes ≡ left) × (rows_told lists.validity ≡ Some right)))
+ListsFault lists (OutOfBounds row count) = (index_count lists.sizes ≡ list_count lists) × HasRows lists.validity (list_count lists) × (count ≡ length (leaf_rows lists.elements)) × ((place : ℕ) × (row ≡ pos place) × IsFirstOutside lists place)
+ListsFault lists error = ⊥
+
+-- the first fault of the parts of a column of lists
+abbrev pub ListPartsFault : {A : Type 0} → FlatColumn A → ArrayRef A → ArrayRef A → RowValidity A → VortexError → Type 0
+ListPartsFault elements offsets sizes validity TypeMismatch = ¬ AreListTypes offsets sizes validity
+ListPartsFault elements offsets sizes validity error = AreListTypes offsets sizes validity × ListsFault (lists_of elements offsets sizes validity) error

@@ -1,21 +1,29 @@
 //! The run column: runs of equal rows, seen through a window.
-ghost use Rattle.std.specs.Prelude.{◌≡◌, ℕ, ◌+◌, ◌-◌, ◌<◌, ◌≤◌, ◌↔◌, Some, pos, length, min, count_by, nat_le, nat_lt, slice_get, IsTrue, IfOk, IsErrOf, IsOkUnless, MatchOption, MatchResult, map};
+ghost use Rattle.std.specs.Prelude.{◌≡◌, ℕ, ◌+◌, ◌-◌, ◌<◌, ◌≤◌, ◌↔◌, Some, fold, pos, length, min, count_by, nat_le, nat_lt, slice_get, slice_index, slice_index_or, false, IsTrue, IfOk, IsErrOf, IsOkUnless, MatchOption, MatchResult, map};
 ghost use Rattle.column_core.specs.Leaf.{OfNumbers};
 ghost use Rattle.column_core.specs.ScalarView.{sees, IsViewOf};
-ghost use Rattle.runend_array.specs.Array.{column_of, dtype_of, rows};
+ghost use Rattle.runend_array.specs.Array.{IsRowValidity, column_of, dtype_of, rows, validity_of};
+ghost use Rattle.runend_array.specs.RowFlags.{IsValidityForm, IsValidityOf};
 ghost use Rattle.runend_array.specs.Window.{run_at, last_end};
-ghost use Rattle.runend_array.specs.Column.{AreParts, AreRuns, IsPlainEnds, OfLeaf, Runs, column_dtype, column_of_runs, column_rows, end_numbers, end_ptype, runs_of};
-ghost use Rattle.column_core.specs.PrimitiveForm.{primitive_dtype};
-ghost use Rattle.runend_array.specs.Encoding.{IsComputed, IsEncodedColumn, IsPlainNumbers, IsWholeNumbers, number_rows};
+ghost use Rattle.runend_array.specs.Column.{AreParts, AreRuns, IsPlainEnds, IsPlainIndex, IsPlainTruths, OfLeaf, Runs, column_dtype, column_of_runs, column_rows, end_numbers, end_ptype, runs_of, truths_of};
+ghost use Rattle.runend_array.specs.Canonical.{canonical_column};
+ghost use Rattle.runend_array.specs.Encoding.{IsComputedFlat, IsEncodedColumn, IsPlainNumbers};
+ghost use Rattle.runend_array.specs.Data.{data_eq, data_text, data_writes};
 ghost use Rattle.runend_array.specs.Fault.{PartsFault};
 
 use crate::array_ref::{ArrayRef, out_of_bounds};
+use crate::canonical::Canonical;
 use crate::compress::runend_encode;
+use crate::list_index::{is_plain_index, is_plain_truths, plain_number_at, plain_truth_at};
+use crate::list_runs::validity_in_runs;
+use crate::row_validity::RowValidity;
 use crate::session::ExecutionCtx;
 use crate::validate::validate_ends;
 use crate::{compress, ops};
 use column_core::{DType, Nullability, PrimitiveArray, ScalarView, VortexError, VortexResult};
 use std::alloc::Allocator;
+use std::fmt;
+use std::hash::Hasher;
 use std::marker::Model;
 
 /// Run k shows value k in the rows before its end and after the end before it. Of these rows the
@@ -260,6 +268,30 @@ impl RunEndData {
             offset: self.offset,
         }
     }
+
+    /// Are the offsets equal?
+    pub fn array_eq(&self, other: &RunEndData) -> bool
+        ensures { result ≡ data_eq self.now other.now }
+    {
+        self.offset == other.offset
+    }
+
+    /// Gives the offset to the hasher, and nothing else.
+    pub fn array_hash<H: Hasher>(&self, state: &mut H)
+        ensures { state.new ≡ fold H.write state.old (data_writes self.now) }
+    {
+        state.write_usize(self.offset);
+    }
+}
+
+/// Writes `offset: ` and the offset in decimal digits.
+impl fmt::Display for RunEndData {
+    ghost output = { λ offset. Some (data_text offset) };
+
+    fn fmt<W: fmt::Write>(&self, f: &mut fmt::Formatter<W>) -> fmt::Result {
+        let offset = self.offset;
+        write!(f, "offset: {offset}")
+    }
 }
 
 /// The ends, where the column is flat, unsigned and without null.
@@ -341,19 +373,66 @@ impl<A: Allocator + Copy> RunEndArray<A> {
     }
 
     #[cycle(canonicalize_in)]
-    pub(crate) fn canonicalize_in(&self, alloc: A) -> VortexResult<PrimitiveArray<A>>
-        ensures only { IsWholeNumbers (column_dtype self.now.values) → IsOkUnless result VortexError.OutOfMemory }
-        ensures unsupported { (¬ IsWholeNumbers (column_dtype self.now.values)) → IsErrOf result VortexError.Unsupported }
-        ensures rows { IfOk result (λ array. number_rows array ≡ column_rows (column_of_runs self.now)) }
-        ensures dtype { IfOk result (λ array. primitive_dtype array ≡ column_dtype self.now.values) }
-        ensures form { IfOk result (λ array. IsComputed array) }
+    pub(crate) fn canonicalize_in(&self, alloc: A) -> VortexResult<Canonical<A>>
+        ensures only { IsOkUnless result VortexError.OutOfMemory }
+        ensures rows { IfOk result (λ flat. column_rows (canonical_column flat) ≡ column_rows (column_of_runs self.now)) }
+        ensures dtype { IfOk result (λ flat. column_dtype (canonical_column flat) ≡ column_dtype self.now.values) }
+        ensures form { IfOk result (λ flat. IsComputedFlat (canonical_column flat)) }
     {
         let values = self.values.canonicalize_in(alloc)?;
         let Some(ends) = plain_ends(&self.ends) else {
             unreachable!()
         };
-        prove_eq!(values.len(), ends.len());
-        compress::decode_flat(alloc, ends, &values, self.offset, self.length)
+        values.shown_by(alloc, ends, self.offset, self.length)
+    }
+
+    /// Which rows are valid. Refused as `OutOfMemory` alone.
+    #[cycle(validity_in)]
+    pub(crate) fn validity_in(&self, alloc: A) -> VortexResult<RowValidity<A>>
+        ensures only { IsOkUnless result VortexError.OutOfMemory }
+        ensures rows { IfOk result (λ rows. IsValidityOf (column_of_runs self.now) (validity_of rows)) }
+        ensures form { IfOk result (λ rows. IsValidityForm (column_of_runs self.now) (validity_of rows)) }
+        ensures plain { IfOk result (λ rows. IsRowValidity rows) }
+    {
+        let values = self.values.validity_in(alloc)?;
+        let Some(ends) = plain_ends(&self.ends) else {
+            unreachable!()
+        };
+        validity_in_runs(alloc, ends, &values, self.offset, self.length)
+    }
+
+    /// Is it a run column over flat u64 without null?
+    pub(crate) fn is_index(&self) -> bool
+        ensures { IsTrue result ↔ IsPlainIndex self.now.values }
+    {
+        is_plain_index(&self.values)
+    }
+
+    /// Is it a run column over flat truth values without null?
+    pub(crate) fn is_truths(&self) -> bool
+        ensures { IsTrue result ↔ IsPlainTruths self.now.values }
+    {
+        is_plain_truths(&self.values)
+    }
+
+    /// The number in a row of a run column over flat u64 without null.
+    pub(crate) fn number_at(&self, index: usize) -> u64
+        requires plain { IsPlainIndex self.now.values }
+        requires within { index < self.now.count }
+        ensures { result ≡ slice_index (end_numbers self.now.values) (run_at self.now.ends (self.now.offset + index)) }
+    {
+        let run = ops::run_of(&self.ends, self.offset + index);
+        plain_number_at(&self.values, run)
+    }
+
+    /// The truth value in a row of a run column over flat truth values without null.
+    pub(crate) fn truth_at(&self, index: usize) -> bool
+        requires plain { IsPlainTruths self.now.values }
+        requires within { index < self.now.count }
+        ensures { result ≡ slice_index_or (truths_of self.now.values) (run_at self.now.ends (self.now.offset + index)) false }
+    {
+        let run = ops::run_of(&self.ends, self.offset + index);
+        plain_truth_at(&self.values, run)
     }
 }
 

@@ -2,23 +2,30 @@
 ghost use Rattle.std.specs.Prelude.{◌≡◌, ◌≤◌, ◌↔◌, Some, [], pos, length, slice_get, IsTrue, IfOk, IsErrOf, IsOkUnless};
 ghost use Rattle.column_core.specs.ScalarView.{sees, IsViewOf};
 ghost use Rattle.runend_array.specs.Array.{column_of, dtype_of, rows};
-ghost use Rattle.runend_array.specs.Encoding.{IsCanonical, IsWholeNumbers, number_rows};
-ghost use Rattle.runend_array.specs.Column.{OfLeaf};
-ghost use Rattle.column_core.specs.Leaf.{OfNumbers};
-ghost use Rattle.column_core.specs.PrimitiveForm.{primitive_dtype};
+ghost use Rattle.runend_array.specs.Canonical.{IsCanonical, canonical_column};
+ghost use Rattle.runend_array.specs.Column.{column_dtype, column_rows};
 
 use crate::array::RunEndArray;
+use crate::canonical::Canonical;
 use crate::compress;
 use crate::constant::ConstantArray;
+use crate::listview::ListViewArray;
 use crate::session::ExecutionCtx;
-use column_core::{DType, PrimitiveArray, ScalarView, VortexError, VortexResult};
+use column_core::{
+    BoolArray, DType, DecimalArray, FlatColumn, PrimitiveArray, ScalarView, VarBinViewArray,
+    VortexError, VortexResult,
+};
 use std::alloc::Allocator;
 
-/// A column in one of its forms: flat, one value in each row, or run-end encoded.
+/// A column in one of its forms: flat, lists, one value in each row, or run-end encoded.
 #[cycle(array)]
 #[derive(Drop)]
 pub enum ArrayRef<A: Allocator> {
     Primitive(PrimitiveArray<A>),
+    Bool(BoolArray<A>),
+    Decimal(DecimalArray<A>),
+    VarBinView(VarBinViewArray<A>),
+    ListView(Box<ListViewArray<A>, A>),
     Constant(ConstantArray<A>),
     RunEnd(Box<RunEndArray<A>, A>),
 }
@@ -30,6 +37,10 @@ impl<A: Allocator + Copy> ArrayRef<A> {
     {
         match self {
             ArrayRef::Primitive(array) => array.len(),
+            ArrayRef::Bool(array) => array.len(),
+            ArrayRef::Decimal(array) => array.len(),
+            ArrayRef::VarBinView(array) => array.len(),
+            ArrayRef::ListView(lists) => lists.len(),
             ArrayRef::Constant(array) => array.len(),
             ArrayRef::RunEnd(array) => array.len(),
         }
@@ -49,6 +60,10 @@ impl<A: Allocator + Copy> ArrayRef<A> {
     {
         match self {
             ArrayRef::Primitive(array) => array.dtype(),
+            ArrayRef::Bool(array) => array.dtype(),
+            ArrayRef::Decimal(array) => array.dtype(),
+            ArrayRef::VarBinView(array) => array.dtype(),
+            ArrayRef::ListView(lists) => lists.dtype(),
             ArrayRef::Constant(array) => array.dtype(),
             ArrayRef::RunEnd(array) => array.values_dtype(),
         }
@@ -69,6 +84,30 @@ impl<A: Allocator + Copy> ArrayRef<A> {
                     return Err(out_of_bounds(index, array.len()));
                 }
                 Ok(array.get(index))
+            }
+            ArrayRef::Bool(array) => {
+                if index >= array.len() {
+                    return Err(out_of_bounds(index, array.len()));
+                }
+                Ok(array.get(index))
+            }
+            ArrayRef::Decimal(array) => {
+                if index >= array.len() {
+                    return Err(out_of_bounds(index, array.len()));
+                }
+                Ok(array.get(index))
+            }
+            ArrayRef::VarBinView(array) => {
+                if index >= array.len() {
+                    return Err(out_of_bounds(index, array.len()));
+                }
+                Ok(array.get(index))
+            }
+            ArrayRef::ListView(lists) => {
+                if index >= lists.len() {
+                    return Err(out_of_bounds(index, lists.len()));
+                }
+                Ok(lists.get(index))
             }
             ArrayRef::Constant(array) => {
                 if index >= array.len() {
@@ -99,6 +138,23 @@ impl<A: Allocator + Copy> ArrayRef<A> {
                 let copy = array.try_clone(alloc)?;
                 Ok(ArrayRef::Primitive(copy))
             }
+            ArrayRef::Bool(array) => {
+                let copy = array.try_clone(alloc)?;
+                Ok(ArrayRef::Bool(copy))
+            }
+            ArrayRef::Decimal(array) => {
+                let copy = array.try_clone(alloc)?;
+                Ok(ArrayRef::Decimal(copy))
+            }
+            ArrayRef::VarBinView(array) => {
+                let copy = array.try_clone(alloc)?;
+                Ok(ArrayRef::VarBinView(copy))
+            }
+            ArrayRef::ListView(lists) => {
+                let copy = lists.clone_in(alloc)?;
+                let boxed = Box::new(alloc, copy)?;
+                Ok(ArrayRef::ListView(boxed))
+            }
             ArrayRef::Constant(array) => {
                 let copy = array.clone_in(alloc)?;
                 Ok(ArrayRef::Constant(copy))
@@ -112,51 +168,52 @@ impl<A: Allocator + Copy> ArrayRef<A> {
     }
 
     /// The rows in a flat form: a flat column is copied as it stands, a constant is written out, and
-    /// of a run column the rows that its runs show are written, 0 under null. Refused as `Unsupported`
-    /// exactly for types that are not of whole numbers, else as `OutOfMemory` alone.
+    /// of a run column the rows that its runs show are written, with 0, false or the view of nothing
+    /// under null; runs of lists become lists over the same elements. Buffers of texts and elements of
+    /// lists are shared. Refused as `OutOfMemory` alone.
     pub fn canonicalize(&self, ctx: &mut ExecutionCtx<A>) -> VortexResult<ArrayRef<A>>
-        ensures only { IsWholeNumbers (dtype_of self.now) → IsOkUnless result VortexError.OutOfMemory }
-        ensures unsupported { (¬ IsWholeNumbers (dtype_of self.now)) → IsErrOf result VortexError.Unsupported }
+        ensures only { IsOkUnless result VortexError.OutOfMemory }
         ensures rows { IfOk result (λ array. rows array ≡ rows self.now) }
         ensures dtype { IfOk result (λ array. dtype_of array ≡ dtype_of self.now) }
         ensures form { IfOk result (λ array. IsCanonical (column_of self.now) (column_of array)) }
         ensures session { ctx.new ≡ ctx.old }
     {
-        let flat = self.canonicalize_in(*ctx.allocator())?;
-        Ok(ArrayRef::Primitive(flat))
+        let alloc = *ctx.allocator();
+        let flat = self.canonicalize_in(alloc)?;
+        flat.into_array(alloc)
     }
 
     #[cycle(canonicalize_in)]
-    pub(crate) fn canonicalize_in(&self, alloc: A) -> VortexResult<PrimitiveArray<A>>
-        ensures only { IsWholeNumbers (dtype_of self.now) → IsOkUnless result VortexError.OutOfMemory }
-        ensures unsupported { (¬ IsWholeNumbers (dtype_of self.now)) → IsErrOf result VortexError.Unsupported }
-        ensures rows { IfOk result (λ array. number_rows array ≡ rows self.now) }
-        ensures dtype { IfOk result (λ array. primitive_dtype array ≡ dtype_of self.now) }
-        ensures form { IfOk result (λ array. IsCanonical (column_of self.now) (OfLeaf (OfNumbers array))) }
+    pub(crate) fn canonicalize_in(&self, alloc: A) -> VortexResult<Canonical<A>>
+        ensures only { IsOkUnless result VortexError.OutOfMemory }
+        ensures rows { IfOk result (λ flat. column_rows (canonical_column flat) ≡ rows self.now) }
+        ensures dtype { IfOk result (λ flat. column_dtype (canonical_column flat) ≡ dtype_of self.now) }
+        ensures form { IfOk result (λ flat. IsCanonical (column_of self.now) (canonical_column flat)) }
     {
         match self {
             ArrayRef::Primitive(array) => {
                 let copy = array.try_clone(alloc)?;
-                Ok(copy)
+                Ok(Canonical::Flat(FlatColumn::Primitive(copy)))
             }
-            ArrayRef::Constant(array) => {
-                if !is_whole_numbers(array.dtype()) {
-                    return Err(VortexError::Unsupported);
-                }
-                compress::write_constant(alloc, array)
+            ArrayRef::Bool(array) => {
+                let copy = array.try_clone(alloc)?;
+                Ok(Canonical::Flat(FlatColumn::Bool(copy)))
             }
+            ArrayRef::Decimal(array) => {
+                let copy = array.try_clone(alloc)?;
+                Ok(Canonical::Flat(FlatColumn::Decimal(copy)))
+            }
+            ArrayRef::VarBinView(array) => {
+                let copy = array.try_clone(alloc)?;
+                Ok(Canonical::Flat(FlatColumn::VarBinView(copy)))
+            }
+            ArrayRef::ListView(lists) => {
+                let copy = lists.clone_in(alloc)?;
+                Ok(Canonical::List(copy))
+            }
+            ArrayRef::Constant(array) => compress::write_constant(alloc, array),
             ArrayRef::RunEnd(array) => array.canonicalize_in(alloc),
         }
-    }
-}
-
-// Is it a type of whole numbers?
-fn is_whole_numbers(dtype: DType) -> bool
-    ensures { IsTrue result ↔ IsWholeNumbers dtype }
-{
-    match dtype {
-        DType::Primitive(_, _) => true,
-        _ => false,
     }
 }
 

@@ -31,13 +31,13 @@ pub fn rows_line<A: Allocator + Copy>(alloc: A, array: &ArrayRef<A>) -> VortexRe
 pub fn form_line<A: Allocator + Copy>(alloc: A, array: &ArrayRef<A>) -> VortexResult<String<A>> {
     let mut line = String::new(alloc);
     match array {
-        ArrayRef::Primitive(_) => {
+        ArrayRef::Constant(constant) => push_constant(&mut line, constant)?,
+        ArrayRef::RunEnd(runs) => push_runs(&mut line, runs)?,
+        _ => {
             line.push_str("flat")?;
             push_type(&mut line, array.dtype())?;
             push_rows(&mut line, array)?;
         }
-        ArrayRef::Constant(constant) => push_constant(&mut line, constant)?,
-        ArrayRef::RunEnd(runs) => push_runs(&mut line, runs)?,
     }
     Ok(line)
 }

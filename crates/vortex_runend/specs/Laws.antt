@@ -1,7 +1,8 @@
 -- The laws of encodings, stated over lists of optional values, so of whole numbers too.
-use Rattle.std.specs.Prelude.{◌≡◌, ◌≢◌, ◌+◌, ◌≤◌, ◌↔◌, ℕ, List, Option, Some, length, slice_get, slice_range}
+use Rattle.std.specs.Prelude.{IsTrue, ◌≡◌, ◌≢◌, ◌+◌, ◌≤◌, ◌↔◌, ℕ, List, Option, Some, length, slice_get, slice_range}
 use Rattle.column_core.specs.Value.{Value}
 use Rattle.runend_array.specs.Cover.{Covers, IsTightCover}
+use Rattle.runend_array.specs.Data.{data_eq, data_writes}
 
 -- two tight exact covers of a list have equal ends and equal optional values
 abbrev pub TightCoverIsUnique : Type 0
@@ -33,3 +34,7 @@ abbrev pub SliceOfSlice : Type 0
 SliceOfSlice = (rows : List (Option Value)) (start stop first last : ℕ)
     → start ≤ stop → stop ≤ length rows → first ≤ last → last ≤ length (slice_range rows start stop)
     → (slice_range (slice_range rows start stop) first last ≡ slice_range rows (start + first) (start + last)) × (start + last ≤ length rows)
+
+-- what a run column holds beside its slots is equal exactly where its offset is, and where it is equal a hash of it makes equal writes
+abbrev pub EqualDataHashEqually : Type 0
+EqualDataHashEqually = (offset other : ℕ) → (IsTrue (data_eq offset other) ↔ (offset ≡ other)) × (IsTrue (data_eq offset other) → data_writes offset ≡ data_writes other)

@@ -1,5 +1,5 @@
 //! The laws of encodings and of slices, each proved of every list of optional values, so of whole
-//! numbers too.
+//! numbers too, and the law of what a run column holds beside its slots.
 //!
 //! An encoding of a list is its tight exact cover: runs of which none is empty, none can be joined
 //! with the next, and none is hidden. But for the last, each function here does nothing: its clause is
@@ -7,7 +7,7 @@
 ghost use Rattle.std.specs.Prelude.{◌≡◌, IfOk, IsOkUnless};
 ghost use Rattle.runend_array.specs.Array.{column_of, dtype_of, rows};
 ghost use Rattle.runend_array.specs.Encoding.{IsPlainNumbers};
-ghost use Rattle.vortex_runend.specs.Laws.{DecodingAnEncoding, EqualListsEqualEncodings, NeighboursDiffer, NoCoverIsShorter, SliceOfSlice, TightCoverIsUnique};
+ghost use Rattle.vortex_runend.specs.Laws.{DecodingAnEncoding, EqualListsEqualEncodings, NeighboursDiffer, NoCoverIsShorter, SliceOfSlice, TightCoverIsUnique, EqualDataHashEqually};
 
 use runend_array::{ArrayRef, ExecutionCtx, RunEnd, VortexError, VortexResult};
 use std::alloc::Allocator;
@@ -46,6 +46,13 @@ pub fn decoding_an_encoding()
 /// For scanners: a range of a range needs no column in between.
 pub fn slice_of_slice()
     ensures { SliceOfSlice }
+{}
+
+/// `RunEndData::array_eq` is equality of offsets, and data that it finds equal hash equally: `array_hash`
+/// makes the same writes for both, whichever hasher it is given.
+/// For caches: looking data up by its hash misses none that is equal.
+pub fn equal_data_hash_equally()
+    ensures { EqualDataHashEqually }
 {}
 
 /// Encodes a plain column of whole numbers, of any of the eight types, and decodes what comes out: the

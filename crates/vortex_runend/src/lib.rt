@@ -8,10 +8,11 @@ pub mod laws;
 
 pub use kernel::initialize;
 pub use runend_array::{
-    ArrayRef, BitBuffer, BitBufferMut, ConstantArray, CountedEnds, DType, DecimalDType,
-    ElementDType, ExecutionCtx, FlatColumn, Kernel, Mask, NativePType, Nullability, PType,
-    PrimitiveArray, PrimitiveValues, RunEnd, RunEndArray, RunEndArrayExt, RunEndArraySlotsExt,
-    RunEndData, RunEndDataParts, RunEndProbe, RunEndSlots, Scalar, ScalarValue, ScalarView,
-    SetIndices, Thresholds, UnsignedPType, Validity, VortexError, VortexResult, VortexSession,
-    compress, ops,
+    ArrayRef, BitBuffer, BitBufferMut, BoolArray, ConstantArray, CountedEnds, DType, DecimalArray,
+    DecimalDType, ElementDType, ExecutionCtx, FlatColumn, Kernel, ListViewArray, Mask, NativePType,
+    Nullability, PType, PrimitiveArray, PrimitiveValues, RowValidity, RunEnd, RunEndArray,
+    RunEndArrayExt, RunEndArraySlotsExt, RunEndData, RunEndDataParts, RunEndProbe, RunEndSlots,
+    Scalar, ScalarValue, ScalarView, SetIndices, Thresholds, TrimmedEnds, UnsignedPType, Validity,
+    VarBinKind, VarBinViewArray, View, VortexError, VortexResult, VortexSession, compress,
+    decompress_bool, ops, trimmed_ends_iter, validity,
 };

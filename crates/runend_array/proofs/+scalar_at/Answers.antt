@@ -1,7 +1,10 @@
-use Rattle.std.proofs.Common.{◌≤◌, length, arith, ap, ◌∙◌, sym}
+use Rattle.std.proofs.Common.{◌≡◌, ◌<◌, ◌≤◌, Some, length, arith, ap, ◌∙◌, sym}
 use Rattle.std.specs.Prelude.{slice_get}
 use Rattle.runend_array.specs.Array.{column_of, rows}
 use Rattle.runend_array.specs.Column.{column_rows, end_numbers, runs_of}
+use Rattle.runend_array.specs.Lists.{list_at, list_count}
+use Rattle.runend_array.proofs.Lists.{slice_get-replicate}
+use Rattle.runend_array.proofs.ListRows.{slice_get-made}
 use Rattle.runend_array.proofs.RunAt.{run_of_row_within}
 use Rattle.runend_array.proofs.RunRows.{length-run_rows, slice_get-run_rows_of_window}
 use Rattle.runend_array.proofs.Refusals.{reason_of_refusal}
@@ -25,7 +28,21 @@ array::RunEndArray::row_at-returns-clause-row g t c =
     ∙ c.in-Ok.ensures.row)
 
 pub array_ref::ArrayRef::scalar_at-returns-in-RunEnd-clause-refused : goal.array_ref::ArrayRef::scalar_at-returns-in-RunEnd-clause-refused
-array_ref::ArrayRef::scalar_at-returns-in-RunEnd-clause-refused g t c = rw c.in-RunEnd.is (rw length-run_rows (rw c.deref.ensures at c.row_at.ensures.refused))
+array_ref::ArrayRef::scalar_at-returns-in-RunEnd-clause-refused g t c = rw c.in-RunEnd.is (rw length-run_rows (rw c.deref-in-RunEnd.ensures at c.row_at.ensures.refused))
 
 pub array_ref::ArrayRef::scalar_at-returns-in-RunEnd-clause-only : goal.array_ref::ArrayRef::scalar_at-returns-in-RunEnd-clause-only
-array_ref::ArrayRef::scalar_at-returns-in-RunEnd-clause-only g t c = rw c.in-RunEnd.is (rw length-run_rows (rw c.deref.ensures at c.row_at.ensures.only))
+array_ref::ArrayRef::scalar_at-returns-in-RunEnd-clause-only g t c = rw c.in-RunEnd.is (rw length-run_rows (rw c.deref-in-RunEnd.ensures at c.row_at.ensures.only))
+
+pub array_ref::ArrayRef::scalar_at-returns-else-index-len-5-clause-row : goal.array_ref::ArrayRef::scalar_at-returns-else-index-len-5-clause-row
+array_ref::ArrayRef::scalar_at-returns-else-index-len-5-clause-row g t c =
+    let lists = c.in-ListView.lists.value in
+    let counted : c.len-in-ListView.result ≡ list_count lists = c.len-in-ListView.ensures.offsets ∙ ap list_count c.deref.ensures in
+    let within : c.args.index < list_count lists = omega (arith, counted, c.if-index-len-5.false) in
+    rw c.in-ListView.is
+    (slice_get-made (list_at lists) (list_count lists) c.args.index within
+    ∙ ap Some (sym (c.get-in-ListView.ensures.row ∙ ap (λ l. list_at l c.args.index) c.deref-in-ListView.ensures)))
+
+pub array_ref::ArrayRef::scalar_at-returns-else-index-len-6-clause-row : goal.array_ref::ArrayRef::scalar_at-returns-else-index-len-6-clause-row
+array_ref::ArrayRef::scalar_at-returns-else-index-len-6-clause-row g t c =
+    let within : c.args.index < c.in-Constant.array.count = omega (arith, c.len-in-Constant.ensures, c.if-index-len-6.false) in
+    rw c.in-Constant.is (slice_get-replicate c.in-Constant.array.count c.args.index _ within ∙ ap Some (sym c.scalar_view.ensures.value))

@@ -1,27 +1,30 @@
 //! The decoder: each run's value is repeated up to where the run reaches in the window.
-ghost use Rattle.std.specs.Prelude.{◌≡◌, ◌-◌, ◌<◌, ◌≤◌, ◌↔◌, IfOk, IsOkUnless, IsTrue, count_by, length, map, min, slice_index, unsigned_abs};
+ghost use Rattle.std.specs.Prelude.{◌≡◌, ◌-◌, ◌<◌, ◌≤◌, IfOk, IsOkUnless, length, map, min, slice_get, slice_index, unsigned_abs, Some};
 ghost use Rattle.column_base.specs.declared.dtype.Nullability.TheVariants.{Nullable};
 ghost use Rattle.column_base.specs.ValidityForm.{HasLength, IsNormal, flags, nullability_in};
 ghost use Rattle.column_base.specs.Validity.{form_of};
-ghost use Rattle.column_core.specs.PrimitiveForm.{optionals, primitive_dtype, primitive_with, row_flags};
+ghost use Rattle.column_core.specs.Optionals.{optionals};
+ghost use Rattle.column_core.specs.PrimitiveForm.{primitive_dtype, primitive_with};
 ghost use Rattle.runend_array.specs.Window.{IsWindow};
 ghost use Rattle.runend_array.specs.Cover.{Covers};
-ghost use Rattle.runend_array.specs.Column.{IsEndsType, ends_of, run_rows};
-ghost use Rattle.runend_array.specs.Array.{column_of, dtype_of, rows};
-ghost use Rattle.runend_array.specs.Encoding.{HasNullsAlone, IsDecodedForm, IsDecodedFlat, number_rows, stored_numbers};
+ghost use Rattle.runend_array.specs.Column.{IsEndsType, ends_of};
+ghost use Rattle.runend_array.specs.Decoding.{AreDecoded};
+ghost use Rattle.runend_array.specs.Encoding.{IsDecodedFlat, blanked};
 
 use super::run_writer::RunWriter;
-use super::shown::shown_at;
-use super::written::null_constant;
-use crate::array_ref::ArrayRef;
 use column_base::{match_each_native, match_each_unsigned};
 use column_core::{
     BitBufferMut, NativePType, PrimitiveArray, UnsignedPType, Validity, VortexError, VortexResult,
 };
 use std::alloc::Allocator;
 
-// How many rows of the window the runs up to this one reach.
-fn reach_of<E: UnsignedPType>(ends: &[E], run: usize, offset: usize, count: usize) -> usize
+/// How many rows of the window the runs up to this one reach.
+pub(crate) fn reach_of<E: UnsignedPType>(
+    ends: &[E],
+    run: usize,
+    offset: usize,
+    count: usize,
+) -> usize
     requires { run < length ends.now }
     ensures { result ≡ min (slice_index (map unsigned_abs (map E.number ends.now)) run - offset) count }
 {
@@ -29,12 +32,31 @@ fn reach_of<E: UnsignedPType>(ends: &[E], run: usize, offset: usize, count: usiz
     rows.min(count as u64) as usize
 }
 
-// The numbers that the runs show in the window, 0 for null.
-fn decode_items<E: UnsignedPType, T: NativePType, A: Allocator + Copy>(
+// The item in a row, and the blank one for null.
+fn stored_at<T: Copy + Drop, A: Allocator>(
+    items: &[T],
+    validity: &Validity<A>,
+    row: usize,
+    blank: T,
+) -> T
+    requires within { row < length items.now }
+    requires fits { HasLength (form_of validity.now) (length items.now) }
+    ensures { slice_get (blanked blank (optionals items.now (flags (form_of validity.now) (length items.now)))) row ≡ Some result }
+{
+    if validity.is_valid(row) {
+        items[row]
+    } else {
+        blank
+    }
+}
+
+// The items that the runs show in the window, the blank one for null.
+fn decode_items<E: UnsignedPType, T: Copy + Drop, A: Allocator + Copy>(
     alloc: A,
     ends: &[E],
     values: &[T],
     validity: &Validity<A>,
+    blank: T,
     offset: usize,
     count: usize,
 ) -> VortexResult<Vec<T, A>>
@@ -42,13 +64,13 @@ fn decode_items<E: UnsignedPType, T: NativePType, A: Allocator + Copy>(
     requires paired { length values.now ≡ length ends.now }
     requires fits { HasLength (form_of validity.now) (length values.now) }
     ensures only { IsOkUnless result VortexError.OutOfMemory }
-    ensures cover { IfOk result (λ items. Covers (map T.number items.items) (map unsigned_abs (map E.number ends.now))
-        (stored_numbers (optionals (map T.number values.now) (flags (form_of validity.now) (length values.now)))) offset count) }
+    ensures cover { IfOk result (λ items. Covers items.items (map unsigned_abs (map E.number ends.now))
+        (blanked blank (optionals values.now (flags (form_of validity.now) (length values.now)))) offset count) }
 {
     let mut rows = RunWriter::with_room(alloc, count)?;
     for run in 0..ends.len() {
-        let number = shown_at(values, validity, run).unwrap_or_default();
-        rows.repeat_to(number, reach_of(ends, run, offset, count));
+        let item = stored_at(values, validity, run, blank);
+        rows.repeat_to(item, reach_of(ends, run, offset, count));
     }
     Ok(rows.finish())
 }
@@ -96,8 +118,9 @@ fn decode_nullable<E: UnsignedPType, A: Allocator + Copy>(
     Ok(Validity::from_bits(bits.freeze()))
 }
 
-// The validity of the rows that the runs show in the window. Where no run is null, no row is.
-fn decode_validity<E: UnsignedPType, A: Allocator + Copy>(
+/// The validity of the rows that the runs show in the window. Where no run is null, no row is.
+/// Refused as `OutOfMemory` alone.
+pub(crate) fn decode_validity<E: UnsignedPType, A: Allocator + Copy>(
     alloc: A,
     ends: &[E],
     validity: &Validity<A>,
@@ -121,45 +144,74 @@ fn decode_validity<E: UnsignedPType, A: Allocator + Copy>(
     }
 }
 
-fn decode_as<E: UnsignedPType, T: NativePType, A: Allocator + Copy>(
+// The items and the validity of the rows that the runs show in the window.
+fn decode_under<E: UnsignedPType, T: Copy + Drop, A: Allocator + Copy>(
     alloc: A,
     ends: &[E],
+    values: &[T],
+    validity: &Validity<A>,
+    blank: T,
+    offset: usize,
+    count: usize,
+) -> VortexResult<(Vec<T, A>, Validity<A>)>
+    requires window { IsWindow (map unsigned_abs (map E.number ends.now)) offset count }
+    requires paired { length values.now ≡ length ends.now }
+    requires fits { HasLength (form_of validity.now) (length values.now) }
+    ensures only { IsOkUnless result VortexError.OutOfMemory }
+    ensures decoded { IfOk result (λ parts. AreDecoded blank (map unsigned_abs (map E.number ends.now)) values.now (form_of validity.now) offset count
+        parts.0.items (form_of parts.1)) }
+{
+    let items = decode_items(alloc, ends, values, validity, blank, offset, count)?;
+    let rows = decode_validity(alloc, ends, validity, offset, count)?;
+    Ok((items, rows))
+}
+
+/// The items and the validity of the rows that runs show, from row `offset` on, `count` many, with the
+/// blank item under null. Refused as `OutOfMemory` alone.
+pub(crate) fn decode_rows<T: Copy + Drop, A: Allocator + Copy>(
+    alloc: A,
+    ends: &PrimitiveArray<A>,
+    values: &[T],
+    validity: &Validity<A>,
+    blank: T,
+    offset: usize,
+    count: usize,
+) -> VortexResult<(Vec<T, A>, Validity<A>)>
+    requires plain { IsEndsType (primitive_dtype ends.now) }
+    requires window { IsWindow (ends_of ends.now) offset count }
+    requires paired { length values.now ≡ length ends.now.numbers }
+    requires fits { HasLength (form_of validity.now) (length values.now) }
+    ensures only { IsOkUnless result VortexError.OutOfMemory }
+    ensures decoded { IfOk result (λ parts. AreDecoded blank (ends_of ends.now) values.now (form_of validity.now) offset count
+        parts.0.items (form_of parts.1)) }
+{
+    match_each_unsigned!(ends.values(), items => decode_under(alloc, items.as_slice(), values, validity, blank, offset, count), _ => unreachable!())
+}
+
+fn decode_as<T: NativePType, A: Allocator + Copy>(
+    alloc: A,
+    ends: &PrimitiveArray<A>,
     values: &[T],
     validity: &Validity<A>,
     offset: usize,
     count: usize,
 ) -> VortexResult<PrimitiveArray<A>>
-    requires window { IsWindow (map unsigned_abs (map E.number ends.now)) offset count }
-    requires paired { length values.now ≡ length ends.now }
+    requires plain { IsEndsType (primitive_dtype ends.now) }
+    requires window { IsWindow (ends_of ends.now) offset count }
+    requires paired { length values.now ≡ length ends.now.numbers }
     requires fits { HasLength (form_of validity.now) (length values.now) }
     ensures only { IsOkUnless result VortexError.OutOfMemory }
-    ensures flat { IfOk result (λ array. IsDecodedFlat (map unsigned_abs (map E.number ends.now))
+    ensures flat { IfOk result (λ array. IsDecodedFlat (ends_of ends.now)
         (primitive_with T.PTYPE (map T.number values.now) (form_of validity.now)) offset count array) }
 {
-    let items = decode_items(alloc, ends, values, validity, offset, count)?;
-    let rows = decode_validity(alloc, ends, validity, offset, count)?;
+    let zero = T::default();
+    let (items, rows) = decode_rows(alloc, ends, values, validity, zero, offset, count)?;
     Ok(PrimitiveArray::new_unchecked(T::wrap(items), rows))
 }
 
-fn decode_under<E: UnsignedPType, A: Allocator + Copy>(
-    alloc: A,
-    ends: &[E],
-    values: &PrimitiveArray<A>,
-    offset: usize,
-    count: usize,
-) -> VortexResult<PrimitiveArray<A>>
-    requires window { IsWindow (map unsigned_abs (map E.number ends.now)) offset count }
-    requires paired { length values.now.numbers ≡ length ends.now }
-    ensures only { IsOkUnless result VortexError.OutOfMemory }
-    ensures flat { IfOk result (λ array. IsDecodedFlat (map unsigned_abs (map E.number ends.now)) values.now offset count array) }
-{
-    let validity = values.validity();
-    match_each_native!(values.values(), items => decode_as(alloc, ends, items.as_slice(), validity, offset, count))
-}
-
-/// The rows that runs show, from row `offset` on, `count` many, as a flat column with 0 under null.
-/// Refused as `OutOfMemory` alone.
-pub(crate) fn decode_flat<A: Allocator + Copy>(
+/// The rows that runs of whole numbers show, from row `offset` on, `count` many, as a flat column with
+/// 0 under null. Refused as `OutOfMemory` alone.
+pub(crate) fn decode_numbers<A: Allocator + Copy>(
     alloc: A,
     ends: &PrimitiveArray<A>,
     values: &PrimitiveArray<A>,
@@ -172,50 +224,6 @@ pub(crate) fn decode_flat<A: Allocator + Copy>(
     ensures only { IsOkUnless result VortexError.OutOfMemory }
     ensures flat { IfOk result (λ array. IsDecodedFlat (ends_of ends.now) values.now offset count array) }
 {
-    match_each_unsigned!(ends.values(), items => decode_under(alloc, items.as_slice(), values, offset, count), _ => unreachable!())
-}
-
-// How many rows are valid.
-fn valid_count<A: Allocator>(array: &PrimitiveArray<A>) -> usize
-    ensures count { result ≡ count_by (λ flag. flag) (row_flags array.now) }
-    ensures fits { HasLength array.now.validity (length array.now.numbers) }
-{
-    match array.validity() {
-        Validity::NonNullable => array.len(),
-        Validity::AllValid => array.len(),
-        Validity::AllInvalid => 0,
-        Validity::Bits(bits) => bits.true_count(),
-    }
-}
-
-// Is there a run, and is each value null?
-fn has_nulls_alone<A: Allocator>(values: &PrimitiveArray<A>) -> bool
-    ensures nulls { IsTrue result ↔ HasNullsAlone (number_rows values.now) }
-    ensures fits { HasLength values.now.validity (length values.now.numbers) }
-{
-    valid_count(values) == 0 && !values.is_empty()
-}
-
-/// The rows that runs show, from row `offset` on, `count` many: a constant null where there is a run
-/// and all values are null, else a flat column with 0 under null. Refused as `OutOfMemory` alone.
-pub(crate) fn decode_primitive<A: Allocator + Copy>(
-    alloc: A,
-    ends: &PrimitiveArray<A>,
-    values: &PrimitiveArray<A>,
-    offset: usize,
-    count: usize,
-) -> VortexResult<ArrayRef<A>>
-    requires plain { IsEndsType (primitive_dtype ends.now) }
-    requires window { IsWindow (ends_of ends.now) offset count }
-    requires paired { length values.now.numbers ≡ length ends.now.numbers }
-    ensures only { IsOkUnless result VortexError.OutOfMemory }
-    ensures rows { IfOk result (λ array. rows array ≡ run_rows (ends_of ends.now) (number_rows values.now) offset count) }
-    ensures dtype { IfOk result (λ array. dtype_of array ≡ primitive_dtype values.now) }
-    ensures form { IfOk result (λ array. IsDecodedForm (number_rows values.now) (column_of array)) }
-{
-    if has_nulls_alone(values) {
-        return Ok(ArrayRef::Constant(null_constant(values.dtype(), count)));
-    }
-    let array = decode_flat(alloc, ends, values, offset, count)?;
-    Ok(ArrayRef::Primitive(array))
+    let validity = values.validity();
+    match_each_native!(values.values(), items => decode_as(alloc, ends, items.as_slice(), validity, offset, count))
 }

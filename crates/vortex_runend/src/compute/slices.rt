@@ -7,9 +7,9 @@ ghost use Rattle.column_core.specs.Ranges.{IsBadRange};
 ghost use Rattle.column_core.specs.ScalarView.{sees, IsViewOf};
 ghost use Rattle.runend_array.specs.Column.{AreRuns, IsEndsType, IsFlat, IsPlainEnds, column_dtype, column_of_runs, column_rows, end_numbers, end_ptype, ends_of};
 ghost use Rattle.runend_array.specs.Array.{column_of, dtype_of, rows};
-ghost use Rattle.runend_array.specs.Encoding.{IsWholeNumbers, number_rows};
+ghost use Rattle.runend_array.specs.Encoding.{number_rows};
 ghost use Rattle.runend_array.specs.Window.{IsWindow};
-ghost use Rattle.vortex_runend.specs.SliceForm.{IsFlatPart, IsOfRuns, IsSliceForm, RepeatsRun, first_run, last_run};
+ghost use Rattle.vortex_runend.specs.SliceForm.{IsFlatPart, IsLists, IsOfRuns, IsSliceForm, RepeatsRun, first_run, last_run};
 
 use runend_array::{
     ArrayRef, ConstantArray, DType, ExecutionCtx, PrimitiveArray, RunEnd, RunEndArray,
@@ -20,21 +20,18 @@ use std::alloc::Allocator;
 use std::ops::Range;
 
 /// The rows from `range.start` to `range.end - 1`. Of no rows it is a run column without runs, of rows
-/// of one run a constant, and of rows of several runs a run column of these runs, with flat values.
+/// of one run a constant, and of rows of several runs a run column of these runs, with flat values. A
+/// slice of lists stays a run column also where one run is left.
 ///
 /// Refused as `BadRange`, with both bounds and the number of rows, exactly where the range begins
-/// after its end or ends after the last row; else as `Unsupported` exactly for types that are not of
-/// whole numbers, both before any memory is taken; else as `OutOfMemory` alone.
+/// after its end or ends after the last row, before any memory is taken; else as `OutOfMemory` alone.
 pub fn slice<A: Allocator + Copy>(
     array: &RunEndArray<A>,
     range: Range<usize>,
     ctx: &mut ExecutionCtx<A>,
 ) -> VortexResult<ArrayRef<A>>
     ensures refused { IsErrOf result (VortexError.BadRange range.start range.end array.now.count) ↔ IsBadRange range.start range.end array.now.count }
-    ensures unsupported { ¬ IsBadRange range.start range.end array.now.count →
-        IsErrOf result VortexError.Unsupported ↔ (¬ IsWholeNumbers (column_dtype array.now.values)) }
-    ensures only { ¬ IsBadRange range.start range.end array.now.count →
-        IsWholeNumbers (column_dtype array.now.values) → IsOkUnless result VortexError.OutOfMemory }
+    ensures only { ¬ IsBadRange range.start range.end array.now.count → IsOkUnless result VortexError.OutOfMemory }
     ensures rows { IfOk result (λ part. rows part ≡ slice_range (column_rows (column_of_runs array.now)) range.start range.end) }
     ensures dtype { IfOk result (λ part. dtype_of part ≡ column_dtype array.now.values) }
     ensures form { IfOk result (λ part. IsSliceForm array.now range.start range.end (column_of part)) }
@@ -46,9 +43,6 @@ pub fn slice<A: Allocator + Copy>(
             stop: range.end,
             length: array.len(),
         });
-    }
-    if !is_whole_numbers(array.values().dtype()) {
-        return Err(VortexError::Unsupported);
     }
     if range.start == range.end {
         let empty = runs_between(array, 0..0, 0, 0, ctx)?;
@@ -64,8 +58,6 @@ fn rows_between<A: Allocator + Copy>(
     stop: usize,
     ctx: &mut ExecutionCtx<A>,
 ) -> VortexResult<ArrayRef<A>>
-    requires valid { AreRuns array.now }
-    requires whole { IsWholeNumbers (column_dtype array.now.values) }
     requires some { start < stop }
     requires within { stop ≤ array.now.count }
     ensures only { IsOkUnless result VortexError.OutOfMemory }
@@ -74,10 +66,11 @@ fn rows_between<A: Allocator + Copy>(
     ensures form { IfOk result (λ part. IsSliceForm array.now start stop (column_of part)) }
     ensures session { ctx.new ≡ ctx.old }
 {
+    let single = !is_lists(array.values().dtype());
     let runs = runs_of_rows(array, start, stop);
     let count = stop - start;
-    if runs.end - runs.start == 1 {
-        let constant = repeated(array, runs.start, count);
+    if single && runs.end - runs.start == 1 {
+        let constant = repeated(array, runs.start, count, ctx)?;
         return Ok(ArrayRef::Constant(constant));
     }
     let part = runs_between(array, runs, array.offset() + start, count, ctx)?;
@@ -104,12 +97,12 @@ fn runs_of_rows<A: Allocator + Copy>(
     first..stop
 }
 
-// Is it a type of whole numbers?
-fn is_whole_numbers(dtype: DType) -> bool
-    ensures { IsTrue result ↔ IsWholeNumbers dtype }
+// Is it a type of lists?
+fn is_lists(dtype: DType) -> bool
+    ensures { IsTrue result ↔ IsLists dtype }
 {
     match dtype {
-        DType::Primitive(_, _) => true,
+        DType::List(_, _) => true,
         _ => false,
     }
 }
@@ -119,32 +112,47 @@ fn repeated<A: Allocator + Copy>(
     array: &RunEndArray<A>,
     run: usize,
     count: usize,
-) -> ConstantArray<A>
+    ctx: &mut ExecutionCtx<A>,
+) -> VortexResult<ConstantArray<A>>
     requires within { run < length array.now.ends }
-    requires whole { IsWholeNumbers (column_dtype array.now.values) }
-    ensures { RepeatsRun array.now run count result }
+    requires single { ¬ IsLists (column_dtype array.now.values) }
+    ensures only { IsOkUnless result VortexError.OutOfMemory }
+    ensures form { IfOk result (λ constant. RepeatsRun array.now run count constant) }
+    ensures session { ctx.new ≡ ctx.old }
 {
     let values = array.values();
     match values.scalar_at(run) {
-        Ok(view) => ConstantArray::new(scalar_of(values.dtype(), view), count),
+        Ok(view) => {
+            let scalar = scalar_of(*ctx.allocator(), values.dtype(), view)?;
+            Ok(ConstantArray::new(scalar, count))
+        }
         Err(_) => unreachable!(),
     }
 }
 
 // The value of a row, owned.
-fn scalar_of<A: Allocator>(dtype: DType, view: ScalarView<'_, A>) -> Scalar<A>
-    requires whole { IsWholeNumbers dtype }
+fn scalar_of<A: Allocator + Copy>(
+    alloc: A,
+    dtype: DType,
+    view: ScalarView<'_, A>,
+) -> VortexResult<Scalar<A>>
+    requires single { ¬ IsLists dtype }
     requires of_type { IsViewOf dtype view }
-    ensures dtype { result.dtype ≡ dtype }
-    ensures value { option_map Single result.value ≡ sees view.entry }
+    ensures only { IsOkUnless result VortexError.OutOfMemory }
+    ensures dtype { IfOk result (λ scalar. scalar.dtype ≡ dtype) }
+    ensures value { IfOk result (λ scalar. option_map Single scalar.value ≡ sees view.entry) }
 {
     let value = match view {
         ScalarView::Null => None,
+        ScalarView::Bool(truth) => Some(ScalarValue::Bool(truth)),
         ScalarView::Unsigned(number) => Some(ScalarValue::Unsigned(number)),
         ScalarView::Signed(number) => Some(ScalarValue::Signed(number)),
-        _ => unreachable!(),
+        ScalarView::Decimal(number) => Some(ScalarValue::Decimal(number)),
+        ScalarView::Utf8(text) => Some(ScalarValue::Utf8(String::from_str(alloc, text)?)),
+        ScalarView::Binary(bytes) => Some(ScalarValue::Binary(Vec::from_slice(alloc, bytes)?)),
+        ScalarView::List { .. } => unreachable!(),
     };
-    Scalar::try_new(dtype, value).unwrap()
+    Ok(Scalar::try_new(dtype, value).unwrap())
 }
 
 // Those runs, of which `count` rows are shown from `offset` on.
@@ -155,7 +163,6 @@ fn runs_between<A: Allocator + Copy>(
     count: usize,
     ctx: &mut ExecutionCtx<A>,
 ) -> VortexResult<ArrayRef<A>>
-    requires whole { IsWholeNumbers (column_dtype array.now.values) }
     requires ordered { runs.start ≤ runs.end }
     requires in_bounds { runs.end ≤ length array.now.ends }
     requires window { IsWindow (slice_range array.now.ends runs.start runs.end) offset count }
@@ -200,7 +207,6 @@ fn run_values<A: Allocator + Copy>(
     stop: usize,
     ctx: &mut ExecutionCtx<A>,
 ) -> VortexResult<ArrayRef<A>>
-    requires whole { IsWholeNumbers (dtype_of values.now) }
     requires ordered { first ≤ stop }
     requires in_bounds { stop ≤ length (rows values.now) }
     ensures only { IsOkUnless result VortexError.OutOfMemory }
@@ -237,6 +243,24 @@ fn flat_part<A: Allocator + Copy>(
         ArrayRef::Primitive(plain) => {
             let part = items_between(plain, start, stop, ctx)?;
             Ok(Some(ArrayRef::Primitive(part)))
+        }
+        ArrayRef::Bool(truths) => {
+            let part = truths.slice(*ctx.allocator(), start..stop)?;
+            Ok(Some(ArrayRef::Bool(part)))
+        }
+        ArrayRef::Decimal(decimals) => {
+            let part = decimals.slice(*ctx.allocator(), start..stop)?;
+            Ok(Some(ArrayRef::Decimal(part)))
+        }
+        ArrayRef::VarBinView(texts) => {
+            let part = texts.slice(*ctx.allocator(), start..stop)?;
+            Ok(Some(ArrayRef::VarBinView(part)))
+        }
+        ArrayRef::ListView(lists) => {
+            prove!(stop <= lists.len());
+            let part = lists.slice(*ctx.allocator(), start..stop)?;
+            let boxed = Box::new(*ctx.allocator(), part)?;
+            Ok(Some(ArrayRef::ListView(boxed)))
         }
         ArrayRef::Constant(_) | ArrayRef::RunEnd(_) => Ok(None),
     }

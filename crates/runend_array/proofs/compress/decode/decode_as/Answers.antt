@@ -1,27 +1,25 @@
-use Rattle.std.proofs.Common.{length, map, sym, ap, ◌∙◌}
+use Rattle.std.proofs.Common.{◌≡◌, length, map, sym, pos, ◌∙◌}
 use Rattle.std.specs.Prelude.{unsigned_abs}
 use Rattle.std.proofs.lemmas.List.{length-map}
-use Rattle.column_base.specs.Numbers.{numbers, ptype_of}
-use Rattle.column_base.specs.ValidityForm.{HasLength, flags}
+use Rattle.column_base.specs.ValidityForm.{HasLength}
 use Rattle.column_base.specs.Validity.{form_of}
-use Rattle.column_core.specs.PrimitiveForm.{optionals, primitive_with}
-use Rattle.runend_array.proofs.FlatColumns.{IsDecodedFlat-made}
-use Rattle.runend_array.proofs.StoredNumbers.{length-naturals}
+use Rattle.runend_array.specs.Column.{ends_of}
+use Rattle.runend_array.specs.Decoding.{AreDecoded}
+use Rattle.runend_array.proofs.DecodedItems.{AreDecoded-map}
+use Rattle.runend_array.proofs.DecodedLeaves.{IsDecodedFlat-numbers}
 use Rattle.runend_array.proofs.compress.decode.decode_as.Goals as goal
 
 pub returns-clause-flat : goal.returns-clause-flat
 returns-clause-flat g c =
     let number = g.T.NativePType.number in
-    let end_number = g.E.NativePType.number in
-    let ends = map unsigned_abs (map end_number c.args.ends.now) in
-    let items = map number c.args.values.now in
+    let ends = ends_of c.args.ends.now in
+    let values = c.args.values.now in
     let form = form_of c.args.validity.now in
-    let array = primitive_with (ptype_of c.wrap.result) (numbers c.wrap.result) (form_of c.in_ok-rows.rows) in
-    let counted = length-map c.args.values.now number in
-    let long = length-naturals end_number c.args.ends.now in
-    let rows = ap (λ n. optionals items (flags form n)) counted in
-    let fits : HasLength form (length items) = rw counted c.requires.fits in
-    rw c.new_unchecked.ensures
-    (IsDecodedFlat-made ends (primitive_with g.T.NativePType.PTYPE items form) c.args.offset c.args.count array c.requires.window (counted ∙ c.requires.paired ∙ sym long) fits
-    c.wrap.ensures.typed _ rows (rw c.wrap.ensures.shows c.in_ok-items.ensures.cover) (rw long c.in_ok-rows.ensures.cover)
-    c.in_ok-rows.ensures.normal c.in_ok-rows.ensures.nullability)
+    let zeroth : number c.default-zero.result ≡ pos 0 = g.met.T.NativePType.law.zeroth c.default-zero.result c.default-zero.ensures in
+    let long = length-map values number in
+    let fits : HasLength form (length (map number values)) = rw long c.requires.fits in
+    let decoded : AreDecoded (pos 0) ends (map number values) form c.args.offset c.args.count (map number c.in_ok-items.items.items) (form_of c.in_ok-items.rows) =
+    rw (← zeroth) (AreDecoded-map number c.default-zero.result ends values form c.args.offset c.args.count c.in_ok-items.items.items (form_of c.in_ok-items.rows) c.in_ok-items.ensures.decoded) in
+    rw (c.new_unchecked.ensures, c.wrap.ensures.shows, c.wrap.ensures.typed)
+    (IsDecodedFlat-numbers g.T.NativePType.PTYPE ends (map number values) form c.args.offset c.args.count (map number c.in_ok-items.items.items) (form_of c.in_ok-items.rows) c.requires.window
+    (long ∙ c.requires.paired ∙ sym (length-map c.args.ends.now.numbers unsigned_abs)) fits decoded)

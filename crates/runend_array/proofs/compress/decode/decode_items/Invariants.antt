@@ -2,8 +2,8 @@ use Rattle.std.proofs.Common.{◌≡◌, length, map}
 use Rattle.std.specs.Prelude.{unsigned_abs}
 use Rattle.column_base.specs.ValidityForm.{flags}
 use Rattle.column_base.specs.Validity.{form_of}
-use Rattle.column_core.specs.PrimitiveForm.{optionals}
-use Rattle.runend_array.specs.Encoding.{stored_numbers}
+use Rattle.column_core.specs.Optionals.{optionals}
+use Rattle.runend_array.specs.Encoding.{blanked}
 use Rattle.runend_array.proofs.Decoded.{Decoded}
 use Rattle.runend_array.proofs.compress.decode.decode_items.Given as goal
 
@@ -11,6 +11,6 @@ abbrev pub invariant-loop-run : goal.invariant-loop-run
 invariant-loop-run g l =
     record {
       rows : Decoded (map unsigned_abs (map g.E.NativePType.number l.ends))
-          (stored_numbers (optionals (map g.T.NativePType.number l.values) (flags (form_of l.validity) (length l.values)))) l.offset l.count l.run (map g.T.NativePType.number l.rows.rows);
+          (blanked l.blank (optionals l.values (flags (form_of l.validity) (length l.values)))) l.offset l.count l.run l.rows.rows;
       limit : l.rows.limit ≡ l.count;
     }

@@ -1,0 +1,230 @@
+//! Flat columns of decimals.
+ghost use Rattle.std.specs.Prelude.{◌≡◌, ◌<◌, ◌↔◌, IsErrOf, slice_range, Some, length, map, option_map, slice_get, IfOk, IfErr, IsOk, IsOkUnless, IsSomeAnd, IsTrue, []};
+ghost use Rattle.column_base.specs.ValidityForm.{HasLength, IsNormal, length_of};
+ghost use Rattle.column_base.specs.Validity.{form_of};
+ghost use Rattle.column_base.specs.declared.dtype.DecimalDType.{DecimalDType};
+ghost use Rattle.column_base.specs.declared.dtype.Nullability.{Nullability};
+ghost use Rattle.column_base.specs.declared.dtype.DType.TheVariants as column;
+ghost use Rattle.column_core.specs.Value.{Single, DecimalNumber};
+ghost use Rattle.column_core.specs.DecimalForm.{decimal_with, decimal_rows, decimal_dtype_of};
+ghost use Rattle.column_core.specs.Ranges.{IsBadRange};
+ghost use Rattle.column_core.specs.ScalarView.{sees, IsViewOf};
+
+use crate::view::ScalarView;
+use column_base::{DType, DecimalDType, Validity, VortexError, VortexResult};
+use std::alloc::Allocator;
+use std::marker::Model;
+use std::ops::Range;
+
+/// Decimals of one precision and scale, of which some rows may be null. Each is stored as the whole
+/// number that it is times 10 to the power of the scale, and that number is not tested against the
+/// precision. Under null a number is stored that no row shows.
+#[derive(Drop)]
+pub struct DecimalArray<A: Allocator> {
+    values: Vec<i128, A>,
+    decimal: DecimalDType,
+    validity: Validity<A>,
+}
+
+impl<A: Allocator> Model for DecimalArray<A> {
+    ghost use Rattle.std.specs.Prelude.{length};
+    ghost use Rattle.column_base.specs.ValidityForm.{HasLength};
+    ghost use Rattle.column_base.specs.Validity.{form_of};
+    ghost use Rattle.column_core.specs.DecimalForm.{DecimalForm, decimal_with};
+
+    ghost Value = { DecimalForm };
+
+    ghost view = { λ a. decimal_with a.decimal a.values.items (form_of a.validity) };
+
+    ghost invariant = { λ a. HasLength (form_of a.validity) (length a.values.items) };
+}
+
+impl<A: Allocator> DecimalArray<A> {
+    /// The column of these whole numbers of decimals, null where the validity says so. Refused as
+    /// `ColumnLength`, with both lengths, where the validity is of another number of rows.
+    pub fn try_new(
+        values: Vec<i128, A>,
+        decimal_dtype: DecimalDType,
+        validity: Validity<A>,
+    ) -> VortexResult<Self>
+        ensures ok { IfOk result (λ array. array ≡ decimal_with decimal_dtype values.items (form_of validity)) }
+        ensures accepts { IsOk result ↔ HasLength (form_of validity) (length values.items) }
+        ensures refused { IfErr result (λ error. IsSomeAnd (length_of (form_of validity))
+            (λ count. error ≡ VortexError.ColumnLength (length values.items) count)) }
+    {
+        if let Some(count) = validity.len() {
+            if count != values.len() {
+                return Err(VortexError::ColumnLength {
+                    left: values.len(),
+                    right: count,
+                });
+            }
+        }
+        Ok(DecimalArray {
+            values,
+            decimal: decimal_dtype,
+            validity,
+        })
+    }
+
+    /// The column of parts that `try_new` accepts.
+    pub fn new_unchecked(
+        values: Vec<i128, A>,
+        decimal_dtype: DecimalDType,
+        validity: Validity<A>,
+    ) -> Self
+        requires { HasLength (form_of validity) (length values.items) }
+        ensures { result ≡ decimal_with decimal_dtype values.items (form_of validity) }
+    {
+        DecimalArray {
+            values,
+            decimal: decimal_dtype,
+            validity,
+        }
+    }
+
+    /// How many rows there are.
+    pub fn len(&self) -> usize
+        ensures numbers { result ≡ length self.now.numbers }
+        ensures rows { result ≡ length (decimal_rows self.now) }
+    {
+        self.values.len()
+    }
+
+    /// Are there no rows?
+    pub fn is_empty(&self) -> bool
+        ensures { IsTrue result ↔ (self.now.numbers ≡ []) }
+    {
+        self.values.is_empty()
+    }
+
+    /// The precision and the scale of the rows.
+    pub fn decimal_dtype(&self) -> DecimalDType
+        ensures { result ≡ self.now.decimal }
+    {
+        self.decimal
+    }
+
+    /// The type of the rows.
+    pub fn dtype(&self) -> DType
+        ensures { result ≡ decimal_dtype_of self.now }
+    {
+        DType::Decimal(self.decimal, self.validity.nullability())
+    }
+
+    /// The whole numbers of the decimals as they are stored, under null too.
+    pub fn values(&self) -> &[i128]
+        ensures { result.now ≡ self.now.numbers }
+    {
+        &self.values
+    }
+
+    /// Which rows are valid.
+    pub fn validity(&self) -> &Validity<A>
+        ensures form { form_of result.now ≡ self.now.validity }
+        ensures counted { HasLength self.now.validity (length self.now.numbers) }
+    {
+        &self.validity
+    }
+
+    /// The whole numbers of the decimals, their precision and scale, and the validity.
+    pub fn into_parts(self) -> (Vec<i128, A>, DecimalDType, Validity<A>)
+        ensures whole { self ≡ decimal_with result.1 result.0.items (form_of result.2) }
+        ensures counted { HasLength (form_of result.2) (length result.0.items) }
+    {
+        (self.values, self.decimal, self.validity)
+    }
+
+    /// The row at `index`.
+    pub fn get(&self, index: usize) -> ScalarView<'_, A>
+        requires { index < length self.now.numbers }
+        ensures row { slice_get (map (option_map Single) (decimal_rows self.now)) index ≡ Some (sees result) }
+        ensures of_type { IsViewOf (decimal_dtype_of self.now) result }
+    {
+        if self.validity.is_valid(index) {
+            decimal_view(&self.values, index)
+        } else {
+            ScalarView::Null
+        }
+    }
+}
+
+impl<A: Allocator + Copy> DecimalArray<A> {
+    /// The same column in the same form, in memory of its own. Refused as `OutOfMemory` alone.
+    pub fn try_clone(&self, alloc: A) -> VortexResult<DecimalArray<A>>
+        ensures only { IsOkUnless result VortexError.OutOfMemory }
+        ensures form { IfOk result (λ array. array ≡ self.now) }
+    {
+        let values = Vec::from_slice(alloc, &self.values)?;
+        let validity = self.validity.try_clone(alloc)?;
+        Ok(DecimalArray {
+            values,
+            decimal: self.decimal,
+            validity,
+        })
+    }
+
+    /// The rows from `range.start` to `range.end - 1`, with the numbers as they are stored, in memory
+    /// of their own. Refused as `BadRange`, with both bounds and the number of rows, exactly where the
+    /// range begins after its end or ends after the last row, and that before any memory is taken;
+    /// else as `OutOfMemory` alone.
+    pub fn slice(&self, alloc: A, range: Range<usize>) -> VortexResult<DecimalArray<A>>
+        ensures refused { let count = length (decimal_rows self.now) in
+            IsErrOf result (VortexError.BadRange range.start range.end count) ↔ IsBadRange range.start range.end count }
+        ensures only { ¬ IsBadRange range.start range.end (length (decimal_rows self.now)) → IsOkUnless result VortexError.OutOfMemory }
+        ensures rows { IfOk result (λ part. decimal_rows part ≡ slice_range (decimal_rows self.now) range.start range.end) }
+        ensures dtype { IfOk result (λ part. decimal_dtype_of part ≡ decimal_dtype_of self.now) }
+        ensures stored { IfOk result (λ part. part.numbers ≡ slice_range self.now.numbers range.start range.end) }
+        ensures normal { IfOk result (λ part. IsNormal part.validity) }
+    {
+        let length = self.len();
+        if range.start > range.end || range.end > length {
+            return Err(VortexError::BadRange {
+                start: range.start,
+                stop: range.end,
+                length,
+            });
+        }
+        let values = Vec::from_slice(alloc, &self.values[range.start..range.end])?;
+        let validity = self.validity.slice(alloc, range)?;
+        Ok(DecimalArray {
+            values,
+            decimal: self.decimal,
+            validity,
+        })
+    }
+}
+
+// The decimal at `index`, seen.
+fn decimal_view<A: Allocator>(numbers: &[i128], index: usize) -> ScalarView<'_, A>
+    requires { index < length numbers.now }
+    ensures row { option_map (λ n. Some (Single (DecimalNumber n))) (slice_get numbers.now index) ≡ Some (sees result) }
+    ensures of_type { (decimal : DecimalDType) (nullability : Nullability) → IsViewOf (column.Decimal decimal nullability) result }
+{
+    ScalarView::Decimal(numbers[index])
+}
+
+#[cfg(test)]
+mod tests {
+    use super::*;
+    use column_base::BitBufferMut;
+    use std::test::Fail;
+
+    #[test]
+    fn slice_of_a_copy_keeps_numbers_and_nulls(rt: HostRuntime) -> Result<(), Fail> {
+        let numbers = Vec::from_slice(rt.alloc(), &[12345i128, 0, -12300])?;
+        let mut flags = BitBufferMut::full(rt.alloc(), true, 3)?;
+        flags.fill_range(1, 2, false);
+        let decimal = DecimalDType {
+            precision: 10,
+            scale: 2,
+        };
+        let array = DecimalArray::try_new(numbers, decimal, Validity::Bits(flags.freeze()))?;
+        let copy = array.try_clone(rt.alloc())?;
+        let part = copy.slice(rt.alloc(), 1..3)?;
+        assert!(rt; matches!(copy.get(0), ScalarView::Decimal(12345)));
+        assert!(rt; matches!(part.get(0), ScalarView::Null));
+        assert!(rt; matches!(part.get(1), ScalarView::Decimal(-12300)));
+        Ok(())
+    }
+}

@@ -1,0 +1,410 @@
+//! Flat columns of texts or of bytes, as views into shared buffers.
+ghost use Rattle.std.specs.Prelude.{◌≡◌, ◌<◌, ◌↔◌, IsErrOf, slice_range, Some, length, map, option_map, slice_get, IfOk, IfErr, IfSome, IfNone, IsOk, IsOkUnless, IsTrue, [], ℕ};
+ghost use Rattle.std.specs.Bool.{OnTrue, OnFalse};
+ghost use Rattle.std.specs.Str.{IsUtf8};
+ghost use Rattle.column_base.specs.ValidityForm.{HasLength, IsNormal};
+ghost use Rattle.column_base.specs.Validity.{form_of};
+ghost use Rattle.column_core.specs.declared.varbinview.VarBinKind.TheVariants.{Utf8, Binary};
+ghost use Rattle.column_core.specs.Value.{Single};
+ghost use Rattle.column_core.specs.VarBinForm.{AreVarBins, IsWithinBuffer, varbin_with, varbin_rows, varbin_dtype, view_bytes};
+ghost use Rattle.column_core.specs.VarBinFault.{AreWithin, AreOfKind, IsFirstOutside, IsNoText, VarBinFault};
+ghost use Rattle.column_core.specs.Ranges.{IsBadRange};
+ghost use Rattle.column_core.specs.ScalarView.{sees, IsViewOf};
+
+use crate::view::ScalarView;
+use bytes::Bytes;
+use column_base::{DType, Validity, VortexError, VortexResult};
+use std::alloc::Allocator;
+use std::marker::Model;
+use std::ops::Range;
+
+/// The bytes from `start` to `start + size - 1` of the buffer numbered `buffer`. Buffers and bytes
+/// are counted from 0.
+#[derive(Clone, Copy, Default, Debug, PartialEq, Eq)]
+pub struct View {
+    pub buffer: usize,
+    pub start: usize,
+    pub size: usize,
+}
+
+/// Whether a column has texts, which are UTF-8, or any bytes.
+#[derive(Clone, Copy, Debug, PartialEq, Eq)]
+pub enum VarBinKind {
+    Utf8,
+    Binary,
+}
+
+/// Texts or bytes, of which some rows may be null. A row is a view into one of the buffers, which
+/// copies share. Under null a view is stored that no row shows, and that need not be within a buffer.
+#[derive(Drop)]
+pub struct VarBinViewArray<A: Allocator> {
+    kind: VarBinKind,
+    views: Vec<View, A>,
+    buffers: Vec<Bytes<A>, A>,
+    validity: Validity<A>,
+}
+
+impl<A: Allocator> Model for VarBinViewArray<A> {
+    ghost use Rattle.column_base.specs.Validity.{form_of};
+    ghost use Rattle.column_core.specs.VarBinForm.{VarBinForm, AreVarBins, varbin_with};
+
+    ghost Value = { VarBinForm };
+
+    ghost view = { λ a. varbin_with a.kind a.views.items a.buffers.items (form_of a.validity) };
+
+    ghost invariant = { λ a. AreVarBins (varbin_with a.kind a.views.items a.buffers.items (form_of a.validity)) };
+}
+
+impl<A: Allocator> VarBinViewArray<A> {
+    /// The column of these views into these buffers, null where the validity says so. Refused, in
+    /// this order, as `ColumnLength`, with both lengths, where the validity is of another number of
+    /// rows; as `OutOfBounds`, with the row and the number of rows, for the first valid row whose view
+    /// is not within its buffer; as `TypeMismatch` where texts are wanted and a valid row is not UTF-8.
+    pub fn try_new(
+        views: Vec<View, A>,
+        buffers: Vec<Bytes<A>, A>,
+        kind: VarBinKind,
+        validity: Validity<A>,
+    ) -> VortexResult<Self>
+        ensures ok { IfOk result (λ array. array ≡ varbin_with kind views.items buffers.items (form_of validity)) }
+        ensures accepts { IsOk result ↔ AreVarBins (varbin_with kind views.items buffers.items (form_of validity)) }
+        ensures refused { IfErr result (λ error. VarBinFault (varbin_with kind views.items buffers.items (form_of validity)) error) }
+    {
+        if let Some(count) = validity.len() {
+            if count != views.len() {
+                return Err(VortexError::ColumnLength {
+                    left: views.len(),
+                    right: count,
+                });
+            }
+        }
+        if let Some(row) = first_outside(&views, &buffers, &validity) {
+            return Err(VortexError::OutOfBounds {
+                index: row as i128,
+                length: views.len(),
+            });
+        }
+        if kind == VarBinKind::Utf8 && !are_texts(&views, &buffers, &validity) {
+            return Err(VortexError::TypeMismatch);
+        }
+        Ok(VarBinViewArray {
+            kind,
+            views,
+            buffers,
+            validity,
+        })
+    }
+
+    /// The column of parts that `try_new` accepts.
+    pub fn new_unchecked(
+        views: Vec<View, A>,
+        buffers: Vec<Bytes<A>, A>,
+        kind: VarBinKind,
+        validity: Validity<A>,
+    ) -> Self
+        requires { AreVarBins (varbin_with kind views.items buffers.items (form_of validity)) }
+        ensures { result ≡ varbin_with kind views.items buffers.items (form_of validity) }
+    {
+        VarBinViewArray {
+            kind,
+            views,
+            buffers,
+            validity,
+        }
+    }
+
+    /// How many rows there are.
+    pub fn len(&self) -> usize
+        ensures views { result ≡ length self.now.views }
+        ensures rows { result ≡ length (varbin_rows self.now) }
+    {
+        self.views.len()
+    }
+
+    /// Are there no rows?
+    pub fn is_empty(&self) -> bool
+        ensures { IsTrue result ↔ (self.now.views ≡ []) }
+    {
+        self.views.is_empty()
+    }
+
+    /// The type of the rows.
+    pub fn dtype(&self) -> DType
+        ensures { result ≡ varbin_dtype self.now }
+    {
+        match self.kind {
+            VarBinKind::Utf8 => DType::Utf8(self.validity.nullability()),
+            VarBinKind::Binary => DType::Binary(self.validity.nullability()),
+        }
+    }
+
+    /// Whether the rows are texts or bytes.
+    pub fn kind(&self) -> VarBinKind
+        ensures { result ≡ self.now.kind }
+    {
+        self.kind
+    }
+
+    /// The views as they are stored, under null too.
+    pub fn views(&self) -> &[View]
+        ensures stored { result.now ≡ self.now.views }
+        ensures accepted { AreVarBins self.now }
+    {
+        &self.views
+    }
+
+    /// The buffers that the views cut.
+    pub fn buffers(&self) -> &[Bytes<A>]
+        ensures { result.now ≡ self.now.buffers }
+    {
+        &self.buffers
+    }
+
+    /// Which rows are valid.
+    pub fn validity(&self) -> &Validity<A>
+        ensures form { form_of result.now ≡ self.now.validity }
+        ensures counted { HasLength self.now.validity (length self.now.views) }
+    {
+        &self.validity
+    }
+
+    /// The views, the buffers, whether the rows are texts or bytes, and the validity.
+    pub fn into_parts(self) -> (Vec<View, A>, Vec<Bytes<A>, A>, VarBinKind, Validity<A>)
+        ensures whole { self ≡ varbin_with result.2 result.0.items result.1.items (form_of result.3) }
+        ensures accepted { AreVarBins (varbin_with result.2 result.0.items result.1.items (form_of result.3)) }
+    {
+        (self.views, self.buffers, self.kind, self.validity)
+    }
+
+    /// The row at `index`, borrowed from its buffer. Takes no memory.
+    pub fn get(&self, index: usize) -> ScalarView<'_, A>
+        requires { index < length self.now.views }
+        ensures row { slice_get (map (option_map Single) (varbin_rows self.now)) index ≡ Some (sees result) }
+        ensures of_type { IsViewOf (varbin_dtype self.now) result }
+    {
+        if !self.validity.is_valid(index) {
+            return ScalarView::Null;
+        }
+        let bytes = cut(&self.buffers, self.views[index]);
+        match self.kind {
+            VarBinKind::Utf8 => ScalarView::Utf8(unsafe { str::from_utf8_unchecked(bytes) }),
+            VarBinKind::Binary => ScalarView::Binary(bytes),
+        }
+    }
+}
+
+impl<A: Allocator + Copy> VarBinViewArray<A> {
+    /// The same column in the same form, with views and validity in memory of their own; the bytes of
+    /// the buffers are shared. Refused as `OutOfMemory` alone.
+    pub fn try_clone(&self, alloc: A) -> VortexResult<VarBinViewArray<A>>
+        ensures only { IsOkUnless result VortexError.OutOfMemory }
+        ensures form { IfOk result (λ array. array ≡ self.now) }
+    {
+        let views = Vec::from_slice(alloc, &self.views)?;
+        let buffers = share(alloc, &self.buffers)?;
+        let validity = self.validity.try_clone(alloc)?;
+        Ok(VarBinViewArray {
+            kind: self.kind,
+            views,
+            buffers,
+            validity,
+        })
+    }
+
+    /// The rows from `range.start` to `range.end - 1`, with views and validity in memory of their own;
+    /// all buffers are kept, and their bytes shared. Refused as `BadRange`, with both bounds and the
+    /// number of rows, exactly where the range begins after its end or ends after the last row, and
+    /// that before any memory is taken; else as `OutOfMemory` alone.
+    pub fn slice(&self, alloc: A, range: Range<usize>) -> VortexResult<VarBinViewArray<A>>
+        ensures refused { let count = length (varbin_rows self.now) in
+            IsErrOf result (VortexError.BadRange range.start range.end count) ↔ IsBadRange range.start range.end count }
+        ensures only { ¬ IsBadRange range.start range.end (length (varbin_rows self.now)) → IsOkUnless result VortexError.OutOfMemory }
+        ensures rows { IfOk result (λ part. varbin_rows part ≡ slice_range (varbin_rows self.now) range.start range.end) }
+        ensures dtype { IfOk result (λ part. varbin_dtype part ≡ varbin_dtype self.now) }
+        ensures stored { IfOk result (λ part. part.views ≡ slice_range self.now.views range.start range.end) }
+        ensures shared { IfOk result (λ part. part.buffers ≡ self.now.buffers) }
+        ensures normal { IfOk result (λ part. IsNormal part.validity) }
+    {
+        let length = self.len();
+        if range.start > range.end || range.end > length {
+            return Err(VortexError::BadRange {
+                start: range.start,
+                stop: range.end,
+                length,
+            });
+        }
+        let views = Vec::from_slice(alloc, &self.views[range.start..range.end])?;
+        let buffers = share(alloc, &self.buffers)?;
+        let validity = self.validity.slice(alloc, range)?;
+        Ok(VarBinViewArray {
+            kind: self.kind,
+            views,
+            buffers,
+            validity,
+        })
+    }
+}
+
+// Is the view within its buffer?
+fn is_within<A: Allocator>(buffers: &[Bytes<A>], view: View) -> bool
+    ensures { IsTrue result ↔ IsWithinBuffer buffers.now view }
+{
+    if view.buffer >= buffers.len() {
+        return false;
+    }
+    let length = buffers[view.buffer].len();
+    // Not `start + size`, which may not fit.
+    view.start <= length && view.size <= length - view.start
+}
+
+// The bytes that the view cuts from its buffer.
+fn cut<A: Allocator>(buffers: &[Bytes<A>], view: View) -> &[u8]
+    requires { IsWithinBuffer buffers.now view }
+    ensures { result.now ≡ view_bytes buffers.now view }
+{
+    let bytes = buffers[view.buffer].as_slice();
+    &bytes[view.start..view.start + view.size]
+}
+
+// The first valid row whose view is not within its buffer.
+fn first_outside<A: Allocator>(
+    views: &[View],
+    buffers: &[Bytes<A>],
+    validity: &Validity<A>,
+) -> Option<usize>
+    requires { HasLength (form_of validity.now) (length views.now) }
+    ensures found { IfSome result (λ row. IsFirstOutside (varbin_with Utf8 views.now buffers.now (form_of validity.now)) row) }
+    ensures none { IfNone result (AreWithin (varbin_with Utf8 views.now buffers.now (form_of validity.now))) }
+{
+    for row in 0..views.len() {
+        if validity.is_valid(row) && !is_within(buffers, views[row]) {
+            return Some(row);
+        }
+    }
+    None
+}
+
+// Are the bytes UTF-8?
+fn is_text(bytes: &[u8]) -> bool
+    ensures { IsTrue result ↔ IsUtf8 bytes.now }
+{
+    str::from_utf8(bytes).is_ok()
+}
+
+// Is each valid row a text?
+fn are_texts<A: Allocator>(views: &[View], buffers: &[Bytes<A>], validity: &Validity<A>) -> bool
+    requires counted { HasLength (form_of validity.now) (length views.now) }
+    requires within { AreWithin (varbin_with Utf8 views.now buffers.now (form_of validity.now)) }
+    ensures all { OnTrue result (AreOfKind (varbin_with Utf8 views.now buffers.now (form_of validity.now))) }
+    ensures some { OnFalse result ((row : ℕ) × IsNoText (varbin_with Utf8 views.now buffers.now (form_of validity.now)) row) }
+{
+    for row in 0..views.len() {
+        if validity.is_valid(row) && !is_text(cut(buffers, views[row])) {
+            return false;
+        }
+    }
+    true
+}
+
+// The same buffers, whose bytes are shared.
+fn share<A: Allocator + Copy>(alloc: A, buffers: &[Bytes<A>]) -> VortexResult<Vec<Bytes<A>, A>>
+    ensures only { IsOkUnless result VortexError.OutOfMemory }
+    ensures same { IfOk result (λ owners. owners.items ≡ buffers.now) }
+{
+    let mut owners = Vec::with_capacity(alloc, buffers.len())?;
+    for buffer in buffers {
+        owners.push(buffer.clone()?)?;
+    }
+    Ok(owners)
+}
+
+#[cfg(test)]
+mod tests {
+    use super::*;
+    use column_base::BitBufferMut;
+    use std::test::Fail;
+
+    const FIRST_TWO: View = View {
+        buffer: 0,
+        start: 0,
+        size: 2,
+    };
+
+    // One row, a view into one buffer.
+    fn one_row<A: Allocator + Copy>(
+        alloc: A,
+        bytes: &[u8],
+        view: View,
+        kind: VarBinKind,
+        valid: bool,
+    ) -> VortexResult<VarBinViewArray<A>> {
+        let mut buffers = Vec::new(alloc);
+        buffers.push(Bytes::copy_from_slice(alloc, bytes)?)?;
+        let views = Vec::from_slice(alloc, &[view])?;
+        let validity = if valid {
+            Validity::AllValid
+        } else {
+            Validity::AllInvalid
+        };
+        VarBinViewArray::try_new(views, buffers, kind, validity)
+    }
+
+    #[test]
+    fn slice_of_a_copy_borrows_texts(rt: HostRuntime) -> Result<(), Fail> {
+        let alloc = rt.alloc();
+        let mut buffers = Vec::new(alloc);
+        buffers.push(Bytes::copy_from_slice(alloc, b"abc")?)?;
+        let second = View {
+            buffer: 0,
+            start: 1,
+            size: 2,
+        };
+        let views = Vec::from_slice(alloc, &[FIRST_TWO, second, View::default()])?;
+        let mut flags = BitBufferMut::full(alloc, true, 3)?;
+        flags.fill_range(2, 3, false);
+        let validity = Validity::Bits(flags.freeze());
+        let array = VarBinViewArray::try_new(views, buffers, VarBinKind::Utf8, validity)?;
+        let part = array.try_clone(alloc)?.slice(alloc, 1..3)?;
+        assert!(rt; matches!(part.get(0), ScalarView::Utf8(text) if text == "bc"));
+        assert!(rt; matches!(part.get(1), ScalarView::Null));
+        Ok(())
+    }
+
+    #[test]
+    fn view_past_its_buffer_is_refused_under_no_null(rt: HostRuntime) -> Result<(), Fail> {
+        let past = View {
+            buffer: 0,
+            start: 1,
+            size: 2,
+        };
+        let refused = one_row(rt.alloc(), b"ab", past, VarBinKind::Utf8, true);
+        assert!(rt;
+            matches!(
+                refused,
+                Err(VortexError::OutOfBounds {
+                    index: 0,
+                    length: 1
+                })
+            )
+        );
+        let accepted = one_row(rt.alloc(), b"ab", past, VarBinKind::Utf8, false)?;
+        assert_eq!(rt; accepted.len(), 1);
+        assert!(rt; matches!(accepted.get(0), ScalarView::Null));
+        Ok(())
+    }
+
+    #[test]
+    fn bytes_that_are_no_text_are_refused_as_a_text(rt: HostRuntime) -> Result<(), Fail> {
+        let first = View {
+            buffer: 0,
+            start: 0,
+            size: 1,
+        };
+        let refused = one_row(rt.alloc(), &[0xFF], first, VarBinKind::Utf8, true);
+        assert!(rt; matches!(refused, Err(VortexError::TypeMismatch)));
+        let accepted = one_row(rt.alloc(), &[0xFF], first, VarBinKind::Binary, true)?;
+        assert_eq!(rt; accepted.len(), 1);
+        assert!(rt; matches!(accepted.get(0), ScalarView::Binary(&[0xFF])));
+        Ok(())
+    }
+}

@@ -1,0 +1,23 @@
+use Rattle.std.proofs.Common.{map, sym, false, ◌∙◌}
+use Rattle.std.specs.Prelude.{unsigned_abs}
+use Rattle.column_base.specs.Validity.{form_of}
+use Rattle.runend_array.specs.Decoding.{AreDecoded}
+use Rattle.runend_array.proofs.DecodedLeaves.{IsDecodedLeaf-truths}
+use Rattle.runend_array.proofs.StoredNumbers.{length-naturals}
+use Rattle.runend_array.proofs.decompress_bool.decode_under.Goals as goal
+
+pub returns-clause-flat : goal.returns-clause-flat
+returns-clause-flat g c =
+    let ends = map unsigned_abs (map g.E.NativePType.number c.args.ends.now) in
+    let values = c.args.values.now in
+    let long = length-naturals g.E.NativePType.number c.args.ends.now in
+    let decoded : AreDecoded false ends values.bits values.validity c.args.offset c.args.count c.in_ok-bits.bits (form_of c.in_ok-rows.rows) = record {
+      covered = rw (c.values.ensures, c.validity-validity.ensures.form) at c.in_ok-bits.ensures.cover;
+      flagged = rw (c.validity-validity.ensures.form, ← long) at c.in_ok-rows.ensures.cover;
+      fits = c.in_ok-rows.ensures.fits;
+      normal = c.in_ok-rows.ensures.normal;
+      nullability = rw c.validity-validity.ensures.form at c.in_ok-rows.ensures.nullability;
+    } in
+    rw (c.new_unchecked.ensures, c.freeze.ensures)
+    (IsDecodedLeaf-truths ends values.bits values.validity c.args.offset c.args.count c.in_ok-bits.bits (form_of c.in_ok-rows.rows) c.requires.window (c.requires.paired ∙ sym long)
+    c.validity-validity.ensures.counted decoded)

@@ -1,0 +1,79 @@
+//! Arrays in a flat form.
+ghost use Rattle.std.specs.Prelude.{◌≡◌, length, IfOk, IsOkUnless};
+ghost use Rattle.column_core.specs.FlatColumn.{leaf_of};
+ghost use Rattle.runend_array.specs.Array.{column_of};
+ghost use Rattle.column_core.specs.PrimitiveForm.{primitive_dtype};
+ghost use Rattle.runend_array.specs.Window.{IsWindow};
+ghost use Rattle.runend_array.specs.Column.{IsEndsType, OfLeaf, column_dtype, column_rows, ends_of, run_rows};
+ghost use Rattle.runend_array.specs.Encoding.{IsComputedFlat};
+ghost use Rattle.runend_array.specs.Canonical.{canonical_column};
+
+use crate::array_ref::ArrayRef;
+use crate::compress::decode_flat;
+use crate::listview::ListViewArray;
+use column_core::{FlatColumn, PrimitiveArray, VortexError, VortexResult};
+use std::alloc::Allocator;
+
+/// An array in a flat form: rows that are stored one by one, or lists.
+#[derive(Drop)]
+pub(crate) enum Canonical<A: Allocator> {
+    Flat(FlatColumn<A>),
+    List(ListViewArray<A>),
+}
+
+/// A flat column as an array. Takes no memory.
+pub(crate) fn array_of<A: Allocator + Copy>(flat: FlatColumn<A>) -> ArrayRef<A>
+    ensures { column_of result ≡ OfLeaf (leaf_of flat) }
+{
+    match flat {
+        FlatColumn::Primitive(array) => ArrayRef::Primitive(array),
+        FlatColumn::Bool(array) => ArrayRef::Bool(array),
+        FlatColumn::Decimal(array) => ArrayRef::Decimal(array),
+        FlatColumn::VarBinView(array) => ArrayRef::VarBinView(array),
+    }
+}
+
+impl<A: Allocator + Copy> Canonical<A> {
+    /// The same form, as an array. Refused as `OutOfMemory` alone.
+    pub(crate) fn into_array(self, alloc: A) -> VortexResult<ArrayRef<A>>
+        ensures only { IsOkUnless result VortexError.OutOfMemory }
+        ensures form { IfOk result (λ array. column_of array ≡ canonical_column self) }
+    {
+        match self {
+            Canonical::Flat(array) => Ok(array_of(array)),
+            Canonical::List(lists) => {
+                let boxed = Box::new(alloc, lists)?;
+                Ok(ArrayRef::ListView(boxed))
+            }
+        }
+    }
+
+    /// The rows that runs of these values show, from row `offset` on, `count` many, in a flat form, with 0,
+    /// false or the view of nothing under null. Refused as `OutOfMemory` alone.
+    pub(crate) fn shown_by(
+        self,
+        alloc: A,
+        ends: &PrimitiveArray<A>,
+        offset: usize,
+        count: usize,
+    ) -> VortexResult<Canonical<A>>
+        requires plain { IsEndsType (primitive_dtype ends.now) }
+        requires window { IsWindow (ends_of ends.now) offset count }
+        requires paired { length (column_rows (canonical_column self)) ≡ length ends.now.numbers }
+        ensures only { IsOkUnless result VortexError.OutOfMemory }
+        ensures rows { IfOk result (λ flat. column_rows (canonical_column flat) ≡ run_rows (ends_of ends.now) (column_rows (canonical_column self)) offset count) }
+        ensures dtype { IfOk result (λ flat. column_dtype (canonical_column flat) ≡ column_dtype (canonical_column self)) }
+        ensures form { IfOk result (λ flat. IsComputedFlat (canonical_column flat)) }
+    {
+        match self {
+            Canonical::Flat(values) => {
+                let array = decode_flat(alloc, ends, values, offset, count)?;
+                Ok(Canonical::Flat(array))
+            }
+            Canonical::List(lists) => {
+                let shown = lists.shown_by(alloc, ends, offset, count)?;
+                Ok(Canonical::List(shown))
+            }
+        }
+    }
+}

@@ -1,0 +1,94 @@
+//! The numbers of a column of lists: offsets or sizes, flat or in runs.
+ghost use Rattle.std.specs.Prelude.{◌≡◌, ◌<◌, ◌↔◌, IsTrue, length, slice_index, slice_index_or, false};
+ghost use Rattle.runend_array.specs.Array.{column_of};
+ghost use Rattle.runend_array.specs.Column.{IsIndex, IsPlainIndex, IsPlainTruths, end_numbers, index_of, truths_of};
+ghost use Rattle.runend_array.specs.Lists.{index_at as number_in_row, index_count};
+
+use crate::array_ref::ArrayRef;
+use column_core::{DType, Nullability, PType, PrimitiveValues};
+use std::alloc::Allocator;
+
+/// Is it a flat column of u64 without null?
+pub(crate) fn is_plain_index<A: Allocator + Copy>(column: &ArrayRef<A>) -> bool
+    ensures { IsTrue result ↔ IsPlainIndex (column_of column.now) }
+{
+    match column {
+        ArrayRef::Primitive(numbers) => {
+            numbers.dtype() == DType::Primitive(PType::U64, Nullability::NonNullable)
+        }
+        _ => false,
+    }
+}
+
+/// A number of a flat column of u64.
+pub(crate) fn plain_number_at<A: Allocator + Copy>(column: &ArrayRef<A>, index: usize) -> u64
+    requires plain { IsPlainIndex (column_of column.now) }
+    requires within { index < length (end_numbers (column_of column.now)) }
+    ensures { result ≡ slice_index (end_numbers (column_of column.now)) index }
+{
+    match column {
+        ArrayRef::Primitive(numbers) => match numbers.values() {
+            PrimitiveValues::U64(items) => items[index],
+            _ => unreachable!(),
+        },
+        _ => unreachable!(),
+    }
+}
+
+/// Is it a flat column of truth values without null?
+pub(crate) fn is_plain_truths<A: Allocator + Copy>(column: &ArrayRef<A>) -> bool
+    ensures { IsTrue result ↔ IsPlainTruths (column_of column.now) }
+{
+    match column {
+        ArrayRef::Bool(truths) => truths.dtype() == DType::Bool(Nullability::NonNullable),
+        _ => false,
+    }
+}
+
+/// A truth value of a flat column of them.
+pub(crate) fn plain_truth_at<A: Allocator + Copy>(column: &ArrayRef<A>, index: usize) -> bool
+    requires plain { IsPlainTruths (column_of column.now) }
+    requires within { index < length (truths_of (column_of column.now)) }
+    ensures { result ≡ slice_index_or (truths_of (column_of column.now)) index false }
+{
+    match column {
+        ArrayRef::Bool(truths) => truths.values().value(index),
+        _ => unreachable!(),
+    }
+}
+
+/// Is it a column of offsets or sizes: u64 without null, flat or in runs over flat values?
+pub(crate) fn is_index<A: Allocator + Copy>(column: &ArrayRef<A>) -> bool
+    ensures { IsTrue result ↔ IsIndex (column_of column.now) }
+{
+    match column {
+        ArrayRef::Primitive(_) => is_plain_index(column),
+        ArrayRef::RunEnd(runs) => runs.is_index(),
+        _ => false,
+    }
+}
+
+/// How many offsets or sizes there are.
+pub(crate) fn index_len<A: Allocator + Copy>(column: &ArrayRef<A>) -> usize
+    requires { IsIndex (column_of column.now) }
+    ensures { result ≡ index_count (index_of (column_of column.now)) }
+{
+    match column {
+        ArrayRef::Primitive(numbers) => numbers.len(),
+        ArrayRef::RunEnd(runs) => runs.len(),
+        _ => unreachable!(),
+    }
+}
+
+/// The offset or size at `index`.
+pub(crate) fn index_at<A: Allocator + Copy>(column: &ArrayRef<A>, index: usize) -> u64
+    requires index { IsIndex (column_of column.now) }
+    requires within { index < index_count (index_of (column_of column.now)) }
+    ensures { result ≡ number_in_row (index_of (column_of column.now)) index }
+{
+    match column {
+        ArrayRef::Primitive(_) => plain_number_at(column, index),
+        ArrayRef::RunEnd(runs) => runs.number_at(index),
+        _ => unreachable!(),
+    }
+}

@@ -1,0 +1,100 @@
+//! Which rows of any column are there, and which are null.
+ghost use Rattle.std.specs.Prelude.{◌≡◌, ◌<◌, ◌↔◌, IsTrue, IfOk, IsOkUnless};
+ghost use Rattle.runend_array.specs.Array.{validity_of, IsRowValidity};
+ghost use Rattle.runend_array.specs.Fault.{rows_told};
+ghost use Rattle.runend_array.specs.Lists.{HasRows, row_flag_at, row_nullability};
+
+use crate::array::RunEndArray;
+use column_core::{BitBuffer, Nullability, VortexError, VortexResult};
+use std::alloc::Allocator;
+
+/// Which rows of a column are there, and which are null: row by row, or by runs of truth values.
+#[cycle(array)]
+#[derive(Drop)]
+pub enum RowValidity<A: Allocator> {
+    /// The type has no null, so all rows are there.
+    NonNullable,
+    /// The type has null, and all rows are there.
+    AllValid,
+    /// All rows are null.
+    AllInvalid,
+    /// A row for each bit, null where the bit is false.
+    Bits(BitBuffer<A>),
+    /// A run column of truth values without null; a row is null where it shows false.
+    Runs(Box<RunEndArray<A>, A>),
+}
+
+impl<A: Allocator + Copy> RowValidity<A> {
+    /// Are its runs, where it has any, over flat truth values without null?
+    pub(crate) fn is_plain(&self) -> bool
+        ensures { IsTrue result ↔ IsRowValidity self.now }
+    {
+        match self {
+            RowValidity::Runs(runs) => runs.is_truths(),
+            _ => true,
+        }
+    }
+
+    /// Whether the type of the rows has null.
+    pub fn nullability(&self) -> Nullability
+        ensures { result ≡ row_nullability (validity_of self.now) }
+    {
+        match self {
+            RowValidity::NonNullable => Nullability::NonNullable,
+            _ => Nullability::Nullable,
+        }
+    }
+
+    /// How many rows it speaks of, and `None` where it serves any number of rows.
+    pub fn len(&self) -> Option<usize>
+        ensures { result ≡ rows_told (validity_of self.now) }
+    {
+        match self {
+            RowValidity::NonNullable => None,
+            RowValidity::AllValid => None,
+            RowValidity::AllInvalid => None,
+            RowValidity::Bits(bits) => Some(bits.len()),
+            RowValidity::Runs(runs) => Some(runs.len()),
+        }
+    }
+
+    /// Is the row at `index` there, of `count` rows?
+    pub(crate) fn is_valid(&self, index: usize, count: usize) -> bool
+        requires plain { IsRowValidity self.now }
+        requires counted { HasRows (validity_of self.now) count }
+        requires within { index < count }
+        ensures { result ≡ row_flag_at (validity_of self.now) index }
+    {
+        let _ = count;
+        match self {
+            RowValidity::NonNullable => true,
+            RowValidity::AllValid => true,
+            RowValidity::AllInvalid => false,
+            RowValidity::Bits(bits) => bits.value(index),
+            RowValidity::Runs(runs) => runs.truth_at(index),
+        }
+    }
+
+    /// The same validity in the same form, in memory of its own. Refused as `OutOfMemory` alone.
+    #[cycle(clone_in)]
+    pub(crate) fn clone_in(&self, alloc: A) -> VortexResult<RowValidity<A>>
+        ensures only { IsOkUnless result VortexError.OutOfMemory }
+        ensures form { IfOk result (λ copy. validity_of copy ≡ validity_of self.now) }
+        ensures plain { IsRowValidity self.now → IfOk result (λ copy. IsRowValidity copy) }
+    {
+        match self {
+            RowValidity::NonNullable => Ok(RowValidity::NonNullable),
+            RowValidity::AllValid => Ok(RowValidity::AllValid),
+            RowValidity::AllInvalid => Ok(RowValidity::AllInvalid),
+            RowValidity::Bits(bits) => {
+                let copy = bits.try_clone(alloc)?;
+                Ok(RowValidity::Bits(copy))
+            }
+            RowValidity::Runs(runs) => {
+                let copy = runs.clone_in(alloc)?;
+                let boxed = Box::new(alloc, copy)?;
+                Ok(RowValidity::Runs(boxed))
+            }
+        }
+    }
+}
