@@ -241,3 +241,61 @@ fn decimals_are_canonicalized(rt: HostRuntime) -> Result<(), Fail> {
     assert_decimals(&rt, &column.canonicalize(&mut ctx)?);
     Ok(())
 }
+
+// The decimals of the runs, decoded, all in this memory.
+fn decimals_in<A: Allocator + Copy>(alloc: A) -> VortexResult<ArrayRef<A>> {
+    let ends = required(alloc, &[2u32, 5, 10])?;
+    decoded_decimals(ends, decimals(alloc)?, 10, &mut context(alloc))
+}
+
+#[test]
+fn decode_of_decimals_refused_at_each_request(rt: HostRuntime) -> Result<(), Fail> {
+    let mut last = 0;
+    for first in 1..100u64 {
+        let heap = Refusing::from(rt.alloc(), first);
+        match decimals_in(&heap) {
+            Ok(rows) => {
+                assert_eq!(rt; heap.refused(), 0);
+                assert_decimals(&rt, &rows);
+                break;
+            }
+            Err(error) => {
+                assert_eq!(rt; error, VortexError::OutOfMemory);
+                last = first;
+            }
+        }
+    }
+    assert!(rt; last >= 1 && last < 99);
+    Ok(())
+}
+
+// The truth values of runs that an iterator ends, all in this memory.
+fn typed_truths_in<A: Allocator + Copy>(alloc: A) -> VortexResult<ArrayRef<A>> {
+    let values = three_bits(alloc)?;
+    let ends = trimmed_ends_iter(&[0u8, 3, 6], 0, 6);
+    let mask = Mask::from_indices(alloc, 3, &[0, 2])?;
+    let mut ctx = context(alloc);
+    runend_decode_typed_bool(ends, &values, mask, Nullability::Nullable, 6, &mut ctx)
+}
+
+#[test]
+fn typed_decode_of_truth_values_refused_at_each_request(rt: HostRuntime) -> Result<(), Fail> {
+    let mut last = 0;
+    for first in 1..100u64 {
+        let heap = Refusing::from(rt.alloc(), first);
+        match typed_truths_in(&heap) {
+            Ok(rows) => {
+                assert_eq!(rt; heap.refused(), 0);
+                let (truth, null) = (Some(true), None);
+                assert_shown(&rt, &rows, &[null, null, null, truth, truth, truth]);
+                break;
+            }
+            Err(error) => {
+                assert_eq!(rt; error, VortexError::OutOfMemory);
+                last = first;
+            }
+        }
+    }
+    assert!(rt; last >= 1 && last < 99);
+    Ok(())
+}

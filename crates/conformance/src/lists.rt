@@ -216,3 +216,32 @@ fn canonicalize_of_lists_refused_at_each_request(rt: HostRuntime) -> Result<(), 
     assert!(rt; last >= 1 && last < 99);
     Ok(())
 }
+
+// The three lists of the runs, decoded, all in this memory.
+fn lists_in<A: Allocator + Copy>(alloc: A) -> VortexResult<ArrayRef<A>> {
+    let mut ctx = context(alloc);
+    let ends = required(alloc, &[2u32, 5, 6])?;
+    let values = three_lists(&mut ctx)?;
+    decoded_lists(ends, values, 6, &mut ctx)
+}
+
+#[test]
+fn decode_of_lists_refused_at_each_request(rt: HostRuntime) -> Result<(), Fail> {
+    let mut last = 0;
+    for first in 1..100u64 {
+        let heap = Refusing::from(rt.alloc(), first);
+        match lists_in(&heap) {
+            Ok(rows) => {
+                assert_eq!(rt; heap.refused(), 0);
+                assert_six_rows(&rt, &rows);
+                break;
+            }
+            Err(error) => {
+                assert_eq!(rt; error, VortexError::OutOfMemory);
+                last = first;
+            }
+        }
+    }
+    assert!(rt; last >= 1 && last < 99);
+    Ok(())
+}

@@ -231,3 +231,31 @@ fn canonicalize_of_texts_refused_at_each_request(rt: HostRuntime) -> Result<(), 
     assert!(rt; last >= 1 && last < 99);
     Ok(())
 }
+
+// The letters of the runs, decoded, all in this memory.
+fn letters_in<A: Allocator + Copy>(alloc: A) -> VortexResult<ArrayRef<A>> {
+    let ends = required(alloc, &[2u32, 5, 10])?;
+    let values = texts(alloc, &LETTERS)?;
+    decoded_texts(ends, values, 10, &mut context(alloc))
+}
+
+#[test]
+fn decode_of_texts_refused_at_each_request(rt: HostRuntime) -> Result<(), Fail> {
+    let mut last = 0;
+    for first in 1..100u64 {
+        let heap = Refusing::from(rt.alloc(), first);
+        match letters_in(&heap) {
+            Ok(rows) => {
+                assert_eq!(rt; heap.refused(), 0);
+                assert_letters(&rt, &rows);
+                break;
+            }
+            Err(error) => {
+                assert_eq!(rt; error, VortexError::OutOfMemory);
+                last = first;
+            }
+        }
+    }
+    assert!(rt; last >= 1 && last < 99);
+    Ok(())
+}
