@@ -83,17 +83,24 @@ fn runs_of_rows_are_found(rt: HostRuntime) -> Result<(), Fail> {
     Ok(())
 }
 
+// The run column of parts of which `try_new` accepts a copy.
+fn new_like_checked<A: Allocator + Copy>(
+    ends: ArrayRef<A>,
+    values: ArrayRef<A>,
+    ctx: &mut ExecutionCtx<A>,
+) -> VortexResult<RunEndArray<A>> {
+    let checked_ends = ends.try_clone(ctx)?;
+    let checked_values = values.try_clone(ctx)?;
+    let _checked = RunEnd::try_new(checked_ends, checked_values, ctx)?;
+    Ok(RunEnd::new(ends, values, ctx))
+}
+
 #[test]
 fn valid_parts_need_no_second_check(rt: HostRuntime) -> Result<(), Fail> {
     let mut ctx = context(rt.alloc());
     let ends = ArrayRef::Primitive(required(rt.alloc(), &[2u64, 5])?);
     let values = ArrayRef::Primitive(required(rt.alloc(), &[1i32, 9])?);
-    let _checked = RunEnd::try_new(
-        ends.try_clone(&mut ctx)?,
-        values.try_clone(&mut ctx)?,
-        &mut ctx,
-    )?;
-    let whole = RunEnd::new(ends, values, &mut ctx);
+    let whole = new_like_checked(ends, values, &mut ctx)?;
     assert_window(&rt, &whole, 0, 5);
     Ok(())
 }
