@@ -5,7 +5,7 @@ use Rattle.std.specs.List.{range_with_len}
 use Rattle.std.proofs.lemmas.Bool.{cases_eq}
 use Rattle.std.proofs.lemmas.List.{set_split, get_or-set_same, get_or-set_other, take_more}
 use Rattle.std.proofs.lemmas.List.Elements.{All-head, All-tail, All-same, All-replicate, Contains-push, Contains-push_cases, Contains-append_left}
-use Rattle.std.proofs.lemmas.List.Sums.{count_by-le-length, sum_by-cons}
+use Rattle.std.proofs.lemmas.List.Sums.{count_by-le-length, count_by_more_no, count_by_more_yes, sum_by-cons}
 use Rattle.column_base.specs.Bits.{set_indices_from}
 
 -- a range of at least one number begins with its first
@@ -106,3 +106,9 @@ selected_more bits places n i within place in_bits before k inside =
     (selected_here bits (take n places) i k in_bits)
     (selected_elsewhere bits (take n places) i k (before k inside))
     (cases_eq k i))
+
+-- one bit more adds itself to the count
+pub count_by-more : (bits : List Bool) (i : ℕ) (bit : Bool) → i < length bits → get_or bits i false ≡ bit
+    → count_by (λ b. b) (take (i + 1) bits) ≡ count_by (λ b. b) (take i bits) + cond bit 1 0
+count_by-more bits i true within here = count_by_more_yes (λ (b : Bool). b) bits i false within here
+count_by-more bits i false within here = omega (arith, count_by_more_no (λ (b : Bool). b) bits i false within here)

@@ -5,7 +5,7 @@ use Rattle.std.proofs.lemmas.List.{get_or-replicate, length-replicate}
 use Rattle.std.proofs.lemmas.List.Elements.{All-replicate}
 use Rattle.std.proofs.lemmas.Option.{slice_get-get_or}
 use Rattle.column_base.specs.ValidityForm.{ValidityForm, NeverNull, NoneNull, AllNull, ByBits, HasLength, HasRow, flags, flag_at, nullability_in}
-use Rattle.column_base.specs.declared.dtype.Nullability.TheVariants.{NonNullable, Nullable}
+use Rattle.column_base.specs.declared.dtype.Nullability.TheVariants.{Nullable}
 pub use Rattle.column_base.proofs.BitLists.{all_set, none_set}
 
 -- each of n copies is the bit that is copied

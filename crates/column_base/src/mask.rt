@@ -112,18 +112,3 @@ impl<A: Allocator + Copy> Mask<A> {
         }
     }
 }
-
-#[cfg(test)]
-mod tests {
-    use super::*;
-    use std::test::Fail;
-
-    #[test]
-    fn rows_are_selected(rt: HostRuntime) -> Result<(), Fail> {
-        let mask = Mask::from_indices(rt.alloc(), 4, &[1, 3])?;
-        let copy = mask.try_clone(rt.alloc())?;
-        assert_eq!(rt; copy.len(), 4);
-        assert_eq!(rt; copy.true_count(), 2);
-        Ok(())
-    }
-}

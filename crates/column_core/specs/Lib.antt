@@ -16,3 +16,5 @@ pub mod SameScalar
 pub mod Counted
 pub mod Digits
 pub mod Ranges
+pub mod Refusal
+pub mod Computed

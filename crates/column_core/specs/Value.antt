@@ -50,6 +50,20 @@ abbrev pub IsItemOf : ElementDType → Option FlatValue → Type 0
 IsItemOf t None = MayBeNull (element_nullability t)
 IsItemOf t (Some v) = IsElementOf t v
 
+-- the type of elements that lie in a flat column of this type
+abbrev pub element_of : DType → ElementDType
+element_of (column.Bool n) = element.Bool n
+element_of (column.Primitive t n) = element.Primitive t n
+element_of (column.Decimal d n) = element.Decimal d n
+element_of (column.Utf8 n) = element.Utf8 n
+element_of (column.Binary n) = element.Binary n
+element_of (column.List e n) = e
+
+-- a type of lists
+abbrev pub IsLists : DType → Type 0
+IsLists (column.List e n) = Unit {0}
+IsLists t = ⊥
+
 -- the value is one of the type
 abbrev pub IsValueOf : DType → Value → Type 0
 IsValueOf (column.Bool n) (Single (Truth b)) = Unit {0}

@@ -1,10 +1,11 @@
 //! Flat columns of truth values.
 ghost use Rattle.std.specs.Prelude.{◌≡◌, ◌<◌, ◌↔◌, IsErrOf, slice_range, Some, length, map, option_map, slice_get, IfOk, IfErr, IsOk, IsOkUnless, IsSomeAnd, IsTrue, []};
-ghost use Rattle.column_base.specs.ValidityForm.{HasLength, IsNormal, length_of};
+ghost use Rattle.column_base.specs.ValidityForm.{AllNull, HasLength, IsNormal, length_of};
 ghost use Rattle.column_base.specs.Validity.{form_of};
 ghost use Rattle.column_core.specs.Value.{Single};
 ghost use Rattle.column_core.specs.BoolForm.{bool_with, bool_rows, bool_dtype};
 ghost use Rattle.column_core.specs.Ranges.{IsBadRange};
+ghost use Rattle.column_core.specs.Refusal.{range_fault, IsRefusedBy};
 ghost use Rattle.column_core.specs.ScalarView.{sees, IsViewOf};
 
 use crate::view::ScalarView;
@@ -145,10 +146,12 @@ impl<A: Allocator + Copy> BoolArray<A> {
         ensures refused { let count = length (bool_rows self.now) in
             IsErrOf result (VortexError.BadRange range.start range.end count) ↔ IsBadRange range.start range.end count }
         ensures only { ¬ IsBadRange range.start range.end (length (bool_rows self.now)) → IsOkUnless result VortexError.OutOfMemory }
+        ensures refusal { IsRefusedBy (range_fault range.start range.end (length (bool_rows self.now))) result }
         ensures rows { IfOk result (λ part. bool_rows part ≡ slice_range (bool_rows self.now) range.start range.end) }
         ensures dtype { IfOk result (λ part. bool_dtype part ≡ bool_dtype self.now) }
         ensures stored { IfOk result (λ part. part.bits ≡ slice_range self.now.bits range.start range.end) }
         ensures normal { IfOk result (λ part. IsNormal part.validity) }
+        ensures empty { IfOk result (λ part. part.validity ≡ AllNull → range.start < range.end) }
     {
         let length = self.len();
         if range.start > range.end || range.end > length {
@@ -161,27 +164,5 @@ impl<A: Allocator + Copy> BoolArray<A> {
         let bits = self.bits.slice(alloc, range.start..range.end)?;
         let validity = self.validity.slice(alloc, range)?;
         Ok(BoolArray { bits, validity })
-    }
-}
-
-#[cfg(test)]
-mod tests {
-    use super::*;
-    use column_base::BitBufferMut;
-    use std::test::Fail;
-
-    #[test]
-    fn slice_of_a_copy_keeps_bits_and_nulls(rt: HostRuntime) -> Result<(), Fail> {
-        let mut bits = BitBufferMut::full(rt.alloc(), true, 4)?;
-        bits.fill_range(1, 2, false);
-        let mut flags = BitBufferMut::full(rt.alloc(), true, 4)?;
-        flags.fill_range(3, 4, false);
-        let array = BoolArray::try_new(bits.freeze(), Validity::Bits(flags.freeze()))?;
-        let part = array.try_clone(rt.alloc())?.slice(rt.alloc(), 1..4)?;
-        assert_eq!(rt; part.len(), 3);
-        assert!(rt; matches!(part.get(0), ScalarView::Bool(false)));
-        assert!(rt; matches!(part.get(1), ScalarView::Bool(true)));
-        assert!(rt; matches!(part.get(2), ScalarView::Null));
-        Ok(())
     }
 }

@@ -1,6 +1,6 @@
 //! Flat columns of decimals.
 ghost use Rattle.std.specs.Prelude.{◌≡◌, ◌<◌, ◌↔◌, IsErrOf, slice_range, Some, length, map, option_map, slice_get, IfOk, IfErr, IsOk, IsOkUnless, IsSomeAnd, IsTrue, []};
-ghost use Rattle.column_base.specs.ValidityForm.{HasLength, IsNormal, length_of};
+ghost use Rattle.column_base.specs.ValidityForm.{AllNull, HasLength, IsNormal, length_of};
 ghost use Rattle.column_base.specs.Validity.{form_of};
 ghost use Rattle.column_base.specs.declared.dtype.DecimalDType.{DecimalDType};
 ghost use Rattle.column_base.specs.declared.dtype.Nullability.{Nullability};
@@ -8,6 +8,7 @@ ghost use Rattle.column_base.specs.declared.dtype.DType.TheVariants as column;
 ghost use Rattle.column_core.specs.Value.{Single, DecimalNumber};
 ghost use Rattle.column_core.specs.DecimalForm.{decimal_with, decimal_rows, decimal_dtype_of};
 ghost use Rattle.column_core.specs.Ranges.{IsBadRange};
+ghost use Rattle.column_core.specs.Refusal.{range_fault, IsRefusedBy};
 ghost use Rattle.column_core.specs.ScalarView.{sees, IsViewOf};
 
 use crate::view::ScalarView;
@@ -172,10 +173,12 @@ impl<A: Allocator + Copy> DecimalArray<A> {
         ensures refused { let count = length (decimal_rows self.now) in
             IsErrOf result (VortexError.BadRange range.start range.end count) ↔ IsBadRange range.start range.end count }
         ensures only { ¬ IsBadRange range.start range.end (length (decimal_rows self.now)) → IsOkUnless result VortexError.OutOfMemory }
+        ensures refusal { IsRefusedBy (range_fault range.start range.end (length (decimal_rows self.now))) result }
         ensures rows { IfOk result (λ part. decimal_rows part ≡ slice_range (decimal_rows self.now) range.start range.end) }
         ensures dtype { IfOk result (λ part. decimal_dtype_of part ≡ decimal_dtype_of self.now) }
         ensures stored { IfOk result (λ part. part.numbers ≡ slice_range self.now.numbers range.start range.end) }
         ensures normal { IfOk result (λ part. IsNormal part.validity) }
+        ensures empty { IfOk result (λ part. part.validity ≡ AllNull → range.start < range.end) }
     {
         let length = self.len();
         if range.start > range.end || range.end > length {
@@ -202,29 +205,4 @@ fn decimal_view<A: Allocator>(numbers: &[i128], index: usize) -> ScalarView<'_, 
     ensures of_type { (decimal : DecimalDType) (nullability : Nullability) → IsViewOf (column.Decimal decimal nullability) result }
 {
     ScalarView::Decimal(numbers[index])
-}
-
-#[cfg(test)]
-mod tests {
-    use super::*;
-    use column_base::BitBufferMut;
-    use std::test::Fail;
-
-    #[test]
-    fn slice_of_a_copy_keeps_numbers_and_nulls(rt: HostRuntime) -> Result<(), Fail> {
-        let numbers = Vec::from_slice(rt.alloc(), &[12345i128, 0, -12300])?;
-        let mut flags = BitBufferMut::full(rt.alloc(), true, 3)?;
-        flags.fill_range(1, 2, false);
-        let decimal = DecimalDType {
-            precision: 10,
-            scale: 2,
-        };
-        let array = DecimalArray::try_new(numbers, decimal, Validity::Bits(flags.freeze()))?;
-        let copy = array.try_clone(rt.alloc())?;
-        let part = copy.slice(rt.alloc(), 1..3)?;
-        assert!(rt; matches!(copy.get(0), ScalarView::Decimal(12345)));
-        assert!(rt; matches!(part.get(0), ScalarView::Null));
-        assert!(rt; matches!(part.get(1), ScalarView::Decimal(-12300)));
-        Ok(())
-    }
 }

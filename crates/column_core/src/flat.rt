@@ -3,10 +3,11 @@ ghost use Rattle.std.specs.Prelude.{◌≡◌, ◌<◌, ◌↔◌, Some, length,
 ghost use Rattle.column_core.specs.Value.{Single};
 ghost use Rattle.column_core.specs.Leaf.{leaf_count, leaf_rows, leaf_dtype, leaf_validity};
 ghost use Rattle.column_base.specs.Validity.{form_of};
-ghost use Rattle.column_base.specs.ValidityForm.{HasLength};
+ghost use Rattle.column_base.specs.ValidityForm.{AllNull, HasLength, IsNormal};
 ghost use Rattle.column_core.specs.FlatColumn.{leaf_of};
 ghost use Rattle.column_core.specs.ScalarView.{sees, IsViewOf};
 ghost use Rattle.column_core.specs.Ranges.{IsBadRange};
+ghost use Rattle.column_core.specs.Refusal.{range_fault, IsRefusedBy};
 
 use crate::boolean::BoolArray;
 use crate::decimal::DecimalArray;
@@ -102,8 +103,11 @@ impl<A: Allocator + Copy> FlatColumn<A> {
         ensures refused { let count = length (leaf_rows (leaf_of self.now)) in
             IsErrOf result (VortexError.BadRange range.start range.end count) ↔ IsBadRange range.start range.end count }
         ensures only { ¬ IsBadRange range.start range.end (length (leaf_rows (leaf_of self.now))) → IsOkUnless result VortexError.OutOfMemory }
+        ensures refusal { IsRefusedBy (range_fault range.start range.end (length (leaf_rows (leaf_of self.now)))) result }
         ensures rows { IfOk result (λ part. leaf_rows (leaf_of part) ≡ slice_range (leaf_rows (leaf_of self.now)) range.start range.end) }
         ensures dtype { IfOk result (λ part. leaf_dtype (leaf_of part) ≡ leaf_dtype (leaf_of self.now)) }
+        ensures normal { IfOk result (λ part. IsNormal (leaf_validity (leaf_of part))) }
+        ensures empty { IfOk result (λ part. leaf_validity (leaf_of part) ≡ AllNull → range.start < range.end) }
     {
         match self {
             FlatColumn::Primitive(array) => {
@@ -123,42 +127,5 @@ impl<A: Allocator + Copy> FlatColumn<A> {
                 Ok(FlatColumn::VarBinView(part))
             }
         }
-    }
-}
-
-#[cfg(test)]
-mod tests {
-    use super::*;
-    use column_base::{DecimalDType, Nullability, PType, PrimitiveValues, Validity};
-    use std::test::Fail;
-
-    #[test]
-    fn clone_keeps_type_and_length(rt: HostRuntime) -> Result<(), Fail> {
-        let numbers = Vec::from_slice(rt.alloc(), &[300u16, 1])?;
-        let array = PrimitiveArray::try_new(PrimitiveValues::U16(numbers), Validity::NonNullable)?;
-        let copy = FlatColumn::Primitive(array).try_clone(rt.alloc())?;
-        assert_eq!(rt; copy.len(), 2);
-        assert_eq!(rt;
-            copy.dtype(),
-            DType::Primitive(PType::U16, Nullability::NonNullable)
-        );
-        Ok(())
-    }
-
-    #[test]
-    fn slice_of_decimals_keeps_type_and_rows(rt: HostRuntime) -> Result<(), Fail> {
-        let numbers = Vec::from_slice(rt.alloc(), &[12345i128, 0, -12300])?;
-        let decimal = DecimalDType {
-            precision: 10,
-            scale: 2,
-        };
-        let array = DecimalArray::try_new(numbers, decimal, Validity::AllValid)?;
-        let part = FlatColumn::Decimal(array).slice(rt.alloc(), 2..3)?;
-        assert_eq!(rt;
-            part.dtype(),
-            DType::Decimal(decimal, Nullability::Nullable)
-        );
-        assert!(rt; matches!(part.get(0), ScalarView::Decimal(-12300)));
-        Ok(())
     }
 }

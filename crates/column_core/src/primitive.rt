@@ -3,12 +3,13 @@ ghost use Rattle.std.specs.Prelude.{◌≡◌, ◌≢◌, ◌<◌, ◌↔◌, Is
 ghost use Rattle.column_base.specs.Numbers.{numbers, ptype_of};
 ghost use Rattle.column_base.specs.declared.dtype.Nullability.{Nullability};
 ghost use Rattle.column_base.specs.declared.dtype.DType.TheVariants as column;
-ghost use Rattle.column_base.specs.ValidityForm.{HasLength, IsNormal, length_of};
+ghost use Rattle.column_base.specs.ValidityForm.{AllNull, HasLength, IsNormal, length_of};
 ghost use Rattle.column_base.specs.Validity.{form_of};
 ghost use Rattle.column_core.specs.Value.{Single, Number};
 ghost use Rattle.column_core.specs.PrimitiveForm.{primitive_dtype, primitive_rows};
 ghost use Rattle.column_core.specs.Primitive.{primitive_of};
 ghost use Rattle.column_core.specs.Ranges.{IsBadRange};
+ghost use Rattle.column_core.specs.Refusal.{range_fault, IsRefusedBy};
 ghost use Rattle.column_core.specs.ScalarView.{sees, IsViewOf};
 
 use crate::view::ScalarView;
@@ -156,10 +157,12 @@ impl<A: Allocator + Copy> PrimitiveArray<A> {
         ensures refused { let count = length (primitive_rows self.now) in
             IsErrOf result (VortexError.BadRange range.start range.end count) ↔ IsBadRange range.start range.end count }
         ensures only { ¬ IsBadRange range.start range.end (length (primitive_rows self.now)) → IsOkUnless result VortexError.OutOfMemory }
+        ensures refusal { IsRefusedBy (range_fault range.start range.end (length (primitive_rows self.now))) result }
         ensures rows { IfOk result (λ part. primitive_rows part ≡ slice_range (primitive_rows self.now) range.start range.end) }
         ensures dtype { IfOk result (λ part. primitive_dtype part ≡ primitive_dtype self.now) }
         ensures stored { IfOk result (λ part. part.numbers ≡ slice_range self.now.numbers range.start range.end) }
         ensures normal { IfOk result (λ part. IsNormal part.validity) }
+        ensures empty { IfOk result (λ part. part.validity ≡ AllNull → range.start < range.end) }
     {
         let length = self.len();
         if range.start > range.end || range.end > length {
@@ -190,28 +193,5 @@ fn number_view<A: Allocator>(values: &PrimitiveValues<A>, index: usize) -> Scala
         PrimitiveValues::I16(items) => ScalarView::Signed(i64::from(items[index])),
         PrimitiveValues::I32(items) => ScalarView::Signed(i64::from(items[index])),
         PrimitiveValues::I64(items) => ScalarView::Signed(items[index]),
-    }
-}
-
-#[cfg(test)]
-mod tests {
-    use super::*;
-    use column_base::BitBufferMut;
-    use std::test::Fail;
-
-    #[test]
-    fn clone_keeps_numbers_and_nulls(rt: HostRuntime) -> Result<(), Fail> {
-        let numbers = Vec::from_slice(rt.alloc(), &[-7i64, 0, 5])?;
-        let mut flags = BitBufferMut::with_capacity(rt.alloc(), 3)?;
-        for flag in [true, false, true] {
-            flags.append(flag)?;
-        }
-        let validity = Validity::Bits(flags.freeze());
-        let array = PrimitiveArray::try_new(PrimitiveValues::I64(numbers), validity)?;
-        let copy = array.try_clone(rt.alloc())?;
-        assert_eq!(rt; copy.len(), 3);
-        assert!(rt; matches!(copy.get(0), ScalarView::Signed(-7)));
-        assert!(rt; matches!(copy.get(1), ScalarView::Null));
-        Ok(())
     }
 }

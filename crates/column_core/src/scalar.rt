@@ -4,7 +4,7 @@ ghost use Rattle.std.specs.Cmp.{partial_equiv_from_equiv};
 ghost use Rattle.column_base.specs.declared.dtype.Nullability.TheVariants.{NonNullable};
 ghost use Rattle.column_base.specs.declared.dtype.DType.{DType};
 ghost use Rattle.column_base.specs.Types.{HasNumber, nullability_of};
-ghost use Rattle.column_core.specs.Value.{Single};
+ghost use Rattle.column_core.specs.Value.{IsLists, Single};
 ghost use Rattle.column_core.specs.Scalar.{flat_of, IsOwnedOf, IsScalarOf};
 ghost use Rattle.column_core.specs.ScalarView.{sees, IsViewOf};
 ghost use Rattle.column_core.specs.SameScalar.{same_scalar, same_scalar_equivalence};
@@ -176,6 +176,27 @@ impl<A: Allocator + Copy> ScalarValue<A> {
 }
 
 impl<A: Allocator + Copy> Scalar<A> {
+    /// The scalar of what a row of that type shows, in memory of its own. Refused as `OutOfMemory` alone.
+    pub fn of_view(alloc: A, dtype: DType, view: ScalarView<'_, A>) -> VortexResult<Scalar<A>>
+        requires single { ¬ IsLists dtype }
+        requires of_type { IsViewOf dtype view }
+        ensures only { IsOkUnless result VortexError.OutOfMemory }
+        ensures dtype { IfOk result (λ scalar. scalar.dtype ≡ dtype) }
+        ensures value { IfOk result (λ scalar. option_map Single scalar.value ≡ sees view.entry) }
+    {
+        let value = match view {
+            ScalarView::Null => None,
+            ScalarView::Bool(truth) => Some(ScalarValue::Bool(truth)),
+            ScalarView::Unsigned(number) => Some(ScalarValue::Unsigned(number)),
+            ScalarView::Signed(number) => Some(ScalarValue::Signed(number)),
+            ScalarView::Decimal(number) => Some(ScalarValue::Decimal(number)),
+            ScalarView::Utf8(text) => Some(ScalarValue::Utf8(String::from_str(alloc, text)?)),
+            ScalarView::Binary(bytes) => Some(ScalarValue::Binary(Vec::from_slice(alloc, bytes)?)),
+            ScalarView::List { .. } => unreachable!(),
+        };
+        Ok(Scalar { dtype, value })
+    }
+
     /// An equal scalar, in memory of its own. Refused as `OutOfMemory` alone.
     pub fn try_clone(&self, alloc: A) -> VortexResult<Scalar<A>>
         ensures only { IsOkUnless result VortexError.OutOfMemory }
@@ -189,30 +210,5 @@ impl<A: Allocator + Copy> Scalar<A> {
             dtype: self.dtype,
             value,
         })
-    }
-}
-
-#[cfg(test)]
-mod tests {
-    use super::*;
-    use std::test::Fail;
-
-    #[test]
-    fn clone_equals_its_scalar(rt: HostRuntime) -> Result<(), Fail> {
-        let text = String::from_str(rt.alloc(), "été")?;
-        let scalar = Scalar::try_new(
-            DType::Utf8(Nullability::Nullable),
-            Some(ScalarValue::Utf8(text)),
-        )?;
-        assert_eq!(rt; scalar.try_clone(rt.alloc())?, scalar);
-        Ok(())
-    }
-
-    #[test]
-    fn clone_equals_its_value(rt: HostRuntime) -> Result<(), Fail> {
-        let bytes = Vec::from_slice(rt.alloc(), &[0u8, 255])?;
-        let value = ScalarValue::Binary(bytes);
-        assert_eq!(rt; value.try_clone(rt.alloc())?, value);
-        Ok(())
     }
 }

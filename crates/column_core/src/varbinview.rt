@@ -2,13 +2,14 @@
 ghost use Rattle.std.specs.Prelude.{◌≡◌, ◌<◌, ◌↔◌, IsErrOf, slice_range, Some, length, map, option_map, slice_get, IfOk, IfErr, IfSome, IfNone, IsOk, IsOkUnless, IsTrue, [], ℕ};
 ghost use Rattle.std.specs.Bool.{OnTrue, OnFalse};
 ghost use Rattle.std.specs.Str.{IsUtf8};
-ghost use Rattle.column_base.specs.ValidityForm.{HasLength, IsNormal};
+ghost use Rattle.column_base.specs.ValidityForm.{AllNull, HasLength, IsNormal};
 ghost use Rattle.column_base.specs.Validity.{form_of};
 ghost use Rattle.column_core.specs.declared.varbinview.VarBinKind.TheVariants.{Utf8, Binary};
 ghost use Rattle.column_core.specs.Value.{Single};
 ghost use Rattle.column_core.specs.VarBinForm.{AreVarBins, IsWithinBuffer, varbin_with, varbin_rows, varbin_dtype, view_bytes};
 ghost use Rattle.column_core.specs.VarBinFault.{AreWithin, AreOfKind, IsFirstOutside, IsNoText, VarBinFault};
 ghost use Rattle.column_core.specs.Ranges.{IsBadRange};
+ghost use Rattle.column_core.specs.Refusal.{range_fault, IsRefusedBy};
 ghost use Rattle.column_core.specs.ScalarView.{sees, IsViewOf};
 
 use crate::view::ScalarView;
@@ -219,11 +220,13 @@ impl<A: Allocator + Copy> VarBinViewArray<A> {
         ensures refused { let count = length (varbin_rows self.now) in
             IsErrOf result (VortexError.BadRange range.start range.end count) ↔ IsBadRange range.start range.end count }
         ensures only { ¬ IsBadRange range.start range.end (length (varbin_rows self.now)) → IsOkUnless result VortexError.OutOfMemory }
+        ensures refusal { IsRefusedBy (range_fault range.start range.end (length (varbin_rows self.now))) result }
         ensures rows { IfOk result (λ part. varbin_rows part ≡ slice_range (varbin_rows self.now) range.start range.end) }
         ensures dtype { IfOk result (λ part. varbin_dtype part ≡ varbin_dtype self.now) }
         ensures stored { IfOk result (λ part. part.views ≡ slice_range self.now.views range.start range.end) }
         ensures shared { IfOk result (λ part. part.buffers ≡ self.now.buffers) }
         ensures normal { IfOk result (λ part. IsNormal part.validity) }
+        ensures empty { IfOk result (λ part. part.validity ≡ AllNull → range.start < range.end) }
     {
         let length = self.len();
         if range.start > range.end || range.end > length {
@@ -316,95 +319,4 @@ fn share<A: Allocator + Copy>(alloc: A, buffers: &[Bytes<A>]) -> VortexResult<Ve
         owners.push(buffer.clone()?)?;
     }
     Ok(owners)
-}
-
-#[cfg(test)]
-mod tests {
-    use super::*;
-    use column_base::BitBufferMut;
-    use std::test::Fail;
-
-    const FIRST_TWO: View = View {
-        buffer: 0,
-        start: 0,
-        size: 2,
-    };
-
-    // One row, a view into one buffer.
-    fn one_row<A: Allocator + Copy>(
-        alloc: A,
-        bytes: &[u8],
-        view: View,
-        kind: VarBinKind,
-        valid: bool,
-    ) -> VortexResult<VarBinViewArray<A>> {
-        let mut buffers = Vec::new(alloc);
-        buffers.push(Bytes::copy_from_slice(alloc, bytes)?)?;
-        let views = Vec::from_slice(alloc, &[view])?;
-        let validity = if valid {
-            Validity::AllValid
-        } else {
-            Validity::AllInvalid
-        };
-        VarBinViewArray::try_new(views, buffers, kind, validity)
-    }
-
-    #[test]
-    fn slice_of_a_copy_borrows_texts(rt: HostRuntime) -> Result<(), Fail> {
-        let alloc = rt.alloc();
-        let mut buffers = Vec::new(alloc);
-        buffers.push(Bytes::copy_from_slice(alloc, b"abc")?)?;
-        let second = View {
-            buffer: 0,
-            start: 1,
-            size: 2,
-        };
-        let views = Vec::from_slice(alloc, &[FIRST_TWO, second, View::default()])?;
-        let mut flags = BitBufferMut::full(alloc, true, 3)?;
-        flags.fill_range(2, 3, false);
-        let validity = Validity::Bits(flags.freeze());
-        let array = VarBinViewArray::try_new(views, buffers, VarBinKind::Utf8, validity)?;
-        let part = array.try_clone(alloc)?.slice(alloc, 1..3)?;
-        assert!(rt; matches!(part.get(0), ScalarView::Utf8(text) if text == "bc"));
-        assert!(rt; matches!(part.get(1), ScalarView::Null));
-        Ok(())
-    }
-
-    #[test]
-    fn view_past_its_buffer_is_refused_under_no_null(rt: HostRuntime) -> Result<(), Fail> {
-        let past = View {
-            buffer: 0,
-            start: 1,
-            size: 2,
-        };
-        let refused = one_row(rt.alloc(), b"ab", past, VarBinKind::Utf8, true);
-        assert!(rt;
-            matches!(
-                refused,
-                Err(VortexError::OutOfBounds {
-                    index: 0,
-                    length: 1
-                })
-            )
-        );
-        let accepted = one_row(rt.alloc(), b"ab", past, VarBinKind::Utf8, false)?;
-        assert_eq!(rt; accepted.len(), 1);
-        assert!(rt; matches!(accepted.get(0), ScalarView::Null));
-        Ok(())
-    }
-
-    #[test]
-    fn bytes_that_are_no_text_are_refused_as_a_text(rt: HostRuntime) -> Result<(), Fail> {
-        let first = View {
-            buffer: 0,
-            start: 0,
-            size: 1,
-        };
-        let refused = one_row(rt.alloc(), &[0xFF], first, VarBinKind::Utf8, true);
-        assert!(rt; matches!(refused, Err(VortexError::TypeMismatch)));
-        let accepted = one_row(rt.alloc(), &[0xFF], first, VarBinKind::Binary, true)?;
-        assert_eq!(rt; accepted.len(), 1);
-        assert!(rt; matches!(accepted.get(0), ScalarView::Binary(&[0xFF])));
-        Ok(())
-    }
 }

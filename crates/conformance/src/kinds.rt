@@ -56,24 +56,6 @@ fn truth_values_are_decoded(rt: HostRuntime) -> Result<(), Fail> {
     Ok(())
 }
 
-#[test]
-fn runs_show_truth_values(rt: HostRuntime) -> Result<(), Fail> {
-    let ends = required(rt.alloc(), &[2u32, 5, 10])?;
-    let values = ArrayRef::Bool(truths(rt.alloc(), &[true, false, true])?);
-    let column = run_column(ends, values, 2, 6, &mut context(rt.alloc()))?;
-    assert_shown(&rt, &column, &TRUTHS);
-    Ok(())
-}
-
-#[test]
-fn a_run_that_starts_with_false_is_found(rt: HostRuntime) -> Result<(), Fail> {
-    let ends = required(rt.alloc(), &[2u8, 3])?;
-    let values = ArrayRef::Bool(truths(rt.alloc(), &[false, true])?);
-    let column = run_column(ends, values, 0, 3, &mut context(rt.alloc()))?;
-    assert_shown(&rt, &column, &[Some(false), Some(false), Some(true)]);
-    Ok(())
-}
-
 // Are the rows true twice, null three times and true five times, with false stored under null?
 fn assert_null_in_the_middle<A: Allocator + Copy>(rt: &impl Abort, array: &ArrayRef<A>) {
     let (truth, null) = (Some(true), None);
@@ -88,25 +70,6 @@ fn assert_null_in_the_middle<A: Allocator + Copy>(rt: &impl Abort, array: &Array
         ArrayRef::Bool(flat) => assert_bits(rt, flat.values(), &stored),
         _ => panic!(rt; "no flat truth values"),
     }
-}
-
-#[test]
-fn null_is_stored_as_false(rt: HostRuntime) -> Result<(), Fail> {
-    let ends = required(rt.alloc(), &[2u32, 5, 10])?;
-    let values = nullable_truths(rt.alloc(), &[true; 3], &[true, false, true])?;
-    let rows = decoded_truths(ends, values, 0, 10, &mut context(rt.alloc()))?;
-    assert_null_in_the_middle(&rt, &rows);
-    Ok(())
-}
-
-#[test]
-fn canonicalized_null_is_stored_as_false(rt: HostRuntime) -> Result<(), Fail> {
-    let mut ctx = context(rt.alloc());
-    let ends = required(rt.alloc(), &[2u32, 5, 10])?;
-    let values = nullable_truths(rt.alloc(), &[true; 3], &[true, false, true])?;
-    let column = run_column(ends, ArrayRef::Bool(values), 0, 10, &mut ctx)?;
-    assert_null_in_the_middle(&rt, &column.canonicalize(&mut ctx)?);
-    Ok(())
 }
 
 // The bits true, false, true.
@@ -229,16 +192,6 @@ fn decimals_are_decoded(rt: HostRuntime) -> Result<(), Fail> {
     let values = decimals(rt.alloc())?;
     let rows = decoded_decimals(ends, values, 10, &mut context(rt.alloc()))?;
     assert_decimals(&rt, &rows);
-    Ok(())
-}
-
-#[test]
-fn decimals_are_canonicalized(rt: HostRuntime) -> Result<(), Fail> {
-    let mut ctx = context(rt.alloc());
-    let ends = required(rt.alloc(), &[2u32, 5, 10])?;
-    let values = ArrayRef::Decimal(decimals(rt.alloc())?);
-    let column = run_column(ends, values, 0, 10, &mut ctx)?;
-    assert_decimals(&rt, &column.canonicalize(&mut ctx)?);
     Ok(())
 }
 

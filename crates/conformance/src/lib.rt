@@ -3,13 +3,15 @@
 #![tactic(auto)]
 
 #[cfg(test)]
+mod bits;
+#[cfg(test)]
 mod columns;
 #[cfg(test)]
 mod decode;
 #[cfg(test)]
-mod encode;
+mod errors;
 #[cfg(test)]
-mod kind_slices;
+mod flat;
 #[cfg(test)]
 mod kinds;
 #[cfg(test)]
@@ -19,20 +21,18 @@ mod lookups;
 #[cfg(test)]
 mod memory;
 #[cfg(test)]
-mod nested;
-#[cfg(test)]
 mod parts;
 #[cfg(test)]
 mod probes;
 #[cfg(test)]
+mod refusals;
+#[cfg(test)]
+mod scalars;
+#[cfg(test)]
 mod shown;
 #[cfg(test)]
-mod slices;
+mod slots;
 #[cfg(test)]
 mod texts;
 #[cfg(test)]
 mod typed;
-#[cfg(test)]
-mod validities;
-#[cfg(test)]
-mod windows;

@@ -41,13 +41,6 @@ fn runs_of_lists<A: Allocator + Copy>(alloc: A) -> VortexResult<ArrayRef<A>> {
     run_column(ends, ArrayRef::ListView(values), 0, 6, &mut ctx)
 }
 
-#[test]
-fn runs_show_lists(rt: HostRuntime) -> Result<(), Fail> {
-    let column = runs_of_lists(rt.alloc())?;
-    assert_six_rows(&rt, &column);
-    Ok(())
-}
-
 // What the decoder makes of parts that are valid; else their fault.
 fn decoded_lists<A: Allocator + Copy>(
     ends: PrimitiveArray<A>,
@@ -94,42 +87,6 @@ fn canonicalized<A: Allocator + Copy>(
     run_column(ends, values, 0, 10, &mut ctx)?.canonicalize(&mut ctx)
 }
 
-#[test]
-fn lists_of_numbers_are_canonicalized(rt: HostRuntime) -> Result<(), Fail> {
-    let rows = canonicalized(rt.alloc(), six_numbers(rt.alloc())?)?;
-    assert!(rt; matches!(&rows, ArrayRef::ListView(_)));
-    let a = Some([1i64, 2].as_slice());
-    let b = Some([3i64].as_slice());
-    let c = Some([4i64, 5, 6].as_slice());
-    assert_shown(&rt, &rows, &[a, a, b, b, b, c, c, c, c, c]);
-    Ok(())
-}
-
-#[test]
-fn lists_of_truth_values_are_canonicalized(rt: HostRuntime) -> Result<(), Fail> {
-    let elements = truths(rt.alloc(), &[true, false, false, true, true, false])?;
-    let rows = canonicalized(rt.alloc(), FlatColumn::Bool(elements))?;
-    assert!(rt; matches!(&rows, ArrayRef::ListView(_)));
-    let a = Some([true, false].as_slice());
-    let b = Some([false].as_slice());
-    let c = Some([true, true, false].as_slice());
-    assert_shown(&rt, &rows, &[a, a, b, b, b, c, c, c, c, c]);
-    Ok(())
-}
-
-#[test]
-fn lists_of_texts_are_canonicalized(rt: HostRuntime) -> Result<(), Fail> {
-    let letters = ["a", "b", "c", "d", "e", "f"];
-    let elements = texts(rt.alloc(), &letters.map(Some))?;
-    let rows = canonicalized(rt.alloc(), FlatColumn::VarBinView(elements))?;
-    assert!(rt; matches!(&rows, ArrayRef::ListView(_)));
-    let a = Some(["a", "b"].as_slice());
-    let b = Some(["c"].as_slice());
-    let c = Some(["d", "e", "f"].as_slice());
-    assert_shown(&rt, &rows, &[a, a, b, b, b, c, c, c, c, c]);
-    Ok(())
-}
-
 // The column of these lists over six numbers.
 fn lists_of_six<T: NativePType>(
     alloc: Global,
@@ -142,79 +99,9 @@ fn lists_of_six<T: NativePType>(
     Ok(ArrayRef::ListView(Box::new(alloc, array)?))
 }
 
-#[test]
-fn a_valid_list_past_the_elements_is_refused(rt: HostRuntime) -> Result<(), Fail> {
-    let refused = lists_of_six(rt.alloc(), &[0u64], &[7], RowValidity::AllValid);
-    assert_eq!(rt;
-        refused.err(),
-        Some(VortexError::OutOfBounds {
-            index: 0,
-            length: 6
-        })
-    );
-    Ok(())
-}
-
-#[test]
-fn a_null_list_past_the_elements_is_accepted(rt: HostRuntime) -> Result<(), Fail> {
-    let array = lists_of_six(rt.alloc(), &[0u64], &[7], RowValidity::AllInvalid)?;
-    let row: Option<&[i64]> = None;
-    assert_shown(&rt, &array, &[row]);
-    Ok(())
-}
-
-#[test]
-fn more_sizes_than_offsets_are_refused(rt: HostRuntime) -> Result<(), Fail> {
-    let refused = lists_of_six(rt.alloc(), &[0u64, 1], &[1, 1, 1], RowValidity::NonNullable);
-    let fault = VortexError::ColumnLength { left: 2, right: 3 };
-    assert_eq!(rt; refused.err(), Some(fault));
-    Ok(())
-}
-
-#[test]
-fn signed_offsets_are_refused(rt: HostRuntime) -> Result<(), Fail> {
-    let refused = lists_of_six(rt.alloc(), &[0i64], &[1], RowValidity::NonNullable);
-    assert_eq!(rt; refused.err(), Some(VortexError::TypeMismatch));
-    Ok(())
-}
-
-#[test]
-fn a_constant_null_list_is_written_out(rt: HostRuntime) -> Result<(), Fail> {
-    let element = ElementDType::Primitive(PType::I64, Nullability::NonNullable);
-    let dtype = DType::List(element, Nullability::Nullable);
-    let column = ArrayRef::Constant(ConstantArray::new(Scalar::try_new(dtype, None)?, 3));
-    let flat = column.canonicalize(&mut context(rt.alloc()))?;
-    assert!(rt; matches!(&flat, ArrayRef::ListView(_)));
-    let null: Option<&[i64]> = None;
-    assert_shown(&rt, &flat, &[null, null, null]);
-    assert_eq!(rt; flat.dtype(), dtype);
-    Ok(())
-}
-
 // The three lists in a flat form, all in this memory.
 fn canonicalized_lists<A: Allocator + Copy>(alloc: A) -> VortexResult<ArrayRef<A>> {
     runs_of_lists(alloc)?.canonicalize(&mut context(alloc))
-}
-
-#[test]
-fn canonicalize_of_lists_refused_at_each_request(rt: HostRuntime) -> Result<(), Fail> {
-    let mut last = 0;
-    for first in 1..100u64 {
-        let heap = Refusing::from(rt.alloc(), first);
-        match canonicalized_lists(&heap) {
-            Ok(rows) => {
-                assert_eq!(rt; heap.refused(), 0);
-                assert_six_rows(&rt, &rows);
-                break;
-            }
-            Err(error) => {
-                assert_eq!(rt; error, VortexError::OutOfMemory);
-                last = first;
-            }
-        }
-    }
-    assert!(rt; last >= 1 && last < 99);
-    Ok(())
 }
 
 // The three lists of the runs, decoded, all in this memory.

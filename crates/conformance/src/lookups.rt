@@ -16,38 +16,6 @@ fn encoded<A: Allocator + Copy>(alloc: A, ctx: &mut ExecutionCtx<A>) -> VortexRe
     Ok(ArrayRef::RunEnd(Box::new(alloc, runs)?))
 }
 
-#[test]
-fn a_clone_has_the_same_runs(rt: HostRuntime) -> Result<(), Fail> {
-    let mut ctx = context(rt.alloc());
-    let array = encoded(rt.alloc(), &mut ctx)?;
-    match array.try_clone(&mut ctx)? {
-        ArrayRef::RunEnd(runs) => {
-            assert_runs(&rt, &runs, &[2u8, 5, 10], &[Some(1), Some(2), Some(3)]);
-        }
-        _ => panic!(rt; "another form"),
-    }
-    Ok(())
-}
-
-#[test]
-fn rows_past_the_last_are_refused(rt: HostRuntime) -> Result<(), Fail> {
-    let array = encoded(rt.alloc(), &mut context(rt.alloc()))?;
-    for (index, number) in [(0, 1), (2, 2), (9, 3)] {
-        assert!(rt; matches!(array.scalar_at(index), Ok(ScalarView::Signed(n)) if n == number));
-    }
-    match array.scalar_at(10) {
-        Ok(_) => panic!(rt; "a row"),
-        Err(error) => assert_eq!(rt;
-            error,
-            VortexError::OutOfBounds {
-                index: 10,
-                length: 10
-            }
-        ),
-    }
-    Ok(())
-}
-
 // The run of a row, and where the runs of the rows before it stop.
 fn assert_runs_at<A: Allocator + Copy>(
     rt: &impl Abort,

@@ -28,41 +28,6 @@ fn three_runs(alloc: Global, length: usize) -> VortexResult<ArrayRef<Global>> {
     run_column(ends, values, 1, length, &mut context(alloc))
 }
 
-#[test]
-fn a_probe_reads_rows(rt: HostRuntime) -> Result<(), Fail> {
-    let column = three_runs(rt.alloc(), 9)?;
-    assert_eq!(rt; probed(&column, 0)?, Some(1));
-    assert_eq!(rt; probed(&column, 1)?, Some(2));
-    assert_eq!(rt; probed(&column, 8)?, Some(3));
-    Ok(())
-}
-
-#[test]
-fn a_probe_past_the_last_row_is_refused(rt: HostRuntime) -> Result<(), Fail> {
-    let column = three_runs(rt.alloc(), 9)?;
-    assert_eq!(rt;
-        probed(&column, 9),
-        Err(VortexError::OutOfBounds {
-            index: 9,
-            length: 9
-        })
-    );
-    Ok(())
-}
-
-#[test]
-fn a_probe_of_no_rows_is_refused(rt: HostRuntime) -> Result<(), Fail> {
-    let column = three_runs(rt.alloc(), 0)?;
-    assert_eq!(rt;
-        probed(&column, 0),
-        Err(VortexError::OutOfBounds {
-            index: 0,
-            length: 0
-        })
-    );
-    Ok(())
-}
-
 const MANY: u32 = 4_194_304;
 
 // So many runs of one row each, of which each shows its number.

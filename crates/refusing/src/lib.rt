@@ -3,8 +3,6 @@
 
 mod allocator;
 mod plan;
-#[cfg(test)]
-mod tests;
 
 pub use allocator::Refusing;
 pub use plan::Refusals;

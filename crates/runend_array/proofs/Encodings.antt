@@ -1,18 +1,23 @@
 -- What an encoding is to a run column, and what decoding gives.
-use Rattle.std.proofs.Common.{◌≡◌, ◌<◌, ℕ, length, refl, sym, subst, arith, inl, inr, ◌⊎◌}
+use Rattle.std.proofs.Common.{◌≡◌, ◌<◌, ◌^◌, ℕ, pos, [], ◌∷◌, None, length, refl, sym, subst, ◌∙◌, arith, inl, inr, ◌⊎◌}
 use Rattle.std.specs.Prelude.{IsSomeAnd}
 use Rattle.std.proofs.lemmas.Bool.{cases_lt}
 use Rattle.column_base.specs.declared.dtype.PType.{PType}
 use Rattle.column_base.specs.declared.dtype.PType.TheVariants.{U8, U16, U32, U64, I8, I16, I32, I64}
 use Rattle.column_base.specs.Types.{IsUnsigned, unsigned_bits}
-use Rattle.column_base.specs.ValidityForm.{ValidityForm, NeverNull, NoneNull, AllNull, ByBits, nullability_in}
+use Rattle.column_base.specs.ValidityForm.{ValidityForm, NeverNull, NoneNull, AllNull, ByBits, HasLength, nullability_in}
 use Rattle.column_base.specs.declared.dtype.DType.TheVariants as column
-use Rattle.column_core.specs.PrimitiveForm.{PrimitiveForm}
+use Rattle.column_core.specs.PrimitiveForm.{PrimitiveForm, primitive_dtype, primitive_with}
 use Rattle.column_core.specs.Leaf.{OfNumbers, OfTruths, OfDecimals, OfVarBins}
-use Rattle.runend_array.specs.Window.{IsWindow}
-use Rattle.runend_array.specs.Column.{Column, OfLeaf, OfConstant, OfLists, OfRuns, Runs, AreParts, IsEndsType, column_of_runs, column_rows, column_dtype, ends_of, runs_of}
-use Rattle.runend_array.proofs.RunRows.{Covers_iff_run_rows}
-use Rattle.runend_array.specs.Encoding.{IsEncoded, IsEncodedColumn, IsEncoding, number_rows}
+use Rattle.runend_codec.specs.Window.{IsWindow}
+use Rattle.runend_array.specs.Column.{Column, OfLeaf, OfConstant, OfLists, OfRuns, Runs, AreParts, column_of_runs, column_rows, column_dtype, runs_of}
+use Rattle.runend_codec.specs.Ends.{IsEndsType, ends_of}
+use Rattle.runend_codec.proofs.RunRows.{Covers_iff_run_rows}
+use Rattle.runend_array.specs.Encoding.{IsEncoded, IsEncodedColumn, IsEncoding}
+use Rattle.runend_codec.specs.Encoding.{IsAllInvalid, IsFlatEncoding, number_rows}
+use Rattle.runend_codec.proofs.Grow.{IsTightCover-from_Tiles}
+use Rattle.runend_codec.proofs.NullRows.{length-number_rows, nulls-from_AllNull, null-at_each}
+use Rattle.runend_codec.proofs.ShownRuns.{shown_at-here}
 
 -- a validity says that all of some rows are null, or it does not
 decide_all_null : (v : ValidityForm) (n : ℕ) → ((v ≡ AllNull) × (0 < n)) ⊎ (¬ ((v ≡ AllNull) × (0 < n)))
@@ -87,3 +92,34 @@ encoded_dtype (OfLeaf (OfVarBins form)) runs e = absurd e
 encoded_dtype (OfConstant constant) runs e = absurd e
 encoded_dtype (OfLists lists) runs e = absurd e
 encoded_dtype (OfRuns ends_type ends values offset count) runs e = absurd e
+
+-- an encoding by flat values is one where the validity does not say that all rows are null
+pub IsEncoding-from_flat : (array ends values : PrimitiveForm) → (¬ IsAllInvalid array) → IsFlatEncoding array ends values → IsEncoding array ends (OfLeaf (OfNumbers values))
+IsEncoding-from_flat array ends values some flat = record {
+  cover = flat.cover;
+  dtype = flat.dtype;
+  required = flat.required;
+  narrow = λ _. flat.narrow;
+  flat = λ _. flat.computed;
+  wide = λ all. absurd (some all);
+  null = λ all. absurd (some all);
+}
+
+-- rows of which the validity says that all are null are one run of null
+pub IsEncoding-of_nulls : (array ends : PrimitiveForm) (n : ℕ) → IsAllInvalid array → n ≡ length array.numbers → n < 2 ^ 64
+    → ends ≡ primitive_with U64 (pos n ∷ []) NeverNull → IsEncoding array ends (OfConstant (record { dtype = primitive_dtype array; value = None; count = 1 }))
+IsEncoding-of_nulls array ends n all counted small made =
+    let fits = subst (λ (v : ValidityForm). HasLength v (length array.numbers)) (sym all.0) tt in
+    let long : length (number_rows array) ≡ n = length-number_rows array fits ∙ sym counted in
+    let some = all.1 in
+    record {
+      cover = rw made
+          (IsTightCover-from_Tiles (number_rows array) (n ∷ []) (None ∷ []) (omega arith) (omega arith, tt, sym long)
+          (λ i h. null-at_each (number_rows array) i (nulls-from_AllNull array all.0 fits) h ∙ sym (shown_at-here n [] None [] i (omega arith))));
+      dtype = refl;
+      required = rw made refl;
+      narrow = λ not_all. absurd (not_all all);
+      flat = λ not_all. absurd (not_all all);
+      wide = λ _. rw made refl;
+      null = λ _. refl;
+    }

@@ -6,7 +6,7 @@ use Rattle.runend_array.specs.Array.{AreListParts, IsRowValidity, column_of, lis
 use Rattle.runend_array.specs.Column.{Column, index_of, IsIndex}
 use Rattle.runend_array.specs.Lists.{AreLists, lists_with}
 use Rattle.runend_array.specs.declared.array_ref.ArrayRef.{ArrayRef}
-use Rattle.runend_array.specs.declared.row_validity.RowValidity.{RowValidity}
+use Rattle.runend_array.specs.declared.validities.row_validity.RowValidity.{RowValidity}
 
 module _ {A : Type 0} (elements elements' : FlatColumn A) (offsets offsets' sizes sizes' : ArrayRef A) (validity validity' : RowValidity A)
     (same_elements : elements' ≡ elements)

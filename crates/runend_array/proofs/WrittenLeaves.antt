@@ -19,10 +19,11 @@ use Rattle.column_core.specs.DecimalForm.{DecimalForm, decimal_with}
 use Rattle.column_core.specs.VarBinForm.{VarBinForm, varbin_with, varbin_value, kind_dtype, view_bytes, zero_view}
 use Rattle.column_core.specs.Leaf.{Leaf, OfNumbers, OfTruths, OfDecimals, OfVarBins, leaf_dtype, leaf_validity}
 use Rattle.runend_array.specs.Column.{Constant}
-use Rattle.runend_array.specs.Encoding.{IsComputedLeaf, single_rows, without_nulls}
+use Rattle.column_core.specs.Computed.{IsWrittenLeaf, without_nulls}
+use Rattle.column_core.specs.Leaf.{single_rows}
 use Rattle.runend_array.specs.Canonical.{IsConstantLeaf}
-use Rattle.runend_array.proofs.DecodedItems.{rows_of}
-use Rattle.runend_array.proofs.WrittenConstants.{rows-written_null, computed-written_null, rows-written, computed-written, nullability-without_nulls, nullable}
+use Rattle.runend_codec.proofs.DecodedItems.{rows_of}
+use Rattle.runend_codec.proofs.WrittenConstants.{rows-written_null, computed-written_null, rows-written, computed-written, nullability-without_nulls, nullable}
 
 -- what a view of a constant says of its value
 pub none-seen : (value : Option FlatValue) → ◌≡◌ {A = Option Value} None (option_map Single value) → value ≡ None
@@ -35,7 +36,7 @@ some-seen (Some w) v seen = cc
 
 -- null, by the parts of a leaf that stores one item everywhere
 leaf-of_null : {B : Type 0} (value : B → FlatValue) (blank : B) (constant : Constant) (leaf : Leaf) → constant.value ≡ None
-    → single_rows leaf ≡ map (option_map Single) (rows_of value (replicate constant.count blank) AllNull) → leaf_dtype leaf ≡ constant.dtype → IsComputedLeaf leaf
+    → single_rows leaf ≡ map (option_map Single) (rows_of value (replicate constant.count blank) AllNull) → leaf_dtype leaf ≡ constant.dtype → IsWrittenLeaf leaf
     → leaf_validity leaf ≡ AllNull → IsConstantLeaf constant leaf
 leaf-of_null value blank constant leaf none rows dtype computed null = record {
   rows = rw none (rows ∙ rows-written_null value constant.count blank);
@@ -45,7 +46,7 @@ leaf-of_null value blank constant leaf none rows dtype computed null = record {
 
 -- a value, by the parts of a leaf that stores its item everywhere
 leaf-of_value : {B : Type 0} (value : B → FlatValue) (x : B) (nullability : Nullability) (constant : Constant) (leaf : Leaf) → constant.value ≡ Some (value x)
-    → single_rows leaf ≡ map (option_map Single) (rows_of value (replicate constant.count x) (without_nulls nullability)) → leaf_dtype leaf ≡ constant.dtype → IsComputedLeaf leaf
+    → single_rows leaf ≡ map (option_map Single) (rows_of value (replicate constant.count x) (without_nulls nullability)) → leaf_dtype leaf ≡ constant.dtype → IsWrittenLeaf leaf
     → leaf_validity leaf ≡ without_nulls nullability → nullability_of constant.dtype ≡ nullability → IsConstantLeaf constant leaf
 leaf-of_value value x nullability constant leaf some rows dtype computed valid typed = record {
   rows = rw some (rows ∙ rows-written value constant.count x nullability);

@@ -10,8 +10,8 @@ use Rattle.runend_array.specs.Lists.{RowValidityForm, ByRows, Lists, AreLists, l
 use Rattle.runend_array.specs.Column.{Column, OfLeaf, OfConstant, OfLists, column_of_runs, column_rows, column_dtype, IsIndex, index_of, IsPlainTruths, runs_validity}
 use Rattle.runend_array.specs.declared.array_ref.ArrayRef.{ArrayRef}
 use Rattle.runend_array.specs.declared.array_ref.ArrayRef.TheVariants.{Primitive, Bool, Decimal, VarBinView, ListView, Constant, RunEnd}
-use Rattle.runend_array.specs.declared.row_validity.RowValidity.{RowValidity}
-use Rattle.runend_array.specs.declared.row_validity.RowValidity.TheVariants.{NonNullable, AllValid, AllInvalid, Bits, Runs}
+use Rattle.runend_array.specs.declared.validities.row_validity.RowValidity.{RowValidity}
+use Rattle.runend_array.specs.declared.validities.row_validity.RowValidity.TheVariants.{NonNullable, AllValid, AllInvalid, Bits, Runs}
 
 -- the form: two arrays are equal in form where they have the same levels of runs over the same data
 abbrev pub column_of : {A : Type 0} → ArrayRef A → Column

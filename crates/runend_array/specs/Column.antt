@@ -1,6 +1,5 @@
 -- What a column is: flat data, lists or one value many times, under levels of runs.
 use Rattle.std.specs.Prelude.{◌≡◌, ℕ, ◌+◌, Bool, List, [], length, map, Option, None, option_map, unsigned_abs, replicate, slice_index_or}
-use Rattle.std.specs.List.{range_with_len}
 use Rattle.column_base.specs.declared.dtype.PType.{PType}
 use Rattle.column_base.specs.declared.dtype.PType.TheVariants.{U64}
 use Rattle.column_base.specs.declared.dtype.Nullability.TheVariants.{NonNullable}
@@ -10,7 +9,8 @@ use Rattle.column_base.specs.Types.{IsUnsigned}
 use Rattle.column_core.specs.Value.{FlatValue, Value, Single, PlainColumn}
 use Rattle.column_core.specs.PrimitiveForm.{PrimitiveForm}
 use Rattle.column_core.specs.Leaf.{Leaf, OfNumbers, OfTruths, OfDecimals, OfVarBins, leaf_rows, leaf_dtype}
-use Rattle.runend_array.specs.Window.{run_at, IsWindow}
+use Rattle.runend_codec.specs.Window.{IsWindow, run_rows}
+use Rattle.runend_codec.specs.Ends.{IsEndsType, ends_of}
 use Rattle.runend_array.specs.Lists.{Index, PlainIndex, RunIndex, RowValidityForm, ByRuns, Lists, list_rows, list_dtype, lists_depth}
 
 -- one optional value of a type, in each of `count` rows
@@ -18,6 +18,10 @@ pub record Constant : Type 0 where
   pub dtype : DType
   pub value : Option FlatValue
   pub count : ℕ
+
+-- the same value, in so many rows
+abbrev pub repeated : Constant → ℕ → Constant
+repeated constant count = record { dtype = constant.dtype; value = constant.value; count = count }
 
 -- the form of a column; runs have the type of their ends, the ends, the values, the offset and the number of rows
 pub data Column : Type 0 where
@@ -41,10 +45,6 @@ runs_with ends_type ends values offset count = record { ends_type = ends_type; e
 -- a run column, as a column
 abbrev pub column_of_runs : Runs → Column
 column_of_runs r = OfRuns r.ends_type r.ends r.values r.offset r.count
-
--- each row of a window shows the value of its run
-abbrev pub run_rows : {B : Type 0} → List ℕ → List (Option B) → ℕ → ℕ → List (Option B)
-run_rows ends values offset count = map (λ position. slice_index_or values (run_at ends position) None) (range_with_len offset count)
 
 -- the rows
 abbrev pub column_rows : Column → List (Option Value)
@@ -78,21 +78,12 @@ IsFlat (OfConstant constant) = ⊥
 IsFlat (OfLists lists) = Unit {0}
 IsFlat (OfRuns ends_type ends values offset count) = ⊥
 
--- a type of ends: unsigned and without null
-abbrev pub IsEndsType : DType → Type 0
-IsEndsType (column.Primitive t NonNullable) = IsUnsigned t
-IsEndsType t = ⊥
-
 -- a column of ends: flat, unsigned and without null
 abbrev pub IsPlainEnds : Column → Type 0
 IsPlainEnds (OfLeaf leaf) = IsEndsType (leaf_dtype leaf)
 IsPlainEnds (OfConstant constant) = ⊥
 IsPlainEnds (OfLists lists) = ⊥
 IsPlainEnds (OfRuns ends_type ends values offset count) = ⊥
-
--- the ends of a flat column of whole numbers
-abbrev pub ends_of : PrimitiveForm → List ℕ
-ends_of form = map unsigned_abs form.numbers
 
 -- the ends of a flat column that is one of ends
 abbrev pub leaf_ends : Leaf → List ℕ

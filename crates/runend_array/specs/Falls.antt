@@ -7,8 +7,8 @@ use Rattle.runend_array.specs.Column.{Column, OfLeaf, OfConstant, OfLists, OfRun
 use Rattle.runend_array.specs.Array.{column_of, validity_of, IsRowValidity}
 use Rattle.runend_array.specs.declared.array_ref.ArrayRef.{ArrayRef}
 use Rattle.runend_array.specs.declared.array_ref.ArrayRef.TheVariants.{Primitive, Bool, Decimal, VarBinView, ListView, Constant, RunEnd}
-use Rattle.runend_array.specs.declared.row_validity.RowValidity.{RowValidity}
-use Rattle.runend_array.specs.declared.row_validity.RowValidity.TheVariants.{NonNullable, AllValid, AllInvalid, Bits, Runs}
+use Rattle.runend_array.specs.declared.validities.row_validity.RowValidity.{RowValidity}
+use Rattle.runend_array.specs.declared.validities.row_validity.RowValidity.TheVariants.{NonNullable, AllValid, AllInvalid, Bits, Runs}
 use Rattle.runend_array.specs.declared.array.RunEndArray.TheDeep.{deep-ArrayRef, deep-RowValidity}
 
 -- the levels below an array are counted by its form

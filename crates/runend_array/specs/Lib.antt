@@ -1,5 +1,3 @@
-pub mod Window
-pub mod Cover
 pub mod Lists
 pub mod Column
 pub mod ColumnCode
@@ -9,12 +7,9 @@ pub mod ListRuns
 pub mod ListSlice
 pub mod Falls
 pub mod Encoding
-pub mod Decoding
 pub mod RowFlags
 pub mod Canonical
-pub mod RunWriterForm
+pub mod RowRuns
 pub mod SessionForm
 pub mod SessionLends
-pub mod Trimmed
 pub mod Data
-pub mod RunEnds

@@ -9,9 +9,9 @@ use Rattle.column_base.specs.declared.dtype.ElementDType.TheVariants as element
 use Rattle.column_base.specs.declared.dtype.DType.{DType}
 use Rattle.column_base.specs.declared.dtype.DType.TheVariants as column
 use Rattle.column_base.specs.ValidityForm.{ValidityForm, HasLength, flag_at, nullability_in}
-use Rattle.column_core.specs.Value.{Value, Items}
+use Rattle.column_core.specs.Value.{Value, Items, element_of}
 use Rattle.column_core.specs.Leaf.{Leaf, leaf_rows, leaf_dtype}
-use Rattle.runend_array.specs.Window.{run_at}
+use Rattle.runend_codec.specs.Window.{run_at}
 
 -- numbers that are stored one by one, or as runs over flat numbers: the type of the ends, the ends, the numbers, the offset and the number of rows
 pub data Index : Type 0 where
@@ -78,15 +78,6 @@ list_at lists i = cond (row_flag_at lists.validity i) (Some (Items (slice_range 
 -- the rows
 abbrev pub list_rows : Lists → List (Option Value)
 list_rows lists = map (list_at lists) (range_with_len 0 (list_count lists))
-
--- the type of elements that lie in a flat column of this type
-abbrev pub element_of : DType → ElementDType
-element_of (column.Bool n) = element.Bool n
-element_of (column.Primitive t n) = element.Primitive t n
-element_of (column.Decimal d n) = element.Decimal d n
-element_of (column.Utf8 n) = element.Utf8 n
-element_of (column.Binary n) = element.Binary n
-element_of (column.List e n) = e
 
 -- the type of the rows
 abbrev pub list_dtype : Lists → DType

@@ -6,7 +6,7 @@ use Rattle.column_core.specs.Leaf.{leaf_validity}
 use Rattle.runend_array.specs.Lists.{RowValidityForm, ByRows, HasRows, row_flags_of, row_nullability}
 use Rattle.runend_array.specs.ListRuns.{IsValidityInRuns}
 use Rattle.runend_array.specs.Column.{Column, Constant, OfLeaf, OfConstant, OfLists, OfRuns, column_rows, column_dtype}
-use Rattle.runend_array.specs.Encoding.{without_nulls}
+use Rattle.column_core.specs.Computed.{without_nulls}
 
 -- the validity of a column: row by row whether it is no null, and without null exactly where the type is
 pub record IsValidityOf (c : Column) (form : RowValidityForm) : Type 0 where

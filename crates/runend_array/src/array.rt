@@ -1,12 +1,15 @@
 //! The run column: runs of equal rows, seen through a window.
-ghost use Rattle.std.specs.Prelude.{◌≡◌, ℕ, ◌+◌, ◌-◌, ◌<◌, ◌≤◌, ◌↔◌, Some, fold, pos, length, min, count_by, nat_le, nat_lt, slice_get, slice_index, slice_index_or, false, IsTrue, IfOk, IsErrOf, IsOkUnless, MatchOption, MatchResult, map};
+ghost use Rattle.std.specs.Prelude.{◌≡◌, ℕ, ◌+◌, ◌-◌, ◌<◌, ◌≤◌, ◌↔◌, Some, fold, pos, length, min, count_by, nat_le, nat_lt, slice_get, slice_index, slice_index_or, false, IsTrue, IfOk, IsErrOf, IsOkUnless, MatchOption, MatchResult, map, slice_range};
 ghost use Rattle.column_core.specs.Leaf.{OfNumbers};
+ghost use Rattle.column_core.specs.PrimitiveForm.{primitive_dtype};
+ghost use Rattle.runend_codec.specs.Ends.{IsEndsType, ends_of};
 ghost use Rattle.column_core.specs.ScalarView.{sees, IsViewOf};
 ghost use Rattle.runend_array.specs.Array.{IsRowValidity, column_of, dtype_of, rows, validity_of};
 ghost use Rattle.runend_array.specs.RowFlags.{IsValidityForm, IsValidityOf};
-ghost use Rattle.runend_array.specs.Window.{run_at, last_end};
+ghost use Rattle.runend_codec.specs.Window.{IsWindow, run_at, last_end};
 ghost use Rattle.runend_array.specs.Column.{AreParts, AreRuns, IsPlainEnds, IsPlainIndex, IsPlainTruths, OfLeaf, Runs, column_dtype, column_of_runs, column_rows, end_numbers, end_ptype, runs_of, truths_of};
-ghost use Rattle.runend_array.specs.Canonical.{canonical_column};
+ghost use Rattle.runend_array.specs.Canonical.{IsFlatPart, canonical_column};
+ghost use Rattle.runend_array.specs.RowRuns.{first_run, last_run};
 ghost use Rattle.runend_array.specs.Encoding.{IsComputedFlat, IsEncodedColumn, IsPlainNumbers};
 ghost use Rattle.runend_array.specs.Data.{data_eq, data_text, data_writes};
 ghost use Rattle.runend_array.specs.Fault.{PartsFault};
@@ -14,17 +17,19 @@ ghost use Rattle.runend_array.specs.Fault.{PartsFault};
 use crate::array_ref::{ArrayRef, out_of_bounds};
 use crate::canonical::Canonical;
 use crate::compress::runend_encode;
-use crate::list_index::{is_plain_index, is_plain_truths, plain_number_at, plain_truth_at};
-use crate::list_runs::validity_in_runs;
-use crate::row_validity::RowValidity;
+use crate::lists::{
+    is_plain_index, is_plain_truths, plain_number_at, plain_truth_at, validity_in_runs,
+};
 use crate::session::ExecutionCtx;
-use crate::validate::validate_ends;
+use crate::validities::RowValidity;
 use crate::{compress, ops};
 use column_core::{DType, Nullability, PrimitiveArray, ScalarView, VortexError, VortexResult};
+use runend_codec::{last_end_of, validate_ends};
 use std::alloc::Allocator;
 use std::fmt;
 use std::hash::Hasher;
 use std::marker::Model;
+use std::ops::Range;
 
 /// Run k shows value k in the rows before its end and after the end before it. Of these rows the
 /// column shows `length` many, from `offset` on.
@@ -315,7 +320,32 @@ fn last_of<A: Allocator + Copy>(ends: &ArrayRef<A>) -> Option<usize>
         (λ last. IsPlainEnds (column_of ends.now) × (last ≡ last_end (end_numbers (column_of ends.now)))) }
 {
     let plain = plain_ends(ends)?;
-    Some(ops::last_end_of(plain))
+    Some(last_end_of(plain))
+}
+
+// The ends from the run `first` to the run `stop - 1`.
+fn ends_in<A: Allocator + Copy>(
+    ends: &ArrayRef<A>,
+    alloc: A,
+    first: usize,
+    stop: usize,
+) -> VortexResult<PrimitiveArray<A>>
+    requires plain { IsPlainEnds (column_of ends.now) }
+    requires ordered { first ≤ stop }
+    requires in_bounds { stop ≤ length (end_numbers (column_of ends.now)) }
+    ensures only { IsOkUnless result VortexError.OutOfMemory }
+    ensures plain { IfOk result (λ part. IsEndsType (primitive_dtype part)) }
+    ensures ends { IfOk result (λ part. ends_of part ≡ slice_range (end_numbers (column_of ends.now)) first stop) }
+    ensures typed { IfOk result (λ part. part.ptype ≡ end_ptype (column_of ends.now)) }
+{
+    match ends {
+        ArrayRef::Primitive(plain) => {
+            prove!(stop <= plain.len());
+            let part = plain.slice(alloc, first..stop)?;
+            Ok(part)
+        }
+        _ => unreachable!(),
+    }
 }
 
 impl<A: Allocator + Copy> RunEndArray<A> {
@@ -384,6 +414,60 @@ impl<A: Allocator + Copy> RunEndArray<A> {
             unreachable!()
         };
         values.shown_by(alloc, ends, self.offset, self.length)
+    }
+
+    /// The runs of the rows from `start` to `stop - 1`, of which there is one at least: from the run of
+    /// the first of them to one past the run of the last.
+    pub fn runs_of_rows(&self, start: usize, stop: usize) -> Range<usize>
+        requires some { start < stop }
+        requires within { stop ≤ self.now.count }
+        ensures first { result.start ≡ first_run self.now start }
+        ensures last { result.end ≡ last_run self.now stop + 1 }
+        ensures ordered { result.start < result.end }
+        ensures in_bounds { result.end ≤ length self.now.ends }
+        ensures window { IsWindow (slice_range self.now.ends result.start result.end) (self.now.offset + start) (stop - start) }
+    {
+        let first = ops::find_physical_index(&self.ends, self.offset + start);
+        let stop = ops::find_slice_end_index(&self.ends, self.offset + stop);
+        first..stop
+    }
+
+    /// The ends of the runs from `first` to `stop - 1`. Refused as `OutOfMemory` alone.
+    pub fn ends_between(
+        &self,
+        alloc: A,
+        first: usize,
+        stop: usize,
+    ) -> VortexResult<PrimitiveArray<A>>
+        requires ordered { first ≤ stop }
+        requires in_bounds { stop ≤ length self.now.ends }
+        ensures only { IsOkUnless result VortexError.OutOfMemory }
+        ensures plain { IfOk result (λ part. IsEndsType (primitive_dtype part)) }
+        ensures ends { IfOk result (λ part. ends_of part ≡ slice_range self.now.ends first stop) }
+        ensures typed { IfOk result (λ part. part.ptype ≡ self.now.ends_type) }
+    {
+        ends_in(&self.ends, alloc, first, stop)
+    }
+
+    // The rows from `start` to `stop - 1`, of which there is one at least. Only the values of their runs
+    // are written.
+    #[cycle(rows_between)]
+    pub(crate) fn rows_between(
+        &self,
+        alloc: A,
+        start: usize,
+        stop: usize,
+    ) -> VortexResult<Canonical<A>>
+        requires some { start < stop }
+        requires within { stop ≤ self.now.count }
+        ensures only { IsOkUnless result VortexError.OutOfMemory }
+        ensures part { IfOk result (λ flat. IsFlatPart (column_of_runs self.now) start stop (canonical_column flat)) }
+    {
+        let runs = self.runs_of_rows(start, stop);
+        let ends = self.ends_between(alloc, runs.start, runs.end)?;
+        let values = self.values.rows_between(alloc, runs.start, runs.end)?;
+        let rows = values.shown_by(alloc, &ends, self.offset + start, stop - start)?;
+        Ok(rows)
     }
 
     /// Which rows are valid. Refused as `OutOfMemory` alone.

@@ -2,15 +2,15 @@
 ghost use Rattle.std.specs.Prelude.{◌≡◌, ◌≤◌, ◌↔◌, Some, [], pos, length, slice_get, IsTrue, IfOk, IsErrOf, IsOkUnless};
 ghost use Rattle.column_core.specs.ScalarView.{sees, IsViewOf};
 ghost use Rattle.runend_array.specs.Array.{column_of, dtype_of, rows};
-ghost use Rattle.runend_array.specs.Canonical.{IsCanonical, canonical_column};
+ghost use Rattle.runend_array.specs.Canonical.{IsCanonical, IsFlatPart, canonical_column};
 ghost use Rattle.runend_array.specs.Column.{column_dtype, column_rows};
 
 use crate::array::RunEndArray;
 use crate::canonical::Canonical;
-use crate::compress;
 use crate::constant::ConstantArray;
-use crate::listview::ListViewArray;
+use crate::lists::ListViewArray;
 use crate::session::ExecutionCtx;
+use crate::written::{no_rows, write_constant};
 use column_core::{
     BoolArray, DType, DecimalArray, FlatColumn, PrimitiveArray, ScalarView, VarBinViewArray,
     VortexError, VortexResult,
@@ -211,8 +211,55 @@ impl<A: Allocator + Copy> ArrayRef<A> {
                 let copy = lists.clone_in(alloc)?;
                 Ok(Canonical::List(copy))
             }
-            ArrayRef::Constant(array) => compress::write_constant(alloc, array),
+            ArrayRef::Constant(array) => write_constant(alloc, array),
             ArrayRef::RunEnd(array) => array.canonicalize_in(alloc),
+        }
+    }
+
+    /// The rows from `start` to `stop - 1`, in a flat form and in memory of their own: of runs only the
+    /// values of the runs of these rows are looked at. Refused as `OutOfMemory` alone.
+    #[cycle(rows_between)]
+    pub fn rows_between(&self, alloc: A, start: usize, stop: usize) -> VortexResult<Canonical<A>>
+        requires ordered { start ≤ stop }
+        requires within { stop ≤ length (rows self.now) }
+        ensures only { IsOkUnless result VortexError.OutOfMemory }
+        ensures part { IfOk result (λ flat. IsFlatPart (column_of self.now) start stop (canonical_column flat)) }
+    {
+        if start == stop {
+            return no_rows(alloc, self.dtype());
+        }
+        match self {
+            ArrayRef::Primitive(array) => {
+                prove!(stop <= array.len());
+                let part = array.slice(alloc, start..stop)?;
+                Ok(Canonical::Flat(FlatColumn::Primitive(part)))
+            }
+            ArrayRef::Bool(array) => {
+                prove!(stop <= array.len());
+                let part = array.slice(alloc, start..stop)?;
+                Ok(Canonical::Flat(FlatColumn::Bool(part)))
+            }
+            ArrayRef::Decimal(array) => {
+                prove!(stop <= array.len());
+                let part = array.slice(alloc, start..stop)?;
+                Ok(Canonical::Flat(FlatColumn::Decimal(part)))
+            }
+            ArrayRef::VarBinView(array) => {
+                prove!(stop <= array.len());
+                let part = array.slice(alloc, start..stop)?;
+                Ok(Canonical::Flat(FlatColumn::VarBinView(part)))
+            }
+            ArrayRef::ListView(lists) => {
+                prove!(stop <= lists.len());
+                let part = lists.slice(alloc, start..stop)?;
+                Ok(Canonical::List(part))
+            }
+            ArrayRef::Constant(array) => {
+                let part = array.repeated(alloc, stop - start)?;
+                let rows = write_constant(alloc, &part)?;
+                Ok(rows)
+            }
+            ArrayRef::RunEnd(array) => array.rows_between(alloc, start, stop),
         }
     }
 }

@@ -3,26 +3,28 @@ ghost use Rattle.std.specs.Prelude.{◌≡◌, length, IfOk, IsOkUnless};
 ghost use Rattle.column_core.specs.FlatColumn.{leaf_of};
 ghost use Rattle.runend_array.specs.Array.{column_of};
 ghost use Rattle.column_core.specs.PrimitiveForm.{primitive_dtype};
-ghost use Rattle.runend_array.specs.Window.{IsWindow};
-ghost use Rattle.runend_array.specs.Column.{IsEndsType, OfLeaf, column_dtype, column_rows, ends_of, run_rows};
+ghost use Rattle.runend_codec.specs.Window.{IsWindow};
+ghost use Rattle.runend_codec.specs.Ends.{IsEndsType, ends_of};
+ghost use Rattle.runend_array.specs.Column.{OfLeaf, column_dtype, column_rows};
+ghost use Rattle.runend_codec.specs.Window.{run_rows};
 ghost use Rattle.runend_array.specs.Encoding.{IsComputedFlat};
 ghost use Rattle.runend_array.specs.Canonical.{canonical_column};
 
 use crate::array_ref::ArrayRef;
-use crate::compress::decode_flat;
-use crate::listview::ListViewArray;
+use crate::lists::ListViewArray;
 use column_core::{FlatColumn, PrimitiveArray, VortexError, VortexResult};
+use runend_codec::decode_flat;
 use std::alloc::Allocator;
 
 /// An array in a flat form: rows that are stored one by one, or lists.
 #[derive(Drop)]
-pub(crate) enum Canonical<A: Allocator> {
+pub enum Canonical<A: Allocator> {
     Flat(FlatColumn<A>),
     List(ListViewArray<A>),
 }
 
 /// A flat column as an array. Takes no memory.
-pub(crate) fn array_of<A: Allocator + Copy>(flat: FlatColumn<A>) -> ArrayRef<A>
+pub fn array_of<A: Allocator + Copy>(flat: FlatColumn<A>) -> ArrayRef<A>
     ensures { column_of result ≡ OfLeaf (leaf_of flat) }
 {
     match flat {
@@ -35,7 +37,7 @@ pub(crate) fn array_of<A: Allocator + Copy>(flat: FlatColumn<A>) -> ArrayRef<A>
 
 impl<A: Allocator + Copy> Canonical<A> {
     /// The same form, as an array. Refused as `OutOfMemory` alone.
-    pub(crate) fn into_array(self, alloc: A) -> VortexResult<ArrayRef<A>>
+    pub fn into_array(self, alloc: A) -> VortexResult<ArrayRef<A>>
         ensures only { IsOkUnless result VortexError.OutOfMemory }
         ensures form { IfOk result (λ array. column_of array ≡ canonical_column self) }
     {
@@ -50,7 +52,7 @@ impl<A: Allocator + Copy> Canonical<A> {
 
     /// The rows that runs of these values show, from row `offset` on, `count` many, in a flat form, with 0,
     /// false or the view of nothing under null. Refused as `OutOfMemory` alone.
-    pub(crate) fn shown_by(
+    pub fn shown_by(
         self,
         alloc: A,
         ends: &PrimitiveArray<A>,

@@ -1,35 +1,32 @@
 //! The encoder of whole numbers, and the decoders.
-ghost use Rattle.std.specs.Prelude.{◌≡◌, length as item_count, IfOk, IsOkUnless};
-ghost use Rattle.column_core.specs.Leaf.{OfDecimals, OfVarBins, leaf_dtype};
+ghost use Rattle.std.specs.Prelude.{◌≡◌, ℕ, List, None, length, length as item_count, map, IfOk, IsOkUnless};
+ghost use Rattle.column_base.specs.declared.dtype.DType.TheVariants as column;
+ghost use Rattle.column_base.specs.Mask.{mask_bits};
+ghost use Rattle.column_core.specs.Computed.{IsComputed};
+ghost use Rattle.column_core.specs.FlatColumn.{leaf_of};
+ghost use Rattle.column_core.specs.Leaf.{OfDecimals, OfVarBins, leaf_dtype, leaf_rows, single_rows};
 ghost use Rattle.column_core.specs.PrimitiveForm.{primitive_dtype};
-ghost use Rattle.runend_array.specs.Window.{IsWindow};
-ghost use Rattle.runend_array.specs.Column.{IsEndsType, ends_of, run_rows};
+ghost use Rattle.runend_codec.specs.Encoding.{IsAllInvalid, number_rows};
+ghost use Rattle.runend_codec.specs.Ends.{IsEndsType, ends_of};
+ghost use Rattle.runend_codec.specs.RunEnds.{AreRunEnds, FitsMask, masked_values};
+ghost use Rattle.column_core.specs.Computed.{HasRowIfAllNull};
+ghost use Rattle.runend_codec.specs.Window.{IsWindow, run_rows};
 ghost use Rattle.runend_array.specs.Array.{column_of, dtype_of, rows};
 ghost use Rattle.runend_array.specs.ListRuns.{AreListsInRuns};
 ghost use Rattle.runend_array.specs.Lists.{list_count, list_dtype, list_rows};
-ghost use Rattle.runend_array.specs.Encoding.{IsEncoding, IsDecodedForm, number_rows, single_rows};
-
-mod decode;
-mod decode_flat;
-mod encode;
-mod narrow;
-mod run_writer;
-mod shown;
-mod typed;
-mod written;
+ghost use Rattle.runend_array.specs.Encoding.{IsEncoding, IsDecodedForm};
 
 use crate::array_ref::ArrayRef;
-use crate::listview::ListViewArray;
+use crate::canonical::array_of;
+use crate::constant::null_constant;
+use crate::lists::ListViewArray;
 use crate::session::ExecutionCtx;
 use column_core::{
-    DecimalArray, FlatColumn, PrimitiveArray, VarBinViewArray, VortexError, VortexResult,
+    DecimalArray, FlatColumn, Mask, NativePType, Nullability, PrimitiveArray, PrimitiveValues,
+    Validity, VarBinViewArray, VortexError, VortexResult,
 };
-pub(crate) use decode::{decode_validity, reach_of};
-pub(crate) use decode_flat::{decode_column, decode_flat};
+use runend_codec::{decode_flat, decode_typed_numbers, encode_plain, has_nulls_alone, is_all_null};
 use std::alloc::Allocator;
-pub use typed::runend_decode_typed_primitive;
-pub(crate) use typed::{next_end, no_value};
-pub(crate) use written::{no_null, null_constant, write_constant};
 
 /// The ends and the values of the runs of a column: a run for each longest stretch of equal rows,
 /// null being equal to null. Ends are as narrow as can be. A column whose validity says that all of
@@ -44,11 +41,51 @@ pub fn runend_encode<A: Allocator + Copy>(
     ensures session { ctx.new ≡ ctx.old }
 {
     let alloc = *ctx.allocator();
-    if encode::is_all_null(array) {
-        return encode::encode_nulls(alloc, array);
+    if is_all_null(array) {
+        return encode_nulls(alloc, array);
     }
-    let (ends, values) = encode::encode_plain(alloc, array)?;
+    let (ends, values) = encode_plain(alloc, array)?;
     Ok((ends, ArrayRef::Primitive(values)))
+}
+
+// The encoding of rows that are all null: one end in u64, and one constant null.
+fn encode_nulls<A: Allocator + Copy>(
+    alloc: A,
+    array: &PrimitiveArray<A>,
+) -> VortexResult<(PrimitiveArray<A>, ArrayRef<A>)>
+    requires { IsAllInvalid array.now }
+    ensures only { IsOkUnless result VortexError.OutOfMemory }
+    ensures encoding { IfOk result (λ parts. IsEncoding array.now parts.0 (column_of parts.1)) }
+{
+    let ends = Vec::from_slice(alloc, &[array.len() as u64])?;
+    let ends = PrimitiveArray::new_unchecked(PrimitiveValues::U64(ends), Validity::NonNullable);
+    let values = null_constant(array.dtype(), 1);
+    Ok((ends, ArrayRef::Constant(values)))
+}
+
+/// The rows that runs show, from row `offset` on, `count` many: a constant null where there is a run
+/// and all values are null, else a flat column with 0, false or the view of nothing under null.
+/// Refused as `OutOfMemory` alone.
+pub(crate) fn decode_column<A: Allocator + Copy>(
+    alloc: A,
+    ends: &PrimitiveArray<A>,
+    values: FlatColumn<A>,
+    offset: usize,
+    count: usize,
+) -> VortexResult<ArrayRef<A>>
+    requires plain { IsEndsType (primitive_dtype ends.now) }
+    requires window { IsWindow (ends_of ends.now) offset count }
+    requires paired { length (leaf_rows (leaf_of values)) ≡ length ends.now.numbers }
+    ensures only { IsOkUnless result VortexError.OutOfMemory }
+    ensures rows { IfOk result (λ array. rows array ≡ run_rows (ends_of ends.now) (single_rows (leaf_of values)) offset count) }
+    ensures dtype { IfOk result (λ array. dtype_of array ≡ leaf_dtype (leaf_of values)) }
+    ensures form { IfOk result (λ array. IsDecodedForm (single_rows (leaf_of values)) (column_of array)) }
+{
+    if has_nulls_alone(&values) {
+        return Ok(ArrayRef::Constant(null_constant(values.dtype(), count)));
+    }
+    let array = decode_flat(alloc, ends, values, offset, count)?;
+    Ok(array_of(array))
 }
 
 /// The rows that runs show, from row `offset` on, `length` many. A constant null where there is a run
@@ -159,4 +196,45 @@ pub fn runend_decode_listview<A: Allocator + Copy>(
     ensures session { ctx.new ≡ ctx.old }
 {
     values.shown_by(*ctx.allocator(), &ends, offset, length)
+}
+
+/// The rows of runs whose ends come from an iterator, as a flat column of `T` with 0 under null: row i
+/// is the value of the first run that ends past it, null where the mask is false there. Ends count
+/// rows; a run that ends where the one before it does shows no row. The validity of a type with null
+/// is that which `Validity::from_bits` makes. Refused as `OutOfMemory` alone.
+///
+/// The iterator gives an end for each value, none below the one before it, and the last is `length`.
+/// There is a bit of the mask for each value, and only under `Mask::AllTrue` has the type no null.
+pub fn runend_decode_typed_primitive<
+    T: NativePType,
+    I: Iterator<Item = usize>,
+    A: Allocator + Copy,
+>(
+    run_ends: I,
+    values: &[T],
+    values_validity: Mask<A>,
+    values_nullability: Nullability,
+    length: usize,
+    ctx: &mut ExecutionCtx<A>,
+) -> VortexResult<PrimitiveArray<A>>
+    requires can { I.can_next run_ends }
+    requires ends { (ends : List ℕ) × AreRunEnds I.next_gives run_ends (item_count values.now) length ends }
+    requires masked { item_count (mask_bits values_validity) ≡ item_count values.now }
+    requires nullable { FitsMask values_nullability values_validity }
+    ensures only { IsOkUnless result VortexError.OutOfMemory }
+    ensures rows { IfOk result (λ array. (ends : List ℕ) → AreRunEnds I.next_gives run_ends (item_count values.now) length ends →
+        number_rows array ≡ run_rows ends (masked_values (map T.number values.now) (mask_bits values_validity)) 0 length) }
+    ensures dtype { IfOk result (λ array. primitive_dtype array ≡ column.Primitive T.PTYPE values_nullability) }
+    ensures form { IfOk result (λ array. IsComputed array) }
+    ensures some { IfOk result (λ array. HasRowIfAllNull array.validity length) }
+    ensures session { ctx.new ≡ ctx.old }
+{
+    decode_typed_numbers(
+        *ctx.allocator(),
+        run_ends,
+        values,
+        &values_validity,
+        values_nullability,
+        length,
+    )
 }

@@ -1,7 +1,9 @@
 //! Columns that show one value in each row.
-ghost use Rattle.std.specs.Prelude.{◌≡◌, ◌↔◌, IsTrue, IfOk, IsOkUnless, option_map};
-ghost use Rattle.column_core.specs.Value.{Single};
+ghost use Rattle.std.specs.Prelude.{◌≡◌, ◌↔◌, None, IsTrue, IfOk, IsOkUnless, option_map};
+ghost use Rattle.column_base.specs.Types.{nullability_of};
+ghost use Rattle.column_core.specs.Value.{MayBeNull, Single};
 ghost use Rattle.column_core.specs.ScalarView.{sees, IsViewOf};
+ghost use Rattle.runend_array.specs.Column.{repeated};
 
 use column_core::{DType, Scalar, ScalarView, VortexError, VortexResult};
 use std::alloc::Allocator;
@@ -83,4 +85,21 @@ impl<A: Allocator + Copy> ConstantArray<A> {
             len: self.len,
         })
     }
+
+    /// The same scalar, in each of `count` rows. Refused as `OutOfMemory` alone.
+    pub fn repeated(&self, alloc: A, count: usize) -> VortexResult<ConstantArray<A>>
+        ensures only { IsOkUnless result VortexError.OutOfMemory }
+        ensures form { IfOk result (λ array. array ≡ repeated self.now count) }
+    {
+        let scalar = self.scalar.try_clone(alloc)?;
+        Ok(ConstantArray { scalar, len: count })
+    }
+}
+
+/// Null in each of `count` rows. Takes no memory.
+pub(crate) fn null_constant<A: Allocator>(dtype: DType, count: usize) -> ConstantArray<A>
+    requires { MayBeNull (nullability_of dtype) }
+    ensures { result ≡ record { dtype = dtype; value = None; count = count } }
+{
+    ConstantArray::new(Scalar::try_new(dtype, None).unwrap(), count)
 }

@@ -1,99 +1,25 @@
-//! The decoder of truth values.
-ghost use Rattle.std.specs.Prelude.{◌≡◌, ◌<◌, IfOk, IsOkUnless, length as item_count, map, slice_get, unsigned_abs, Some, false};
-ghost use Rattle.column_base.specs.ValidityForm.{HasLength, flags};
-ghost use Rattle.column_base.specs.Validity.{form_of};
-ghost use Rattle.column_core.specs.BoolForm.{BoolForm};
-ghost use Rattle.column_core.specs.Optionals.{optionals};
+//! The decoders of truth values.
+ghost use Rattle.std.specs.Prelude.{◌≡◌, ℕ, List, IfOk, IsOkUnless, length as item_count};
+ghost use Rattle.column_base.specs.declared.dtype.DType.TheVariants as column;
+ghost use Rattle.column_base.specs.Mask.{mask_bits};
+ghost use Rattle.column_core.specs.Leaf.{OfTruths, leaf_dtype, single_rows};
 ghost use Rattle.column_core.specs.PrimitiveForm.{primitive_dtype};
-ghost use Rattle.column_core.specs.Leaf.{OfTruths, leaf_dtype};
+ghost use Rattle.runend_codec.specs.Ends.{IsEndsType, ends_of};
+ghost use Rattle.runend_codec.specs.RunEnds.{AreRunEnds, FitsMask, masked_truths};
+ghost use Rattle.runend_codec.specs.Window.{IsWindow, run_rows};
 ghost use Rattle.runend_array.specs.Array.{column_of, dtype_of, rows};
-ghost use Rattle.runend_array.specs.Window.{IsWindow};
-ghost use Rattle.runend_array.specs.Cover.{Covers};
-ghost use Rattle.runend_array.specs.Column.{IsEndsType, ends_of, run_rows};
-ghost use Rattle.runend_array.specs.Decoding.{AreDecoded};
-ghost use Rattle.runend_array.specs.Encoding.{IsDecodedForm, IsDecodedLeaf, blanked, single_rows};
-
-mod typed;
+ghost use Rattle.runend_array.specs.Encoding.{IsDecodedForm};
 
 use crate::array_ref::ArrayRef;
-use crate::compress::{decode_column, decode_validity, reach_of};
+use crate::compress::decode_column;
+use crate::constant::null_constant;
 use crate::session::ExecutionCtx;
-use column_base::match_each_unsigned;
 use column_core::{
-    BitBuffer, BitBufferMut, BoolArray, FlatColumn, PrimitiveArray, UnsignedPType, Validity,
-    VortexError, VortexResult,
+    BitBuffer, BoolArray, DType, FlatColumn, Mask, Nullability, PrimitiveArray, VortexError,
+    VortexResult,
 };
+use runend_codec::{decode_typed_bits, masks_all};
 use std::alloc::Allocator;
-pub use typed::runend_decode_typed_bool;
-
-// The truth value in a row, and false for null.
-fn truth_at<A: Allocator>(values: &BitBuffer<A>, validity: &Validity<A>, row: usize) -> bool
-    requires within { row < item_count values.now }
-    requires fits { HasLength (form_of validity.now) (item_count values.now) }
-    ensures { slice_get (blanked false (optionals values.now (flags (form_of validity.now) (item_count values.now)))) row ≡ Some result }
-{
-    validity.is_valid(row) && values.value(row)
-}
-
-// The truth values that the runs show in the window, false for null.
-fn decode_bits<E: UnsignedPType, A: Allocator + Copy>(
-    alloc: A,
-    ends: &[E],
-    values: &BitBuffer<A>,
-    validity: &Validity<A>,
-    offset: usize,
-    count: usize,
-) -> VortexResult<BitBufferMut<A>>
-    requires window { IsWindow (map unsigned_abs (map E.number ends.now)) offset count }
-    requires paired { item_count values.now ≡ item_count ends.now }
-    requires fits { HasLength (form_of validity.now) (item_count values.now) }
-    ensures only { IsOkUnless result VortexError.OutOfMemory }
-    ensures cover { IfOk result (λ bits. Covers bits (map unsigned_abs (map E.number ends.now))
-        (blanked false (optionals values.now (flags (form_of validity.now) (item_count values.now)))) offset count) }
-{
-    let mut rows = BitBufferMut::with_capacity(alloc, count)?;
-    for run in 0..ends.len() {
-        let missing = reach_of(ends, run, offset, count).saturating_sub(rows.len());
-        rows.append_n(truth_at(values, validity, run), missing)?;
-    }
-    Ok(rows)
-}
-
-fn decode_under<E: UnsignedPType, A: Allocator + Copy>(
-    alloc: A,
-    ends: &[E],
-    values: &BoolArray<A>,
-    offset: usize,
-    count: usize,
-) -> VortexResult<BoolArray<A>>
-    requires window { IsWindow (map unsigned_abs (map E.number ends.now)) offset count }
-    requires paired { item_count values.now.bits ≡ item_count ends.now }
-    ensures only { IsOkUnless result VortexError.OutOfMemory }
-    ensures flat { IfOk result (λ array. IsDecodedLeaf (map unsigned_abs (map E.number ends.now)) (OfTruths values.now) offset count (OfTruths array)) }
-{
-    let validity = values.validity();
-    let bits = decode_bits(alloc, ends, values.values(), validity, offset, count)?;
-    let rows = decode_validity(alloc, ends, validity, offset, count)?;
-    Ok(BoolArray::new_unchecked(bits.freeze(), rows))
-}
-
-/// The rows that runs of truth values show, from row `offset` on, `count` many, as a flat column with
-/// false under null. Refused as `OutOfMemory` alone.
-pub(crate) fn decode_truths<A: Allocator + Copy>(
-    alloc: A,
-    ends: &PrimitiveArray<A>,
-    values: &BoolArray<A>,
-    offset: usize,
-    count: usize,
-) -> VortexResult<BoolArray<A>>
-    requires plain { IsEndsType (primitive_dtype ends.now) }
-    requires window { IsWindow (ends_of ends.now) offset count }
-    requires paired { item_count values.now.bits ≡ item_count ends.now.numbers }
-    ensures only { IsOkUnless result VortexError.OutOfMemory }
-    ensures flat { IfOk result (λ array. IsDecodedLeaf (ends_of ends.now) (OfTruths values.now) offset count (OfTruths array)) }
-{
-    match_each_unsigned!(ends.values(), items => decode_under(alloc, items.as_slice(), values, offset, count), _ => unreachable!())
-}
 
 /// The rows that runs of truth values show, from row `offset` on, `length` many. A constant null where
 /// there is a run and all values are null, else a flat column with false under null. The parts are a
@@ -122,4 +48,45 @@ pub fn runend_decode_bools<A: Allocator + Copy>(
         offset,
         length,
     )
+}
+
+/// The rows of runs whose ends come from an iterator: a constant null where there is a run and the mask
+/// is nowhere true, else a flat column with false under null. Row i is the bit of the first run that ends
+/// past it, null where the mask is false there. Ends count rows; a run that ends where the one before it
+/// does shows no row. Refused as `OutOfMemory` alone.
+///
+/// The iterator gives an end for each value, none below the one before it, and the last is `length`.
+/// There is a bit of the mask for each value, and only under `Mask::AllTrue` has the type no null.
+pub fn runend_decode_typed_bool<I: Iterator<Item = usize>, A: Allocator + Copy>(
+    run_ends: I,
+    values: &BitBuffer<A>,
+    values_validity: Mask<A>,
+    values_nullability: Nullability,
+    length: usize,
+    ctx: &mut ExecutionCtx<A>,
+) -> VortexResult<ArrayRef<A>>
+    requires can { I.can_next run_ends }
+    requires ends { (ends : List ℕ) × AreRunEnds I.next_gives run_ends (item_count values.now) length ends }
+    requires masked { item_count (mask_bits values_validity) ≡ item_count values.now }
+    requires nullable { FitsMask values_nullability values_validity }
+    ensures only { IsOkUnless result VortexError.OutOfMemory }
+    ensures rows { IfOk result (λ array. (ends : List ℕ) → AreRunEnds I.next_gives run_ends (item_count values.now) length ends →
+        rows array ≡ run_rows ends (masked_truths values.now (mask_bits values_validity)) 0 length) }
+    ensures dtype { IfOk result (λ array. dtype_of array ≡ column.Bool values_nullability) }
+    ensures form { IfOk result (λ array. IsDecodedForm (masked_truths values.now (mask_bits values_validity)) (column_of array)) }
+    ensures session { ctx.new ≡ ctx.old }
+{
+    if masks_all(&values_validity, values) {
+        let dtype = DType::Bool(values_nullability);
+        return Ok(ArrayRef::Constant(null_constant(dtype, length)));
+    }
+    let (bits, validity) = decode_typed_bits(
+        *ctx.allocator(),
+        run_ends,
+        values,
+        &values_validity,
+        values_nullability,
+        length,
+    )?;
+    Ok(ArrayRef::Bool(BoolArray::new_unchecked(bits, validity)))
 }

@@ -7,23 +7,19 @@ mod canonical;
 pub mod compress;
 mod constant;
 pub mod decompress_bool;
-mod iter;
-mod list_index;
-mod list_runs;
-mod list_slice;
-mod listview;
+mod lists;
 pub mod ops;
 mod probe;
-mod row_flags;
-mod row_validity;
 mod session;
-mod validate;
+mod validities;
+mod written;
 
 pub use array::{
     RunEnd, RunEndArray, RunEndArrayExt, RunEndArraySlotsExt, RunEndData, RunEndDataParts,
     RunEndSlots,
 };
 pub use array_ref::ArrayRef;
+pub use canonical::{Canonical, array_of};
 pub use column_core::{
     BitBuffer, BitBufferMut, BoolArray, CountedEnds, DType, DecimalArray, DecimalDType,
     ElementDType, FlatColumn, Mask, NativePType, Nullability, PType, PrimitiveArray,
@@ -31,9 +27,8 @@ pub use column_core::{
     VarBinKind, VarBinViewArray, View, VortexError, VortexResult,
 };
 pub use constant::ConstantArray;
-pub use iter::{TrimmedEnds, trimmed_ends_iter};
-pub use listview::ListViewArray;
+pub use lists::ListViewArray;
 pub use probe::RunEndProbe;
-pub use row_flags::validity;
-pub use row_validity::RowValidity;
+pub use runend_codec::{TrimmedEnds, trimmed_ends_iter};
 pub use session::{ExecutionCtx, Kernel, Thresholds, VortexSession};
+pub use validities::{RowValidity, validity};

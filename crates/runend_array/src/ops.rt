@@ -1,131 +1,16 @@
 //! Which run a row is in. Ends and rows count rows, and runs are counted from 0.
-ghost use Rattle.std.specs.Prelude.{◌≡◌, ℕ, ◌+◌, ◌-◌, ◌^◌, ◌<◌, ◌≤◌, count_by, length, map, min, nat_le, nat_lt, unsigned_abs};
+ghost use Rattle.std.specs.Prelude.{◌≡◌, ◌+◌, ◌-◌, ◌<◌, count_by, length, min, nat_le, nat_lt};
 ghost use Rattle.std.specs.List.Sorted.{IsStrictlyIncreasing};
-ghost use Rattle.column_base.specs.Numbers.{numbers, ptype_of};
-ghost use Rattle.column_base.specs.Types.{IsUnsigned};
-ghost use Rattle.column_core.specs.Digits.{digits};
-ghost use Rattle.column_core.specs.PrimitiveForm.{primitive_dtype};
-ghost use Rattle.runend_array.specs.Window.{run_at, last_end};
+ghost use Rattle.runend_codec.specs.Window.{run_at};
 ghost use Rattle.runend_array.specs.Array.{column_of};
-ghost use Rattle.runend_array.specs.Column.{IsEndsType, IsPlainEnds, end_numbers, ends_of};
+ghost use Rattle.runend_array.specs.Column.{IsPlainEnds, end_numbers};
 
 use crate::array_ref::ArrayRef;
-use column_base::match_each_unsigned;
-use column_core::{CountedEnds, PrimitiveArray, PrimitiveValues, UnsignedPType};
+use runend_codec::{ended_before, first_past_of};
+pub use runend_codec::{
+    first_past, first_past_of_524288_runs, first_past_of_four_runs, first_past_of_one_run,
+};
 use std::alloc::Allocator;
-
-/// The run of a row: the first run that ends past it, or the number of runs where none does. As the
-/// ends increase, that is also the number of ends at or below the row.
-///
-/// The search goes by halves, so it tests no more ends than their number has binary digits, as the
-/// clauses `cost` and `bound` say.
-pub fn first_past<E: UnsignedPType>(ends: &mut CountedEnds<'_, E>, row: usize) -> usize
-    requires { IsStrictlyIncreasing ends.old.ends }
-    ensures place { result ≡ run_at ends.old.ends row }
-    ensures count { result ≡ count_by (λ e. nat_le e row) ends.old.ends }
-    ensures same { ends.new.ends ≡ ends.old.ends }
-
-    ensures cost { ends.new.tests ≤ ends.old.tests + digits (length ends.old.ends) }
-    // The same without the word `digits`.
-    ensures bound { (k : ℕ) → length ends.old.ends < 2 ^ k → ends.new.tests ≤ ends.old.tests + k }
-{
-    let mut low = 0;
-    let mut high = ends.len();
-    while low < high {
-        let middle = low + (high - low) / 2;
-        if ends.test(middle, row) {
-            low = middle + 1;
-        } else {
-            high = middle;
-        }
-    }
-    low
-}
-
-/// `first_past` where there is one run: at most 1 test.
-pub fn first_past_of_one_run<E: UnsignedPType>(run: &mut CountedEnds<'_, E>, row: usize) -> usize
-    requires { length run.old.ends ≡ 1 }
-    ensures place { result ≡ run_at run.old.ends row }
-    ensures same { run.new.ends ≡ run.old.ends }
-    ensures cost { run.new.tests ≤ run.old.tests + 1 }
-{
-    first_past(run, row)
-}
-
-/// `first_past` over 4 runs: at most 3 tests.
-pub fn first_past_of_four_runs<E: UnsignedPType>(
-    four_runs: &mut CountedEnds<'_, E>,
-    row: usize,
-) -> usize
-    requires increasing { IsStrictlyIncreasing four_runs.old.ends }
-    requires four { length four_runs.old.ends ≡ 4 }
-    ensures place { result ≡ run_at four_runs.old.ends row }
-    ensures same { four_runs.new.ends ≡ four_runs.old.ends }
-    ensures cost { four_runs.new.tests ≤ four_runs.old.tests + 3 }
-{
-    first_past(four_runs, row)
-}
-
-/// `first_past` over 524288 (2^19) runs: at most 20 tests.
-pub fn first_past_of_524288_runs<E: UnsignedPType>(
-    many_runs: &mut CountedEnds<'_, E>,
-    row: usize,
-) -> usize
-    requires increasing { IsStrictlyIncreasing many_runs.old.ends }
-    requires many { length many_runs.old.ends ≡ 524288 }
-    ensures place { result ≡ run_at many_runs.old.ends row }
-    ensures same { many_runs.new.ends ≡ many_runs.old.ends }
-    ensures cost { many_runs.new.tests ≤ many_runs.old.tests + 20 }
-{
-    first_past(many_runs, row)
-}
-
-// The run of a row, over ends as they are stored.
-fn first_past_in<E: UnsignedPType>(ends: &[E], row: usize) -> usize
-    requires { IsStrictlyIncreasing (map E.natural ends.now) }
-    ensures place { result ≡ run_at (map E.natural ends.now) row }
-    ensures count { result ≡ count_by (λ e. nat_le e row) (map E.natural ends.now) }
-{
-    first_past(&mut CountedEnds::new(ends), row)
-}
-
-/// The run of a row, over flat ends: the first run that ends past it, or the number of runs where
-/// none does.
-pub(crate) fn first_past_of<A: Allocator>(ends: &PrimitiveArray<A>, row: usize) -> usize
-    requires plain { IsEndsType (primitive_dtype ends.now) }
-    requires increasing { IsStrictlyIncreasing (ends_of ends.now) }
-    ensures place { result ≡ run_at (ends_of ends.now) row }
-    ensures count { result ≡ count_by (λ e. nat_le e row) (ends_of ends.now) }
-{
-    first_past_among(ends.values(), row)
-}
-
-#[tactic(auto, using(crate::proofs::Ends::ends_stored))]
-fn first_past_among<A: Allocator>(ends: &PrimitiveValues<A>, row: usize) -> usize
-    requires unsigned { IsUnsigned (ptype_of ends.now) }
-    requires increasing { IsStrictlyIncreasing (map unsigned_abs (numbers ends.now)) }
-    ensures place { result ≡ run_at (map unsigned_abs (numbers ends.now)) row }
-    ensures count { result ≡ count_by (λ e. nat_le e row) (map unsigned_abs (numbers ends.now)) }
-{
-    match_each_unsigned!(ends, items => first_past_in(items.as_slice(), row), _ => unreachable!())
-}
-
-fn last_item<E: UnsignedPType>(ends: &[E]) -> usize
-    ensures { result ≡ last_end (map E.natural ends.now) }
-{
-    match ends.last() {
-        Some(end) => end.to_u64() as usize,
-        None => 0,
-    }
-}
-
-/// The last of flat ends, or 0 where there is none.
-pub(crate) fn last_end_of<A: Allocator>(ends: &PrimitiveArray<A>) -> usize
-    requires { IsEndsType (primitive_dtype ends.now) }
-    ensures { result ≡ last_end (ends_of ends.now) }
-{
-    match_each_unsigned!(ends.values(), items => last_item(items.as_slice()), _ => unreachable!())
-}
 
 /// The run of a row, over a column of strictly increasing ends: the first run that ends past it, or
 /// the number of runs where none does.
@@ -143,7 +28,7 @@ pub(crate) fn run_of<A: Allocator + Copy>(ends: &ArrayRef<A>, row: usize) -> usi
 
 /// The run of a row, over a column of ends: the number of ends at or below it, but the last run where
 /// that is past it. The ends are flat, unsigned, strictly increasing, and at least one.
-#[tactic(auto, using(crate::proofs::Ends::length_ends_of))]
+#[tactic(auto, using(runend_codec::proofs::Ends::length_ends_of))]
 pub fn find_physical_index<A: Allocator + Copy>(ends: &ArrayRef<A>, index: usize) -> usize
     requires plain { IsPlainEnds (column_of ends.now) }
     requires increasing { IsStrictlyIncreasing (end_numbers (column_of ends.now)) }
@@ -159,7 +44,7 @@ pub fn find_physical_index<A: Allocator + Copy>(ends: &ArrayRef<A>, index: usize
 /// Where a slice that ends before row `index` stops, over a column of ends: one run past those whose
 /// ends are below it, but at most the number of runs. The ends are flat, unsigned, strictly
 /// increasing, and at least one.
-#[tactic(auto, using(crate::proofs::Ends::length_ends_of))]
+#[tactic(auto, using(runend_codec::proofs::Ends::length_ends_of))]
 pub fn find_slice_end_index<A: Allocator + Copy>(ends: &ArrayRef<A>, index: usize) -> usize
     requires plain { IsPlainEnds (column_of ends.now) }
     requires increasing { IsStrictlyIncreasing (end_numbers (column_of ends.now)) }
@@ -172,17 +57,4 @@ pub fn find_slice_end_index<A: Allocator + Copy>(ends: &ArrayRef<A>, index: usiz
             .min(plain.len()),
         _ => unreachable!(),
     }
-}
-
-// How many of flat ends are below a row.
-fn ended_before<A: Allocator>(ends: &PrimitiveArray<A>, row: usize) -> usize
-    requires plain { IsEndsType (primitive_dtype ends.now) }
-    requires increasing { IsStrictlyIncreasing (ends_of ends.now) }
-    ensures place { result ≡ count_by (λ e. nat_lt e row) (ends_of ends.now) }
-    ensures bound { result ≤ length ends.now.numbers }
-{
-    if row == 0 {
-        return 0;
-    }
-    first_past_of(ends, row - 1)
 }

@@ -6,7 +6,6 @@ mod command;
 mod parse;
 mod script;
 mod serve;
-mod slices;
 #[cfg(test)]
 mod tests;
 mod values;

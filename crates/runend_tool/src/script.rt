@@ -4,13 +4,14 @@ ghost use Rattle.std.specs.Iterator.{IsFinite};
 ghost use Rattle.runend_array.specs.Array.{column_of};
 ghost use Rattle.runend_array.specs.Column.{AreParts, column_of_runs, runs_of};
 ghost use Rattle.runend_array.specs.Fault.{PartsFault};
+ghost use Rattle.runend_commands.specs.Step.{IsStep};
 ghost use Rattle.runend_tool.specs.Listed.{AreRunsOf, IsFlatOf};
 
 use crate::answer::{form_line, refusal_line, rows_line, value_line};
 use crate::command::{Command, Line, RunsLine, SLASH, read_line};
-use crate::slices::part_of;
 use crate::values::read_values;
 use column_base::{Nullability, PType, VortexError, VortexResult};
+use runend_commands::{Answer, Command as ColumnCommand, execute};
 use std::alloc::Allocator;
 use vortex_runend::{ArrayRef, ExecutionCtx, PrimitiveArray, RunEnd};
 
@@ -192,37 +193,51 @@ fn perform_on<A: Allocator + Copy>(
     ensures session { ctx.new ≡ ctx.old }
 {
     match command {
-        Command::Encode => {
-            *column = encoded(column, ctx)?;
-            Ok(Reply::Done)
-        }
-        Command::Decode => {
-            *column = column.canonicalize(ctx)?;
-            Ok(Reply::Done)
+        Command::Encode => reply_of(ColumnCommand::Encode, column, ctx),
+        Command::Decode => reply_of(ColumnCommand::Decode, column, ctx),
+        Command::At(index) => reply_of(ColumnCommand::At(index as usize), column, ctx),
+        Command::Slice(start, stop) => {
+            let range = start as usize..stop as usize;
+            reply_of(ColumnCommand::Slice(range), column, ctx)
         }
         Command::Show => Ok(Reply::Line(form_line(*ctx.allocator(), column)?)),
         Command::Rows => Ok(Reply::Line(rows_line(*ctx.allocator(), column)?)),
-        Command::At(index) => {
-            let row = column.scalar_at(index as usize)?;
-            Ok(Reply::Line(value_line(*ctx.allocator(), row)?))
-        }
-        Command::Slice(start, stop) => {
-            *column = part_of(column, start as usize..stop as usize, ctx)?;
-            Ok(Reply::Done)
-        }
         Command::Col(_, _, _) | Command::Runs(_) => Ok(Reply::Bad),
     }
 }
 
-// The column as runs. The column itself stays, since a refusal has to leave it.
-fn encoded<A: Allocator + Copy>(
-    column: &ArrayRef<A>,
+// Executes the command. What it is refused as is the error here, as for lines that are no commands.
+fn reply_of<A: Allocator + Copy>(
+    command: ColumnCommand,
+    column: &mut ArrayRef<A>,
     ctx: &mut ExecutionCtx<A>,
-) -> VortexResult<ArrayRef<A>>
+) -> VortexResult<Reply<A>>
+    ensures kept { OnErr result (column.new ≡ column.old) }
     ensures session { ctx.new ≡ ctx.old }
 {
-    let flat = column.canonicalize(ctx)?;
-    let runs = RunEnd::encode(flat, ctx)?;
-    let boxed = Box::new(*ctx.allocator(), runs)?;
-    Ok(ArrayRef::RunEnd(boxed))
+    match answer_to(command, column, ctx)? {
+        Answer::Done => Ok(Reply::Done),
+        Answer::Value(scalar) => {
+            let line = value_line(*ctx.allocator(), scalar.view())?;
+            Ok(Reply::Line(line))
+        }
+        Answer::Refused(error) => Err(error),
+    }
+}
+
+// The answer to one command, executed by itself.
+fn answer_to<A: Allocator + Copy>(
+    command: ColumnCommand,
+    column: &mut ArrayRef<A>,
+    ctx: &mut ExecutionCtx<A>,
+) -> VortexResult<Answer<A>>
+    ensures step { IfOk result (λ answer. IsStep column.old command answer column.new) }
+    ensures kept { OnErr result (column.new ≡ column.old) }
+    ensures session { ctx.new ≡ ctx.old }
+{
+    let mut answers = execute(column, &[command], ctx)?;
+    match answers.pop() {
+        Some(answer) => Ok(answer),
+        None => unreachable!(),
+    }
 }

@@ -1,7 +1,7 @@
 -- The laws of encodings, stated over lists of optional values, so of whole numbers too.
 use Rattle.std.specs.Prelude.{IsTrue, ◌≡◌, ◌≢◌, ◌+◌, ◌≤◌, ◌↔◌, ℕ, List, Option, Some, length, slice_get, slice_range}
 use Rattle.column_core.specs.Value.{Value}
-use Rattle.runend_array.specs.Cover.{Covers, IsTightCover}
+use Rattle.runend_codec.specs.Cover.{Covers, IsTightCover}
 use Rattle.runend_array.specs.Data.{data_eq, data_writes}
 
 -- two tight exact covers of a list have equal ends and equal optional values

@@ -1,5 +1,4 @@
-//! The kernels of run columns, one file for each.
+//! The kernels of run columns.
 
-mod slices;
-
-pub use slices::slice;
+pub use runend_aggregate::sum;
+pub use runend_compute::slice;

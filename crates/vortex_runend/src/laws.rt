@@ -1,5 +1,6 @@
 //! The laws of encodings and of slices, each proved of every list of optional values, so of whole
-//! numbers too, and the law of what a run column holds beside its slots.
+//! numbers too, the law of what a run column holds beside its slots, and those of commands and of the
+//! metadata record.
 //!
 //! An encoding of a list is its tight exact cover: runs of which none is empty, none can be joined
 //! with the next, and none is hidden. But for the last, each function here does nothing: its clause is
@@ -9,7 +10,10 @@ ghost use Rattle.runend_array.specs.Array.{column_of, dtype_of, rows};
 ghost use Rattle.runend_array.specs.Encoding.{IsPlainNumbers};
 ghost use Rattle.vortex_runend.specs.Laws.{DecodingAnEncoding, EqualListsEqualEncodings, NeighboursDiffer, NoCoverIsShorter, SliceOfSlice, TightCoverIsUnique, EqualDataHashEqually};
 
+pub use runend_aggregate::{sum_signed_runs, sum_unsigned_runs};
 use runend_array::{ArrayRef, ExecutionCtx, RunEnd, VortexError, VortexResult};
+pub use runend_commands::laws::runs_agree;
+pub use runend_metadata::laws::{spelling_is_unique, write_then_read};
 use std::alloc::Allocator;
 
 /// A list has one encoding: two tight exact covers of it have equal ends and equal values.

@@ -1,5 +1,5 @@
 //! Run-end encoded columns, after the Rust crate `vortex-runend`: the session that registers kernels,
-//! the laws of encodings, and the names of the crates below.
+//! lists of commands, the laws, and the names of the crates below.
 #![tactic(auto)]
 
 pub mod compute;
@@ -7,12 +7,16 @@ mod kernel;
 pub mod laws;
 
 pub use kernel::initialize;
+pub use runend_aggregate::{SignedSum, SumAnswer, SumValue, UnsignedSum};
 pub use runend_array::{
-    ArrayRef, BitBuffer, BitBufferMut, BoolArray, ConstantArray, CountedEnds, DType, DecimalArray,
-    DecimalDType, ElementDType, ExecutionCtx, FlatColumn, Kernel, ListViewArray, Mask, NativePType,
-    Nullability, PType, PrimitiveArray, PrimitiveValues, RowValidity, RunEnd, RunEndArray,
-    RunEndArrayExt, RunEndArraySlotsExt, RunEndData, RunEndDataParts, RunEndProbe, RunEndSlots,
-    Scalar, ScalarValue, ScalarView, SetIndices, Thresholds, TrimmedEnds, UnsignedPType, Validity,
-    VarBinKind, VarBinViewArray, View, VortexError, VortexResult, VortexSession, compress,
-    decompress_bool, ops, trimmed_ends_iter, validity,
+    ArrayRef, BitBuffer, BitBufferMut, BoolArray, Canonical, ConstantArray, CountedEnds, DType,
+    DecimalArray, DecimalDType, ElementDType, ExecutionCtx, FlatColumn, Kernel, ListViewArray,
+    Mask, NativePType, Nullability, PType, PrimitiveArray, PrimitiveValues, RowValidity, RunEnd,
+    RunEndArray, RunEndArrayExt, RunEndArraySlotsExt, RunEndData, RunEndDataParts, RunEndProbe,
+    RunEndSlots, Scalar, ScalarValue, ScalarView, SetIndices, Thresholds, TrimmedEnds,
+    UnsignedPType, Validity, VarBinKind, VarBinViewArray, View, VortexError, VortexResult,
+    VortexSession, compress, decompress_bool, ops, trimmed_ends_iter, validity,
 };
+pub use runend_commands::{Answer, Command, execute};
+pub use runend_metadata::RunEndMetadata;
+pub use runend_record::{deserialize, serialize};

@@ -4,7 +4,9 @@ use Rattle.std.proofs.lemmas.List.{length-map}
 use Rattle.std.proofs.lemmas.Result.{IfOk-weaker}
 use Rattle.column_core.specs.Value.{Value}
 use Rattle.runend_array.specs.Array.{rows}
-use Rattle.runend_array.specs.Column.{end_numbers, ends_of, run_rows}
+use Rattle.runend_array.specs.Column.{end_numbers}
+use Rattle.runend_codec.specs.Ends.{ends_of}
+use Rattle.runend_codec.specs.Window.{run_rows}
 use Rattle.runend_array.proofs.+canonicalize_in.Goals as goal
 
 pub array::RunEndArray::canonicalize_in-unreachable-requires : goal.array::RunEndArray::canonicalize_in-unreachable-requires

@@ -10,14 +10,14 @@ array::RunEndArray::clone_in-returns-clause-form g t c =
     ∙ ap (λ v. runs_of (column_of c.self.inside.ends) v c.self.inside.offset c.self.inside.length) c.in_ok-values.ensures.form
     ∙ c.self.view_is
 
-pub listview::ListViewArray::clone_in-invariant_of-result : goal.listview::ListViewArray::clone_in-invariant_of-result
-listview::ListViewArray::clone_in-invariant_of-result g t c =
+pub lists::listview::ListViewArray::clone_in-invariant_of-result : goal.lists::listview::ListViewArray::clone_in-invariant_of-result
+lists::listview::ListViewArray::clone_in-invariant_of-result g t c =
     let old = c.self.inside in
     AreListParts-same old.elements.value c.in_ok-elements.elements.value old.offsets c.in_ok-offsets.offsets old.sizes c.in_ok-sizes.sizes old.validity c.in_ok-validity.validity
     c.in_ok-elements.ensures.cases c.in_ok-offsets.ensures.form c.in_ok-sizes.ensures.form c.in_ok-validity.ensures.form (c.in_ok-validity.ensures.plain c.self.invariant.types.flags) c.self.invariant
 
-pub listview::ListViewArray::clone_in-returns-clause-form : goal.listview::ListViewArray::clone_in-returns-clause-form
-listview::ListViewArray::clone_in-returns-clause-form g t c =
+pub lists::listview::ListViewArray::clone_in-returns-clause-form : goal.lists::listview::ListViewArray::clone_in-returns-clause-form
+lists::listview::ListViewArray::clone_in-returns-clause-form g t c =
     let old = c.self.inside in
     lists_of-same old.elements.value c.in_ok-elements.elements.value old.offsets c.in_ok-offsets.offsets old.sizes c.in_ok-sizes.sizes old.validity c.in_ok-validity.validity
     c.in_ok-elements.ensures.cases c.in_ok-offsets.ensures.form c.in_ok-sizes.ensures.form c.in_ok-validity.ensures.form

@@ -3,10 +3,10 @@ use Rattle.std.specs.Prelude.{slice_get}
 use Rattle.runend_array.specs.Array.{column_of, rows}
 use Rattle.runend_array.specs.Column.{column_rows, end_numbers, runs_of}
 use Rattle.runend_array.specs.Lists.{list_at, list_count}
-use Rattle.runend_array.proofs.Lists.{slice_get-replicate}
+use Rattle.runend_codec.proofs.Lists.{slice_get-replicate}
 use Rattle.runend_array.proofs.ListRows.{slice_get-made}
-use Rattle.runend_array.proofs.RunAt.{run_of_row_within}
-use Rattle.runend_array.proofs.RunRows.{length-run_rows, slice_get-run_rows_of_window}
+use Rattle.runend_codec.proofs.RunAt.{run_of_row_within}
+use Rattle.runend_codec.proofs.RunRows.{length-run_rows, slice_get-run_rows_of_window}
 use Rattle.runend_array.proofs.Refusals.{reason_of_refusal}
 use Rattle.runend_array.proofs.+scalar_at.Goals as goal
 

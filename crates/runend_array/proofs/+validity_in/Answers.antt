@@ -4,7 +4,7 @@ use Rattle.runend_array.specs.Array.{column_of, validity_of}
 use Rattle.runend_array.specs.Column.{OfLists, end_numbers, end_ptype, runs_of}
 use Rattle.runend_array.specs.Lists.{HasRows, ByRows, AreLists}
 use Rattle.runend_array.specs.RowFlags.{IsValidityOf}
-use Rattle.runend_array.proofs.Ends.{length_ends_of}
+use Rattle.runend_codec.proofs.Ends.{length_ends_of}
 use Rattle.runend_array.proofs.RowFlags.{IsValidityForm-runs, IsValidityOf-runs, IsValidityOf-decimals, IsValidityOf-lists, IsValidityOf-numbers, IsValidityOf-truths, IsValidityOf-varbins}
 use Rattle.runend_array.proofs.+validity_in.Goals as goal
 

@@ -5,11 +5,13 @@ use refusing::Refusing;
 use std::alloc::{Allocator, Global};
 use std::process::Abort;
 use std::test::Fail;
-use vortex_runend::{ExecutionCtx, VortexSession};
+use vortex_runend::{ExecutionCtx, VortexSession, initialize};
 
 // What a script answers, and whether a bad line ended it.
 fn answered<A: Allocator + Copy>(alloc: A, text: &str) -> VortexResult<(String<A>, bool)> {
-    let mut ctx = ExecutionCtx::new(VortexSession::empty(), alloc);
+    let mut session = VortexSession::empty();
+    initialize(&mut session);
+    let mut ctx = ExecutionCtx::new(session, alloc);
     let answer = script(text, &mut ctx)?;
     Ok((answer.text, answer.bad))
 }

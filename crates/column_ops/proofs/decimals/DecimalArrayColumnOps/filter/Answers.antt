@@ -1,0 +1,19 @@
+use Rattle.std.proofs.Common.{ℤ}
+use Rattle.std.specs.Prelude.{option_map}
+use Rattle.column_base.specs.Mask.{mask_bits}
+use Rattle.column_base.specs.ValidityForm.{nullability_in}
+use Rattle.column_base.specs.Validity.{form_of}
+use Rattle.column_core.specs.Value.{DecimalNumber}
+use Rattle.column_core.specs.DecimalForm.{optional_decimals}
+use Rattle.column_ops.specs.Filter.{filter_rows}
+use Rattle.column_ops.proofs.Made.{filter_rows-map}
+use Rattle.column_ops.proofs.Columns.{IsMade-decimals}
+use Rattle.column_ops.proofs.decimals.DecimalArrayColumnOps.filter.Goals as goal
+
+pub returns-clause-made : goal.returns-clause-made
+returns-clause-made g c =
+    let own = c.args.self.now in
+    let mask = mask_bits c.args.mask.now in
+    let written = rw (c.values-2.ensures, c.validity.ensures.form) at c.in_ok-kept.ensures.filtered in
+    rw (c.new_unchecked.ensures, c.decimal_dtype.ensures, filter_rows-map (option_map (λ (n : ℤ). DecimalNumber n)) mask (optional_decimals own))
+    (IsMade-decimals own.decimal (filter_rows mask (optional_decimals own)) (nullability_in own.validity) c.in_ok-kept.kept.items (form_of c.in_ok-kept.rows) written)

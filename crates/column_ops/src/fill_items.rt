@@ -1,0 +1,78 @@
+//! Rows whose nulls are filled, of any kind of item.
+ghost use Rattle.std.specs.Prelude.{◌≡◌, ◌≢◌, Err, Some, IfOk, IsOkUnless, length};
+ghost use Rattle.column_base.specs.declared.dtype.Nullability.TheVariants.{NonNullable};
+ghost use Rattle.column_base.specs.ValidityForm.{HasLength, flags};
+ghost use Rattle.column_base.specs.Validity.{form_of};
+ghost use Rattle.column_core.specs.Optionals.{optionals};
+ghost use Rattle.column_core.specs.Scalar.{flat_of, IsOwnedOf};
+ghost use Rattle.column_core.specs.Refusal.{IsRefusedBy};
+ghost use Rattle.column_ops.specs.Fill.{fill_fault, fill_rows, is_list, same_kind};
+ghost use Rattle.column_ops.specs.Written.{AreWritten};
+
+use crate::row_writer::RowWriter;
+use crate::rows::row_at;
+use column_core::{DType, Nullability, Scalar, ScalarValue, Validity, VortexError, VortexResult};
+use std::alloc::Allocator;
+
+/// The rows with the value in place of each null. Refused as `OutOfMemory` alone.
+pub(crate) fn fill_items<T: Copy + Drop, A: Allocator + Copy>(
+    alloc: A,
+    items: &[T],
+    validity: &Validity<A>,
+    blank: T,
+    value: T,
+) -> VortexResult<(Vec<T, A>, Validity<A>)>
+    requires { HasLength (form_of validity.now) (length items.now) }
+    ensures only { IsOkUnless result VortexError.OutOfMemory }
+    ensures filled { IfOk result (λ parts. AreWritten blank
+        (fill_rows (optionals items.now (flags (form_of validity.now) (length items.now))) value)
+        NonNullable parts.0.items (form_of parts.1)) }
+{
+    let mut rows = RowWriter::with_room(alloc, blank, Nullability::NonNullable, items.len())?;
+    for row in 0..items.len() {
+        let item = row_at(items, validity, row).unwrap_or(value);
+        rows.push(Some(item))?;
+    }
+    Ok(rows.finish())
+}
+
+// Is it a type of lists?
+fn is_list_type(dtype: DType) -> bool
+    ensures { result ≡ is_list dtype }
+{
+    match dtype {
+        DType::List(_, _) => true,
+        _ => false,
+    }
+}
+
+/// The value that fills the nulls of rows of this type. Refused as `Unsupported` for lists; then as
+/// `TypeMismatch` for a scalar of another kind; then as `NullFill` for null. Takes no memory.
+pub(crate) fn fill_value<A: Allocator>(
+    dtype: DType,
+    scalar: &Scalar<A>,
+) -> VortexResult<&ScalarValue<A>>
+    ensures refused { IsRefusedBy (fill_fault dtype scalar.now) result }
+    ensures no_memory { result ≢ Err VortexError.OutOfMemory }
+    ensures value { IfOk result (λ value. scalar.now.value ≡ Some (flat_of value.now)) }
+    ensures of_type { IfOk result (λ value. IsOwnedOf dtype value.now) }
+{
+    if is_list_type(dtype) {
+        return Err(VortexError::Unsupported);
+    }
+    if !is_same_kind(dtype, scalar.dtype()) {
+        return Err(VortexError::TypeMismatch);
+    }
+    match scalar.value() {
+        None => Err(VortexError::NullFill),
+        Some(value) => Ok(value),
+    }
+}
+
+// Are the two types equal but for nullability?
+fn is_same_kind(left: DType, right: DType) -> bool
+    ensures { result ≡ same_kind left right }
+{
+    left.with_nullability(Nullability::NonNullable)
+        == right.with_nullability(Nullability::NonNullable)
+}

@@ -1,0 +1,90 @@
+//! What can be done with the rows of a flat column.
+ghost use Rattle.std.specs.Prelude.{◌≡◌, IfOk, IfSome, IsOkUnless, length};
+ghost use Rattle.column_base.specs.Mask.{mask_bits};
+ghost use Rattle.column_base.specs.Types.{nullability_of, with_nullability as dtype_with};
+ghost use Rattle.column_base.specs.ValidityForm.{HasLength, flags, nullability_in};
+ghost use Rattle.column_base.specs.Validity.{form_of};
+ghost use Rattle.column_core.specs.Leaf.{Leaf, leaf_dtype, leaf_rows};
+ghost use Rattle.column_core.specs.Optionals.{optionals};
+ghost use Rattle.column_core.specs.PrimitiveForm.{optional_numbers, primitive_dtype};
+ghost use Rattle.column_core.specs.Refusal.{IsRefusedBy};
+ghost use Rattle.column_ops.specs.Computed.{IsMade};
+ghost use Rattle.column_core.specs.Scalar.{flat_of, IsOwnedOf};
+ghost use Rattle.column_ops.specs.Fill.{fill_dtype, fill_fault, fill_rows};
+ghost use Rattle.column_ops.specs.Filter.{filter_fault, filter_rows};
+ghost use Rattle.column_ops.specs.Nullable.{either_nullable, take_dtype};
+ghost use Rattle.column_ops.specs.Take.{ArePositions, position_numbers, take_fault, take_rows};
+
+use crate::fill_items::fill_value;
+use crate::positions::positions_of;
+use column_core::{
+    DType, Mask, PrimitiveArray, Scalar, ScalarValue, Validity, VortexError, VortexResult,
+};
+use std::alloc::Allocator;
+
+/// Operations on the rows of a flat column. Each answers a column of its own: 0, false or the view of
+/// nothing is stored under null, and a validity has bits only where there are rows of both kinds.
+pub trait ColumnOps<A: Allocator + Copy>: Sized {
+    // The column's form.
+    ghost leaf: { Self → Leaf };
+
+    /// How many rows there are.
+    fn row_count(&self) -> usize
+        ensures { result ≡ length (leaf_rows (leaf self.now)) };
+
+    /// The type of the rows.
+    fn column_dtype(&self) -> DType
+        ensures { result ≡ leaf_dtype (leaf self.now) };
+
+    /// The rows at these positions, null for null, where the valid positions are below the number of
+    /// rows. The type has null where the column's or the positions' has. Refused as `OutOfMemory`
+    /// alone.
+    fn take_at(&self, alloc: A, positions: &[u64], validity: &Validity<A>) -> VortexResult<Self>
+        requires counted { HasLength (form_of validity.now) (length positions.now) }
+        requires within { ArePositions (optionals positions.now (flags (form_of validity.now) (length positions.now))) (length (leaf_rows (leaf self.now))) }
+        ensures only { IsOkUnless result VortexError.OutOfMemory }
+        ensures made { IfOk result (λ column. IsMade
+            (take_rows (leaf_rows (leaf self.now)) (position_numbers (optionals positions.now (flags (form_of validity.now) (length positions.now)))))
+            (dtype_with (leaf_dtype (leaf self.now)) (either_nullable (nullability_of (leaf_dtype (leaf self.now))) (nullability_in (form_of validity.now))))
+            (leaf column)) };
+
+    /// The rows at the indices, null for null. The type has null where the column's or the indices' has.
+    /// Refused as `OutOfBounds`, with the index and the number of rows, at the first valid index that is
+    /// negative or not below that number; else as `OutOfMemory` alone.
+    fn take(&self, alloc: A, indices: &PrimitiveArray<A>) -> VortexResult<Self>
+        ensures refused { IsRefusedBy (take_fault (optional_numbers indices.now) (length (leaf_rows (leaf self.now)))) result }
+        ensures made { IfOk result (λ column. IsMade
+            (take_rows (leaf_rows (leaf self.now)) (optional_numbers indices.now))
+            (take_dtype (leaf_dtype (leaf self.now)) (primitive_dtype indices.now))
+            (leaf column)) }
+    {
+        let (positions, places) = positions_of(alloc, indices, self.row_count())?;
+        self.take_at(alloc, positions.as_slice(), &places)
+    }
+
+    /// The rows at which the mask is true, in order. Refused as `MaskLength`, with the mask's length and
+    /// the number of rows, where they differ, and that before any memory is taken; else as
+    /// `OutOfMemory` alone.
+    fn filter(&self, alloc: A, mask: &Mask<A>) -> VortexResult<Self>
+        ensures refused { IsRefusedBy (filter_fault (length (mask_bits mask.now)) (length (leaf_rows (leaf self.now)))) result }
+        ensures made { IfOk result (λ column. IsMade (filter_rows (mask_bits mask.now) (leaf_rows (leaf self.now))) (leaf_dtype (leaf self.now)) (leaf column)) };
+
+    /// The rows with the value in place of each null, of the column's kind and without null. Refused as
+    /// `OutOfMemory` alone.
+    fn fill_with(&self, alloc: A, value: &ScalarValue<A>) -> VortexResult<Self>
+        requires { IsOwnedOf (leaf_dtype (leaf self.now)) value.now }
+        ensures only { IsOkUnless result VortexError.OutOfMemory }
+        ensures made { IfOk result (λ column. IsMade (fill_rows (leaf_rows (leaf self.now)) (flat_of value.now)) (fill_dtype (leaf_dtype (leaf self.now))) (leaf column)) };
+
+    /// The rows with the scalar's value in place of each null, of the column's kind and without null.
+    /// Refused as `TypeMismatch` for a scalar of another kind; then as `NullFill` for null; else as
+    /// `OutOfMemory` alone.
+    fn fill_null(&self, alloc: A, scalar: &Scalar<A>) -> VortexResult<Self>
+        ensures refused { IsRefusedBy (fill_fault (leaf_dtype (leaf self.now)) scalar.now) result }
+        ensures made { IfOk result (λ column. IfSome scalar.now.value (λ value.
+            IsMade (fill_rows (leaf_rows (leaf self.now)) value) (fill_dtype (leaf_dtype (leaf self.now))) (leaf column))) }
+    {
+        let value = fill_value(self.column_dtype(), scalar)?;
+        self.fill_with(alloc, value)
+    }
+}

@@ -1,0 +1,4 @@
+pub mod OrderLaws
+pub mod RowRanges
+pub mod BestRows
+pub mod WrittenTruths

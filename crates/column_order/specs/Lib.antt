@@ -1,0 +1,5 @@
+pub mod Order
+pub mod OrderFacts
+pub mod Steps
+pub mod Comparing
+pub mod CompareFault

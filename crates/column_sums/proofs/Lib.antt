@@ -1,0 +1,4 @@
+pub mod Within
+pub mod Summed
+pub mod RunSums
+pub mod SingleRows

@@ -1,0 +1,5 @@
+pub mod SumRange
+pub mod RowSum
+pub mod RunSum
+pub mod SumState
+pub mod SumAnswer

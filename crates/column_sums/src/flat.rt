@@ -1,0 +1,90 @@
+//! The sum of a flat column, row by row.
+ghost use Rattle.std.specs.Prelude.{◌≡◌, ◌≢◌, Err, IfOk};
+ghost use Rattle.column_base.specs.Types.{IsUnsigned};
+ghost use Rattle.column_core.specs.FlatColumn.{leaf_of};
+ghost use Rattle.column_core.specs.Leaf.{leaf_dtype, single_rows};
+ghost use Rattle.column_core.specs.PrimitiveForm.{optional_numbers};
+ghost use Rattle.column_core.specs.Refusal.{IsRefusedBy};
+ghost use Rattle.column_sums.specs.RunSum.{runs_of_rows};
+ghost use Rattle.column_sums.specs.SumRange.{sum_range, IsUnsigned-prop};
+ghost use Rattle.column_sums.specs.SumAnswer.{answer_of, sum_fault, IsSumAnswer};
+
+use crate::answer::SumAnswer;
+use crate::numbers::{signed_at, unsigned_at};
+use crate::signed::SignedSum;
+use crate::signed_runs::{SignedRuns, sum_signed_in_runs};
+use crate::unsigned::UnsignedSum;
+use crate::unsigned_runs::{UnsignedRuns, sum_unsigned_in_runs};
+use column_core::{FlatColumn, PrimitiveArray, VortexError, VortexResult};
+use std::alloc::Allocator;
+
+// The rows of a column of signed numbers, as runs of one row each.
+#[derive(Drop)]
+struct SignedRows<'a, A: Allocator> {
+    array: &'a PrimitiveArray<A>,
+    ghost signed: { ¬ IsUnsigned array.now.ptype },
+}
+
+impl<'a, A: Allocator> SignedRuns for SignedRows<'a, A> {
+    ghost runs = { λ rows. runs_of_rows (optional_numbers rows.array.now) };
+
+    fn run_count(&self) -> usize {
+        self.array.len()
+    }
+
+    fn value(&self, run: usize) -> Option<i64> {
+        signed_at(self.array, run)
+    }
+
+    fn row_count(&self, _run: usize) -> usize {
+        1
+    }
+}
+
+// The rows of a column of unsigned numbers, as runs of one row each.
+#[derive(Drop)]
+struct UnsignedRows<'a, A: Allocator> {
+    array: &'a PrimitiveArray<A>,
+    ghost unsigned: { IsUnsigned array.now.ptype } by { IsUnsigned-prop array.now.ptype },
+}
+
+impl<'a, A: Allocator> UnsignedRuns for UnsignedRows<'a, A> {
+    ghost runs = { λ rows. runs_of_rows (optional_numbers rows.array.now) };
+
+    fn run_count(&self) -> usize {
+        self.array.len()
+    }
+
+    fn value(&self, run: usize) -> Option<u64> {
+        unsigned_at(self.array, run)
+    }
+
+    fn row_count(&self, _run: usize) -> usize {
+        1
+    }
+}
+
+fn sum_numbers<A: Allocator>(array: &PrimitiveArray<A>) -> SumAnswer
+    ensures { result ≡ answer_of (sum_range array.now.ptype) (optional_numbers array.now) }
+{
+    if array.ptype().is_unsigned_int() {
+        sum_unsigned_in_runs(&UnsignedRows { array }, &mut UnsignedSum::new())
+    } else {
+        sum_signed_in_runs(&SignedRows { array }, &mut SignedSum::new())
+    }
+}
+
+/// The sum of the rows of a flat column of whole numbers, added one at a time. Refused as
+/// `Unsupported` exactly for columns of other types. It takes no memory.
+pub fn sum_flat<A: Allocator>(column: &FlatColumn<A>) -> VortexResult<SumAnswer>
+    ensures refused { IsRefusedBy (sum_fault (leaf_dtype (leaf_of column.now))) result }
+    ensures no_memory { result ≢ Err VortexError.OutOfMemory }
+    ensures answer { IfOk result (IsSumAnswer (leaf_dtype (leaf_of column.now)) (single_rows (leaf_of column.now))) }
+{
+    match column {
+        FlatColumn::Primitive(array) => Ok(sum_numbers(array)),
+        FlatColumn::Bool(_) | FlatColumn::Decimal(_) | FlatColumn::VarBinView(_) => {
+            Err(VortexError::Unsupported)
+        }
+    }
+}

@@ -1,0 +1,19 @@
+//! Sums of whole numbers: of runs, each added at once, and of flat columns.
+#![tactic(auto)]
+
+mod answer;
+mod calls;
+mod flat;
+mod numbers;
+mod signed;
+mod signed_runs;
+mod unsigned;
+mod unsigned_runs;
+
+pub use answer::{SumAnswer, SumValue};
+pub use flat::sum_flat;
+pub use numbers::{signed_at, unsigned_at};
+pub use signed::SignedSum;
+pub use signed_runs::{SignedRuns, sum_signed_in_runs};
+pub use unsigned::UnsignedSum;
+pub use unsigned_runs::{UnsignedRuns, sum_unsigned_in_runs};

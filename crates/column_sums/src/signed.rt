@@ -1,0 +1,69 @@
+//! A sum of signed numbers.
+ghost use Rattle.std.specs.Prelude.{◌≡◌, ◌+ℤ◌, ◌*ℤ◌, pos, [], ◌∷◌, ◌++◌, true, false};
+
+use crate::calls::Calls;
+use std::marker::Model;
+
+/// A sum in the range of `i64`, which is given runs one at a time.
+///
+/// A contract sees a record: `value`, the sum so far, and `calls`, the runs that it was given, each
+/// value with its number of rows. The list takes no bytes and no time.
+#[derive(Drop)]
+pub struct SignedSum {
+    value: i64,
+    calls: Calls,
+}
+
+impl Model for SignedSum {
+    ghost use Rattle.column_sums.specs.SumState.{SumState};
+
+    ghost Value = { SumState };
+
+    ghost view = { λ s. record { value = s.value; calls = s.calls.runs } };
+}
+
+impl SignedSum {
+    ghost use Rattle.column_sums.specs.SumRange.{SignedRange, is_within};
+
+    /// The sum of nothing, which is 0.
+    pub fn new() -> SignedSum
+        ensures { result ≡ record { value = pos 0; calls = [] } }
+    {
+        SignedSum {
+            value: 0,
+            calls: Calls::new(),
+        }
+    }
+
+    /// The sum so far.
+    pub fn value(&self) -> i64
+        ensures { result ≡ self.now.value }
+    {
+        self.value
+    }
+
+    /// Adds `value` as often as the run has rows, all at once. False means that the result left the
+    /// range of `i64`, and the sum is unchanged.
+    pub fn add_run(&mut self, value: i64, len: usize) -> bool
+        ensures fits { result ≡ is_within SignedRange (self.old.value +ℤ value *ℤ pos len) }
+        ensures added { result ≡ true → self.new.value ≡ self.old.value +ℤ value *ℤ pos len }
+        ensures unchanged { result ≡ false → self.new.value ≡ self.old.value }
+        ensures calls { self.new.calls ≡ self.old.calls ++ (value, len) ∷ [] }
+    {
+        self.calls = self.calls.and_signed(&value, &len);
+        match i64::try_from(sum_with(self.value, value, len)) {
+            Ok(sum) => {
+                self.value = sum;
+                true
+            }
+            Err(_) => false,
+        }
+    }
+}
+
+// The sum and `len` times the value. The least is -2^127, which fits.
+fn sum_with(sum: i64, value: i64, len: usize) -> i128
+    ensures { result ≡ sum +ℤ value *ℤ pos len }
+{
+    i128::from(sum) + i128::from(value) * len as i128
+}

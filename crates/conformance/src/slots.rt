@@ -1,0 +1,14 @@
+//! The two slots of a run column.
+use std::alloc::Global;
+use std::test::Fail;
+use vortex_runend::RunEndSlots;
+
+type Slots = RunEndSlots<Global>;
+
+#[test]
+fn slots_have_their_names_and_places(rt: HostRuntime) -> Result<(), Fail> {
+    assert_eq!(rt; (Slots::ENDS, Slots::VALUES), (0, 1));
+    assert_eq!(rt; Slots::NAMES[Slots::ENDS], "ends");
+    assert_eq!(rt; Slots::NAMES[Slots::VALUES], "values");
+    Ok(())
+}

@@ -1,0 +1,2 @@
+pub mod RunRows
+pub mod SumOfRows

@@ -1,0 +1,2 @@
+pub mod ShownRuns
+pub mod SignOf

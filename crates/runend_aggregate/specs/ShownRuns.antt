@@ -1,0 +1,36 @@
+-- The visible runs of a run column: those that some row of its window shows, in order.
+use Rattle.std.specs.Prelude.{ℕ, zero, suc, ◌+◌, ◌-◌, ℤ, List, [], ◌∷◌, Option, None, map, min, slice_index, slice_index_or}
+use Rattle.column_sums.specs.SumAnswer.{number_in}
+use Rattle.runend_codec.specs.Window.{run_at}
+use Rattle.runend_array.specs.Column.{Runs, column_rows}
+
+-- the run of the first row of a window; where there is no row, 0
+abbrev pub first_visible : List ℕ → ℕ → ℕ → ℕ
+first_visible ends offset zero = 0
+first_visible ends offset (suc n) = run_at ends offset
+
+-- one past the run of the last row; where there is no row, 0
+abbrev pub stop_visible : List ℕ → ℕ → ℕ → ℕ
+stop_visible ends offset zero = 0
+stop_visible ends offset (suc n) = run_at ends (offset + n) + 1
+
+-- how many rows of a window of `count` rows from position `offset` on lie before a run
+abbrev pub rows_before : List ℕ → ℕ → ℕ → ℕ → ℕ
+rows_before ends offset count zero = 0
+rows_before ends offset count (suc run) = min (slice_index ends run - offset) count
+
+-- how many rows of the window show a run: those before its end, but for those before the run
+abbrev pub rows_showing : List ℕ → ℕ → ℕ → ℕ → ℕ
+rows_showing ends offset count run = min (slice_index ends run - offset) count - rows_before ends offset count run
+
+-- of `n` runs from one on, what each shows and in how many rows of the window
+abbrev pub runs_from : List ℕ → List (Option ℤ) → ℕ → ℕ → ℕ → ℕ → List (Option ℤ × ℕ)
+runs_from ends numbers offset count run zero = []
+runs_from ends numbers offset count run (suc n) =
+    (slice_index_or numbers run None, rows_showing ends offset count run) ∷ runs_from ends numbers offset count (run + 1) n
+
+-- the visible runs of a column of whole numbers: what each shows and in how many rows
+abbrev pub visible_runs : Runs → List (Option ℤ × ℕ)
+visible_runs r =
+    let first = first_visible r.ends r.offset r.count in
+    runs_from r.ends (map number_in (column_rows r.values)) r.offset r.count first (stop_visible r.ends r.offset r.count - first)

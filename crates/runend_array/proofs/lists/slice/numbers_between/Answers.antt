@@ -1,0 +1,10 @@
+use Rattle.std.proofs.Common.{arith}
+use Rattle.runend_array.specs.Array.{column_of}
+use Rattle.runend_array.specs.Column.{index_of}
+use Rattle.runend_array.specs.Lists.{index_at}
+use Rattle.runend_array.proofs.ListSlice.{made_from-push}
+use Rattle.runend_array.proofs.lists.slice.numbers_between.Goals as goal
+
+pub loop-row-preserved : goal.loop-row-preserved
+loop-row-preserved g c =
+    made_from-push (index_at (index_of (column_of c.args.index.now))) c.loop-row.numbers.items _ c.args.start c.loop-row.row c.index_at.result (omega (arith, c.loop-row.auto.row)) c.in_ok-push.ensures.items c.index_at.ensures c.loop-row.invariant

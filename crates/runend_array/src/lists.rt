@@ -1,0 +1,9 @@
+//! Columns of lists.
+mod index;
+mod listview;
+mod runs;
+mod slice;
+
+pub(crate) use index::{is_plain_index, is_plain_truths, plain_number_at, plain_truth_at};
+pub use listview::ListViewArray;
+pub(crate) use runs::validity_in_runs;

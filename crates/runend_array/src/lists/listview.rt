@@ -1,0 +1,375 @@
+//! Columns of lists over shared elements.
+ghost use Rattle.std.specs.Prelude.{◌≡◌, ◌+◌, ◌<◌, ◌≤◌, ◌↔◌, length, IsTrue, slice_range, IfOk, IsErrOf, IsOkUnless, MatchOption, MatchResult, Some};
+ghost use Rattle.column_core.specs.FlatColumn.{leaf_of};
+ghost use Rattle.column_core.specs.ScalarView.{sees, IsViewOf};
+ghost use Rattle.runend_array.specs.Array.{AreListParts, AreListTypes, IsRowValidity, column_of, lists_of, validity_of};
+ghost use Rattle.runend_codec.specs.Ends.{IsEndsType, ends_of};
+ghost use Rattle.runend_array.specs.Column.{IsIndex, index_of};
+ghost use Rattle.runend_codec.specs.Window.{run_rows};
+ghost use Rattle.column_core.specs.PrimitiveForm.{primitive_dtype};
+ghost use Rattle.column_core.specs.Ranges.{IsBadRange};
+ghost use Rattle.runend_codec.specs.Window.{IsWindow};
+ghost use Rattle.runend_array.specs.Fault.{IsFirstOutside, ListPartsFault, ListsFault};
+ghost use Rattle.runend_array.specs.Lists.{AreLists, HasRows, index_count, list_at, list_count, list_dtype, list_rows};
+ghost use Rattle.column_core.specs.Value.{element_of as element_type_of};
+ghost use Rattle.runend_array.specs.ListRuns.{AreListsInRuns};
+ghost use Rattle.runend_array.specs.ListSlice.{AreListsInRange};
+
+use crate::array_ref::{ArrayRef, out_of_bounds};
+use crate::lists::index::{index_at, index_len, is_index};
+use crate::lists::runs::{index_in_runs, validity_in_runs};
+use crate::lists::slice::{index_between, validity_between};
+use crate::session::ExecutionCtx;
+use crate::validities::RowValidity;
+use column_core::{
+    DType, ElementDType, FlatColumn, PrimitiveArray, ScalarView, VortexError, VortexResult,
+};
+use std::alloc::Allocator;
+use std::marker::Model;
+use std::ops::Range;
+use std::rc::Rc;
+
+/// Lists over shared elements: a row has as many elements as its size says, from its offset on.
+#[cycle(array)]
+#[derive(Drop)]
+pub struct ListViewArray<A: Allocator> {
+    elements: Rc<FlatColumn<A>, A>,
+    offsets: ArrayRef<A>,
+    sizes: ArrayRef<A>,
+    validity: RowValidity<A>,
+}
+
+impl<A: Allocator> Model for ListViewArray<A> {
+    ghost use Rattle.runend_array.specs.Lists.{Lists, lists_depth};
+
+    ghost Value = { Lists };
+
+    ghost use Rattle.runend_array.specs.ColumnCode.{lists_code};
+
+    ghost coded = { lists_code };
+
+    ghost use Rattle.runend_array.specs.Array.{AreListParts, lists_of};
+
+    ghost view = { λ a. lists_of a.elements.value a.offsets a.sizes a.validity };
+
+    ghost invariant = { λ a. AreListParts a.elements.value a.offsets a.sizes a.validity };
+
+    ghost size = { lists_depth };
+
+    ghost use Rattle.runend_array.specs.Falls.{deep_le-list_parts};
+
+    ghost size_decreases = { λ a h. Prim.search (deep_le-list_parts, h) };
+}
+
+// The type of elements that lie in a flat column of this type.
+fn element_of(dtype: DType) -> ElementDType
+    ensures { result ≡ element_type_of dtype }
+{
+    match dtype {
+        DType::Bool(nullability) => ElementDType::Bool(nullability),
+        DType::Primitive(ptype, nullability) => ElementDType::Primitive(ptype, nullability),
+        DType::Decimal(decimal, nullability) => ElementDType::Decimal(decimal, nullability),
+        DType::Utf8(nullability) => ElementDType::Utf8(nullability),
+        DType::Binary(nullability) => ElementDType::Binary(nullability),
+        DType::List(element, _) => element,
+    }
+}
+
+// Are offsets, sizes and validity of the types that a column of lists has?
+fn are_list_types<A: Allocator + Copy>(
+    offsets: &ArrayRef<A>,
+    sizes: &ArrayRef<A>,
+    validity: &RowValidity<A>,
+) -> bool
+    ensures { IsTrue result ↔ AreListTypes offsets.now sizes.now validity.now }
+{
+    is_index(offsets) && is_index(sizes) && validity.is_plain()
+}
+
+// Does the list of `size` elements from `offset` on lie within `count` elements?
+fn is_within(offset: u64, size: u64, count: usize) -> bool
+    ensures { IsTrue result ↔ (offset + size ≤ count) }
+{
+    let count = count as u64;
+    offset <= count && size <= count - offset
+}
+
+// The first valid row that does not lie within `count` elements.
+fn first_outside<A: Allocator + Copy>(
+    elements: &FlatColumn<A>,
+    offsets: &ArrayRef<A>,
+    sizes: &ArrayRef<A>,
+    validity: &RowValidity<A>,
+) -> Option<usize>
+    requires types { AreListTypes offsets.now sizes.now validity.now }
+    requires sized { index_count (index_of (column_of sizes.now)) ≡ index_count (index_of (column_of offsets.now)) }
+    requires flagged { HasRows (validity_of validity.now) (index_count (index_of (column_of offsets.now))) }
+    ensures { MatchOption result
+        (AreLists (lists_of elements.now offsets.now sizes.now validity.now))
+        (λ row. IsFirstOutside (lists_of elements.now offsets.now sizes.now validity.now) row) }
+{
+    let rows = index_len(offsets);
+    let count = elements.len();
+    for row in 0..rows {
+        if validity.is_valid(row, rows)
+            && !is_within(index_at(offsets, row), index_at(sizes, row), count)
+        {
+            return Some(row);
+        }
+    }
+    None
+}
+
+// Do parts of the right types make a column of lists? Else the first fault.
+fn validate_lists<A: Allocator + Copy>(
+    elements: &FlatColumn<A>,
+    offsets: &ArrayRef<A>,
+    sizes: &ArrayRef<A>,
+    validity: &RowValidity<A>,
+) -> VortexResult<()>
+    requires { AreListTypes offsets.now sizes.now validity.now }
+    ensures { MatchResult result
+        (λ _. AreLists (lists_of elements.now offsets.now sizes.now validity.now))
+        (λ error. ListsFault (lists_of elements.now offsets.now sizes.now validity.now) error) }
+{
+    let rows = index_len(offsets);
+    let sized = index_len(sizes);
+    if sized != rows {
+        return Err(VortexError::ColumnLength {
+            left: rows,
+            right: sized,
+        });
+    }
+    if let Some(flagged) = validity.len() {
+        if flagged != rows {
+            return Err(VortexError::ColumnLength {
+                left: rows,
+                right: flagged,
+            });
+        }
+    }
+    match first_outside(elements, offsets, sizes, validity) {
+        Some(row) => Err(out_of_bounds(row, elements.len())),
+        None => Ok(()),
+    }
+}
+
+// Do the parts make a column of lists? Else the first fault.
+fn validate_list_parts<A: Allocator + Copy>(
+    elements: &FlatColumn<A>,
+    offsets: &ArrayRef<A>,
+    sizes: &ArrayRef<A>,
+    validity: &RowValidity<A>,
+) -> VortexResult<()>
+    ensures { MatchResult result
+        (λ _. AreListParts elements.now offsets.now sizes.now validity.now)
+        (λ error. ListPartsFault elements.now offsets.now sizes.now validity.now error) }
+{
+    if !are_list_types(offsets, sizes, validity) {
+        return Err(VortexError::TypeMismatch);
+    }
+    validate_lists(elements, offsets, sizes, validity)
+}
+
+impl<A: Allocator + Copy> ListViewArray<A> {
+    /// The lists of these parts. Refused by the first fault: `TypeMismatch` unless offsets and sizes
+    /// are u64 without null, flat or in runs over flat values, and runs of the validity are over flat
+    /// truth values without null; `ColumnLength`, with the number of offsets first, where there are
+    /// not as many sizes, then where the validity is of another number of rows; `OutOfBounds`, with
+    /// the row and the number of elements, for the first valid row that does not lie within the
+    /// elements. Takes no memory.
+    pub fn try_new(
+        elements: Rc<FlatColumn<A>, A>,
+        offsets: ArrayRef<A>,
+        sizes: ArrayRef<A>,
+        validity: RowValidity<A>,
+        ctx: &mut ExecutionCtx<A>,
+    ) -> VortexResult<Self>
+        ensures parts { MatchResult result
+            (λ lists. AreListParts elements.value offsets sizes validity × (lists ≡ lists_of elements.value offsets sizes validity))
+            (λ error. ListPartsFault elements.value offsets sizes validity error) }
+        ensures session { ctx.new ≡ ctx.old }
+    {
+        let _ = &ctx;
+        validate_list_parts(&elements, &offsets, &sizes, &validity)?;
+        Ok(ListViewArray::new_unchecked(elements, offsets, sizes, validity))
+    }
+
+    /// The elements of all rows.
+    pub fn elements(&self) -> &FlatColumn<A>
+        ensures { leaf_of result.now ≡ self.now.elements }
+    {
+        &self.elements
+    }
+
+    /// Where the elements of each row start.
+    pub fn offsets(&self) -> &ArrayRef<A>
+        ensures form { index_of (column_of result.now) ≡ self.now.offsets }
+        ensures index { IsIndex (column_of result.now) }
+    {
+        &self.offsets
+    }
+
+    /// How many elements each row has.
+    pub fn sizes(&self) -> &ArrayRef<A>
+        ensures form { index_of (column_of result.now) ≡ self.now.sizes }
+        ensures index { IsIndex (column_of result.now) }
+    {
+        &self.sizes
+    }
+
+    /// Which rows are valid.
+    pub fn validity(&self) -> &RowValidity<A>
+        ensures form { validity_of result.now ≡ self.now.validity }
+        ensures plain { IsRowValidity result.now }
+        ensures lists { AreLists self.now }
+    {
+        &self.validity
+    }
+
+    /// How many rows there are.
+    pub fn len(&self) -> usize
+        ensures offsets { result ≡ list_count self.now }
+        ensures rows { result ≡ length (list_rows self.now) }
+    {
+        index_len(&self.offsets)
+    }
+
+    /// Are there no rows?
+    pub fn is_empty(&self) -> bool
+        ensures { IsTrue result ↔ (list_count self.now ≡ 0) }
+    {
+        self.len() == 0
+    }
+
+    /// The type of the rows.
+    pub fn dtype(&self) -> DType
+        ensures { result ≡ list_dtype self.now }
+    {
+        DType::List(
+            element_of(self.elements.dtype()),
+            self.validity.nullability(),
+        )
+    }
+
+    /// The row at `index`, borrowed from the elements. Takes no memory.
+    pub fn get(&self, index: usize) -> ScalarView<'_, A>
+        requires { index < list_count self.now }
+        ensures row { sees result ≡ list_at self.now index }
+        ensures of_type { IsViewOf (list_dtype self.now) result }
+    {
+        if !self.validity.is_valid(index, index_len(&self.offsets)) {
+            return ScalarView::Null;
+        }
+        let start = index_at(&self.offsets, index) as usize;
+        let size = index_at(&self.sizes, index) as usize;
+        let elements: &FlatColumn<A> = &self.elements;
+        ScalarView::List {
+            elements,
+            start,
+            size,
+        }
+    }
+
+    /// The lists of parts that `try_new` accepts. Takes no memory.
+    pub(crate) fn new_unchecked(
+        elements: Rc<FlatColumn<A>, A>,
+        offsets: ArrayRef<A>,
+        sizes: ArrayRef<A>,
+        validity: RowValidity<A>,
+    ) -> Self
+        requires { AreListParts elements.value offsets sizes validity }
+        ensures { result ≡ lists_of elements.value offsets sizes validity }
+    {
+        ListViewArray {
+            elements,
+            offsets,
+            sizes,
+            validity,
+        }
+    }
+
+    /// The rows that runs of these lists show, from row `offset` on, `count` many: lists over the same
+    /// elements, with offsets, sizes and, where it is stored, validity in runs. Refused as
+    /// `OutOfMemory` alone.
+    pub(crate) fn shown_by(
+        &self,
+        alloc: A,
+        ends: &PrimitiveArray<A>,
+        offset: usize,
+        count: usize,
+    ) -> VortexResult<ListViewArray<A>>
+        requires plain { IsEndsType (primitive_dtype ends.now) }
+        requires window { IsWindow (ends_of ends.now) offset count }
+        requires paired { list_count self.now ≡ length ends.now.numbers }
+        ensures only { IsOkUnless result VortexError.OutOfMemory }
+        ensures rows { IfOk result (λ lists. list_rows lists ≡ run_rows (ends_of ends.now) (list_rows self.now) offset count) }
+        ensures dtype { IfOk result (λ lists. list_dtype lists ≡ list_dtype self.now) }
+        ensures form { IfOk result (λ lists. AreListsInRuns ends.now.ptype (ends_of ends.now) self.now offset count lists) }
+    {
+        let elements = self.elements.clone()?;
+        let offsets = index_in_runs(alloc, ends, &self.offsets, offset, count)?;
+        let sizes = index_in_runs(alloc, ends, &self.sizes, offset, count)?;
+        let validity = validity_in_runs(alloc, ends, &self.validity, offset, count)?;
+        Ok(ListViewArray::new_unchecked(elements, offsets, sizes, validity))
+    }
+
+    /// The rows from `range.start` to `range.end - 1`: lists over the same elements, with flat offsets
+    /// and sizes as they are stored, and bits of validity only where some row is null and some is not.
+    /// Refused as `BadRange`, with both bounds and the number of rows, exactly where the range begins
+    /// after its end or ends after the last row, and that before any memory is taken; else as
+    /// `OutOfMemory` alone.
+    pub fn slice(&self, alloc: A, range: Range<usize>) -> VortexResult<ListViewArray<A>>
+        ensures refused { let count = list_count self.now in
+            IsErrOf result (VortexError.BadRange range.start range.end count) ↔ IsBadRange range.start range.end count }
+        ensures only { ¬ IsBadRange range.start range.end (list_count self.now) → IsOkUnless result VortexError.OutOfMemory }
+        ensures rows { IfOk result (λ part. list_rows part ≡ slice_range (list_rows self.now) range.start range.end) }
+        ensures dtype { IfOk result (λ part. list_dtype part ≡ list_dtype self.now) }
+        ensures elements { IfOk result (λ part. part.elements ≡ self.now.elements) }
+        ensures form { IfOk result (λ part. AreListsInRange self.now range.start range.end part) }
+    {
+        let count = self.len();
+        if range.start > range.end || range.end > count {
+            return Err(VortexError::BadRange {
+                start: range.start,
+                stop: range.end,
+                length: count,
+            });
+        }
+        self.rows_between(alloc, range.start, range.end)
+    }
+
+    // The rows from `start` to `stop - 1`, which are there.
+    fn rows_between(&self, alloc: A, start: usize, stop: usize) -> VortexResult<ListViewArray<A>>
+        requires ordered { start ≤ stop }
+        requires in_bounds { stop ≤ list_count self.now }
+        ensures only { IsOkUnless result VortexError.OutOfMemory }
+        ensures rows { IfOk result (λ part. list_rows part ≡ slice_range (list_rows self.now) start stop) }
+        ensures dtype { IfOk result (λ part. list_dtype part ≡ list_dtype self.now) }
+        ensures form { IfOk result (λ part. AreListsInRange self.now start stop part) }
+    {
+        let elements = self.elements.clone()?;
+        let offsets = index_between(alloc, &self.offsets, start, stop)?;
+        let sizes = index_between(alloc, &self.sizes, start, stop)?;
+        let validity = validity_between(alloc, &self.validity, self.len(), start, stop)?;
+        Ok(ListViewArray::new_unchecked(elements, offsets, sizes, validity))
+    }
+
+    /// The lists in the same form; the elements are shared. Refused as `OutOfMemory` alone.
+    #[cycle(clone_in)]
+    pub(crate) fn clone_in(&self, alloc: A) -> VortexResult<ListViewArray<A>>
+        ensures only { IsOkUnless result VortexError.OutOfMemory }
+        ensures form { IfOk result (λ lists. lists ≡ self.now) }
+    {
+        let elements = self.elements.clone()?;
+        let offsets = self.offsets.clone_in(alloc)?;
+        let sizes = self.sizes.clone_in(alloc)?;
+        let validity = self.validity.clone_in(alloc)?;
+        Ok(ListViewArray {
+            elements,
+            offsets,
+            sizes,
+            validity,
+        })
+    }
+}

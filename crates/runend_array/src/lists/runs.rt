@@ -1,0 +1,135 @@
+//! Offsets, sizes and validity of lists, in runs.
+ghost use Rattle.std.specs.Prelude.{◌≡◌, ◌+◌, ◌<◌, length, IfOk, IsOkUnless};
+ghost use Rattle.column_core.specs.PrimitiveForm.{primitive_dtype};
+ghost use Rattle.runend_array.specs.Array.{IsRowValidity, column_of, validity_of};
+ghost use Rattle.runend_codec.specs.Ends.{IsEndsType, ends_of};
+ghost use Rattle.runend_array.specs.Column.{IsIndex, index_of};
+ghost use Rattle.runend_array.specs.ListRuns.{IsValidityInRuns};
+ghost use Rattle.runend_array.specs.Lists.{ByRuns, HasRows, RunIndex, index_count, index_numbers, row_flags_of};
+ghost use Rattle.runend_codec.specs.Window.{IsWindow};
+
+use crate::array::RunEnd;
+use crate::array_ref::ArrayRef;
+use crate::lists::index::{index_at, index_len};
+use crate::validities::RowValidity;
+use column_core::{
+    BitBuffer, BitBufferMut, BoolArray, PrimitiveArray, PrimitiveValues, Validity, VortexError,
+    VortexResult,
+};
+use std::alloc::Allocator;
+
+// The numbers of an index, one by one.
+fn numbers_of<A: Allocator + Copy>(alloc: A, index: &ArrayRef<A>) -> VortexResult<Vec<u64, A>>
+    requires { IsIndex (column_of index.now) }
+    ensures only { IsOkUnless result VortexError.OutOfMemory }
+    ensures numbers { IfOk result (λ numbers. numbers.items ≡ index_numbers (index_of (column_of index.now))) }
+{
+    let mut numbers = Vec::with_capacity(alloc, index_len(index))?;
+    for row in 0..index_len(index) {
+        numbers.push(index_at(index, row))?;
+    }
+    Ok(numbers)
+}
+
+// Whether each of `count` rows is valid.
+fn flags_of<A: Allocator + Copy>(
+    alloc: A,
+    validity: &RowValidity<A>,
+    count: usize,
+) -> VortexResult<BitBuffer<A>>
+    requires plain { IsRowValidity validity.now }
+    requires counted { HasRows (validity_of validity.now) count }
+    ensures only { IsOkUnless result VortexError.OutOfMemory }
+    ensures flags { IfOk result (λ bits. bits ≡ row_flags_of (validity_of validity.now) count) }
+{
+    let mut bits = BitBufferMut::with_capacity(alloc, count)?;
+    for row in 0..count {
+        bits.append(validity.is_valid(row, count))?;
+    }
+    Ok(bits.freeze())
+}
+
+/// The numbers of an index in runs: a run column over them, with these ends and this window. Refused
+/// as `OutOfMemory` alone.
+pub(crate) fn index_in_runs<A: Allocator + Copy>(
+    alloc: A,
+    ends: &PrimitiveArray<A>,
+    index: &ArrayRef<A>,
+    offset: usize,
+    count: usize,
+) -> VortexResult<ArrayRef<A>>
+    requires plain { IsEndsType (primitive_dtype ends.now) }
+    requires window { IsWindow (ends_of ends.now) offset count }
+    requires index { IsIndex (column_of index.now) }
+    requires paired { index_count (index_of (column_of index.now)) ≡ length ends.now.numbers }
+    ensures only { IsOkUnless result VortexError.OutOfMemory }
+    ensures index { IfOk result (λ runs. IsIndex (column_of runs)) }
+    ensures form { IfOk result (λ runs. index_of (column_of runs) ≡ RunIndex ends.now.ptype (ends_of ends.now) (index_numbers (index_of (column_of index.now))) offset count) }
+{
+    let numbers = PrimitiveValues::U64(numbers_of(alloc, index)?);
+    let numbers = PrimitiveArray::new_unchecked(numbers, Validity::NonNullable);
+    let ends = ends.try_clone(alloc)?;
+    let runs = RunEnd::new_unchecked(
+        ArrayRef::Primitive(ends),
+        ArrayRef::Primitive(numbers),
+        offset,
+        count,
+    );
+    let boxed = Box::new(alloc, runs)?;
+    Ok(ArrayRef::RunEnd(boxed))
+}
+
+// The validity that runs of these flags tell.
+fn flags_in_runs<A: Allocator + Copy>(
+    alloc: A,
+    ends: &PrimitiveArray<A>,
+    flags: BitBuffer<A>,
+    offset: usize,
+    count: usize,
+) -> VortexResult<RowValidity<A>>
+    requires plain { IsEndsType (primitive_dtype ends.now) }
+    requires window { IsWindow (ends_of ends.now) offset count }
+    requires paired { length flags ≡ length ends.now.numbers }
+    ensures only { IsOkUnless result VortexError.OutOfMemory }
+    ensures plain { IfOk result (λ rows. IsRowValidity rows) }
+    ensures form { IfOk result (λ rows. validity_of rows ≡ ByRuns ends.now.ptype (ends_of ends.now) flags offset count) }
+{
+    let values = BoolArray::new_unchecked(flags, Validity::NonNullable);
+    let ends = ends.try_clone(alloc)?;
+    let runs = RunEnd::new_unchecked(
+        ArrayRef::Primitive(ends),
+        ArrayRef::Bool(values),
+        offset,
+        count,
+    );
+    let boxed = Box::new(alloc, runs)?;
+    Ok(RowValidity::Runs(boxed))
+}
+
+/// The validity of the rows that runs show in a window: as it stands where it serves any number of
+/// rows, else runs with these ends and this window. Refused as `OutOfMemory` alone.
+pub(crate) fn validity_in_runs<A: Allocator + Copy>(
+    alloc: A,
+    ends: &PrimitiveArray<A>,
+    validity: &RowValidity<A>,
+    offset: usize,
+    count: usize,
+) -> VortexResult<RowValidity<A>>
+    requires plain { IsEndsType (primitive_dtype ends.now) }
+    requires window { IsWindow (ends_of ends.now) offset count }
+    requires validity { IsRowValidity validity.now }
+    requires counted { HasRows (validity_of validity.now) (length ends.now.numbers) }
+    ensures only { IsOkUnless result VortexError.OutOfMemory }
+    ensures plain { IfOk result (λ rows. IsRowValidity rows) }
+    ensures form { IfOk result (λ rows. IsValidityInRuns ends.now.ptype (ends_of ends.now) (validity_of validity.now) (length ends.now.numbers) offset count (validity_of rows)) }
+{
+    match validity {
+        RowValidity::NonNullable => Ok(RowValidity::NonNullable),
+        RowValidity::AllValid => Ok(RowValidity::AllValid),
+        RowValidity::AllInvalid => Ok(RowValidity::AllInvalid),
+        _ => {
+            let flags = flags_of(alloc, validity, ends.len())?;
+            flags_in_runs(alloc, ends, flags, offset, count)
+        }
+    }
+}

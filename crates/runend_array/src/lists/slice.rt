@@ -1,0 +1,106 @@
+//! Offsets, sizes and validity of a range of lists.
+ghost use Rattle.std.specs.Prelude.{◌≡◌, ◌-◌, ◌≤◌, map, slice_range, IfOk, IsOkUnless};
+ghost use Rattle.std.specs.List.{range_with_len};
+ghost use Rattle.runend_array.specs.Array.{IsRowValidity, column_of, validity_of};
+ghost use Rattle.runend_array.specs.Column.{IsIndex, index_of};
+ghost use Rattle.runend_array.specs.ListSlice.{IsValidityInRange};
+ghost use Rattle.runend_array.specs.Lists.{HasRows, PlainIndex, index_at as number_in_row, index_count, index_numbers, row_flag_at};
+
+use crate::array_ref::ArrayRef;
+use crate::lists::index::index_at;
+use crate::validities::{RowValidity, told_by_rows};
+use column_core::{
+    BitBuffer, BitBufferMut, PrimitiveArray, PrimitiveValues, Validity, VortexError, VortexResult,
+};
+use std::alloc::Allocator;
+
+// The numbers of an index from row `start` to row `stop - 1`.
+fn numbers_between<A: Allocator + Copy>(
+    alloc: A,
+    index: &ArrayRef<A>,
+    start: usize,
+    stop: usize,
+) -> VortexResult<Vec<u64, A>>
+    requires index { IsIndex (column_of index.now) }
+    requires ordered { start ≤ stop }
+    requires in_bounds { stop ≤ index_count (index_of (column_of index.now)) }
+    ensures only { IsOkUnless result VortexError.OutOfMemory }
+    ensures numbers { IfOk result (λ numbers. numbers.items ≡ map (number_in_row (index_of (column_of index.now))) (range_with_len start (stop - start))) }
+{
+    let mut numbers = Vec::with_capacity(alloc, stop - start)?;
+    for row in start..stop {
+        numbers.push(index_at(index, row))?;
+    }
+    Ok(numbers)
+}
+
+// Whether each row from `start` to `stop - 1` is valid, of `count` rows.
+fn flags_between<A: Allocator + Copy>(
+    alloc: A,
+    validity: &RowValidity<A>,
+    count: usize,
+    start: usize,
+    stop: usize,
+) -> VortexResult<BitBuffer<A>>
+    requires plain { IsRowValidity validity.now }
+    requires counted { HasRows (validity_of validity.now) count }
+    requires ordered { start ≤ stop }
+    requires in_bounds { stop ≤ count }
+    ensures only { IsOkUnless result VortexError.OutOfMemory }
+    ensures flags { IfOk result (λ bits. bits ≡ map (row_flag_at (validity_of validity.now)) (range_with_len start (stop - start))) }
+{
+    let mut bits = BitBufferMut::with_capacity(alloc, stop - start)?;
+    for row in start..stop {
+        bits.append(validity.is_valid(row, count))?;
+    }
+    Ok(bits.freeze())
+}
+
+/// The numbers of an index from row `start` to row `stop - 1`, flat. Refused as `OutOfMemory` alone.
+pub(crate) fn index_between<A: Allocator + Copy>(
+    alloc: A,
+    index: &ArrayRef<A>,
+    start: usize,
+    stop: usize,
+) -> VortexResult<ArrayRef<A>>
+    requires index { IsIndex (column_of index.now) }
+    requires ordered { start ≤ stop }
+    requires in_bounds { stop ≤ index_count (index_of (column_of index.now)) }
+    ensures only { IsOkUnless result VortexError.OutOfMemory }
+    ensures index { IfOk result (λ part. IsIndex (column_of part)) }
+    ensures form { IfOk result (λ part. index_of (column_of part) ≡ PlainIndex (slice_range (index_numbers (index_of (column_of index.now))) start stop)) }
+{
+    let numbers = numbers_between(alloc, index, start, stop)?;
+    let values = PrimitiveValues::U64(numbers);
+    let flat = PrimitiveArray::new_unchecked(values, Validity::NonNullable);
+    Ok(ArrayRef::Primitive(flat))
+}
+
+/// The validity of the rows from `start` to `stop - 1`, of `count` rows: as it stands where it serves
+/// any number of rows, else with bits only where some of these rows is null and some is not. Refused as
+/// `OutOfMemory` alone.
+pub(crate) fn validity_between<A: Allocator + Copy>(
+    alloc: A,
+    validity: &RowValidity<A>,
+    count: usize,
+    start: usize,
+    stop: usize,
+) -> VortexResult<RowValidity<A>>
+    requires plain { IsRowValidity validity.now }
+    requires counted { HasRows (validity_of validity.now) count }
+    requires ordered { start ≤ stop }
+    requires in_bounds { stop ≤ count }
+    ensures only { IsOkUnless result VortexError.OutOfMemory }
+    ensures plain { IfOk result (λ part. IsRowValidity part) }
+    ensures form { IfOk result (λ part. IsValidityInRange (validity_of validity.now) start stop (validity_of part)) }
+{
+    match validity {
+        RowValidity::NonNullable => Ok(RowValidity::NonNullable),
+        RowValidity::AllValid => Ok(RowValidity::AllValid),
+        RowValidity::AllInvalid => Ok(RowValidity::AllInvalid),
+        _ => {
+            let flags = flags_between(alloc, validity, count, start, stop)?;
+            Ok(told_by_rows(Validity::from_bits(flags)))
+        }
+    }
+}

@@ -1,0 +1,93 @@
+//! Which rows of a run column are valid.
+ghost use Rattle.std.specs.Prelude.{◌≡◌, IfOk, IsOkUnless};
+ghost use Rattle.column_base.specs.Validity.{form_of};
+ghost use Rattle.runend_array.specs.Array.{IsRowValidity, column_of, validity_of};
+ghost use Rattle.runend_array.specs.Column.{OfConstant, column_of_runs};
+ghost use Rattle.runend_array.specs.Lists.{ByRows};
+ghost use Rattle.runend_array.specs.RowFlags.{IsValidityForm, IsValidityOf, constant_validity};
+
+use crate::array::RunEndArray;
+use crate::array_ref::ArrayRef;
+use crate::constant::ConstantArray;
+use crate::session::ExecutionCtx;
+use crate::validities::RowValidity;
+use column_core::{Nullability, ScalarView, Validity, VortexError, VortexResult};
+use std::alloc::Allocator;
+
+/// Which rows of the column are valid, row by row; `NonNullable` exactly for values whose type has no
+/// null. The validity of the values is kept where it is `NonNullable`, `AllValid` or `AllInvalid`,
+/// else the answer is runs over the same ends and window, with flat values. Refused as `OutOfMemory`
+/// alone.
+pub fn validity<A: Allocator + Copy>(
+    array: &RunEndArray<A>,
+    ctx: &mut ExecutionCtx<A>,
+) -> VortexResult<RowValidity<A>>
+    ensures only { IsOkUnless result VortexError.OutOfMemory }
+    ensures rows { IfOk result (λ rows. IsValidityOf (column_of_runs array.now) (validity_of rows)) }
+    ensures form { IfOk result (λ rows. IsValidityForm (column_of_runs array.now) (validity_of rows)) }
+    ensures plain { IfOk result (λ rows. IsRowValidity rows) }
+    ensures session { ctx.new ≡ ctx.old }
+{
+    array.validity_in(*ctx.allocator())
+}
+
+/// A validity that is told row by row.
+pub(crate) fn told_by_rows<A: Allocator>(validity: Validity<A>) -> RowValidity<A>
+    ensures form { validity_of result ≡ ByRows (form_of validity) }
+    ensures plain { IsRowValidity result }
+{
+    match validity {
+        Validity::NonNullable => RowValidity::NonNullable,
+        Validity::AllValid => RowValidity::AllValid,
+        Validity::AllInvalid => RowValidity::AllInvalid,
+        Validity::Bits(bits) => RowValidity::Bits(bits),
+    }
+}
+
+// Which rows of a constant are valid: all, or none.
+fn validity_of_constant<A: Allocator>(constant: &ConstantArray<A>) -> RowValidity<A>
+    ensures rows { IsValidityOf (OfConstant constant.now) (validity_of result) }
+    ensures form { validity_of result ≡ ByRows (constant_validity constant.now) }
+    ensures plain { IsRowValidity result }
+{
+    match constant.scalar_view() {
+        ScalarView::Null => RowValidity::AllInvalid,
+        _ => match constant.dtype().nullability() {
+            Nullability::NonNullable => RowValidity::NonNullable,
+            Nullability::Nullable => RowValidity::AllValid,
+        },
+    }
+}
+
+impl<A: Allocator + Copy> ArrayRef<A> {
+    /// Which rows are valid. Refused as `OutOfMemory` alone.
+    #[cycle(validity_in)]
+    pub(crate) fn validity_in(&self, alloc: A) -> VortexResult<RowValidity<A>>
+        ensures only { IsOkUnless result VortexError.OutOfMemory }
+        ensures rows { IfOk result (λ rows. IsValidityOf (column_of self.now) (validity_of rows)) }
+        ensures form { IfOk result (λ rows. IsValidityForm (column_of self.now) (validity_of rows)) }
+        ensures plain { IfOk result (λ rows. IsRowValidity rows) }
+    {
+        match self {
+            ArrayRef::Primitive(array) => {
+                let validity = array.validity().try_clone(alloc)?;
+                Ok(told_by_rows(validity))
+            }
+            ArrayRef::Bool(array) => {
+                let validity = array.validity().try_clone(alloc)?;
+                Ok(told_by_rows(validity))
+            }
+            ArrayRef::Decimal(array) => {
+                let validity = array.validity().try_clone(alloc)?;
+                Ok(told_by_rows(validity))
+            }
+            ArrayRef::VarBinView(array) => {
+                let validity = array.validity().try_clone(alloc)?;
+                Ok(told_by_rows(validity))
+            }
+            ArrayRef::ListView(lists) => lists.validity().clone_in(alloc),
+            ArrayRef::Constant(array) => Ok(validity_of_constant(array)),
+            ArrayRef::RunEnd(array) => array.validity_in(alloc),
+        }
+    }
+}

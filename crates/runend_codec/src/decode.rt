@@ -1,0 +1,227 @@
+//! The decoder: each run's value is repeated up to where the run reaches in the window.
+ghost use Rattle.std.specs.Prelude.{◌≡◌, ◌-◌, ◌<◌, ◌≤◌, IfOk, IsOkUnless, length, map, min, slice_get, slice_index, unsigned_abs, Some};
+ghost use Rattle.column_base.specs.declared.dtype.Nullability.TheVariants.{Nullable};
+ghost use Rattle.column_base.specs.ValidityForm.{HasLength, IsNormal, flags, nullability_in};
+ghost use Rattle.column_base.specs.Validity.{form_of};
+ghost use Rattle.column_core.specs.Computed.{HasRowIfAllNull};
+ghost use Rattle.column_core.specs.Optionals.{optionals};
+ghost use Rattle.column_core.specs.PrimitiveForm.{primitive_dtype, primitive_with};
+ghost use Rattle.runend_codec.specs.Window.{IsWindow};
+ghost use Rattle.runend_codec.specs.Cover.{Covers};
+ghost use Rattle.runend_codec.specs.Ends.{IsEndsType, ends_of};
+ghost use Rattle.runend_codec.specs.Decoding.{AreDecoded};
+ghost use Rattle.runend_codec.specs.Encoding.{IsDecodedFlat, blanked};
+
+use crate::run_writer::RunWriter;
+use column_base::{match_each_native, match_each_unsigned};
+use column_core::{
+    BitBufferMut, NativePType, PrimitiveArray, UnsignedPType, Validity, VortexError, VortexResult,
+};
+use std::alloc::Allocator;
+
+/// How many rows of the window the runs up to this one reach.
+pub fn reach_of<E: UnsignedPType>(ends: &[E], run: usize, offset: usize, count: usize) -> usize
+    requires { run < length ends.now }
+    ensures { result ≡ min (slice_index (map unsigned_abs (map E.number ends.now)) run - offset) count }
+{
+    let rows = ends[run].to_u64().saturating_sub(offset as u64);
+    rows.min(count as u64) as usize
+}
+
+// The item in a row, and the blank one for null.
+fn stored_at<T: Copy + Drop, A: Allocator>(
+    items: &[T],
+    validity: &Validity<A>,
+    row: usize,
+    blank: T,
+) -> T
+    requires within { row < length items.now }
+    requires fits { HasLength (form_of validity.now) (length items.now) }
+    ensures { slice_get (blanked blank (optionals items.now (flags (form_of validity.now) (length items.now)))) row ≡ Some result }
+{
+    if validity.is_valid(row) {
+        items[row]
+    } else {
+        blank
+    }
+}
+
+// The items that the runs show in the window, the blank one for null.
+fn decode_items<E: UnsignedPType, T: Copy + Drop, A: Allocator + Copy>(
+    alloc: A,
+    ends: &[E],
+    values: &[T],
+    validity: &Validity<A>,
+    blank: T,
+    offset: usize,
+    count: usize,
+) -> VortexResult<Vec<T, A>>
+    requires window { IsWindow (map unsigned_abs (map E.number ends.now)) offset count }
+    requires paired { length values.now ≡ length ends.now }
+    requires fits { HasLength (form_of validity.now) (length values.now) }
+    ensures only { IsOkUnless result VortexError.OutOfMemory }
+    ensures cover { IfOk result (λ items. Covers items.items (map unsigned_abs (map E.number ends.now))
+        (blanked blank (optionals values.now (flags (form_of validity.now) (length values.now)))) offset count) }
+{
+    let mut rows = RunWriter::with_room(alloc, count)?;
+    for run in 0..ends.len() {
+        let item = stored_at(values, validity, run, blank);
+        rows.repeat_to(item, reach_of(ends, run, offset, count));
+    }
+    Ok(rows.finish())
+}
+
+// Whether each row that the runs show in the window is valid.
+fn decode_flags<E: UnsignedPType, A: Allocator + Copy>(
+    alloc: A,
+    ends: &[E],
+    validity: &Validity<A>,
+    offset: usize,
+    count: usize,
+) -> VortexResult<BitBufferMut<A>>
+    requires window { IsWindow (map unsigned_abs (map E.number ends.now)) offset count }
+    requires fits { HasLength (form_of validity.now) (length ends.now) }
+    ensures only { IsOkUnless result VortexError.OutOfMemory }
+    ensures cover { IfOk result (λ bits. Covers bits (map unsigned_abs (map E.number ends.now))
+        (flags (form_of validity.now) (length ends.now)) offset count) }
+{
+    let mut rows = BitBufferMut::with_capacity(alloc, count)?;
+    for run in 0..ends.len() {
+        let missing = reach_of(ends, run, offset, count).saturating_sub(rows.len());
+        rows.append_n(validity.is_valid(run), missing)?;
+    }
+    Ok(rows)
+}
+
+// The validity of the rows that the runs show in the window, of a type with null.
+fn decode_nullable<E: UnsignedPType, A: Allocator + Copy>(
+    alloc: A,
+    ends: &[E],
+    validity: &Validity<A>,
+    offset: usize,
+    count: usize,
+) -> VortexResult<Validity<A>>
+    requires window { IsWindow (map unsigned_abs (map E.number ends.now)) offset count }
+    requires fits { HasLength (form_of validity.now) (length ends.now) }
+    ensures only { IsOkUnless result VortexError.OutOfMemory }
+    ensures cover { IfOk result (λ rows. Covers (flags (form_of rows) count) (map unsigned_abs (map E.number ends.now))
+        (flags (form_of validity.now) (length ends.now)) offset count) }
+    ensures fits { IfOk result (λ rows. HasLength (form_of rows) count) }
+    ensures normal { IfOk result (λ rows. IsNormal (form_of rows)) }
+    ensures nullable { IfOk result (λ rows. nullability_in (form_of rows) ≡ Nullable) }
+    ensures some { IfOk result (λ rows. HasRowIfAllNull (form_of rows) count) }
+{
+    let bits = decode_flags(alloc, ends, validity, offset, count)?;
+    Ok(Validity::from_bits(bits.freeze()))
+}
+
+/// The validity of the rows that the runs show in the window. Where no run is null, no row is.
+/// Refused as `OutOfMemory` alone.
+pub fn decode_validity<E: UnsignedPType, A: Allocator + Copy>(
+    alloc: A,
+    ends: &[E],
+    validity: &Validity<A>,
+    offset: usize,
+    count: usize,
+) -> VortexResult<Validity<A>>
+    requires window { IsWindow (map unsigned_abs (map E.number ends.now)) offset count }
+    requires fits { HasLength (form_of validity.now) (length ends.now) }
+    ensures only { IsOkUnless result VortexError.OutOfMemory }
+    ensures cover { IfOk result (λ rows. Covers (flags (form_of rows) count) (map unsigned_abs (map E.number ends.now))
+        (flags (form_of validity.now) (length ends.now)) offset count) }
+    ensures fits { IfOk result (λ rows. HasLength (form_of rows) count) }
+    ensures normal { IfOk result (λ rows. IsNormal (form_of rows)) }
+    ensures nullability { IfOk result (λ rows. nullability_in (form_of rows) ≡ nullability_in (form_of validity.now)) }
+    ensures some { IfOk result (λ rows. HasRowIfAllNull (form_of rows) count) }
+{
+    match validity {
+        Validity::NonNullable => Ok(Validity::NonNullable),
+        Validity::AllValid => Ok(Validity::AllValid),
+        Validity::AllInvalid => decode_nullable(alloc, ends, validity, offset, count),
+        Validity::Bits(_) => decode_nullable(alloc, ends, validity, offset, count),
+    }
+}
+
+// The items and the validity of the rows that the runs show in the window.
+fn decode_under<E: UnsignedPType, T: Copy + Drop, A: Allocator + Copy>(
+    alloc: A,
+    ends: &[E],
+    values: &[T],
+    validity: &Validity<A>,
+    blank: T,
+    offset: usize,
+    count: usize,
+) -> VortexResult<(Vec<T, A>, Validity<A>)>
+    requires window { IsWindow (map unsigned_abs (map E.number ends.now)) offset count }
+    requires paired { length values.now ≡ length ends.now }
+    requires fits { HasLength (form_of validity.now) (length values.now) }
+    ensures only { IsOkUnless result VortexError.OutOfMemory }
+    ensures decoded { IfOk result (λ parts. AreDecoded blank (map unsigned_abs (map E.number ends.now)) values.now (form_of validity.now) offset count
+        parts.0.items (form_of parts.1)) }
+{
+    let items = decode_items(alloc, ends, values, validity, blank, offset, count)?;
+    let rows = decode_validity(alloc, ends, validity, offset, count)?;
+    Ok((items, rows))
+}
+
+/// The items and the validity of the rows that runs show, from row `offset` on, `count` many, with the
+/// blank item under null. Refused as `OutOfMemory` alone.
+pub fn decode_rows<T: Copy + Drop, A: Allocator + Copy>(
+    alloc: A,
+    ends: &PrimitiveArray<A>,
+    values: &[T],
+    validity: &Validity<A>,
+    blank: T,
+    offset: usize,
+    count: usize,
+) -> VortexResult<(Vec<T, A>, Validity<A>)>
+    requires plain { IsEndsType (primitive_dtype ends.now) }
+    requires window { IsWindow (ends_of ends.now) offset count }
+    requires paired { length values.now ≡ length ends.now.numbers }
+    requires fits { HasLength (form_of validity.now) (length values.now) }
+    ensures only { IsOkUnless result VortexError.OutOfMemory }
+    ensures decoded { IfOk result (λ parts. AreDecoded blank (ends_of ends.now) values.now (form_of validity.now) offset count
+        parts.0.items (form_of parts.1)) }
+{
+    match_each_unsigned!(ends.values(), items => decode_under(alloc, items.as_slice(), values, validity, blank, offset, count), _ => unreachable!())
+}
+
+fn decode_as<T: NativePType, A: Allocator + Copy>(
+    alloc: A,
+    ends: &PrimitiveArray<A>,
+    values: &[T],
+    validity: &Validity<A>,
+    offset: usize,
+    count: usize,
+) -> VortexResult<PrimitiveArray<A>>
+    requires plain { IsEndsType (primitive_dtype ends.now) }
+    requires window { IsWindow (ends_of ends.now) offset count }
+    requires paired { length values.now ≡ length ends.now.numbers }
+    requires fits { HasLength (form_of validity.now) (length values.now) }
+    ensures only { IsOkUnless result VortexError.OutOfMemory }
+    ensures flat { IfOk result (λ array. IsDecodedFlat (ends_of ends.now)
+        (primitive_with T.PTYPE (map T.number values.now) (form_of validity.now)) offset count array) }
+{
+    let zero = T::default();
+    let (items, rows) = decode_rows(alloc, ends, values, validity, zero, offset, count)?;
+    Ok(PrimitiveArray::new_unchecked(T::wrap(items), rows))
+}
+
+/// The rows that runs of whole numbers show, from row `offset` on, `count` many, as a flat column with
+/// 0 under null. Refused as `OutOfMemory` alone.
+pub fn decode_numbers<A: Allocator + Copy>(
+    alloc: A,
+    ends: &PrimitiveArray<A>,
+    values: &PrimitiveArray<A>,
+    offset: usize,
+    count: usize,
+) -> VortexResult<PrimitiveArray<A>>
+    requires plain { IsEndsType (primitive_dtype ends.now) }
+    requires window { IsWindow (ends_of ends.now) offset count }
+    requires paired { length values.now.numbers ≡ length ends.now.numbers }
+    ensures only { IsOkUnless result VortexError.OutOfMemory }
+    ensures flat { IfOk result (λ array. IsDecodedFlat (ends_of ends.now) values.now offset count array) }
+{
+    let validity = values.validity();
+    match_each_native!(values.values(), items => decode_as(alloc, ends, items.as_slice(), validity, offset, count))
+}

@@ -1,0 +1,131 @@
+//! The decoder over flat columns of any type.
+ghost use Rattle.std.specs.Prelude.{◌≡◌, ◌↔◌, IfOk, IsOkUnless, IsTrue, count_by, length};
+ghost use Rattle.column_base.specs.ValidityForm.{HasLength, flags};
+ghost use Rattle.column_core.specs.FlatColumn.{leaf_of};
+ghost use Rattle.column_core.specs.Leaf.{OfDecimals, OfVarBins, leaf_count, leaf_dtype, leaf_rows, leaf_validity};
+ghost use Rattle.column_core.specs.PrimitiveForm.{primitive_dtype};
+ghost use Rattle.runend_codec.specs.Window.{IsWindow};
+ghost use Rattle.runend_codec.specs.Ends.{IsEndsType, ends_of};
+ghost use Rattle.runend_codec.specs.Window.{run_rows};
+ghost use Rattle.runend_codec.specs.Encoding.{HasNullsAlone, IsDecodedLeaf};
+ghost use Rattle.column_core.specs.Leaf.{single_rows};
+
+use crate::decode::{decode_numbers, decode_rows};
+use crate::decode_bool::decode_truths;
+use column_core::{
+    DecimalArray, FlatColumn, PrimitiveArray, Validity, VarBinViewArray, View, VortexError,
+    VortexResult,
+};
+use std::alloc::Allocator;
+
+// The rows that runs of decimals show, 0 under null.
+fn decode_decimals<A: Allocator + Copy>(
+    alloc: A,
+    ends: &PrimitiveArray<A>,
+    values: &DecimalArray<A>,
+    offset: usize,
+    count: usize,
+) -> VortexResult<DecimalArray<A>>
+    requires plain { IsEndsType (primitive_dtype ends.now) }
+    requires window { IsWindow (ends_of ends.now) offset count }
+    requires paired { length values.now.numbers ≡ length ends.now.numbers }
+    ensures only { IsOkUnless result VortexError.OutOfMemory }
+    ensures flat { IfOk result (λ array. IsDecodedLeaf (ends_of ends.now) (OfDecimals values.now) offset count (OfDecimals array)) }
+{
+    let validity = values.validity();
+    let (numbers, rows) = decode_rows(alloc, ends, values.values(), validity, 0, offset, count)?;
+    Ok(DecimalArray::new_unchecked(numbers, values.decimal_dtype(), rows))
+}
+
+// The rows that runs of texts or bytes show, the view of nothing under null. The buffers are kept.
+fn decode_views<A: Allocator + Copy>(
+    alloc: A,
+    ends: &PrimitiveArray<A>,
+    values: VarBinViewArray<A>,
+    offset: usize,
+    count: usize,
+) -> VortexResult<VarBinViewArray<A>>
+    requires plain { IsEndsType (primitive_dtype ends.now) }
+    requires window { IsWindow (ends_of ends.now) offset count }
+    requires paired { length values.views ≡ length ends.now.numbers }
+    ensures only { IsOkUnless result VortexError.OutOfMemory }
+    ensures flat { IfOk result (λ array. IsDecodedLeaf (ends_of ends.now) (OfVarBins values) offset count (OfVarBins array)) }
+{
+    let (views, buffers, kind, validity) = values.into_parts();
+    let blank = View {
+        buffer: 0,
+        start: 0,
+        size: 0,
+    };
+    let (rows_views, rows) = decode_rows(
+        alloc,
+        ends,
+        views.as_slice(),
+        &validity,
+        blank,
+        offset,
+        count,
+    )?;
+    Ok(VarBinViewArray::new_unchecked(rows_views, buffers, kind, rows))
+}
+
+/// The rows that runs show, from row `offset` on, `count` many, as a flat column with 0, false or the
+/// view of nothing under null. Refused as `OutOfMemory` alone.
+pub fn decode_flat<A: Allocator + Copy>(
+    alloc: A,
+    ends: &PrimitiveArray<A>,
+    values: FlatColumn<A>,
+    offset: usize,
+    count: usize,
+) -> VortexResult<FlatColumn<A>>
+    requires plain { IsEndsType (primitive_dtype ends.now) }
+    requires window { IsWindow (ends_of ends.now) offset count }
+    requires paired { length (leaf_rows (leaf_of values)) ≡ length ends.now.numbers }
+    ensures only { IsOkUnless result VortexError.OutOfMemory }
+    ensures flat { IfOk result (λ array. IsDecodedLeaf (ends_of ends.now) (leaf_of values) offset count (leaf_of array)) }
+{
+    match values {
+        FlatColumn::Primitive(values) => {
+            prove_eq!(values.len(), ends.len());
+            let array = decode_numbers(alloc, ends, &values, offset, count)?;
+            Ok(FlatColumn::Primitive(array))
+        }
+        FlatColumn::Bool(values) => {
+            prove_eq!(values.len(), ends.len());
+            let array = decode_truths(alloc, ends, &values, offset, count)?;
+            Ok(FlatColumn::Bool(array))
+        }
+        FlatColumn::Decimal(values) => {
+            prove_eq!(values.len(), ends.len());
+            let array = decode_decimals(alloc, ends, &values, offset, count)?;
+            Ok(FlatColumn::Decimal(array))
+        }
+        FlatColumn::VarBinView(values) => {
+            prove_eq!(values.len(), ends.len());
+            let array = decode_views(alloc, ends, values, offset, count)?;
+            Ok(FlatColumn::VarBinView(array))
+        }
+    }
+}
+
+// How many rows are valid.
+fn valid_count<A: Allocator>(array: &FlatColumn<A>) -> usize
+    ensures count { result ≡ count_by (λ flag. flag) (flags (leaf_validity (leaf_of array.now)) (leaf_count (leaf_of array.now))) }
+    ensures fits { HasLength (leaf_validity (leaf_of array.now)) (leaf_count (leaf_of array.now)) }
+    ensures rows { length (leaf_rows (leaf_of array.now)) ≡ leaf_count (leaf_of array.now) }
+{
+    match array.validity() {
+        Validity::NonNullable => array.len(),
+        Validity::AllValid => array.len(),
+        Validity::AllInvalid => 0,
+        Validity::Bits(bits) => bits.true_count(),
+    }
+}
+
+/// Is there a row, and is each row null?
+pub fn has_nulls_alone<A: Allocator>(values: &FlatColumn<A>) -> bool
+    ensures nulls { IsTrue result ↔ HasNullsAlone (single_rows (leaf_of values.now)) }
+    ensures fits { HasLength (leaf_validity (leaf_of values.now)) (leaf_count (leaf_of values.now)) }
+{
+    valid_count(values) == 0 && values.len() != 0
+}

@@ -1,0 +1,4 @@
+pub mod Chains
+pub mod KeptArrays
+pub mod TightColumns
+pub mod Agreement

@@ -1,0 +1,20 @@
+-- What the function of one command may come to.
+use Rattle.std.specs.Prelude.{Result, Ok, Err}
+use Rattle.column_base.specs.declared.error.VortexError.{VortexError}
+use Rattle.column_core.specs.Refusal.{IsErrorFor}
+use Rattle.runend_array.specs.SessionForm.{SessionForm}
+use Rattle.runend_array.specs.declared.array_ref.ArrayRef.{ArrayRef}
+use Rattle.runend_commands.specs.declared.command.Command.{Command}
+use Rattle.runend_commands.specs.declared.command.Answer.TheVariants.{Done, Refused}
+use Rattle.runend_commands.specs.declared.steps.Outcome.{Outcome}
+use Rattle.runend_commands.specs.declared.steps.Outcome.TheVariants.{Becomes, Answers}
+use Rattle.runend_commands.specs.Refusal.{refusal}
+use Rattle.runend_commands.specs.Meaning.{plain}
+use Rattle.runend_commands.specs.Step.{IsDone}
+use Rattle.runend_commands.specs.KernelForms.{LeavesByKernel}
+
+-- the command may come to this: to an array in the place of the one before, to an answer beside it, or to a refusal
+abbrev pub IsOutcome : {A : Type 0} → SessionForm → ArrayRef A → Command → Result (Outcome A) VortexError → Type 0
+IsOutcome session before command (Ok (Becomes after)) = IsDone before command Done after × LeavesByKernel session before command Done after
+IsOutcome session before command (Ok (Answers answer)) = IsDone before command answer before × LeavesByKernel session before command answer before
+IsOutcome session before command (Err error) = IsErrorFor (refusal (plain before) command) error × LeavesByKernel session before command (Refused error) before

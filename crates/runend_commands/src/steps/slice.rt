@@ -1,0 +1,53 @@
+//! The command Slice.
+ghost use Rattle.std.specs.Prelude.{◌≡◌, length, slice_range, IfOk};
+ghost use Rattle.column_core.specs.Refusal.{range_fault, IsRefusedBy};
+ghost use Rattle.runend_array.specs.Array.{column_of, dtype_of, rows};
+ghost use Rattle.runend_array.specs.declared.session.Kernel.TheVariants.{Slice as slice_kernel};
+ghost use Rattle.runend_compute.specs.SliceForm.{IsSliceForm};
+ghost use Rattle.runend_commands.specs.KernelForms.{HasKernel, OnRuns};
+ghost use Rattle.runend_commands.specs.Outcomes.{IsOutcome};
+ghost use Rattle.runend_commands.specs.Parts.{IsPlainPart};
+ghost use Rattle.runend_commands.specs.declared.command.Command.TheVariants.{Slice};
+
+use crate::steps::Outcome;
+use crate::steps::kernel_runs::runs_for;
+use crate::steps::part::part_of;
+use column_core::VortexResult;
+use runend_array::{ArrayRef, ExecutionCtx, Kernel};
+use runend_compute::slice;
+use std::alloc::Allocator;
+use std::ops::Range;
+
+/// The rows of the range.
+pub fn slice_column<A: Allocator + Copy>(
+    column: &ArrayRef<A>,
+    range: &Range<usize>,
+    ctx: &mut ExecutionCtx<A>,
+) -> VortexResult<Outcome<A>>
+    ensures outcome { IsOutcome ctx.old column.now (Slice range.now) result }
+    ensures session { ctx.new ≡ ctx.old }
+{
+    let part = rows_between(column, range.start..range.end, ctx)?;
+    Ok(Outcome::Becomes(part))
+}
+
+// The rows of the range, cut by the kernel where it serves the column.
+fn rows_between<A: Allocator + Copy>(
+    column: &ArrayRef<A>,
+    range: Range<usize>,
+    ctx: &mut ExecutionCtx<A>,
+) -> VortexResult<ArrayRef<A>>
+    ensures refused { IsRefusedBy (range_fault range.start range.end (length (rows column.now))) result }
+    ensures rows { IfOk result (λ part. rows part ≡ slice_range (rows column.now) range.start range.end) }
+    ensures dtype { IfOk result (λ part. dtype_of part ≡ dtype_of column.now) }
+    ensures kernel { HasKernel ctx.old slice_kernel (column_of column.now) → OnRuns (column_of column.now)
+        (λ runs. IfOk result (λ part. IsSliceForm runs range.start range.end (column_of part))) }
+    ensures otherwise { ¬ HasKernel ctx.old slice_kernel (column_of column.now)
+        → IfOk result (λ part. IsPlainPart (column_of column.now) range.start range.end (column_of part)) }
+    ensures session { ctx.new ≡ ctx.old }
+{
+    match runs_for(column, Kernel::Slice, ctx) {
+        Some(runs) => slice(runs, range, ctx),
+        None => part_of(column, range, ctx),
+    }
+}

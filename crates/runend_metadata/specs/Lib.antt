@@ -1,0 +1,6 @@
+pub mod Spelling
+pub mod Varint
+pub mod EndsType
+pub mod Fields
+pub mod Written
+pub mod Laws

@@ -1,0 +1,18 @@
+-- Varints: a number as bytes of seven bits each, the lowest first.
+use Rattle.std.specs.Prelude.{◌≡◌, ℕ, ◌+◌, ◌*◌, ◌^◌, ◌<◌, ◌≤◌, ◌⊎◌, List, [], ◌∷◌, length}
+
+-- a byte below 128 stands for itself; a byte 128 + low, and then bytes that stand for high, stand for low + 128 * high
+abbrev pub StandsFor : List ℕ → ℕ → Type 0
+StandsFor [] n = ⊥
+StandsFor (byte ∷ bytes) n = ((byte < 128) × (bytes ≡ []) × (n ≡ byte)) ⊎ ((low : ℕ) × (high : ℕ) × (low < 128) × (byte ≡ 128 + low) × (n ≡ low + 128 * high) × StandsFor bytes high)
+
+-- a varint: one to ten bytes that stand for a number of 64 bits
+pub record IsVarint (bytes : List ℕ) (n : ℕ) : Type 0 where
+  pub stands : StandsFor bytes n
+  pub short : length bytes ≤ 10
+  pub fits : n < 2 ^ 64
+
+-- a varint of the number, and none of it is shorter
+pub record IsShortestVarint (bytes : List ℕ) (n : ℕ) : Type 0 where
+  pub varint : IsVarint bytes n
+  pub shortest : (other : List ℕ) → IsVarint other n → length bytes ≤ length other

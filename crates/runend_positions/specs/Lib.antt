@@ -1,0 +1,4 @@
+pub mod Indices
+pub mod Placed
+pub mod Pick
+pub mod Laws

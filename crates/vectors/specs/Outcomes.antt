@@ -1,0 +1,11 @@
+-- What is left of columns by a call.
+use Rattle.vectors.specs.declared.calls.Reply.{Reply}
+use Rattle.vectors.specs.declared.calls.Reply.TheVariants.{Done, Refused, NoRoom, Says, Bad}
+
+-- the call was not made, or was refused
+abbrev pub ChangesNothing : {A : Type 0} → Reply A → Type 0
+ChangesNothing Done = ⊥
+ChangesNothing (Refused error) = Unit {0}
+ChangesNothing NoRoom = Unit {0}
+ChangesNothing (Says text) = ⊥
+ChangesNothing Bad = Unit {0}

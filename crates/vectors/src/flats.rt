@@ -1,0 +1,430 @@
+//! Flat columns of the values that words write.
+use crate::types::{dtype_of, single_of};
+use crate::values::{NULL_ROW, Row, Value, bytes_of, read_bits, read_elements, read_row, text_of};
+use bytes::Bytes;
+use column_base::VortexResult;
+use std::alloc::Allocator;
+use std::rc::Rc;
+use vortex_runend::{
+    ArrayRef, BitBuffer, BitBufferMut, BoolArray, DType, DecimalArray, DecimalDType, ElementDType,
+    ExecutionCtx, FlatColumn, ListViewArray, NativePType, Nullability, PType, PrimitiveArray,
+    PrimitiveValues, RowValidity, Scalar, ScalarValue, Validity, VarBinKind, VarBinViewArray, View,
+};
+
+/// The rows that the words write, or `None` where a word writes none.
+pub fn read_rows<'a, A: Allocator + Copy>(
+    alloc: A,
+    words: &[&'a str],
+) -> VortexResult<Option<Vec<Row<'a>, A>>> {
+    let mut rows = Vec::new(alloc);
+    for word in words {
+        let Some(row) = read_row(word) else {
+            return Ok(None);
+        };
+        rows.push(row)?;
+    }
+    Ok(Some(rows))
+}
+
+/// The flat column of these rows, with the validity made from its bits, or `None` where a row is none
+/// of the type.
+pub fn flat_column<A: Allocator + Copy>(
+    dtype: DType,
+    words: &[&str],
+    ctx: &mut ExecutionCtx<A>,
+) -> VortexResult<Option<ArrayRef<A>>> {
+    let alloc = *ctx.allocator();
+    let Some(rows) = read_rows(alloc, words)? else {
+        return Ok(None);
+    };
+    if let DType::List(element, nullability) = dtype {
+        return lists_of_rows(element, nullability, rows.as_slice(), ctx);
+    }
+    let Some(element) = single_of(dtype) else {
+        return Ok(None);
+    };
+    let flat = column_of_rows(alloc, element, dtype.nullability(), rows.as_slice())?;
+    Ok(flat.map(array_of))
+}
+
+/// The flat column of what the words store, with this validity, or `None` where the validity is none
+/// of the type, or a word is no stored whole number, decimal or truth value of it. Refused as
+/// `try_new` is.
+pub fn raw_column<A: Allocator + Copy>(
+    alloc: A,
+    dtype: DType,
+    validity: Validity<A>,
+    words: &[&str],
+) -> VortexResult<Option<ArrayRef<A>>> {
+    if validity.nullability() != dtype.nullability() {
+        return Ok(None);
+    }
+    let Some(element) = single_of(dtype) else {
+        return Ok(None);
+    };
+    if let ElementDType::Utf8(_) | ElementDType::Binary(_) = element {
+        return Ok(None);
+    }
+    let Some(rows) = read_rows(alloc, words)? else {
+        return Ok(None);
+    };
+    if rows.iter().any(|row| !row.valid) {
+        return Ok(None);
+    }
+    let flat = stored_column(alloc, element, rows.as_slice(), validity)?;
+    Ok(flat.map(array_of))
+}
+
+/// So many rows that are null by a validity which says that all are, or `None` for a type without null
+/// and for lists.
+pub fn invalid_column<A: Allocator + Copy>(
+    alloc: A,
+    dtype: DType,
+    count: usize,
+) -> VortexResult<Option<ArrayRef<A>>> {
+    let Some(element) = single_of(dtype) else {
+        return Ok(None);
+    };
+    if dtype.nullability() == Nullability::NonNullable {
+        return Ok(None);
+    }
+    let rows = vec![in alloc; NULL_ROW; count]?;
+    let flat = stored_column(alloc, element, rows.as_slice(), Validity::AllInvalid)?;
+    Ok(flat.map(array_of))
+}
+
+/// The scalar of a value, or `None` where the value is one that no scalar has. Refused as
+/// `Scalar::try_new` is.
+pub fn scalar_of<A: Allocator + Copy>(
+    alloc: A,
+    dtype: DType,
+    value: Value<'_>,
+) -> VortexResult<Option<Scalar<A>>> {
+    let value = match value {
+        Value::Null => None,
+        Value::Truth(truth) => Some(ScalarValue::Bool(truth)),
+        Value::Number(number) => Some(number_value(dtype, number)),
+        Value::Text(quoted) => match text_of(alloc, quoted)? {
+            Some(text) => Some(ScalarValue::Utf8(text)),
+            None => return Ok(None),
+        },
+        Value::Bytes(digits) => match bytes_of(alloc, digits)? {
+            Some(bytes) => Some(ScalarValue::Binary(bytes)),
+            None => return Ok(None),
+        },
+        Value::List(_) => return Ok(None),
+    };
+    Ok(Some(Scalar::try_new(dtype, value)?))
+}
+
+// The number as a value of the type, else as one of whichever type has it.
+fn number_value<A: Allocator + Copy>(dtype: DType, number: i128) -> ScalarValue<A> {
+    match dtype {
+        DType::Decimal(_, _) => ScalarValue::Decimal(number),
+        DType::Primitive(ptype, _) if !ptype.is_unsigned_int() => match i64::narrow(number) {
+            Some(signed) => ScalarValue::Signed(signed),
+            None => ScalarValue::Decimal(number),
+        },
+        _ => match u64::narrow(number) {
+            Some(unsigned) => ScalarValue::Unsigned(unsigned),
+            None => ScalarValue::Decimal(number),
+        },
+    }
+}
+
+/// The bits of a word of 0 and 1, where `-` is none.
+pub fn bits_of_word<A: Allocator + Copy>(
+    alloc: A,
+    word: &str,
+) -> VortexResult<Option<BitBuffer<A>>> {
+    let Some(digits) = read_bits(word) else {
+        return Ok(None);
+    };
+    let mut bits = BitBufferMut::with_capacity(alloc, digits.len())?;
+    for digit in digits {
+        bits.append(*digit == b'1')?;
+    }
+    Ok(Some(bits.freeze()))
+}
+
+/// A flat column as an array.
+pub fn array_of<A: Allocator>(flat: FlatColumn<A>) -> ArrayRef<A> {
+    match flat {
+        FlatColumn::Primitive(array) => ArrayRef::Primitive(array),
+        FlatColumn::Bool(array) => ArrayRef::Bool(array),
+        FlatColumn::Decimal(array) => ArrayRef::Decimal(array),
+        FlatColumn::VarBinView(array) => ArrayRef::VarBinView(array),
+    }
+}
+
+/// The flat column that an array is, unless it is in another form.
+pub fn flat_of<A: Allocator>(array: ArrayRef<A>) -> Option<FlatColumn<A>> {
+    match array {
+        ArrayRef::Primitive(array) => Some(FlatColumn::Primitive(array)),
+        ArrayRef::Bool(array) => Some(FlatColumn::Bool(array)),
+        ArrayRef::Decimal(array) => Some(FlatColumn::Decimal(array)),
+        ArrayRef::VarBinView(array) => Some(FlatColumn::VarBinView(array)),
+        ArrayRef::ListView(_) | ArrayRef::Constant(_) | ArrayRef::RunEnd(_) => None,
+    }
+}
+
+// The validity of the rows, made from its bits, or `None` for null in a type without.
+fn validity_of<A: Allocator + Copy>(
+    alloc: A,
+    nullability: Nullability,
+    rows: &[Row<'_>],
+) -> VortexResult<Option<Validity<A>>> {
+    let mut valid = BitBufferMut::with_capacity(alloc, rows.len())?;
+    for row in rows {
+        valid.append(row.valid)?;
+    }
+    let bits = valid.freeze();
+    match nullability {
+        Nullability::Nullable => Ok(Some(Validity::from_bits(bits))),
+        Nullability::NonNullable if bits.true_count() == rows.len() => {
+            Ok(Some(Validity::NonNullable))
+        }
+        Nullability::NonNullable => Ok(None),
+    }
+}
+
+// The flat column of these rows.
+fn column_of_rows<A: Allocator + Copy>(
+    alloc: A,
+    element: ElementDType,
+    nullability: Nullability,
+    rows: &[Row<'_>],
+) -> VortexResult<Option<FlatColumn<A>>> {
+    match validity_of(alloc, nullability, rows)? {
+        Some(validity) => stored_column(alloc, element, rows, validity),
+        None => Ok(None),
+    }
+}
+
+// The flat column of what the rows store, with this validity.
+fn stored_column<A: Allocator + Copy>(
+    alloc: A,
+    element: ElementDType,
+    rows: &[Row<'_>],
+    validity: Validity<A>,
+) -> VortexResult<Option<FlatColumn<A>>> {
+    match element {
+        ElementDType::Bool(_) => truths_of(alloc, rows, validity),
+        ElementDType::Primitive(ptype, _) => numbers_of(alloc, ptype, rows, validity),
+        ElementDType::Decimal(decimal, _) => decimals_of(alloc, decimal, rows, validity),
+        ElementDType::Utf8(_) => views_of(alloc, VarBinKind::Utf8, rows, validity),
+        ElementDType::Binary(_) => views_of(alloc, VarBinKind::Binary, rows, validity),
+    }
+}
+
+fn truths_of<A: Allocator + Copy>(
+    alloc: A,
+    rows: &[Row<'_>],
+    validity: Validity<A>,
+) -> VortexResult<Option<FlatColumn<A>>> {
+    let mut bits = BitBufferMut::with_capacity(alloc, rows.len())?;
+    for row in rows {
+        match (row.valid, row.value) {
+            (_, Value::Truth(truth)) => bits.append(truth)?,
+            (false, Value::Null) => bits.append(false)?,
+            _ => return Ok(None),
+        }
+    }
+    let array = BoolArray::try_new(bits.freeze(), validity)?;
+    Ok(Some(FlatColumn::Bool(array)))
+}
+
+fn numbers_of<A: Allocator + Copy>(
+    alloc: A,
+    ptype: PType,
+    rows: &[Row<'_>],
+    validity: Validity<A>,
+) -> VortexResult<Option<FlatColumn<A>>> {
+    let values = match ptype {
+        PType::U8 => natives_of::<u8, A>(alloc, rows)?,
+        PType::U16 => natives_of::<u16, A>(alloc, rows)?,
+        PType::U32 => natives_of::<u32, A>(alloc, rows)?,
+        PType::U64 => natives_of::<u64, A>(alloc, rows)?,
+        PType::I8 => natives_of::<i8, A>(alloc, rows)?,
+        PType::I16 => natives_of::<i16, A>(alloc, rows)?,
+        PType::I32 => natives_of::<i32, A>(alloc, rows)?,
+        PType::I64 => natives_of::<i64, A>(alloc, rows)?,
+    };
+    let Some(values) = values else {
+        return Ok(None);
+    };
+    let array = PrimitiveArray::try_new(values, validity)?;
+    Ok(Some(FlatColumn::Primitive(array)))
+}
+
+fn natives_of<T: NativePType, A: Allocator + Copy>(
+    alloc: A,
+    rows: &[Row<'_>],
+) -> VortexResult<Option<PrimitiveValues<A>>> {
+    let mut items = Vec::new(alloc);
+    for row in rows {
+        let Some(number) = stored_number(*row) else {
+            return Ok(None);
+        };
+        match T::narrow(number) {
+            Some(item) => items.push(item)?,
+            None => return Ok(None),
+        }
+    }
+    Ok(Some(T::wrap(items)))
+}
+
+fn decimals_of<A: Allocator + Copy>(
+    alloc: A,
+    decimal: DecimalDType,
+    rows: &[Row<'_>],
+    validity: Validity<A>,
+) -> VortexResult<Option<FlatColumn<A>>> {
+    let mut numbers = Vec::new(alloc);
+    for row in rows {
+        match stored_number(*row) {
+            Some(number) => numbers.push(number)?,
+            None => return Ok(None),
+        }
+    }
+    let array = DecimalArray::try_new(numbers, decimal, validity)?;
+    Ok(Some(FlatColumn::Decimal(array)))
+}
+
+// The number that a row of numbers stores.
+fn stored_number(row: Row<'_>) -> Option<i128> {
+    match (row.valid, row.value) {
+        (_, Value::Number(number)) => Some(number),
+        (false, Value::Null) => Some(0),
+        _ => None,
+    }
+}
+
+// Texts or bytes that lie one behind the other in one buffer.
+fn views_of<A: Allocator + Copy>(
+    alloc: A,
+    kind: VarBinKind,
+    rows: &[Row<'_>],
+    validity: Validity<A>,
+) -> VortexResult<Option<FlatColumn<A>>> {
+    let mut views = Vec::new(alloc);
+    let mut bytes = Vec::new(alloc);
+    for row in rows {
+        match push_view(alloc, kind, *row, &mut bytes)? {
+            Some(view) => views.push(view)?,
+            None => return Ok(None),
+        }
+    }
+    let mut buffers = Vec::new(alloc);
+    buffers.push(Bytes::copy_from_slice(alloc, &bytes)?)?;
+    let array = VarBinViewArray::try_new(views, buffers, kind, validity)?;
+    Ok(Some(FlatColumn::VarBinView(array)))
+}
+
+// Puts the text or the bytes of the row behind the buffer, and answers their view.
+fn push_view<A: Allocator + Copy>(
+    alloc: A,
+    kind: VarBinKind,
+    row: Row<'_>,
+    buffer: &mut Vec<u8, A>,
+) -> VortexResult<Option<View>> {
+    let start = buffer.len();
+    match (kind, row.value) {
+        (_, Value::Null) if !row.valid => return Ok(Some(View::default())),
+        (VarBinKind::Utf8, Value::Text(quoted)) => match text_of(alloc, quoted)? {
+            Some(text) => buffer.extend_from_slice(text.as_bytes())?,
+            None => return Ok(None),
+        },
+        (VarBinKind::Binary, Value::Bytes(digits)) => match bytes_of(alloc, digits)? {
+            Some(bytes) => buffer.extend_from_slice(&bytes)?,
+            None => return Ok(None),
+        },
+        _ => return Ok(None),
+    }
+    Ok(Some(View {
+        buffer: 0,
+        start,
+        size: buffer.len().saturating_sub(start),
+    }))
+}
+
+// What the parts of a column of lists are made from.
+#[derive(Drop)]
+struct Listed<'a, A: Allocator> {
+    elements: Vec<Row<'a>, A>,
+    offsets: Vec<u64, A>,
+    sizes: Vec<u64, A>,
+}
+
+// The lists of these rows, over elements that lie one behind the other.
+fn lists_of_rows<A: Allocator + Copy>(
+    element: ElementDType,
+    nullability: Nullability,
+    rows: &[Row<'_>],
+    ctx: &mut ExecutionCtx<A>,
+) -> VortexResult<Option<ArrayRef<A>>> {
+    let alloc = *ctx.allocator();
+    let Some(validity) = validity_of(alloc, nullability, rows)? else {
+        return Ok(None);
+    };
+    let Some(listed) = listed_rows(alloc, rows)? else {
+        return Ok(None);
+    };
+    let flags = dtype_of(element).nullability();
+    let Some(elements) = column_of_rows(alloc, element, flags, listed.elements.as_slice())? else {
+        return Ok(None);
+    };
+    let lists = ListViewArray::try_new(
+        Rc::new(alloc, elements)?,
+        indices_of(listed.offsets)?,
+        indices_of(listed.sizes)?,
+        row_validity(validity),
+        ctx,
+    )?;
+    Ok(Some(ArrayRef::ListView(Box::new(alloc, lists)?)))
+}
+
+// The elements of all rows, and where those of each row lie.
+fn listed_rows<'a, A: Allocator + Copy>(
+    alloc: A,
+    rows: &[Row<'a>],
+) -> VortexResult<Option<Listed<'a, A>>> {
+    let mut elements = Vec::new(alloc);
+    let mut offsets = Vec::new(alloc);
+    let mut sizes = Vec::new(alloc);
+    for row in rows {
+        let start = elements.len();
+        match (row.valid, row.value) {
+            (true, Value::List(listed)) => {
+                if !read_elements(listed, &mut elements)? {
+                    return Ok(None);
+                }
+            }
+            (false, Value::Null) => {}
+            _ => return Ok(None),
+        }
+        offsets.push(start as u64)?;
+        sizes.push(elements.len().saturating_sub(start) as u64)?;
+    }
+    Ok(Some(Listed {
+        elements,
+        offsets,
+        sizes,
+    }))
+}
+
+// A flat column of these numbers, for offsets and sizes.
+fn indices_of<A: Allocator + Copy>(numbers: Vec<u64, A>) -> VortexResult<ArrayRef<A>> {
+    let array = PrimitiveArray::try_new(PrimitiveValues::U64(numbers), Validity::NonNullable)?;
+    Ok(ArrayRef::Primitive(array))
+}
+
+/// A validity as one that may also be told by runs.
+pub fn row_validity<A: Allocator>(validity: Validity<A>) -> RowValidity<A> {
+    match validity {
+        Validity::NonNullable => RowValidity::NonNullable,
+        Validity::AllValid => RowValidity::AllValid,
+        Validity::AllInvalid => RowValidity::AllInvalid,
+        Validity::Bits(bits) => RowValidity::Bits(bits),
+    }
+}

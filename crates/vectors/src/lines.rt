@@ -1,0 +1,260 @@
+//! The lines of a file of vectors: what each asks, and whether the answer is the expected one.
+ghost use Rattle.std.specs.Prelude.{◌≡◌, ◌≢◌, ◌++◌, ◌↔◌, IfOk, OnOk, OnErr, IsOkUnless};
+ghost use Rattle.std.specs.String.{string_bytes};
+ghost use Rattle.vectors.specs.Lines.{one_more, difference};
+ghost use Rattle.vectors.specs.Outcomes.{ChangesNothing};
+
+use crate::bench::{Bench, Heap};
+use crate::calls::{Outcome, Reply};
+use crate::columns::Columns;
+use crate::flats::{flat_column, invalid_column, raw_column, scalar_of};
+use crate::prepare::{prepare, read_validity};
+use crate::printer::{push_dtype, push_form, push_refusal, push_rows, push_stored};
+use crate::reader::{self, Look, Plain, Request, read_request};
+use crate::refuse::{Found, refused_in_turn};
+use crate::session::{crate_thresholds, set_kernels, set_thresholds};
+use column_base::VortexResult;
+use std::alloc::Allocator;
+use vortex_runend::{ArrayRef, ConstantArray, ExecutionCtx, RunEndArraySlotsExt, VortexError};
+
+/// What parts a request from its expected answer.
+const ARROW: &str = " => ";
+
+/// What is printed of the lines.
+#[derive(Drop)]
+pub struct Report<A: Allocator> {
+    /// The lines whose answer is another one, and how many are.
+    pub text: String<A>,
+    /// How many lines are answered as is expected.
+    pub agree: usize,
+    /// How many are not.
+    pub differ: usize,
+}
+
+/// Runs all lines, and reports which of them are not answered as they expect.
+pub fn run_lines<'a>(text: &str, bench: &mut Bench<'a>) -> VortexResult<Report<Heap<'a>>>
+    ensures only { IsOkUnless result VortexError.OutOfMemory }
+{
+    let ample = *bench.ctx.allocator();
+    let mut report = Report {
+        text: String::new(ample),
+        agree: 0,
+        differ: 0,
+    };
+    for (index, line) in text.lines().enumerate() {
+        if line.is_empty() || line.starts_with('#') {
+            continue;
+        }
+        let (request, expected) = line.split_once(ARROW).unwrap_or((line, "ok"));
+        let answer = bench.answer(request)?;
+        report.count(index.saturating_add(1), expected, answer.as_str())?;
+    }
+    let (agree, differ) = (report.agree, report.differ);
+    writeln!(report.text, "{agree} agree, {differ} differ")?;
+    Ok(report)
+}
+
+impl<A: Allocator + Copy> Report<A> {
+    // Counts the line of this number, and reports it where its answer is another than expected.
+    fn count(&mut self, number: usize, expected: &str, answer: &str) -> VortexResult<()>
+        ensures only { IsOkUnless result VortexError.OutOfMemory }
+        ensures agrees { answer.now ≡ expected.now → (self.new.agree ≡ one_more self.old.agree) × (self.new.differ ≡ self.old.differ) }
+        ensures differs { answer.now ≢ expected.now → (self.new.agree ≡ self.old.agree) × (self.new.differ ≡ one_more self.old.differ) }
+        ensures silent { answer.now ≡ expected.now → string_bytes self.new.text ≡ string_bytes self.old.text }
+        ensures reported { answer.now ≢ expected.now → OnOk result (string_bytes self.new.text ≡ string_bytes self.old.text ++ difference number answer.now) }
+    {
+        if answer == expected {
+            self.agree = self.agree.saturating_add(1);
+            return Ok(());
+        }
+        self.differ = self.differ.saturating_add(1);
+        writeln!(self.text, "line {number}: got {answer}")?;
+        Ok(())
+    }
+
+    /// The exit status: 0 where each line is answered as it expects, else 1.
+    pub fn status(&self) -> u8
+        ensures agrees { result ≡ 0 ↔ (self.now.differ ≡ 0) }
+        ensures differs { self.now.differ ≢ 0 → result ≡ 1 }
+    {
+        if self.differ == 0 { 0 } else { 1 }
+    }
+}
+
+impl<'a> Bench<'a> {
+    // The answer to a request, which has its effect.
+    fn answer(&mut self, request: &str) -> VortexResult<String<Heap<'a>>>
+        ensures only { IsOkUnless result VortexError.OutOfMemory }
+    {
+        let ample = *self.ctx.allocator();
+        let words: Vec<&str, Heap<'a>> = request.split(' ').collect(ample)?;
+        let reply = match read_request(words.as_slice()) {
+            Some(request) => self.reply(request),
+            None => Ok(Reply::Bad),
+        };
+        match reply {
+            Ok(reply) => reply_text(ample, reply),
+            Err(VortexError::OutOfMemory) => Err(VortexError::OutOfMemory),
+            Err(error) => reply_text(ample, Reply::Refused(error)),
+        }
+    }
+
+    fn reply(&mut self, request: Request<'_>) -> VortexResult<Reply<Heap<'a>>> {
+        let columns = &mut self.columns;
+        let ctx = &mut self.ctx;
+        match request {
+            Request::Make(name, plain) => make(name, plain, columns, ctx),
+            Request::Call(name, call) => settle(name, call, columns, ctx),
+            Request::Refuse(name, call) => self.refuse(name, call),
+            Request::Look(name, look) => match columns.get(name) {
+                Some(column) => looked_at(*ctx.allocator(), column, look),
+                None => Ok(Reply::Bad),
+            },
+            Request::Kernels(kernels) => {
+                set_kernels(kernels, ctx);
+                Ok(Reply::Done)
+            }
+            Request::Thresholds(thresholds) => {
+                set_thresholds(thresholds, ctx);
+                Ok(Reply::Done)
+            }
+            Request::CrateThresholds => {
+                set_thresholds(crate_thresholds(), ctx);
+                Ok(Reply::Done)
+            }
+        }
+    }
+
+    // Makes the call with memory refused in turn, and then with ample memory.
+    fn refuse(&mut self, name: &str, call: reader::Call<'_>) -> VortexResult<Reply<Heap<'a>>> {
+        let ample = *self.ctx.allocator();
+        let suffix = match refused_in_turn(name, call, self)? {
+            Some(Found::Memory) => " memory",
+            Some(Found::Nothing) => " none",
+            Some(Found::Broken(request)) => {
+                return Ok(Reply::Says(format!(in ample; "broken at {request}")?));
+            }
+            None => return Ok(Reply::Bad),
+        };
+        let reply = settle(name, call, &mut self.columns, &mut self.ctx)?;
+        let mut text = reply_text(ample, reply)?;
+        text.push_str(suffix)?;
+        Ok(Reply::Says(text))
+    }
+}
+
+/// The text of a reply.
+pub fn reply_text<A: Allocator + Copy>(alloc: A, reply: Reply<A>) -> VortexResult<String<A>>
+    ensures only { IsOkUnless result VortexError.OutOfMemory }
+{
+    let mut text = String::new(alloc);
+    match reply {
+        Reply::Done => text.push_str("ok")?,
+        Reply::Refused(error) => push_refusal(&mut text, error)?,
+        Reply::NoRoom => push_refusal(&mut text, VortexError::OutOfMemory)?,
+        Reply::Says(said) => return Ok(said),
+        Reply::Bad => text.push_str("bad line")?,
+    }
+    Ok(text)
+}
+
+// Makes a column of values, or of a part of another column.
+fn make<A: Allocator + Copy>(
+    name: &str,
+    plain: Plain<'_>,
+    columns: &mut Columns<A>,
+    ctx: &mut ExecutionCtx<A>,
+) -> VortexResult<Reply<A>> {
+    match made(plain, columns, ctx)? {
+        Some(column) => {
+            columns.put(name, column)?;
+            Ok(Reply::Done)
+        }
+        None => Ok(Reply::Bad),
+    }
+}
+
+fn made<A: Allocator + Copy>(
+    plain: Plain<'_>,
+    columns: &Columns<A>,
+    ctx: &mut ExecutionCtx<A>,
+) -> VortexResult<Option<ArrayRef<A>>> {
+    let alloc = *ctx.allocator();
+    match plain {
+        Plain::Flat(dtype, words) => flat_column(dtype, words, ctx),
+        Plain::Raw(dtype, validity, words) => match read_validity(alloc, validity)? {
+            Some(validity) => raw_column(alloc, dtype, validity, words),
+            None => Ok(None),
+        },
+        Plain::Invalid(dtype, count) => invalid_column(alloc, dtype, count),
+        Plain::Constant(dtype, value, count) => Ok(scalar_of(alloc, dtype, value)?.map(
+            |scalar| ArrayRef::Constant(ConstantArray::new(scalar, count)),
+        )),
+        Plain::Ends(name) => match columns.get(name) {
+            Some(ArrayRef::RunEnd(runs)) => Ok(Some(runs.ends().try_clone(ctx)?)),
+            _ => Ok(None),
+        },
+        Plain::Values(name) => match columns.get(name) {
+            Some(ArrayRef::RunEnd(runs)) => Ok(Some(runs.values().try_clone(ctx)?)),
+            _ => Ok(None),
+        },
+    }
+}
+
+// Makes the call, and keeps the column that it makes or leaves, unless it is refused.
+fn settle<A: Allocator + Copy>(
+    name: &str,
+    call: reader::Call<'_>,
+    columns: &mut Columns<A>,
+    ctx: &mut ExecutionCtx<A>,
+) -> VortexResult<Reply<A>>
+    ensures kept { IfOk result (λ reply. ChangesNothing reply → columns.new.named.items ≡ columns.old.named.items) }
+    ensures unmade { OnErr result (columns.new.named.items ≡ columns.old.named.items) }
+{
+    let ample = *ctx.allocator();
+    match prepare(name, call, columns, ctx)? {
+        Some(call) => keep(name, call.run(ctx, ample)?, columns),
+        None => Ok(Reply::Bad),
+    }
+}
+
+// Keeps the column of an outcome, unless the call was refused.
+fn keep<A: Allocator + Copy>(
+    name: &str,
+    outcome: Outcome<A>,
+    columns: &mut Columns<A>,
+) -> VortexResult<Reply<A>>
+    ensures kept { IfOk result (λ reply. ChangesNothing reply → columns.new.named.items ≡ columns.old.named.items) }
+    ensures unmade { OnErr result (columns.new.named.items ≡ columns.old.named.items) }
+{
+    let Outcome { reply, column } = outcome;
+    if let Reply::Done | Reply::Says(_) = &reply {
+        if let Some(column) = column {
+            columns.put(name, column)?;
+        }
+    }
+    Ok(reply)
+}
+
+// What of the column is looked at.
+fn looked_at<A: Allocator + Copy>(
+    alloc: A,
+    column: &ArrayRef<A>,
+    look: Look,
+) -> VortexResult<Reply<A>> {
+    let mut text = String::new(alloc);
+    match look {
+        Look::Rows => push_rows(&mut text, column)?,
+        Look::Type => push_dtype(&mut text, column.dtype())?,
+        Look::Form => push_form(&mut text, column)?,
+        Look::Stored => {
+            if !push_stored(&mut text, column)? {
+                return Ok(Reply::Bad);
+            }
+        }
+    }
+    if text.is_empty() {
+        text.push_str("-")?;
+    }
+    Ok(Reply::Says(text))
+}

@@ -1,0 +1,201 @@
+//! What a call is given: copies of the columns that a line names, and what its words say.
+use crate::calls::{Call, Maker, Task};
+use crate::columns::Columns;
+use crate::flats::{bits_of_word, flat_column, flat_of, row_validity};
+use crate::reader::{self, Lists, Runs, Views};
+use crate::values::{Value, bytes_of, read_count, read_value};
+use bytes::Bytes;
+use column_base::VortexResult;
+use runend_commands::Command;
+use std::alloc::Allocator;
+use std::rc::Rc;
+use vortex_runend::{ArrayRef, ExecutionCtx, RowValidity, Validity, View};
+
+/// The call on copies of the columns that it names, or `None` where one does not stand, or a word
+/// is none that the call can be given.
+pub fn prepare<A: Allocator + Copy>(
+    name: &str,
+    call: reader::Call<'_>,
+    columns: &Columns<A>,
+    ctx: &mut ExecutionCtx<A>,
+) -> VortexResult<Option<Call<A>>> {
+    let task = match call {
+        reader::Call::Command(command) => Task::Command(command_of(command)),
+        reader::Call::Row(index) => Task::Row(index),
+        reader::Call::Probe(index) => Task::Probe(index),
+        reader::Call::Validity => Task::Validity,
+        _ => {
+            let maker = prepared_maker(call, columns, ctx)?;
+            return Ok(maker.map(|maker| Call::Make(maker)));
+        }
+    };
+    match columns.get(name) {
+        Some(column) => Ok(Some(Call::On(column.try_clone(ctx)?, task))),
+        None => Ok(None),
+    }
+}
+
+fn command_of(command: reader::Command) -> Command {
+    match command {
+        reader::Command::Slice(start, stop) => Command::Slice(start..stop),
+        reader::Command::Encode => Command::Encode,
+        reader::Command::Decode => Command::Decode,
+        reader::Command::At(index) => Command::At(index),
+    }
+}
+
+// A copy of the column of this name.
+fn copy_of<A: Allocator + Copy>(
+    name: &str,
+    columns: &Columns<A>,
+    ctx: &mut ExecutionCtx<A>,
+) -> VortexResult<Option<ArrayRef<A>>> {
+    match columns.get(name) {
+        Some(column) => Ok(Some(column.try_clone(ctx)?)),
+        None => Ok(None),
+    }
+}
+
+fn prepared_maker<A: Allocator + Copy>(
+    call: reader::Call<'_>,
+    columns: &Columns<A>,
+    ctx: &mut ExecutionCtx<A>,
+) -> VortexResult<Option<Maker<A>>> {
+    match call {
+        reader::Call::Copy(name) => Ok(copy_of(name, columns, ctx)?.map(|array| Maker::Copy(
+            array,
+        ))),
+        reader::Call::Encode(name) => Ok(copy_of(name, columns, ctx)?.map(|array| Maker::Encode(
+            array,
+        ))),
+        reader::Call::Runs(runs) => Ok(prepared_runs(runs, columns, ctx)?.map(|(
+            ends,
+            values,
+        )| Maker::Runs(ends, values, runs.offset, runs.length))),
+        reader::Call::Whole(runs) => Ok(prepared_runs(runs, columns, ctx)?.map(|(
+            ends,
+            values,
+        )| Maker::Whole(ends, values))),
+        reader::Call::Lists(lists) => prepared_lists(lists, columns, ctx),
+        reader::Call::Views(views) => prepared_views(*ctx.allocator(), views),
+        _ => Ok(None),
+    }
+}
+
+// The ends, and a copy of the values.
+fn prepared_runs<A: Allocator + Copy>(
+    runs: Runs<'_>,
+    columns: &Columns<A>,
+    ctx: &mut ExecutionCtx<A>,
+) -> VortexResult<Option<(ArrayRef<A>, ArrayRef<A>)>> {
+    let Some(ends) = flat_column(runs.ends_type, runs.ends, ctx)? else {
+        return Ok(None);
+    };
+    match copy_of(runs.values, columns, ctx)? {
+        Some(values) => Ok(Some((ends, values))),
+        None => Ok(None),
+    }
+}
+
+fn prepared_lists<A: Allocator + Copy>(
+    lists: Lists<'_>,
+    columns: &Columns<A>,
+    ctx: &mut ExecutionCtx<A>,
+) -> VortexResult<Option<Maker<A>>> {
+    let alloc = *ctx.allocator();
+    let (Some(elements), Some(offsets), Some(sizes), Some(validity)) = (
+        copy_of(lists.elements, columns, ctx)?.and_then(flat_of),
+        copy_of(lists.offsets, columns, ctx)?,
+        copy_of(lists.sizes, columns, ctx)?,
+        list_validity(lists.validity, columns, ctx)?,
+    ) else {
+        return Ok(None);
+    };
+    let elements = Rc::new(alloc, elements)?;
+    Ok(Some(Maker::Lists(elements, offsets, sizes, validity)))
+}
+
+/// The validity of the word `nonnull`, `valid`, `invalid`, or of bits.
+pub fn read_validity<A: Allocator + Copy>(
+    alloc: A,
+    word: &str,
+) -> VortexResult<Option<Validity<A>>> {
+    match word {
+        "nonnull" => Ok(Some(Validity::NonNullable)),
+        "valid" => Ok(Some(Validity::AllValid)),
+        "invalid" => Ok(Some(Validity::AllInvalid)),
+        _ => Ok(bits_of_word(alloc, word)?.map(|bits| Validity::Bits(bits))),
+    }
+}
+
+// The validity of such a word, or the run column of this name.
+fn list_validity<A: Allocator + Copy>(
+    word: &str,
+    columns: &Columns<A>,
+    ctx: &mut ExecutionCtx<A>,
+) -> VortexResult<Option<RowValidity<A>>> {
+    if let Some(validity) = read_validity(*ctx.allocator(), word)? {
+        return Ok(Some(row_validity(validity)));
+    }
+    match copy_of(word, columns, ctx)? {
+        Some(ArrayRef::RunEnd(runs)) => Ok(Some(RowValidity::Runs(runs))),
+        _ => Ok(None),
+    }
+}
+
+fn prepared_views<A: Allocator + Copy>(
+    alloc: A,
+    line: Views<'_>,
+) -> VortexResult<Option<Maker<A>>> {
+    let Some(validity) = read_validity(alloc, line.validity)? else {
+        return Ok(None);
+    };
+    let Some(views) = read_views(alloc, line.views)? else {
+        return Ok(None);
+    };
+    let Some(buffers) = read_buffers(alloc, line.buffers)? else {
+        return Ok(None);
+    };
+    Ok(Some(Maker::Views(views, buffers, line.kind, validity)))
+}
+
+// A view for each three words.
+fn read_views<A: Allocator + Copy>(alloc: A, words: &[&str]) -> VortexResult<Option<Vec<View, A>>> {
+    let mut views = Vec::new(alloc);
+    for parts in words.chunks(3) {
+        match read_view(parts) {
+            Some(view) => views.push(view)?,
+            None => return Ok(None),
+        }
+    }
+    Ok(Some(views))
+}
+
+fn read_view(parts: &[&str]) -> Option<View> {
+    match parts {
+        [buffer, start, size] => Some(View {
+            buffer: read_count(buffer)?,
+            start: read_count(start)?,
+            size: read_count(size)?,
+        }),
+        _ => None,
+    }
+}
+
+// A buffer for each word of bytes.
+fn read_buffers<A: Allocator + Copy>(
+    alloc: A,
+    words: &[&str],
+) -> VortexResult<Option<Vec<Bytes<A>, A>>> {
+    let mut buffers = Vec::new(alloc);
+    for word in words {
+        let Some(Value::Bytes(digits)) = read_value(word) else {
+            return Ok(None);
+        };
+        let Some(bytes) = bytes_of(alloc, digits)? else {
+            return Ok(None);
+        };
+        buffers.push(Bytes::copy_from_slice(alloc, &bytes)?)?;
+    }
+    Ok(Some(buffers))
+}

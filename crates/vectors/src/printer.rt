@@ -1,0 +1,381 @@
+//! Values, types and forms as words. Each call puts its words behind a text, separated by spaces.
+ghost use Rattle.std.specs.Prelude.{IsOkUnless};
+
+use crate::types::push_type;
+use column_base::{VortexError, VortexResult};
+use std::alloc::Allocator;
+use vortex_runend::{
+    ArrayRef, BitBuffer, DType, FlatColumn, ListViewArray, PrimitiveValues, RowValidity,
+    RunEndArray, RunEndArrayExt, RunEndArraySlotsExt, ScalarView, Validity,
+};
+
+/// One word. Refused as `OutOfMemory` alone.
+pub fn push_word<A: Allocator + Copy>(text: &mut String<A>, word: &str) -> VortexResult<()>
+    ensures only { IsOkUnless result VortexError.OutOfMemory }
+{
+    push_space(text)?;
+    text.push_str(word)?;
+    Ok(())
+}
+
+// The space between the last word, if there is one, and the next.
+fn push_space<A: Allocator + Copy>(text: &mut String<A>) -> VortexResult<()>
+    ensures only { IsOkUnless result VortexError.OutOfMemory }
+{
+    if !text.is_empty() {
+        text.push_str(" ")?;
+    }
+    Ok(())
+}
+
+fn push_number<A: Allocator + Copy>(text: &mut String<A>, number: i128) -> VortexResult<()>
+    ensures only { IsOkUnless result VortexError.OutOfMemory }
+{
+    push_space(text)?;
+    write!(text, "{number}")?;
+    Ok(())
+}
+
+/// The name of a type.
+pub fn push_dtype<A: Allocator + Copy>(text: &mut String<A>, dtype: DType) -> VortexResult<()> {
+    push_space(text)?;
+    push_type(text, dtype)
+}
+
+/// The value of a row.
+pub fn push_row<A: Allocator + Copy>(
+    text: &mut String<A>,
+    row: ScalarView<'_, A>,
+) -> VortexResult<()> {
+    push_space(text)?;
+    match row {
+        ScalarView::List {
+            elements,
+            start,
+            size,
+        } => push_list(text, elements, start, size),
+        _ => push_single(text, row),
+    }
+}
+
+// The list of so many elements from one on.
+fn push_list<A: Allocator + Copy>(
+    text: &mut String<A>,
+    elements: &FlatColumn<A>,
+    start: usize,
+    size: usize,
+) -> VortexResult<()> {
+    text.push_str("[")?;
+    for index in start..start.saturating_add(size) {
+        if index > start {
+            text.push_str(",")?;
+        }
+        if index < elements.len() {
+            push_single(text, elements.get(index))?;
+        }
+    }
+    text.push_str("]")?;
+    Ok(())
+}
+
+// A value that is no list. Elements of lists are none.
+fn push_single<A: Allocator + Copy>(
+    text: &mut String<A>,
+    row: ScalarView<'_, A>,
+) -> VortexResult<()> {
+    match row {
+        ScalarView::Null => text.push_str("null")?,
+        ScalarView::Bool(truth) => write!(text, "{truth}")?,
+        ScalarView::Unsigned(number) => write!(text, "{number}")?,
+        ScalarView::Signed(number) => write!(text, "{number}")?,
+        ScalarView::Decimal(number) => write!(text, "{number}")?,
+        ScalarView::Utf8(letters) => push_quoted(text, letters)?,
+        ScalarView::Binary(bytes) => push_bytes(text, bytes)?,
+        ScalarView::List { .. } => return Err(VortexError::Unsupported),
+    }
+    Ok(())
+}
+
+// A text within quotes, with its escapes.
+fn push_quoted<A: Allocator + Copy>(text: &mut String<A>, letters: &str) -> VortexResult<()> {
+    text.push_str("\"")?;
+    for letter in letters.chars() {
+        match letter {
+            ' ' => text.push_str("\\s")?,
+            '\n' => text.push_str("\\n")?,
+            '"' => text.push_str("\\\"")?,
+            '\\' => text.push_str("\\\\")?,
+            _ => text.push(letter)?,
+        }
+    }
+    text.push_str("\"")?;
+    Ok(())
+}
+
+// An x, and two hexadecimal digits for each byte.
+fn push_bytes<A: Allocator + Copy>(text: &mut String<A>, bytes: &[u8]) -> VortexResult<()> {
+    text.push_str("x")?;
+    for byte in bytes {
+        write!(text, "{byte:02X}")?;
+    }
+    Ok(())
+}
+
+/// The values of all rows.
+pub fn push_rows<A: Allocator + Copy>(
+    text: &mut String<A>,
+    array: &ArrayRef<A>,
+) -> VortexResult<()> {
+    for index in 0..array.len() {
+        push_row(text, array.scalar_at(index)?)?;
+    }
+    Ok(())
+}
+
+/// What a flat column stores, under null too, or nothing and `false` where the column is not flat, or of
+/// texts, bytes or lists.
+pub fn push_stored<A: Allocator + Copy>(
+    text: &mut String<A>,
+    array: &ArrayRef<A>,
+) -> VortexResult<bool> {
+    match array {
+        ArrayRef::Primitive(plain) => push_numbers(text, plain.values())?,
+        ArrayRef::Bool(truths) => push_truths(text, truths.values())?,
+        ArrayRef::Decimal(decimals) => {
+            for number in decimals.values() {
+                push_number(text, *number)?;
+            }
+        }
+        _ => return Ok(false),
+    }
+    Ok(true)
+}
+
+fn push_numbers<A: Allocator + Copy>(
+    text: &mut String<A>,
+    values: &PrimitiveValues<A>,
+) -> VortexResult<()> {
+    for index in 0..values.len() {
+        push_number(text, values.get(index))?;
+    }
+    Ok(())
+}
+
+fn push_truths<A: Allocator + Copy>(text: &mut String<A>, bits: &BitBuffer<A>) -> VortexResult<()> {
+    for index in 0..bits.len() {
+        push_word(text, if bits.value(index) { "true" } else { "false" })?;
+    }
+    Ok(())
+}
+
+/// The form of a column.
+pub fn push_form<A: Allocator + Copy>(
+    text: &mut String<A>,
+    array: &ArrayRef<A>,
+) -> VortexResult<()> {
+    let (inner, depth) = push_outer_runs(text, array)?;
+    match inner {
+        ArrayRef::ListView(lists) => push_lists(text, lists)?,
+        _ => push_leaf(text, inner)?,
+    }
+    push_braces(text, depth)
+}
+
+/// The form of a run column, in braces.
+pub fn push_braced_runs<A: Allocator + Copy>(
+    text: &mut String<A>,
+    runs: &RunEndArray<A>,
+) -> VortexResult<()> {
+    push_word(text, "{")?;
+    push_window(text, runs)?;
+    push_word(text, "{")?;
+    push_index(text, runs.values())?;
+    push_braces(text, 2)
+}
+
+// The form of a column of which no part is of lists.
+fn push_index<A: Allocator + Copy>(text: &mut String<A>, array: &ArrayRef<A>) -> VortexResult<()> {
+    let (inner, depth) = push_outer_runs(text, array)?;
+    push_leaf(text, inner)?;
+    push_braces(text, depth)
+}
+
+// What of the form of a run column stands before the values of its runs, through all levels of runs:
+// the innermost values, and how many braces are open.
+fn push_outer_runs<'c, A: Allocator + Copy>(
+    text: &mut String<A>,
+    array: &'c ArrayRef<A>,
+) -> VortexResult<(&'c ArrayRef<A>, usize)> {
+    let mut inner = array;
+    for depth in 0..usize::MAX {
+        let ArrayRef::RunEnd(runs) = inner else {
+            return Ok((inner, depth));
+        };
+        push_window(text, runs)?;
+        push_word(text, "{")?;
+        inner = runs.values();
+    }
+    Ok((inner, usize::MAX))
+}
+
+fn push_braces<A: Allocator + Copy>(text: &mut String<A>, depth: usize) -> VortexResult<()> {
+    for _ in 0..depth {
+        push_word(text, "}")?;
+    }
+    Ok(())
+}
+
+// The type of the ends, the window and the ends of a run column.
+fn push_window<A: Allocator + Copy>(
+    text: &mut String<A>,
+    runs: &RunEndArray<A>,
+) -> VortexResult<()> {
+    push_word(text, "runs")?;
+    push_dtype(text, runs.ends().dtype())?;
+    push_number(text, runs.offset() as i128)?;
+    push_number(text, runs.len() as i128)?;
+    push_rows(text, runs.ends())
+}
+
+// The form of a flat column or a constant.
+fn push_leaf<A: Allocator + Copy>(text: &mut String<A>, array: &ArrayRef<A>) -> VortexResult<()> {
+    match array {
+        ArrayRef::Primitive(plain) => push_head(text, array, plain.validity())?,
+        ArrayRef::Bool(truths) => push_head(text, array, truths.validity())?,
+        ArrayRef::Decimal(decimals) => push_head(text, array, decimals.validity())?,
+        ArrayRef::VarBinView(views) => push_head(text, array, views.validity())?,
+        ArrayRef::Constant(constant) => {
+            push_word(text, "constant")?;
+            push_dtype(text, constant.dtype())?;
+            push_row(text, constant.scalar().view())?;
+            return push_number(text, constant.len() as i128);
+        }
+        ArrayRef::ListView(_) | ArrayRef::RunEnd(_) => return Err(VortexError::Unsupported),
+    }
+    push_rows(text, array)
+}
+
+// What stands before the rows of a flat column.
+fn push_head<A: Allocator + Copy>(
+    text: &mut String<A>,
+    array: &ArrayRef<A>,
+    validity: &Validity<A>,
+) -> VortexResult<()> {
+    push_word(text, "flat")?;
+    push_dtype(text, array.dtype())?;
+    push_word(text, name_of(validity))
+}
+
+fn name_of<A: Allocator>(validity: &Validity<A>) -> &'static str {
+    match validity {
+        Validity::NonNullable => "nonnull",
+        Validity::AllValid => "valid",
+        Validity::AllInvalid => "invalid",
+        Validity::Bits(_) => "bits",
+    }
+}
+
+// The form of a column of lists.
+fn push_lists<A: Allocator + Copy>(
+    text: &mut String<A>,
+    lists: &ListViewArray<A>,
+) -> VortexResult<()> {
+    push_word(text, "lists {")?;
+    push_elements(text, lists.elements())?;
+    push_word(text, "} {")?;
+    push_index(text, lists.offsets())?;
+    push_word(text, "} {")?;
+    push_index(text, lists.sizes())?;
+    push_word(text, "}")?;
+    push_validity(text, lists.validity())
+}
+
+// The form of the elements of lists.
+fn push_elements<A: Allocator + Copy>(
+    text: &mut String<A>,
+    elements: &FlatColumn<A>,
+) -> VortexResult<()> {
+    push_word(text, "flat")?;
+    push_dtype(text, elements.dtype())?;
+    push_word(text, name_of(elements.validity()))?;
+    for index in 0..elements.len() {
+        push_row(text, elements.get(index))?;
+    }
+    Ok(())
+}
+
+/// A validity: its word, its bits, or the form of its runs in braces.
+pub fn push_validity<A: Allocator + Copy>(
+    text: &mut String<A>,
+    validity: &RowValidity<A>,
+) -> VortexResult<()> {
+    match validity {
+        RowValidity::NonNullable => push_word(text, "nonnull"),
+        RowValidity::AllValid => push_word(text, "valid"),
+        RowValidity::AllInvalid => push_word(text, "invalid"),
+        RowValidity::Bits(bits) => {
+            push_word(text, "bits ")?;
+            push_bits(text, bits)
+        }
+        RowValidity::Runs(runs) => push_braced_runs(text, runs),
+    }
+}
+
+// A digit for each bit, or `-` where there are none.
+fn push_bits<A: Allocator + Copy>(text: &mut String<A>, bits: &BitBuffer<A>) -> VortexResult<()> {
+    if bits.is_empty() {
+        text.push_str("-")?;
+    }
+    for index in 0..bits.len() {
+        text.push_str(if bits.value(index) { "1" } else { "0" })?;
+    }
+    Ok(())
+}
+
+/// A refusal: its number and its fields in order.
+pub fn push_refusal<A: Allocator + Copy>(
+    text: &mut String<A>,
+    error: VortexError,
+) -> VortexResult<()>
+    ensures only { IsOkUnless result VortexError.OutOfMemory }
+{
+    push_word(text, "refused")?;
+    push_number(text, i128::from(error.number()))?;
+    let (first, second, third) = fields_of(error);
+    for field in [first, second, third] {
+        if let Some(number) = field {
+            push_number(text, number)?;
+        }
+    }
+    Ok(())
+}
+
+// The fields of an error in order, as far as it has some.
+fn fields_of(error: VortexError) -> (Option<i128>, Option<i128>, Option<i128>) {
+    match error {
+        VortexError::LengthsDiffer { ends, values } => two(ends as i128, values as i128),
+        VortexError::NoRunsWindow { offset, length } => two(offset as i128, length as i128),
+        VortexError::EndsNotStrict { run } => (Some(run as i128), None, None),
+        VortexError::FirstEndBelowOffset { end, offset } => two(end as i128, offset as i128),
+        VortexError::LastEndBelowWindow { end, required } => two(end as i128, required as i128),
+        VortexError::OutOfBounds { index, length } => two(index, length as i128),
+        VortexError::BadRange {
+            start,
+            stop,
+            length,
+        } => (
+            Some(start as i128),
+            Some(stop as i128),
+            Some(length as i128),
+        ),
+        VortexError::MaskLength { mask, length } => two(mask as i128, length as i128),
+        VortexError::ColumnLength { left, right } => two(left as i128, right as i128),
+        VortexError::EndsTypeNumber { number } => (Some(number as i128), None, None),
+        VortexError::RunCount { stated, found } => two(stated as i128, found as i128),
+        _ => (None, None, None),
+    }
+}
+
+fn two(first: i128, second: i128) -> (Option<i128>, Option<i128>, Option<i128>) {
+    (Some(first), Some(second), None)
+}

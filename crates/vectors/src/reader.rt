@@ -1,0 +1,348 @@
+//! What the words of a line ask.
+use crate::types::read_type;
+use crate::values::{Value, read_count, read_value};
+use vortex_runend::{DType, Kernel, Thresholds, VarBinKind};
+
+/// The word between ends and values, and between views and buffers.
+const SLASH: &str = "/";
+
+/// The words that are no name of a column.
+const TAKEN: [&str; 8] = [
+    "read",
+    "kernels",
+    "thresholds",
+    "refuse",
+    "nonnull",
+    "valid",
+    "invalid",
+    "column",
+];
+
+/// What a line asks.
+#[derive(Clone, Copy)]
+pub enum Request<'a> {
+    /// A column is made from values, without a call that could be refused memory in turn.
+    Make(&'a str, Plain<'a>),
+    /// A call is made.
+    Call(&'a str, Call<'a>),
+    /// The same, with memory refused in turn first.
+    Refuse(&'a str, Call<'a>),
+    /// A column is looked at.
+    Look(&'a str, Look),
+    /// These kernels are registered, and no others.
+    Kernels(Kernels<'a>),
+    /// These thresholds are set.
+    Thresholds(Thresholds),
+    /// The thresholds are set that the library sets.
+    CrateThresholds,
+}
+
+/// Columns that are made from values, or are part of another.
+#[derive(Clone, Copy)]
+pub enum Plain<'a> {
+    Flat(DType, &'a [&'a str]),
+    Raw(DType, &'a str, &'a [&'a str]),
+    Invalid(DType, usize),
+    Constant(DType, Value<'a>, usize),
+    Ends(&'a str),
+    Values(&'a str),
+}
+
+/// Calls whose memory may be refused in turn.
+#[derive(Clone, Copy)]
+pub enum Call<'a> {
+    Copy(&'a str),
+    Encode(&'a str),
+    Runs(Runs<'a>),
+    /// As `Runs`, without its window.
+    Whole(Runs<'a>),
+    Lists(Lists<'a>),
+    Views(Views<'a>),
+    Command(Command),
+    Row(usize),
+    Probe(usize),
+    Validity,
+}
+
+impl<'a> Call<'a> {
+    /// Does it make a column? Else it is done to one.
+    pub fn makes(self) -> bool {
+        match self {
+            Call::Copy(_) | Call::Encode(_) | Call::Runs(_) => true,
+            Call::Whole(_) | Call::Lists(_) | Call::Views(_) => true,
+            Call::Command(_) | Call::Row(_) | Call::Probe(_) | Call::Validity => false,
+        }
+    }
+}
+
+/// A run column of flat ends and a copy of a column.
+#[derive(Clone, Copy)]
+pub struct Runs<'a> {
+    pub ends_type: DType,
+    /// How many rows of the runs lie before the window.
+    pub offset: usize,
+    /// How many rows the window has.
+    pub length: usize,
+    pub ends: &'a [&'a str],
+    /// The name of the column of values.
+    pub values: &'a str,
+}
+
+/// A column of lists of copies of columns, by their names.
+#[derive(Clone, Copy)]
+pub struct Lists<'a> {
+    pub elements: &'a str,
+    pub offsets: &'a str,
+    pub sizes: &'a str,
+    /// The word of a validity, or a name.
+    pub validity: &'a str,
+}
+
+/// A column of views, three words each, into buffers, a word each.
+#[derive(Clone, Copy)]
+pub struct Views<'a> {
+    pub kind: VarBinKind,
+    pub validity: &'a str,
+    pub views: &'a [&'a str],
+    pub buffers: &'a [&'a str],
+}
+
+/// Commands on a column.
+#[derive(Clone, Copy)]
+pub enum Command {
+    Slice(usize, usize),
+    Encode,
+    Decode,
+    At(usize),
+}
+
+/// What of a column is looked at.
+#[derive(Clone, Copy)]
+pub enum Look {
+    Rows,
+    Type,
+    Form,
+    Stored,
+}
+
+/// Which kernels are registered.
+#[derive(Clone, Copy)]
+pub enum Kernels<'a> {
+    All,
+    These(&'a [&'a str]),
+}
+
+/// What these words ask, or `None` where they cannot be read.
+pub fn read_request<'a>(words: &'a [&'a str]) -> Option<Request<'a>> {
+    let (first, rest) = words.split_first()?;
+    match *first {
+        "kernels" => Some(Request::Kernels(read_kernels(rest)?)),
+        "thresholds" => read_thresholds(rest),
+        "refuse" => match read_on_column(rest)? {
+            Request::Call(name, call) => Some(Request::Refuse(name, call)),
+            _ => None,
+        },
+        _ => read_on_column(words),
+    }
+}
+
+// What these words ask of the column that the first of them names.
+fn read_on_column<'a>(words: &'a [&'a str]) -> Option<Request<'a>> {
+    let (name, rest) = words.split_first()?;
+    let name = read_name(name)?;
+    let (verb, rest) = rest.split_first()?;
+    if *verb == "=" {
+        return read_maker(name, rest);
+    }
+    match read_look(verb) {
+        Some(look) if rest.is_empty() => Some(Request::Look(name, look)),
+        Some(_) => None,
+        None => Some(Request::Call(name, read_call(verb, rest)?)),
+    }
+}
+
+// The word, where it may name a column.
+fn read_name(word: &str) -> Option<&str> {
+    let (first, rest) = word.as_bytes().split_first()?;
+    let named = first.is_ascii_lowercase()
+        && rest.iter().all(|letter| letter.is_ascii_lowercase()
+            || letter.is_ascii_digit()
+            || *letter == b'_');
+    if named && !TAKEN.iter().any(|taken| *taken == word) {
+        Some(word)
+    } else {
+        None
+    }
+}
+
+fn read_look(verb: &str) -> Option<Look> {
+    match verb {
+        "rows" => Some(Look::Rows),
+        "type" => Some(Look::Type),
+        "form" => Some(Look::Form),
+        "stored" => Some(Look::Stored),
+        _ => None,
+    }
+}
+
+// A command on a column, or a look at it by a call.
+fn read_call<'a>(verb: &str, words: &'a [&'a str]) -> Option<Call<'a>> {
+    match (verb, words) {
+        ("slice", [start, stop]) => Some(Call::Command(Command::Slice(
+            read_count(start)?,
+            read_count(stop)?,
+        ))),
+        ("encode", []) => Some(Call::Command(Command::Encode)),
+        ("decode", []) => Some(Call::Command(Command::Decode)),
+        ("at", [index]) => Some(Call::Command(Command::At(read_count(index)?))),
+        ("row", [index]) => Some(Call::Row(read_count(index)?)),
+        ("probe", [index]) => Some(Call::Probe(read_count(index)?)),
+        ("validity", []) => Some(Call::Validity),
+        _ => None,
+    }
+}
+
+// How the column of this name is made.
+fn read_maker<'a>(name: &'a str, words: &'a [&'a str]) -> Option<Request<'a>> {
+    let (maker, rest) = words.split_first()?;
+    match read_plain(maker, rest) {
+        Some(plain) => Some(Request::Make(name, plain)),
+        None => Some(Request::Call(name, read_made(maker, rest)?)),
+    }
+}
+
+fn read_plain<'a>(maker: &str, words: &'a [&'a str]) -> Option<Plain<'a>> {
+    match (maker, words) {
+        ("flat", [dtype, values @ ..]) => Some(Plain::Flat(read_type(dtype)?, values)),
+        ("raw", [dtype, validity, values @ ..]) => {
+            Some(Plain::Raw(read_type(dtype)?, *validity, values))
+        }
+        ("invalid", [dtype, count]) => {
+            Some(Plain::Invalid(read_type(dtype)?, read_count(count)?))
+        }
+        ("constant", [dtype, value, count]) => Some(Plain::Constant(
+            read_type(dtype)?,
+            read_value(value)?,
+            read_count(count)?,
+        )),
+        ("ends", [name]) => Some(Plain::Ends(read_name(name)?)),
+        ("values", [name]) => Some(Plain::Values(read_name(name)?)),
+        _ => None,
+    }
+}
+
+fn read_made<'a>(maker: &str, words: &'a [&'a str]) -> Option<Call<'a>> {
+    match (maker, words) {
+        ("copy", [name]) => Some(Call::Copy(read_name(name)?)),
+        ("encode", [name]) => Some(Call::Encode(read_name(name)?)),
+        ("runs", [dtype, offset, length, parts @ ..]) => {
+            let (offset, length) = (read_count(offset)?, read_count(length)?);
+            Some(Call::Runs(read_runs(dtype, offset, length, parts)?))
+        }
+        ("whole", [dtype, parts @ ..]) => Some(Call::Whole(read_runs(dtype, 0, 0, parts)?)),
+        ("lists", [elements, offsets, sizes, validity]) => Some(Call::Lists(Lists {
+            elements: read_name(elements)?,
+            offsets: read_name(offsets)?,
+            sizes: read_name(sizes)?,
+            validity: *validity,
+        })),
+        ("views", [kind, validity, parts @ ..]) => {
+            Some(Call::Views(read_views(kind, *validity, parts)?))
+        }
+        _ => None,
+    }
+}
+
+// The ends, a slash and the name of the values.
+fn read_runs<'a>(
+    dtype: &str,
+    offset: usize,
+    length: usize,
+    parts: &'a [&'a str],
+) -> Option<Runs<'a>> {
+    let ends_type = read_type(dtype)?;
+    let DType::Primitive(_, _) = ends_type else {
+        return None;
+    };
+    match split_at_slash(parts)? {
+        (ends, [values]) => Some(Runs {
+            ends_type,
+            offset,
+            length,
+            ends,
+            values: read_name(values)?,
+        }),
+        _ => None,
+    }
+}
+
+fn read_views<'a>(kind: &str, validity: &'a str, parts: &'a [&'a str]) -> Option<Views<'a>> {
+    let kind = match kind {
+        "utf8" => VarBinKind::Utf8,
+        "binary" => VarBinKind::Binary,
+        _ => return None,
+    };
+    let (views, buffers) = split_at_slash(parts)?;
+    Some(Views {
+        kind,
+        validity,
+        views,
+        buffers,
+    })
+}
+
+// The words before the first slash, and those behind it.
+fn split_at_slash<'a>(words: &'a [&'a str]) -> Option<(&'a [&'a str], &'a [&'a str])> {
+    let slash = words.iter().position(|word| *word == SLASH)?;
+    let (before, behind) = words.split_at(slash);
+    let (_, behind) = behind.split_first()?;
+    Some((before, behind))
+}
+
+fn read_kernels<'a>(words: &'a [&'a str]) -> Option<Kernels<'a>> {
+    match words {
+        ["all"] => Some(Kernels::All),
+        ["none"] => Some(Kernels::These(&words[1..])),
+        [] => None,
+        _ if words.iter().all(|word| read_kernel(word).is_some()) => Some(Kernels::These(words)),
+        _ => None,
+    }
+}
+
+/// The kernel of this name.
+pub fn read_kernel(word: &str) -> Option<Kernel> {
+    match word {
+        "slice" => Some(Kernel::Slice),
+        "filter" => Some(Kernel::Filter),
+        "take" => Some(Kernel::Take),
+        "take_from" => Some(Kernel::TakeFrom),
+        "compare" => Some(Kernel::Compare),
+        "cast" => Some(Kernel::Cast),
+        "fill_null" => Some(Kernel::FillNull),
+        "scalar_fn" => Some(Kernel::ScalarFn),
+        "sum" => Some(Kernel::Sum),
+        "min_max" => Some(Kernel::MinMax),
+        "is_constant" => Some(Kernel::IsConstant),
+        "is_sorted" => Some(Kernel::IsSorted),
+        _ => None,
+    }
+}
+
+fn read_thresholds<'a>(words: &'a [&'a str]) -> Option<Request<'a>> {
+    match words {
+        ["crate"] => Some(Request::CrateThresholds),
+        ["zero"] => Some(Request::Thresholds(Thresholds::default())),
+        [prefill, rows, factor, sorted, table, unsorted_min, unsorted] => {
+            Some(Request::Thresholds(Thresholds {
+                prefill_runs: read_count(prefill)?,
+                min_run_filter_rows: read_count(rows)?,
+                filter_factor: read_count(factor)?,
+                sorted_runs_per_index: read_count(sorted)?,
+                table_len_per_index: read_count(table)?,
+                unsorted_min_runs: read_count(unsorted_min)?,
+                unsorted_runs_per_index: read_count(unsorted)?,
+            }))
+        }
+        _ => None,
+    }
+}

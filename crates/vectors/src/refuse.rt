@@ -1,0 +1,219 @@
+//! Calls with each request for memory refused in turn.
+ghost use Rattle.std.specs.Prelude.{◌≡◌, ◌↔◌, ◌⊎◌, IsTrue};
+ghost use Rattle.vectors.specs.Trials.{IsSame};
+
+use crate::bench::{Bench, Heap, Plan};
+use crate::calls::{Call, Outcome, Reply};
+use crate::columns::Columns;
+use crate::lines::reply_text;
+use crate::prepare::prepare;
+use crate::printer::push_form;
+use crate::reader;
+use crate::session::copy_of;
+use column_base::VortexResult;
+use std::alloc::Allocator;
+use vortex_runend::{ExecutionCtx, VortexError};
+
+/// What came of a call with requests for memory refused.
+#[derive(Clone, Copy, PartialEq, Eq)]
+pub enum Found {
+    /// Some run was answered for want of memory by the call, and none wrongly.
+    Memory,
+    /// No run was, and none wrongly.
+    Nothing,
+    /// With the request of this number refused, the answer or what was left was wrong.
+    Broken(u64),
+}
+
+/// What a run shows: its answer, and the form of the column that it made or was done to.
+#[derive(Drop)]
+struct Shown<A: Allocator> {
+    answer: String<A>,
+    form: String<A>,
+}
+
+/// What a call has to show.
+#[derive(Drop)]
+struct Expected<A: Allocator> {
+    /// Where it is refused for want of memory: the column as it was.
+    refused: Shown<A>,
+    /// Where it is not.
+    served: Shown<A>,
+}
+
+/// What became of a run that may have met refused requests.
+#[derive(Clone, Copy)]
+enum Tried {
+    /// It was refused for want of memory, and left the column as it was.
+    Refused,
+    /// No command was begun, for want of memory, and the column is as it was; or the run answered and
+    /// left what it has to.
+    Served,
+    /// It answered or left something else.
+    Wrong,
+}
+
+/// Runs the call on copies, with the first, second, .. request for memory refused alone, and then with
+/// all of them from the first, second, .. on, each until a run meets no refusal. `None` where the line
+/// asks for something that there is not.
+pub fn refused_in_turn(
+    name: &str,
+    call: reader::Call<'_>,
+    bench: &mut Bench<'_>,
+) -> VortexResult<Option<Found>> {
+    let Some(expected) = expected_of(name, call, &bench.columns, &mut bench.ctx)? else {
+        return Ok(None);
+    };
+    match refused_by(Plan::Only, name, call, bench, &expected)? {
+        Found::Broken(request) => Ok(Some(Found::Broken(request))),
+        alone => match refused_by(Plan::From, name, call, bench, &expected)? {
+            Found::Nothing => Ok(Some(alone)),
+            found => Ok(Some(found)),
+        },
+    }
+}
+
+// What the call has to show, or `None` where the line asks for something that there is not.
+fn expected_of<A: Allocator + Copy>(
+    name: &str,
+    call: reader::Call<'_>,
+    columns: &Columns<A>,
+    ctx: &mut ExecutionCtx<A>,
+) -> VortexResult<Option<Expected<A>>> {
+    let refused = shown_before(name, call, columns, *ctx.allocator())?;
+    match prepare(name, call, columns, ctx)? {
+        Some(call) => expected_by(refused, call, ctx),
+        None => Ok(None),
+    }
+}
+
+fn expected_by<A: Allocator + Copy>(
+    refused: Shown<A>,
+    call: Call<A>,
+    ctx: &mut ExecutionCtx<A>,
+) -> VortexResult<Option<Expected<A>>> {
+    let ample = *ctx.allocator();
+    let outcome = call.run(ctx, ample)?;
+    match shown_behind(ample, outcome)? {
+        Some(served) => Ok(Some(Expected { refused, served })),
+        None => Ok(None),
+    }
+}
+
+// What a call shows that memory is refused: the column that it is done to, as that is.
+fn shown_before<A: Allocator + Copy>(
+    name: &str,
+    call: reader::Call<'_>,
+    columns: &Columns<A>,
+    ample: A,
+) -> VortexResult<Shown<A>> {
+    let mut form = String::new(ample);
+    if let (false, Some(column)) = (call.makes(), columns.get(name)) {
+        push_form(&mut form, column)?;
+    }
+    let answer = reply_text(ample, Reply::Refused(VortexError::OutOfMemory))?;
+    Ok(Shown { answer, form })
+}
+
+// What an outcome shows, unless there is not what the line asks for.
+fn shown_behind<A: Allocator + Copy>(
+    ample: A,
+    outcome: Outcome<A>,
+) -> VortexResult<Option<Shown<A>>> {
+    if let Reply::Bad = &outcome.reply {
+        return Ok(None);
+    }
+    let shown = shown_of(ample, outcome)?;
+    Ok(Some(shown))
+}
+
+// What an outcome shows.
+fn shown_of<A: Allocator + Copy>(ample: A, outcome: Outcome<A>) -> VortexResult<Shown<A>> {
+    let mut form = String::new(ample);
+    if let Some(column) = &outcome.column {
+        push_form(&mut form, column)?;
+    }
+    Ok(Shown {
+        answer: reply_text(ample, outcome.reply)?,
+        form,
+    })
+}
+
+// What comes of the call with each request refused in turn by the plan.
+fn refused_by<'a>(
+    plan: Plan,
+    name: &str,
+    call: reader::Call<'_>,
+    bench: &mut Bench<'a>,
+    expected: &Expected<Heap<'a>>,
+) -> VortexResult<Found> {
+    let mut found = Found::Nothing;
+    for request in 1..u64::MAX {
+        let heap = bench.heap(plan, request)?;
+        let tried = tried_with(heap, name, call, bench, expected)?;
+        if heap.refused() == 0 {
+            return Ok(found);
+        }
+        match tried {
+            Tried::Refused => found = Found::Memory,
+            Tried::Served => {}
+            Tried::Wrong => return Ok(Found::Broken(request)),
+        }
+    }
+    Ok(found)
+}
+
+// What becomes of the call with this memory, on copies that are made with ample memory.
+fn tried_with<'a>(
+    heap: Heap<'a>,
+    name: &str,
+    call: reader::Call<'_>,
+    bench: &mut Bench<'a>,
+    expected: &Expected<Heap<'a>>,
+) -> VortexResult<Tried> {
+    let Some(call) = prepare(name, call, &bench.columns, &mut bench.ctx)? else {
+        return Ok(Tried::Wrong);
+    };
+    let mut ctx = ExecutionCtx::new(copy_of(bench.ctx.session()), heap);
+    tried_on(call, &mut ctx, *bench.ctx.allocator(), expected)
+}
+
+// What becomes of the call in this context.
+fn tried_on<A: Allocator + Copy>(
+    call: Call<A>,
+    ctx: &mut ExecutionCtx<A>,
+    ample: A,
+    expected: &Expected<A>,
+) -> VortexResult<Tried> {
+    let outcome = call.run(ctx, ample)?;
+    let answered = matches!(&outcome.reply, Reply::Refused(VortexError::OutOfMemory));
+    let shown = shown_of(ample, outcome)?;
+    Ok(judged(&shown, expected, answered))
+}
+
+// What became of a run that showed this, and was answered for want of memory or not.
+fn judged<A: Allocator>(shown: &Shown<A>, expected: &Expected<A>, answered: bool) -> Tried
+    ensures wrong { result ≡ Tried.Wrong ↔ (¬ (IsSame shown.now expected.now.refused ⊎ IsSame shown.now expected.now.served)) }
+    ensures refused { result ≡ Tried.Refused ↔ (IsSame shown.now expected.now.refused × IsTrue answered) }
+{
+    if shown.is(&expected.refused) {
+        if answered {
+            Tried::Refused
+        } else {
+            Tried::Served
+        }
+    } else if shown.is(&expected.served) {
+        Tried::Served
+    } else {
+        Tried::Wrong
+    }
+}
+
+impl<A: Allocator> Shown<A> {
+    // Are answer and form the same?
+    fn is(&self, other: &Shown<A>) -> bool
+        ensures { IsTrue result ↔ IsSame self.now other.now }
+    {
+        self.answer.as_str() == other.answer.as_str() && self.form.as_str() == other.form.as_str()
+    }
+}
