@@ -140,22 +140,3 @@ pub(crate) fn assert_window<A: Allocator + Copy>(
 ) {
     assert_eq!(rt; (runs.offset(), runs.len()), (offset, length));
 }
-
-/// Is it a run column with these ends, values and rows, from this offset on?
-pub(crate) fn assert_run_column<T: NativePType + Debug, A: Allocator + Copy>(
-    rt: &impl Abort,
-    array: &ArrayRef<A>,
-    ends: &[T],
-    values: &[Option<i64>],
-    offset: usize,
-    rows: &[Option<i64>],
-) {
-    match array {
-        ArrayRef::RunEnd(runs) => {
-            assert_runs(rt, runs, ends, values);
-            assert_window(rt, runs, offset, rows.len());
-        }
-        _ => panic!(rt; "no run column"),
-    }
-    assert_rows(rt, array, rows);
-}

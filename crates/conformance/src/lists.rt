@@ -1,16 +1,15 @@
 //! Runs of lists.
-use crate::columns::{context, required, run_column};
-use crate::parts::{bits, lists, texts, truths};
+use crate::columns::{context, required};
+use crate::parts::{bits, lists};
 use crate::shown::assert_shown;
 use refusing::Refusing;
-use std::alloc::{Allocator, Global};
+use std::alloc::Allocator;
 use std::process::Abort;
 use std::test::Fail;
 use vortex_runend::compress::runend_decode_listview;
 use vortex_runend::{
-    ArrayRef, ConstantArray, DType, ElementDType, ExecutionCtx, FlatColumn, ListViewArray,
-    NativePType, Nullability, PType, PrimitiveArray, RowValidity, RunEndData, Scalar, VortexError,
-    VortexResult,
+    ArrayRef, ExecutionCtx, FlatColumn, ListViewArray, PrimitiveArray, RowValidity, RunEndData,
+    VortexError, VortexResult,
 };
 
 // The numbers from 1 to 6.
@@ -31,14 +30,6 @@ fn assert_six_rows<A: Allocator + Copy>(rt: &impl Abort, array: &ArrayRef<A>) {
     let first = Some([1i64, 2].as_slice());
     let last = Some([4i64, 5, 6].as_slice());
     assert_shown(rt, array, &[first, first, None, None, None, last]);
-}
-
-// The run column of the three lists.
-fn runs_of_lists<A: Allocator + Copy>(alloc: A) -> VortexResult<ArrayRef<A>> {
-    let mut ctx = context(alloc);
-    let ends = required(alloc, &[2u32, 5, 6])?;
-    let values = Box::new(alloc, three_lists(&mut ctx)?)?;
-    run_column(ends, ArrayRef::ListView(values), 0, 6, &mut ctx)
 }
 
 // What the decoder makes of parts that are valid; else their fault.
@@ -72,36 +63,6 @@ fn lists_are_decoded(rt: HostRuntime) -> Result<(), Fail> {
     let rows = decoded_lists(ends, values, 6, &mut ctx)?;
     assert_six_rows(&rt, &rows);
     Ok(())
-}
-
-// Lists of two, one and three of the elements, shown twice, three times and five times, in a flat form.
-fn canonicalized<A: Allocator + Copy>(
-    alloc: A,
-    elements: FlatColumn<A>,
-) -> VortexResult<ArrayRef<A>> {
-    let mut ctx = context(alloc);
-    let ends = required(alloc, &[2u32, 5, 10])?;
-    let valid = RowValidity::NonNullable;
-    let values = lists(elements, &[0u64, 2, 3], &[2, 1, 3], valid, &mut ctx)?;
-    let values = ArrayRef::ListView(Box::new(alloc, values)?);
-    run_column(ends, values, 0, 10, &mut ctx)?.canonicalize(&mut ctx)
-}
-
-// The column of these lists over six numbers.
-fn lists_of_six<T: NativePType>(
-    alloc: Global,
-    offsets: &[T],
-    sizes: &[u64],
-    validity: RowValidity<Global>,
-) -> VortexResult<ArrayRef<Global>> {
-    let elements = six_numbers(alloc)?;
-    let array = lists(elements, offsets, sizes, validity, &mut context(alloc))?;
-    Ok(ArrayRef::ListView(Box::new(alloc, array)?))
-}
-
-// The three lists in a flat form, all in this memory.
-fn canonicalized_lists<A: Allocator + Copy>(alloc: A) -> VortexResult<ArrayRef<A>> {
-    runs_of_lists(alloc)?.canonicalize(&mut context(alloc))
 }
 
 // The three lists of the runs, decoded, all in this memory.

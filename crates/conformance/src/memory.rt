@@ -1,12 +1,9 @@
 //! What is answered where memory is refused, at each request in turn.
-use crate::columns::{
-    assert_rows, assert_stored, context, decoded, nullable, required, run_column, sliced,
-};
+use crate::columns::{assert_rows, assert_stored, context, decoded, nullable, required};
 use refusing::Refusing;
-use std::alloc::Allocator;
 use std::test::Fail;
+use vortex_runend::VortexError;
 use vortex_runend::compress::runend_encode;
-use vortex_runend::{ArrayRef, VortexError, VortexResult};
 
 const NUMBERS: [i32; 10] = [1, 1, 2, 2, 2, 3, 3, 3, 3, 3];
 
@@ -73,12 +70,4 @@ fn decode_refused_at_each_request(rt: HostRuntime) -> Result<(), Fail> {
     }
     assert!(rt; last >= 1 && last < 99);
     Ok(())
-}
-
-// The run column that shows `DECODED`, with 77 stored under null.
-fn runs_with_null<A: Allocator + Copy>(alloc: A) -> VortexResult<ArrayRef<A>> {
-    let ends = required(alloc, &[2u8, 5, 7, 10])?;
-    let values = nullable(alloc, &[77i32, 1, 2, 77], &[false, true, true, false])?;
-    let mut ctx = context(alloc);
-    run_column(ends, ArrayRef::Primitive(values), 1, 8, &mut ctx)
 }

@@ -1,32 +1,11 @@
 //! Reads of single rows, by probes and by `scalar_at`.
-use crate::columns::{context, required, run_column};
+use crate::columns::{context, run_column};
 use std::alloc::{Allocator, Global};
 use std::process::Abort;
 use std::test::Fail;
 use vortex_runend::{
-    ArrayRef, PrimitiveArray, PrimitiveValues, RunEndProbe, ScalarView, Validity, VortexError,
-    VortexResult,
+    ArrayRef, PrimitiveArray, PrimitiveValues, ScalarView, Validity, VortexResult,
 };
-
-// The row of a run column of a signed type, as a probe reads it.
-fn probed<A: Allocator + Copy>(array: &ArrayRef<A>, index: usize) -> VortexResult<Option<i64>> {
-    let ArrayRef::RunEnd(runs) = array else {
-        return Err(VortexError::Unsupported);
-    };
-    let probe = RunEndProbe::new(runs);
-    match probe.execute_scalar(index)? {
-        ScalarView::Null => Ok(None),
-        ScalarView::Signed(number) => Ok(Some(number)),
-        _ => Err(VortexError::TypeMismatch),
-    }
-}
-
-// Three runs, of which `length` rows are shown.
-fn three_runs(alloc: Global, length: usize) -> VortexResult<ArrayRef<Global>> {
-    let ends = required(alloc, &[2u32, 5, 10])?;
-    let values = ArrayRef::Primitive(required(alloc, &[1i32, 2, 3])?);
-    run_column(ends, values, 1, length, &mut context(alloc))
-}
 
 const MANY: u32 = 4_194_304;
 

@@ -1,27 +1,17 @@
 //! Runs of texts and of bytes.
 use crate::columns::{context, required, run_column};
-use crate::parts::{one_buffer, texts};
+use crate::parts::texts;
 use crate::shown::assert_shown;
 use refusing::Refusing;
-use std::alloc::{Allocator, Global};
+use std::alloc::Allocator;
 use std::process::Abort;
 use std::test::Fail;
 use vortex_runend::compress::runend_decode_varbinview;
 use vortex_runend::{
-    ArrayRef, ConstantArray, DType, ExecutionCtx, Nullability, PrimitiveArray, RunEndData, Scalar,
-    ScalarValue, ScalarView, Validity, VarBinKind, VarBinViewArray, View, VortexError,
-    VortexResult,
+    ArrayRef, ExecutionCtx, PrimitiveArray, RunEndData, VarBinViewArray, VortexError, VortexResult,
 };
 
 const LETTERS: [Option<&str>; 3] = [Some("a"), None, Some("c")];
-
-// The run column that shows "first" once, null three times and "last" three times.
-fn first_and_last<A: Allocator + Copy>(alloc: A) -> VortexResult<ArrayRef<A>> {
-    let ends = required(alloc, &[2u8, 5, 9])?;
-    let values = texts(alloc, &[Some("first"), None, Some("last")])?;
-    let values = ArrayRef::VarBinView(values);
-    run_column(ends, values, 1, 7, &mut context(alloc))
-}
 
 // Are the rows "a" twice, null three times and "c" five times, with the one buffer as it was?
 fn assert_letters<A: Allocator + Copy>(rt: &impl Abort, array: &ArrayRef<A>) {
@@ -76,36 +66,6 @@ fn texts_are_decoded(rt: HostRuntime) -> Result<(), Fail> {
     Ok(())
 }
 
-// One row, a view into one buffer of these bytes.
-fn one_view(
-    alloc: Global,
-    bytes: &[u8],
-    start: usize,
-    size: usize,
-    kind: VarBinKind,
-    validity: Validity<Global>,
-) -> VortexResult<ArrayRef<Global>> {
-    let view = View {
-        buffer: 0,
-        start,
-        size,
-    };
-    let views = Vec::from_slice(alloc, &[view])?;
-    let buffers = one_buffer(alloc, bytes)?;
-    let array = VarBinViewArray::try_new(views, buffers, kind, validity)?;
-    Ok(ArrayRef::VarBinView(array))
-}
-
-// A copy of the run column of the letters, all in this memory.
-fn cloned_letters<A: Allocator + Copy>(alloc: A) -> VortexResult<ArrayRef<A>> {
-    letter_runs(alloc)?.try_clone(&mut context(alloc))
-}
-
-// The letters in a flat form, all in this memory.
-fn canonicalized_letters<A: Allocator + Copy>(alloc: A) -> VortexResult<ArrayRef<A>> {
-    letter_runs(alloc)?.canonicalize(&mut context(alloc))
-}
-
 // The letters of the runs, decoded, all in this memory.
 fn letters_in<A: Allocator + Copy>(alloc: A) -> VortexResult<ArrayRef<A>> {
     let ends = required(alloc, &[2u32, 5, 10])?;
@@ -131,5 +91,13 @@ fn decode_of_texts_refused_at_each_request(rt: HostRuntime) -> Result<(), Fail> 
         }
     }
     assert!(rt; last >= 1 && last < 99);
+    Ok(())
+}
+
+#[test]
+fn texts_are_canonicalized(rt: HostRuntime) -> Result<(), Fail> {
+    let column = letter_runs(rt.alloc())?;
+    let flat = column.canonicalize(&mut context(rt.alloc()))?;
+    assert_letters(&rt, &flat);
     Ok(())
 }
