@@ -8,7 +8,7 @@ type Slots = RunEndSlots<Global>;
 #[test]
 fn slots_have_their_names_and_places(rt: HostRuntime) -> Result<(), Fail> {
     assert_eq!(rt; (Slots::ENDS, Slots::VALUES), (0, 1));
-    assert_eq!(rt; Slots::NAMES[Slots::ENDS], "ends");
-    assert_eq!(rt; Slots::NAMES[Slots::VALUES], "values");
+    assert_eq!(rt; Slots::NAMES[0], "ends");
+    assert_eq!(rt; Slots::NAMES[1], "values");
     Ok(())
 }

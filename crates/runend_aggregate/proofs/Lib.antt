@@ -1,2 +1,4 @@
 pub mod RunRows
+pub mod SeenRows
 pub mod SumOfRows
+pub mod VisibleFacts

@@ -1,2 +1,3 @@
+pub mod OrderFault
 pub mod ShownRuns
 pub mod SignOf

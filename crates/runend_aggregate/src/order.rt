@@ -1,0 +1,101 @@
+//! Whether the rows of a run column are constant or sorted, by its visible runs.
+ghost use Rattle.std.specs.Prelude.{◌≡◌, ◌≢◌, ◌≤◌, ◌↔◌, Err, IfOk, IsTrue, false, length, slice_range};
+ghost use Rattle.column_core.specs.Refusal.{IsRefusedBy};
+ghost use Rattle.column_order.specs.CompareFault.{is_list_type};
+ghost use Rattle.column_order.specs.OrderFacts.{IsConstant, IsSorted};
+ghost use Rattle.column_order.specs.Steps.{is_step_of};
+ghost use Rattle.runend_array.specs.Array.{dtype_of, rows};
+ghost use Rattle.runend_array.specs.Column.{column_dtype, column_of_runs, column_rows};
+ghost use Rattle.runend_aggregate.specs.OrderFault.{order_fault};
+
+use crate::rows::{fault_of, order_at};
+use crate::visible::visible_runs;
+use column_core::{VortexError, VortexResult};
+use runend_array::{ArrayRef, ExecutionCtx, RunEndArray, RunEndArrayExt, RunEndArraySlotsExt};
+use std::alloc::Allocator;
+use std::cmp::Ordering;
+use std::ops::Range;
+
+// Are any two of the rows from `range.start` to `range.end - 1` equal?
+fn are_equal<A: Allocator + Copy>(values: &ArrayRef<A>, range: Range<usize>) -> bool
+    requires flat { is_list_type (dtype_of values.now) ≡ false }
+    requires ordered { range.start ≤ range.end }
+    requires in_bounds { range.end ≤ length (rows values.now) }
+    ensures { IsTrue result ↔ IsConstant (slice_range (rows values.now) range.start range.end) }
+{
+    for index in range.start..range.end {
+        if order_at(values, range.start, index).is_ne() {
+            return false;
+        }
+    }
+    true
+}
+
+/// Are any two rows equal, null equal to null? No rows are constant. Work is by visible runs. Refused
+/// as `Unsupported` exactly for lists. It takes no memory, whatever the form of the run values.
+pub fn is_constant<A: Allocator + Copy>(
+    array: &RunEndArray<A>,
+    ctx: &mut ExecutionCtx<A>,
+) -> VortexResult<bool>
+    ensures refused { IsRefusedBy (order_fault (column_dtype array.now.values)) result }
+    ensures no_memory { result ≢ Err VortexError.OutOfMemory }
+    ensures answer { IfOk result (λ constant. IsTrue constant ↔ IsConstant (column_rows (column_of_runs array.now))) }
+    ensures session { ctx.new ≡ ctx.old }
+{
+    let _ = &ctx;
+    if let Some(error) = fault_of(array.dtype()) {
+        return Err(error);
+    }
+    Ok(are_equal(array.values(), visible_runs(array)))
+}
+
+// May a row that stands so to the next one be there?
+fn is_step(ordering: Ordering, strict: bool) -> bool
+    ensures { result ≡ is_step_of strict ordering }
+{
+    if strict {
+        ordering.is_lt()
+    } else {
+        ordering.is_le()
+    }
+}
+
+// Is each of the rows from `range.start` to `range.end - 2` one that may stand before the next?
+fn are_sorted<A: Allocator + Copy>(values: &ArrayRef<A>, range: Range<usize>, strict: bool) -> bool
+    requires flat { is_list_type (dtype_of values.now) ≡ false }
+    requires ordered { range.start ≤ range.end }
+    requires in_bounds { range.end ≤ length (rows values.now) }
+    ensures { IsTrue result ↔ IsSorted strict (slice_range (rows values.now) range.start range.end) }
+{
+    for index in range.start..range.end.saturating_sub(1) {
+        if !is_step(order_at(values, index, index + 1), strict) {
+            return false;
+        }
+    }
+    true
+}
+
+/// Is no row above the next, or, where `strict` is asked, is each below the next? No rows are sorted.
+/// Work is by visible runs. Refused as `Unsupported` exactly for lists. It takes no memory, whatever the
+/// form of the run values.
+pub fn is_sorted<A: Allocator + Copy>(
+    array: &RunEndArray<A>,
+    strict: bool,
+    ctx: &mut ExecutionCtx<A>,
+) -> VortexResult<bool>
+    ensures refused { IsRefusedBy (order_fault (column_dtype array.now.values)) result }
+    ensures no_memory { result ≢ Err VortexError.OutOfMemory }
+    ensures answer { IfOk result (λ sorted. IsTrue sorted ↔ IsSorted strict (column_rows (column_of_runs array.now))) }
+    ensures session { ctx.new ≡ ctx.old }
+{
+    let _ = &ctx;
+    if let Some(error) = fault_of(array.dtype()) {
+        return Err(error);
+    }
+    let runs = visible_runs(array);
+    // In strict order each run has one row.
+    if strict && runs.end - runs.start != array.len() {
+        return Ok(false);
+    }
+    Ok(are_sorted(array.values(), runs, strict))
+}

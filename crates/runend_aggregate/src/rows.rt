@@ -1,0 +1,65 @@
+//! The rows of a column, and how they stand to one another.
+ghost use Rattle.std.specs.Prelude.{◌≡◌, ◌<◌, Some, false, length, option_map, slice_get};
+ghost use Rattle.column_core.specs.ScalarView.{sees, IsViewOf};
+ghost use Rattle.column_order.specs.CompareFault.{is_list_type};
+ghost use Rattle.column_order.specs.Steps.{HasOrderAt, is_past};
+ghost use Rattle.runend_array.specs.Array.{dtype_of, rows};
+ghost use Rattle.runend_aggregate.specs.OrderFault.{order_fault};
+
+use column_core::{DType, ScalarView, VortexError};
+use column_order::compare_views;
+use runend_array::ArrayRef;
+use std::alloc::Allocator;
+use std::cmp::Ordering;
+
+/// Why a column of this type has no order.
+pub(crate) fn fault_of(dtype: DType) -> Option<VortexError>
+    ensures { result ≡ order_fault dtype }
+{
+    match dtype {
+        DType::List(_, _) => Some(VortexError::Unsupported),
+        _ => None,
+    }
+}
+
+/// The row at an index that there is.
+pub(crate) fn row_of<A: Allocator + Copy>(values: &ArrayRef<A>, row: usize) -> ScalarView<'_, A>
+    requires { row < length (rows values.now) }
+    ensures row { slice_get (rows values.now) row ≡ Some (sees result) }
+    ensures of_type { IsViewOf (dtype_of values.now) result }
+{
+    match values.scalar_at(row) {
+        Ok(view) => view,
+        Err(_) => unreachable!(),
+    }
+}
+
+/// How one row stands to another one.
+pub(crate) fn order_at<A: Allocator + Copy>(
+    values: &ArrayRef<A>,
+    left: usize,
+    right: usize,
+) -> Ordering
+    requires flat { is_list_type (dtype_of values.now) ≡ false }
+    requires left { left < length (rows values.now) }
+    requires right { right < length (rows values.now) }
+    ensures order { HasOrderAt (rows values.now) left right result }
+    ensures equal { result ≡ Ordering.Equal → slice_get (rows values.now) left ≡ slice_get (rows values.now) right }
+{
+    compare_views(&row_of(values, left), &row_of(values, right))
+}
+
+/// Is the row no null, and past the best one so far on that side?
+pub(crate) fn is_past_best<A: Allocator>(
+    row: &ScalarView<'_, A>,
+    best: &Option<ScalarView<'_, A>>,
+    side: Ordering,
+) -> bool
+    ensures { result ≡ is_past side (sees row.now) (option_map sees best.now) }
+{
+    match (row, best) {
+        (ScalarView::Null, _) => false,
+        (_, None) => true,
+        (row, Some(best)) => compare_views(row, best) == side,
+    }
+}

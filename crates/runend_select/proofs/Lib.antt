@@ -1,0 +1,4 @@
+pub mod Selected
+pub mod Reached
+pub mod KeptSoFar
+pub mod Fitting
