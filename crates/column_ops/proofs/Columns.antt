@@ -125,7 +125,7 @@ abbrev pub optional_views : VarBinForm → List (Option View)
 optional_views form = optionals form.views (flags form.validity (length form.views))
 
 -- the rows are the bytes that the views cut
-varbin_rows-of_views : (form : VarBinForm) → varbin_rows form ≡ map (option_map (varbin_value form.kind)) (map (option_map (view_bytes form.buffers)) (optional_views form))
+pub varbin_rows-of_views : (form : VarBinForm) → varbin_rows form ≡ map (option_map (varbin_value form.kind)) (map (option_map (view_bytes form.buffers)) (optional_views form))
 varbin_rows-of_views form = ap (map (option_map (varbin_value form.kind))) (optionals-map (view_bytes form.buffers) form.views (flags form.validity (length form.views)))
 
 -- taken views are sound, and show the rows that are taken

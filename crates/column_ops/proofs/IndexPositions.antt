@@ -1,8 +1,8 @@
 -- Lemmas on positions of indices.
-use Rattle.std.proofs.Common.{◌≡◌, ◌∙◌, ◌+◌, ◌<◌, ◌≤◌, ℕ, ℤ, zero, suc, pos, List, [], ◌∷◌, ◌++◌, Bool, true, false, Option, Some, None, Err, length, map, take, refl, sym, ap, add-one, arith, inl, inr, ⊎_elim}
+use Rattle.std.proofs.Common.{◌≡◌, ◌∙◌, ◌+◌, ◌<◌, ◌≤◌, ℕ, ℤ, zero, suc, pos, List, [], ◌∷◌, ◌++◌, Bool, true, false, Option, Some, None, Err, length, map, take, refl, ap, add-one, arith, inl, inr, ⊎_elim}
 use Rattle.std.specs.Prelude.{Result, Ok, IsErrAnd, slice_get, option_map, IfSome}
 use Rattle.std.specs.Option.{option_or}
-use Rattle.std.proofs.lemmas.List.{map_push, length-map}
+use Rattle.std.proofs.lemmas.List.{length-map}
 use Rattle.std.proofs.lemmas.List.Elements.{All-push}
 use Rattle.column_base.specs.declared.error.VortexError.{VortexError}
 use Rattle.column_core.specs.Optionals.{optionals}
@@ -13,7 +13,7 @@ use Rattle.column_base.specs.declared.dtype.PType.{PType}
 use Rattle.column_base.specs.ValidityForm.{ValidityForm, flags}
 use Rattle.column_core.specs.PrimitiveForm.{optional_numbers, primitive_with}
 use Rattle.std.proofs.lemmas.Option.{slice_get-map}
-use Rattle.column_ops.proofs.Passed.{passed_all, take_next}
+use Rattle.column_ops.proofs.Passed.{mapped-push, passed_all, take_next}
 
 -- optional items of mapped items
 pub optionals-map : {B C : Type 0} (f : B → C) (xs : List B) (bs : List Bool) → optionals (map f xs) bs ≡ map (option_map f) (optionals xs bs)
@@ -69,8 +69,7 @@ ArePositions-push positions position count old within = All-push (λ p. IfSome p
 -- the numbers of the positions grow by the index
 pub position_numbers-push : (positions : List (Option ℕ)) (indices : List (Option ℤ)) (k : ℕ) (position : Option ℕ) (index : Option ℤ) → position_numbers positions ≡ take k indices → slice_get indices k ≡ Some index
     → option_map (λ n. pos n) position ≡ index → position_numbers (positions ++ position ∷ []) ≡ take (k + 1) indices
-position_numbers-push positions indices k position index old here same =
-    rw add-one (map_push (option_map (λ n. pos n)) positions position ∙ ap (λ xs. xs ++ option_map (λ n. pos n) position ∷ []) old ∙ ap (λ i. take k indices ++ i ∷ []) same ∙ sym (take_next indices k index here))
+position_numbers-push positions indices k position index old here same = mapped-push (λ n. pos n) positions indices k position index old here same
 
 -- all indices have been passed
 pub indices_all : {S : Type 0} (ptype : PType) (number : S → ℤ) (items : List S) (form : ValidityForm) (k : ℕ) → length items ≤ k

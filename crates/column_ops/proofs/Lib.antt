@@ -4,3 +4,6 @@ pub mod Passed
 pub mod IndexPositions
 pub mod Made
 pub mod Columns
+pub mod CastRows
+pub mod CastViews
+pub mod CodeRows

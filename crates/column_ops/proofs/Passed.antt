@@ -1,5 +1,5 @@
 -- Lemmas on the rows that a loop has passed.
-use Rattle.std.proofs.Common.{◌≡◌, ◌∙◌, ◌+◌, ◌≤◌, ℕ, zero, suc, pos, List, [], ◌∷◌, ◌++◌, Bool, true, false, Option, Some, length, take, refl, ap, add-one, arith}
+use Rattle.std.proofs.Common.{◌≡◌, ◌∙◌, ◌+◌, ◌≤◌, ℕ, zero, suc, pos, List, [], ◌∷◌, ◌++◌, Bool, true, false, Option, Some, length, map, take, refl, sym, ap, add-one, arith}
 use Rattle.std.specs.Prelude.{slice_get, option_map, unwrap_or, if◌then◌else◌}
 use Rattle.std.proofs.lemmas.List.{map_push, take_all}
 use Rattle.column_core.specs.Optionals.{optionals}
@@ -13,6 +13,16 @@ pub take_next : {B : Type 0} (xs : List B) (k : ℕ) (x : B) → slice_get xs k 
 take_next [] k x here = cc
 take_next (y ∷ xs) zero x here = cc
 take_next (y ∷ xs) (suc k) x here = ap (λ ys. y ∷ ys) (take_next xs k x here)
+
+-- the same where the next place is counted by a sum
+pub take_more : {B : Type 0} (xs : List B) (k : ℕ) (x : B) → slice_get xs k ≡ Some x → take (k + 1) xs ≡ take k xs ++ x ∷ []
+take_more xs k x here = rw add-one (take_next xs k x here)
+
+-- items that stand for the first ones of a list, and one more
+pub mapped-push : {B C : Type 0} (f : B → C) (rows : List (Option B)) (xs : List (Option C)) (k : ℕ) (row : Option B) (x : Option C) → map (option_map f) rows ≡ take k xs → slice_get xs k ≡ Some x
+    → option_map f row ≡ x → map (option_map f) (rows ++ row ∷ []) ≡ take (k + 1) xs
+mapped-push f rows xs k row x old here same =
+    map_push (option_map f) rows row ∙ ap (λ ys. ys ++ option_map f row ∷ []) old ∙ ap (λ y. take k xs ++ y ∷ []) same ∙ sym (take_more xs k x here)
 
 -- each optional item has been passed
 pub passed_all : {B : Type 0} (xs : List B) (bs : List Bool) (k : ℕ) → length xs ≤ k → take k (optionals xs bs) ≡ optionals xs bs

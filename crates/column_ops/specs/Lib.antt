@@ -5,3 +5,5 @@ pub mod Written
 pub mod Take
 pub mod Filter
 pub mod Fill
+pub mod Cast
+pub mod Codes

@@ -3,6 +3,7 @@ ghost use Rattle.column_core.specs.Leaf.{OfDecimals};
 
 use crate::fill_items::fill_items;
 use crate::filter_items::filter_items;
+use crate::keep_items::keep_items;
 use crate::ops::ColumnOps;
 use crate::take_items::take_items;
 use column_core::{DType, DecimalArray, Mask, ScalarValue, Validity, VortexError, VortexResult};
@@ -50,5 +51,12 @@ impl<A: Allocator + Copy> ColumnOps<A> for DecimalArray<A> {
         prove_eq!(self.len(), self.values().len());
         let (filled, rows) = fill_items(alloc, self.values(), self.validity(), 0, *number)?;
         Ok(DecimalArray::new_unchecked(filled, self.decimal_dtype(), rows))
+    }
+
+    fn cast_to(&self, alloc: A, dtype: DType) -> VortexResult<DecimalArray<A>> {
+        prove_eq!(self.len(), self.values().len());
+        let validity = self.validity();
+        let (numbers, rows) = keep_items(alloc, self.values(), validity, 0, dtype.nullability())?;
+        Ok(DecimalArray::new_unchecked(numbers, self.decimal_dtype(), rows))
     }
 }

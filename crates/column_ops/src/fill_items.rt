@@ -6,9 +6,10 @@ ghost use Rattle.column_base.specs.Validity.{form_of};
 ghost use Rattle.column_core.specs.Optionals.{optionals};
 ghost use Rattle.column_core.specs.Scalar.{flat_of, IsOwnedOf};
 ghost use Rattle.column_core.specs.Refusal.{IsRefusedBy};
-ghost use Rattle.column_ops.specs.Fill.{fill_fault, fill_rows, is_list, same_kind};
+ghost use Rattle.column_ops.specs.Fill.{fill_fault, fill_rows};
 ghost use Rattle.column_ops.specs.Written.{AreWritten};
 
+use crate::kinds::{is_list_type, is_same_kind};
 use crate::row_writer::RowWriter;
 use crate::rows::row_at;
 use column_core::{DType, Nullability, Scalar, ScalarValue, Validity, VortexError, VortexResult};
@@ -36,16 +37,6 @@ pub(crate) fn fill_items<T: Copy + Drop, A: Allocator + Copy>(
     Ok(rows.finish())
 }
 
-// Is it a type of lists?
-fn is_list_type(dtype: DType) -> bool
-    ensures { result ≡ is_list dtype }
-{
-    match dtype {
-        DType::List(_, _) => true,
-        _ => false,
-    }
-}
-
 /// The value that fills the nulls of rows of this type. Refused as `Unsupported` for lists; then as
 /// `TypeMismatch` for a scalar of another kind; then as `NullFill` for null. Takes no memory.
 pub(crate) fn fill_value<A: Allocator>(
@@ -67,12 +58,4 @@ pub(crate) fn fill_value<A: Allocator>(
         None => Err(VortexError::NullFill),
         Some(value) => Ok(value),
     }
-}
-
-// Are the two types equal but for nullability?
-fn is_same_kind(left: DType, right: DType) -> bool
-    ensures { result ≡ same_kind left right }
-{
-    left.with_nullability(Nullability::NonNullable)
-        == right.with_nullability(Nullability::NonNullable)
 }

@@ -83,4 +83,25 @@ impl<A: Allocator + Copy> ColumnOps<A> for FlatColumn<A> {
             }
         }
     }
+
+    fn cast_to(&self, alloc: A, dtype: DType) -> VortexResult<FlatColumn<A>> {
+        match self {
+            FlatColumn::Primitive(array) => {
+                let cast = array.cast_to(alloc, dtype)?;
+                Ok(FlatColumn::Primitive(cast))
+            }
+            FlatColumn::Bool(array) => {
+                let cast = array.cast_to(alloc, dtype)?;
+                Ok(FlatColumn::Bool(cast))
+            }
+            FlatColumn::Decimal(array) => {
+                let cast = array.cast_to(alloc, dtype)?;
+                Ok(FlatColumn::Decimal(cast))
+            }
+            FlatColumn::VarBinView(array) => {
+                let cast = array.cast_to(alloc, dtype)?;
+                Ok(FlatColumn::VarBinView(cast))
+            }
+        }
+    }
 }

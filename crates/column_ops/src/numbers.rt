@@ -16,6 +16,7 @@ ghost use Rattle.column_ops.specs.Filter.{filter_rows};
 ghost use Rattle.column_ops.specs.Nullable.{either_nullable};
 ghost use Rattle.column_ops.specs.Take.{ArePositions, position_numbers, take_rows};
 
+use crate::cast_numbers::cast_values;
 use crate::fill_items::fill_items;
 use crate::filter_items::filter_items;
 use crate::ops::ColumnOps;
@@ -141,5 +142,12 @@ impl<A: Allocator + Copy> ColumnOps<A> for PrimitiveArray<A> {
             ScalarValue::Signed(number) => fill_values(alloc, self, i128::from(*number)),
             _ => unreachable!(),
         }
+    }
+
+    fn cast_to(&self, alloc: A, dtype: DType) -> VortexResult<PrimitiveArray<A>> {
+        let DType::Primitive(ptype, nullability) = dtype else {
+            unreachable!()
+        };
+        cast_values(alloc, self, ptype, nullability)
     }
 }

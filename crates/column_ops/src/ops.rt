@@ -1,24 +1,30 @@
 //! What can be done with the rows of a flat column.
-ghost use Rattle.std.specs.Prelude.{◌≡◌, IfOk, IfSome, IsOkUnless, length};
+ghost use Rattle.std.specs.Prelude.{◌≡◌, true, IfOk, IfSome, IsOkUnless, length};
 ghost use Rattle.column_base.specs.Mask.{mask_bits};
 ghost use Rattle.column_base.specs.Types.{nullability_of, with_nullability as dtype_with};
 ghost use Rattle.column_base.specs.ValidityForm.{HasLength, flags, nullability_in};
 ghost use Rattle.column_base.specs.Validity.{form_of};
-ghost use Rattle.column_core.specs.Leaf.{Leaf, leaf_dtype, leaf_rows};
+ghost use Rattle.column_core.specs.FlatColumn.{leaf_of};
+ghost use Rattle.column_core.specs.Leaf.{Leaf, leaf_dtype, leaf_rows, plain_leaf, single_rows};
 ghost use Rattle.column_core.specs.Optionals.{optionals};
 ghost use Rattle.column_core.specs.PrimitiveForm.{optional_numbers, primitive_dtype};
 ghost use Rattle.column_core.specs.Refusal.{IsRefusedBy};
 ghost use Rattle.column_ops.specs.Computed.{IsMade};
 ghost use Rattle.column_core.specs.Scalar.{flat_of, IsOwnedOf};
+ghost use Rattle.column_ops.specs.Cast.{can_cast, cast_fault, cast_row_fault};
+ghost use Rattle.column_ops.specs.Codes.{code_fault, code_rows};
+ghost use Rattle.column_ops.specs.Fault.{first_fault};
 ghost use Rattle.column_ops.specs.Fill.{fill_dtype, fill_fault, fill_rows};
 ghost use Rattle.column_ops.specs.Filter.{filter_fault, filter_rows};
 ghost use Rattle.column_ops.specs.Nullable.{either_nullable, take_dtype};
 ghost use Rattle.column_ops.specs.Take.{ArePositions, position_numbers, take_fault, take_rows};
 
 use crate::fill_items::fill_value;
+use crate::kinds::is_castable;
 use crate::positions::positions_of;
 use column_core::{
-    DType, Mask, PrimitiveArray, Scalar, ScalarValue, Validity, VortexError, VortexResult,
+    DType, FlatColumn, Mask, PrimitiveArray, Scalar, ScalarValue, Validity, VortexError,
+    VortexResult,
 };
 use std::alloc::Allocator;
 
@@ -62,6 +68,23 @@ pub trait ColumnOps<A: Allocator + Copy>: Sized {
         self.take_at(alloc, positions.as_slice(), &places)
     }
 
+    /// The rows of this dictionary at the codes, null for null. The type has null where the dictionary's
+    /// or the codes' has. Refused as `TypeMismatch` unless the codes are whole numbers; then as
+    /// `OutOfBounds`, with the code and the number of rows, at the first code that is no null and is
+    /// negative or not below that number; else as `OutOfMemory` alone.
+    fn take_codes(&self, alloc: A, codes: &FlatColumn<A>) -> VortexResult<Self>
+        ensures refused { IsRefusedBy (code_fault (plain_leaf (leaf_of codes.now)) (length (leaf_rows (leaf self.now)))) result }
+        ensures made { IfOk result (λ column. IsMade
+            (code_rows (leaf_rows (leaf self.now)) (single_rows (leaf_of codes.now)))
+            (take_dtype (leaf_dtype (leaf self.now)) (leaf_dtype (leaf_of codes.now)))
+            (leaf column)) }
+    {
+        match codes {
+            FlatColumn::Primitive(indices) => self.take(alloc, indices),
+            _ => Err(VortexError::TypeMismatch),
+        }
+    }
+
     /// The rows at which the mask is true, in order. Refused as `MaskLength`, with the mask's length and
     /// the number of rows, where they differ, and that before any memory is taken; else as
     /// `OutOfMemory` alone.
@@ -86,5 +109,26 @@ pub trait ColumnOps<A: Allocator + Copy>: Sized {
     {
         let value = fill_value(self.column_dtype(), scalar)?;
         self.fill_with(alloc, value)
+    }
+
+    /// The rows in the type, which rows of this type can be cast to. Refused, at the first row that is
+    /// no value of the type, as `NullNotAllowed` for null and as `CastOutOfRange` for a number; else as
+    /// `OutOfMemory` alone.
+    fn cast_to(&self, alloc: A, dtype: DType) -> VortexResult<Self>
+        requires { can_cast (leaf_dtype (leaf self.now)) dtype ≡ true }
+        ensures refused { IsRefusedBy (first_fault (cast_row_fault dtype) (single_rows (leaf self.now))) result }
+        ensures made { IfOk result (λ column. IsMade (leaf_rows (leaf self.now)) dtype (leaf column)) };
+
+    /// The same rows in the type. Refused as `Unsupported` unless both types are of whole numbers, or
+    /// both of one kind; then, at the first row that is no value of the type, as `NullNotAllowed` for
+    /// null and as `CastOutOfRange` for a number; else as `OutOfMemory` alone.
+    fn cast(&self, alloc: A, dtype: DType) -> VortexResult<Self>
+        ensures refused { IsRefusedBy (cast_fault (plain_leaf (leaf self.now)) dtype) result }
+        ensures made { IfOk result (λ column. IsMade (leaf_rows (leaf self.now)) dtype (leaf column)) }
+    {
+        if !is_castable(self.column_dtype(), dtype) {
+            return Err(VortexError::Unsupported);
+        }
+        self.cast_to(alloc, dtype)
     }
 }

@@ -4,6 +4,7 @@ ghost use Rattle.column_core.specs.Leaf.{OfTruths};
 
 use crate::fill_items::fill_items;
 use crate::filter_items::filter_items;
+use crate::keep_items::keep_items;
 use crate::ops::ColumnOps;
 use crate::take_items::take_items;
 use column_core::{
@@ -83,6 +84,15 @@ impl<A: Allocator + Copy> ColumnOps<A> for BoolArray<A> {
         let own = items_of(alloc, self.values())?;
         let (filled, rows) = fill_items(alloc, own.as_slice(), self.validity(), false, *truth)?;
         let bits = bits_of(alloc, filled.as_slice())?;
+        Ok(BoolArray::new_unchecked(bits, rows))
+    }
+
+    fn cast_to(&self, alloc: A, dtype: DType) -> VortexResult<BoolArray<A>> {
+        prove_eq!(self.len(), self.values().len());
+        let own = items_of(alloc, self.values())?;
+        let validity = self.validity();
+        let (kept, rows) = keep_items(alloc, own.as_slice(), validity, false, dtype.nullability())?;
+        let bits = bits_of(alloc, kept.as_slice())?;
         Ok(BoolArray::new_unchecked(bits, rows))
     }
 }

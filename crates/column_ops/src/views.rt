@@ -8,6 +8,7 @@ ghost use Rattle.column_core.specs.Leaf.{OfVarBins};
 
 use crate::fill_items::fill_items;
 use crate::filter_items::filter_items;
+use crate::keep_items::keep_items;
 use crate::ops::ColumnOps;
 use crate::take_items::take_items;
 use bytes::Bytes;
@@ -102,5 +103,19 @@ impl<A: Allocator + Copy> ColumnOps<A> for VarBinViewArray<A> {
             ScalarValue::Binary(bytes) => fill_bytes(alloc, self, bytes.as_slice()),
             _ => unreachable!(),
         }
+    }
+
+    fn cast_to(&self, alloc: A, dtype: DType) -> VortexResult<VarBinViewArray<A>> {
+        prove_eq!(self.len(), self.views().len());
+        let validity = self.validity();
+        let (views, rows) = keep_items(
+            alloc,
+            self.views(),
+            validity,
+            NOTHING,
+            dtype.nullability(),
+        )?;
+        let buffers = share(alloc, self.buffers())?;
+        Ok(VarBinViewArray::new_unchecked(views, buffers, self.kind(), rows))
     }
 }

@@ -25,13 +25,19 @@ mod parts;
 #[cfg(test)]
 mod probes;
 #[cfg(test)]
+mod records;
+#[cfg(test)]
 mod refusals;
+#[cfg(test)]
+mod reports;
 #[cfg(test)]
 mod scalars;
 #[cfg(test)]
 mod shown;
 #[cfg(test)]
 mod slots;
+#[cfg(test)]
+mod strategies;
 #[cfg(test)]
 mod texts;
 #[cfg(test)]

@@ -3,6 +3,7 @@ pub mod ListRows
 pub mod ListParts
 pub mod ListRuns
 pub mod ListSlice
+pub mod ListTake
 pub mod ShownLists
 pub mod RowFlags
 pub mod Refusals

@@ -1,5 +1,5 @@
 -- Ranges of rows, in a flat form.
-use Rattle.std.proofs.Common.{◌≡◌, ℕ, ◌+◌, ◌-◌, ◌<◌, ◌≤◌, List, length, replicate, sym, ap, ◌∙◌, arith}
+use Rattle.std.proofs.Common.{◌≡◌, ℕ, ◌+◌, ◌-◌, ◌<◌, ◌≤◌, List, replicate, sym, ap, ◌∙◌, arith}
 use Rattle.std.specs.Prelude.{option_map, slice_range}
 use Rattle.column_base.proofs.Ranges.{slice_range-replicate}
 use Rattle.column_core.specs.Value.{FlatValue, Single}

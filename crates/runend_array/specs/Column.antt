@@ -1,13 +1,11 @@
 -- What a column is: flat data, lists or one value many times, under levels of runs.
-use Rattle.std.specs.Prelude.{◌≡◌, ℕ, ◌+◌, Bool, List, [], length, map, Option, None, option_map, unsigned_abs, replicate, slice_index_or}
+use Rattle.std.specs.Prelude.{◌≡◌, ℕ, ◌+◌, Bool, List, [], length, map, Option, option_map, replicate}
 use Rattle.column_base.specs.declared.dtype.PType.{PType}
 use Rattle.column_base.specs.declared.dtype.PType.TheVariants.{U64}
 use Rattle.column_base.specs.declared.dtype.Nullability.TheVariants.{NonNullable}
 use Rattle.column_base.specs.declared.dtype.DType.{DType}
 use Rattle.column_base.specs.declared.dtype.DType.TheVariants as column
-use Rattle.column_base.specs.Types.{IsUnsigned}
 use Rattle.column_core.specs.Value.{FlatValue, Value, Single, PlainColumn}
-use Rattle.column_core.specs.PrimitiveForm.{PrimitiveForm}
 use Rattle.column_core.specs.Leaf.{Leaf, OfNumbers, OfTruths, OfDecimals, OfVarBins, leaf_rows, leaf_dtype}
 use Rattle.runend_codec.specs.Window.{IsWindow, run_rows}
 use Rattle.runend_codec.specs.Ends.{IsEndsType, ends_of}

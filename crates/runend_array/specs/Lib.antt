@@ -5,6 +5,7 @@ pub mod Array
 pub mod Fault
 pub mod ListRuns
 pub mod ListSlice
+pub mod ListTake
 pub mod Falls
 pub mod Encoding
 pub mod RowFlags

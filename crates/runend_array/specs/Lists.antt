@@ -4,8 +4,6 @@ use Rattle.std.specs.List.{range_with_len}
 use Rattle.column_base.specs.declared.dtype.PType.{PType}
 use Rattle.column_base.specs.declared.dtype.Nullability.{Nullability}
 use Rattle.column_base.specs.declared.dtype.Nullability.TheVariants.{Nullable}
-use Rattle.column_base.specs.declared.dtype.ElementDType.{ElementDType}
-use Rattle.column_base.specs.declared.dtype.ElementDType.TheVariants as element
 use Rattle.column_base.specs.declared.dtype.DType.{DType}
 use Rattle.column_base.specs.declared.dtype.DType.TheVariants as column
 use Rattle.column_base.specs.ValidityForm.{ValidityForm, HasLength, flag_at, nullability_in}

@@ -1,5 +1,5 @@
 //! The run column: runs of equal rows, seen through a window.
-ghost use Rattle.std.specs.Prelude.{◌≡◌, ℕ, ◌+◌, ◌-◌, ◌<◌, ◌≤◌, ◌↔◌, Some, fold, pos, length, min, count_by, nat_le, nat_lt, slice_get, slice_index, slice_index_or, false, IsTrue, IfOk, IsErrOf, IsOkUnless, MatchOption, MatchResult, map, slice_range};
+ghost use Rattle.std.specs.Prelude.{◌≡◌, ℕ, ◌+◌, ◌-◌, ◌<◌, ◌≤◌, ◌↔◌, Some, fold, pos, length, min, count_by, nat_le, nat_lt, slice_get, slice_index, slice_index_or, false, codes, IsTrue, IfOk, IsErrOf, IsOkUnless, MatchOption, MatchResult, map, slice_range};
 ghost use Rattle.column_core.specs.Leaf.{OfNumbers};
 ghost use Rattle.column_core.specs.PrimitiveForm.{primitive_dtype};
 ghost use Rattle.runend_codec.specs.Ends.{IsEndsType, ends_of};
@@ -199,6 +199,32 @@ impl RunEnd {
         let (ends, values) = runend_encode(plain, ctx)?;
         let ends = ArrayRef::Primitive(ends);
         Ok(RunEnd::new_unchecked(ends, values, 0, plain.len()))
+    }
+
+    /// The name of the encoding, `vortex.runend`.
+    pub fn id() -> &'static str
+        ensures { result.now ≡ codes "vortex.runend" }
+    {
+        "vortex.runend"
+    }
+
+    /// How many buffers a run column has beside its slots: none.
+    pub fn nbuffers() -> usize
+        ensures { result ≡ 0 }
+    {
+        0
+    }
+
+    /// The name of a slot: of slot 0 `ends`, of slot 1 `values`.
+    pub fn slot_name(slot: usize) -> &'static str
+        requires { slot < 2 }
+        ensures ends { slot ≡ 0 → result.now ≡ codes "ends" }
+        ensures values { slot ≡ 1 → result.now ≡ codes "values" }
+    {
+        match slot {
+            0 => "ends",
+            _ => "values",
+        }
     }
 }
 

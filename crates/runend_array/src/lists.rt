@@ -3,6 +3,7 @@ mod index;
 mod listview;
 mod runs;
 mod slice;
+mod take;
 
 pub(crate) use index::{is_plain_index, is_plain_truths, plain_number_at, plain_truth_at};
 pub use listview::ListViewArray;

@@ -1,10 +1,9 @@
 -- Chains of steps.
-use Rattle.std.proofs.Common.{◌≡◌, ◌++◌, ◌+◌, ◌<◌, [], ◌∷◌, ℕ, List, get_or, length, refl, subst, sym, take}
-use Rattle.std.proofs.lemmas.List.{take_more}
+use Rattle.std.proofs.Common.{◌≡◌, ◌++◌, [], ◌∷◌, List, refl, subst, sym}
 use Rattle.runend_commands.specs.Step.{IsChain}
 
 -- a chain goes on by one more step
-chain_more : {State Request Reply : Type 0} (Step : State → Request → Reply → State → Type 0) (before between after : State)
+pub chain_more : {State Request Reply : Type 0} (Step : State → Request → Reply → State → Type 0) (before between after : State)
     (requests : List Request) (replies : List Reply) (request : Request) (reply : Reply)
     → IsChain Step before requests replies between → Step between request reply after → IsChain Step before (requests ++ request ∷ []) (replies ++ reply ∷ []) after
 chain_more {State} Step before between after [] [] request reply start step =
@@ -13,15 +12,6 @@ chain_more Step before between after [] (r ∷ replies) request reply start step
 chain_more Step before between after (q ∷ requests) [] request reply start step = absurd start
 chain_more Step before between after (q ∷ requests) (r ∷ replies) request reply start step =
     (start.0, start.1, chain_more Step start.0 between after requests replies request reply start.2 step)
-
--- a chain of the first requests goes on by the next of them
-pub chain_next : {State Request Reply : Type 0} (Step : State → Request → Reply → State → Type 0) (before between after : State)
-    (requests : List Request) (index : ℕ) (other : Request) (replies : List Reply) (reply : Reply) → index < length requests
-    → IsChain Step before (take index requests) replies between → Step between (get_or requests index other) reply after
-    → IsChain Step before (take (index + 1) requests) (replies ++ reply ∷ []) after
-chain_next Step before between after requests index other replies reply within start step =
-    rw (take_more requests index other within)
-    (chain_more Step before between after (take index requests) replies (get_or requests index other) reply start step)
 
 -- a chain of steps is one of steps that say less
 pub chain_weaker : {State Request Reply : Type 0} (Step Weaker : State → Request → Reply → State → Type 0)

@@ -1,4 +1,10 @@
 pub mod Chains
 pub mod KeptArrays
 pub mod TightColumns
+pub mod WholeRanges
+pub mod Extremes
 pub mod Agreement
+pub mod FilledColumns
+pub mod RowFaults
+pub mod ComparedColumns
+pub mod FlatForms

@@ -1,16 +1,23 @@
--- What kernels, registered or not, add to the steps of a run: the forms that they leave.
-use Rattle.std.specs.Prelude.{◌≡◌, List, true}
-use Rattle.runend_array.specs.Array.{column_of}
-use Rattle.runend_array.specs.Column.{Column, OfLeaf, OfConstant, OfLists, OfRuns, Runs, runs_with}
+-- What kernels, registered or not, add to the steps of a run: the forms that they leave, and answers that want no memory.
+use Rattle.std.specs.Prelude.{◌≡◌, ◌≢◌, List, true}
+use Rattle.column_base.specs.declared.error.VortexError.TheVariants.{OutOfMemory}
+use Rattle.column_core.specs.PrimitiveForm.{optional_numbers}
+use Rattle.runend_array.specs.Array.{column_of, rows}
+use Rattle.runend_array.specs.Column.{Column, OfLeaf, OfConstant, OfLists, OfRuns, Runs, runs_with, IsFlat}
+use Rattle.runend_array.specs.Encoding.{IsDecodedForm}
 use Rattle.runend_array.specs.SessionForm.{SessionForm, is_registered_in}
 use Rattle.runend_array.specs.declared.array_ref.ArrayRef.{ArrayRef}
 use Rattle.runend_array.specs.declared.session.Kernel.{Kernel}
 use Rattle.runend_array.specs.declared.session.Kernel.TheVariants as kernel
 use Rattle.runend_compute.specs.SliceForm.{IsSliceForm}
+use Rattle.runend_select.specs.FilterForm.{IsFilterForm}
+use Rattle.runend_select.specs.TakeForm.{IsTakeForm}
+use Rattle.runend_map.specs.ComparisonForm.{IsComparisonForm}
+use Rattle.runend_map.specs.VisibleForm.{IsOverVisibleRuns}
 use Rattle.runend_commands.specs.declared.command.Command.{Command}
-use Rattle.runend_commands.specs.declared.command.Command.TheVariants.{Slice}
+use Rattle.runend_commands.specs.declared.command.Command.TheVariants.{Slice, Filter, Take, CompareScalar, CompareColumn, Cast, FillNull, Sum, IsConstant, IsSorted}
 use Rattle.runend_commands.specs.declared.command.Answer.{Answer}
-use Rattle.runend_commands.specs.declared.command.Answer.TheVariants.{Done}
+use Rattle.runend_commands.specs.declared.command.Answer.TheVariants.{Done, Refused}
 use Rattle.runend_commands.specs.Parts.{IsPlainPart}
 use Rattle.runend_commands.specs.Step.{IsChain, IsStep}
 
@@ -33,15 +40,32 @@ pub record ByKernel (session : SessionForm) (kernel : Kernel) (before : Column) 
   pub served : HasKernel session kernel before → OnRuns before Served
   pub otherwise : ¬ HasKernel session kernel before → Otherwise
 
--- what a command that is done leaves by its kernel, where it has one
-abbrev pub LeavesByKernel : {A : Type 0} → SessionForm → ArrayRef A → Command → Answer A → ArrayRef A → Type 0
+-- the kernel keeps the visible runs, over other values; where it does not serve the column, the rows are flat
+abbrev pub KeepsRuns : SessionForm → Kernel → Column → Column → Type 0
+KeepsRuns session kernel before after = ByKernel session kernel before (λ runs. IsOverVisibleRuns runs after) (IsFlat after)
+
+-- the kernel, which takes no memory, is never short of it
+abbrev pub IsNeverShort : {A : Type 0} → SessionForm → Kernel → Column → Answer A → Type 0
+IsNeverShort session kernel before answer = HasKernel session kernel before → answer ≢ Refused OutOfMemory
+
+-- what a command leaves or answers by its kernel, where it has one
+abbrev pub LeavesByKernel : {A : Type 0} → SessionForm → ArrayRef A → Command A → Answer A → ArrayRef A → Type 0
 LeavesByKernel session before (Slice range) Done after = ByKernel session kernel.Slice (column_of before) (λ runs. IsSliceForm runs range.start range.end (column_of after)) (IsPlainPart (column_of before) range.start range.end (column_of after))
+LeavesByKernel session before (Filter mask) Done after = ByKernel session kernel.Filter (column_of before) (λ runs. IsFilterForm session.thresholds runs mask (column_of after)) (IsFlat (column_of after))
+LeavesByKernel session before (Take indices) Done after = ByKernel session kernel.Take (column_of before) (λ runs. IsTakeForm (optional_numbers indices) (column_of after)) (IsFlat (column_of after))
+LeavesByKernel session before (CompareScalar operator value) Done after = ByKernel session kernel.Compare (column_of before) (λ runs. IsDecodedForm (rows after) (column_of after)) (IsFlat (column_of after))
+LeavesByKernel session before (CompareColumn operator right) Done after = ByKernel session kernel.Compare (column_of before) (λ runs. IsComparisonForm (column_of right) (column_of after)) (IsFlat (column_of after))
+LeavesByKernel session before (Cast dtype) Done after = KeepsRuns session kernel.Cast (column_of before) (column_of after)
+LeavesByKernel session before (FillNull value) Done after = KeepsRuns session kernel.FillNull (column_of before) (column_of after)
+LeavesByKernel session before Sum answer after = IsNeverShort session kernel.Sum (column_of before) answer
+LeavesByKernel session before IsConstant answer after = IsNeverShort session kernel.IsConstant (column_of before) answer
+LeavesByKernel session before (IsSorted strict) answer after = IsNeverShort session kernel.IsSorted (column_of before) answer
 LeavesByKernel session before command answer after = Unit {0}
 
 -- a step in a session
-abbrev pub IsStepIn : {A : Type 0} → SessionForm → ArrayRef A → Command → Answer A → ArrayRef A → Type 0
+abbrev pub IsStepIn : {A : Type 0} → SessionForm → ArrayRef A → Command A → Answer A → ArrayRef A → Type 0
 IsStepIn session before command answer after = IsStep before command answer after × LeavesByKernel session before command answer after
 
 -- a run of the commands in a session
-abbrev pub IsRunIn : {A : Type 0} → SessionForm → ArrayRef A → List Command → List (Answer A) → ArrayRef A → Type 0
+abbrev pub IsRunIn : {A : Type 0} → SessionForm → ArrayRef A → List (Command A) → List (Answer A) → ArrayRef A → Type 0
 IsRunIn session before commands answers after = IsChain (IsStepIn session) before commands answers after

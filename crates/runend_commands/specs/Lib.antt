@@ -1,4 +1,5 @@
 pub mod Refusal
+pub mod Extremes
 pub mod Meaning
 pub mod Step
 pub mod Parts

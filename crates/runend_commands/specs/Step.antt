@@ -11,7 +11,7 @@ use Rattle.runend_commands.specs.Refusal.{refusal}
 use Rattle.runend_commands.specs.Meaning.{dtype_after, rows_after, plain, IsAnswer, LeavesForm}
 
 -- the command is not refused: rows, type, answer and form are those that it is defined to have
-pub record IsDone {A : Type 0} (before : ArrayRef A) (command : Command) (answer : Answer A) (after : ArrayRef A) : Type 0 where
+pub record IsDone {A : Type 0} (before : ArrayRef A) (command : Command A) (answer : Answer A) (after : ArrayRef A) : Type 0 where
   pub accepted : refusal (plain before) command ≡ None
   pub rows : rows after ≡ rows_after (plain before) command
   pub dtype : dtype_of after ≡ dtype_after (plain before) command
@@ -19,7 +19,7 @@ pub record IsDone {A : Type 0} (before : ArrayRef A) (command : Command) (answer
   pub form : LeavesForm before command after
 
 -- one command: memory was refused, or the command is refused as its definition says, and either way the array is the one before, form included; or it is done
-pub data IsStep {A : Type 0} (before : ArrayRef A) (command : Command) (answer : Answer A) (after : ArrayRef A) : Type 0 where
+pub data IsStep {A : Type 0} (before : ArrayRef A) (command : Command A) (answer : Answer A) (after : ArrayRef A) : Type 0 where
   IsShort : answer ≡ Refused OutOfMemory → after ≡ before → IsStep before command answer after
   IsRefused : (error : VortexError) → refusal (plain before) command ≡ Some error → answer ≡ Refused error → after ≡ before → IsStep before command answer after
   Does : IsDone before command answer after → IsStep before command answer after
@@ -32,5 +32,5 @@ IsChain Step before [] (reply ∷ replies) after = ⊥
 IsChain Step before (request ∷ requests) [] after = ⊥
 
 -- a run of the commands
-abbrev pub IsRun : {A : Type 0} → ArrayRef A → List Command → List (Answer A) → ArrayRef A → Type 0
+abbrev pub IsRun : {A : Type 0} → ArrayRef A → List (Command A) → List (Answer A) → ArrayRef A → Type 0
 IsRun before commands answers after = IsChain IsStep before commands answers after

@@ -19,7 +19,7 @@ use std::alloc::Allocator;
 /// room for all answers from then on. A command that lacks memory is answered `Refused(OutOfMemory)`.
 pub fn execute<A: Allocator + Copy>(
     column: &mut ArrayRef<A>,
-    commands: &[Command],
+    commands: &[Command<A>],
     ctx: &mut ExecutionCtx<A>,
 ) -> VortexResult<Vec<Answer<A>, A>>
     ensures run { IfOk result (λ answers. IsRun column.old commands.now answers.items column.new) }
@@ -38,7 +38,7 @@ pub fn execute<A: Allocator + Copy>(
 
 // Does one command, and answers it.
 fn answer_to<A: Allocator + Copy>(
-    command: &Command,
+    command: &Command<A>,
     column: &mut ArrayRef<A>,
     ctx: &mut ExecutionCtx<A>,
 ) -> Answer<A>

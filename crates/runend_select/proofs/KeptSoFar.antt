@@ -44,6 +44,28 @@ take-next xs k h = rw add-one (next xs k h)
     next (x ∷ xs) zero h = refl
     next (x ∷ xs) (suc k) h = ap (λ ys. x ∷ ys) (next xs k (omega arith))
 
+-- a run has a selected row exactly where one of its rows counts
+pub HasSelectedRow-counted : (ends : List ℕ) (offset count : ℕ) (bits : List Bool) (k passed reach : ℕ) → IsStrictlyIncreasing ends → length bits ≡ count → k < length ends
+    → passed ≡ reached ends offset count k → reach ≡ min (slice_index ends k - offset) count → 0 < set_bits (slice_range bits passed reach) → HasSelectedRow ends offset bits k
+HasSelectedRow-counted ends offset count bits k passed reach increasing long within passed_is reach_is some =
+    let ordered = reached-le ends offset count k increasing within in
+    let row = IsSetIn-counted bits passed reach (omega arith) (omega arith) some in
+    let low = row.low in
+    let high = row.high in
+    record {
+      row = row.place;
+      selected = row.set;
+      holds = run_at-reached ends offset count k row.place increasing within (omega arith) (omega arith);
+    }
+
+pub counted-HasSelectedRow : (ends : List ℕ) (offset count : ℕ) (bits : List Bool) (k passed reach : ℕ) → length bits ≡ count → k < length ends
+    → passed ≡ reached ends offset count k → reach ≡ min (slice_index ends k - offset) count → HasSelectedRow ends offset bits k → 0 < set_bits (slice_range bits passed reach)
+counted-HasSelectedRow ends offset count bits k passed reach long within passed_is reach_is has =
+    let inside : has.row < count = let h = set_within bits has.row has.selected in omega arith in
+    let from = reached-from_run ends offset count k has.row inside has.holds in
+    let to = reached-past_run ends offset count k has.row within inside has.holds in
+    counted-IsSetIn bits passed reach (record { place = has.row; low = omega arith; high = omega arith; set = has.selected })
+
 -- the next run reaches no fewer rows
 pub passed-le : (ends : List ℕ) (offset count : ℕ) (bits : List Bool) (k passed selected : ℕ) (kept : List Bool) (kept_ends : List ℕ) (reach : ℕ)
     → IsStrictlyIncreasing ends → k < length ends → KeptSoFar ends offset count bits k passed selected kept kept_ends → reach ≡ min (slice_index ends k - offset) count → passed ≤ reach
@@ -60,25 +82,10 @@ module _ (ends : List ℕ) (offset count : ℕ) (bits : List Bool) (k passed sel
 
   -- the run has a selected row exactly where it adds some
   found : 0 < more → HasSelectedRow ends offset bits k
-  found some =
-      let is = old.passed_is in
-      let row = IsSetIn-counted bits passed reach ordered (omega arith) (omega arith) in
-      let low = row.low in
-      let high = row.high in
-      record {
-        row = row.place;
-        selected = row.set;
-        holds = run_at-reached ends offset count k row.place increasing within (omega arith) (omega arith);
-      }
+  found some = HasSelectedRow-counted ends offset count bits k passed reach increasing long within old.passed_is reach_is (omega arith)
 
   adds : HasSelectedRow ends offset bits k → 0 < more
-  adds has =
-      let inside : has.row < count = let h = set_within bits has.row has.selected in omega arith in
-      let is = old.passed_is in
-      let from = reached-from_run ends offset count k has.row inside has.holds in
-      let to = reached-past_run ends offset count k has.row within inside has.holds in
-      let counted = counted-IsSetIn bits passed reach (record { place = has.row; low = omega arith; high = omega arith; set = has.selected }) in
-      omega arith
+  adds has = let counted = counted-HasSelectedRow ends offset count bits k passed reach long within old.passed_is reach_is has in omega arith
 
   -- how many rows are selected up to the end of the run
   up_to : selected_before bits offset (slice_index ends k) ≡ selected + more

@@ -2,3 +2,15 @@ pub mod Selected
 pub mod Reached
 pub mod KeptSoFar
 pub mod Fitting
+pub mod Grown
+pub mod Filtered
+pub mod ComputedRows
+pub mod TakenRuns
+pub mod SetPlaces
+pub mod KeptColumn
+pub mod FilterFaults
+pub mod ListsTaken
+pub mod AllNull
+pub mod CheckedIndices
+pub mod SelectLaws
+pub mod RowPositions

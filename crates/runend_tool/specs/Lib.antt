@@ -1,3 +1,4 @@
 pub mod Words
 pub mod Parse
 pub mod Listed
+pub mod Scalars

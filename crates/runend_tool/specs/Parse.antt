@@ -1,6 +1,8 @@
 -- What the words of a command stand for.
-use Rattle.std.specs.Prelude.{◌≡◌, ◌++◌, ℕ, ℤ, pos, neg_ℤ, List, Option, Some, None, codes, drop, if◌then◌else◌}
+use Rattle.std.specs.Prelude.{◌≡◌, ◌++◌, ℕ, ℤ, pos, neg_ℤ, List, Option, Some, None, codes, drop, if◌then◌else◌, length}
+use Rattle.std.specs.List.{AllPass}
 use Rattle.std.specs.Str.Parse.{IsNumeral, digits_value, starts_with_minus}
+use Rattle.hex.specs.Hex.{is_hex_digit}
 use Rattle.column_base.specs.Types.{HasNumber}
 use Rattle.column_base.specs.declared.dtype.PType.{PType}
 use Rattle.column_base.specs.declared.dtype.PType.TheVariants.{U8, U16, U32, U64, I8, I16, I32, I64}
@@ -41,6 +43,10 @@ abbrev pub ReadsValue : {S : Type 0} → (S → ℤ) → PType → Nullability �
 ReadsValue number ptype nullability word None = ¬ (IsNullWord nullability word) × ¬ (IsNumberOf ptype word)
 ReadsValue number ptype nullability word (Some None) = IsNullWord nullability word
 ReadsValue number ptype nullability word (Some (Some x)) = ReadsNumber number ptype word (Some x)
+
+-- two hexadecimal digits
+abbrev pub IsByteWord : List ℕ → Type 0
+IsByteWord word = (length word ≡ 2) × AllPass is_hex_digit word
 
 -- the name of a type of numbers
 abbrev pub ptype_name : PType → List ℕ

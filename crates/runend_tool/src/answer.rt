@@ -1,9 +1,13 @@
 //! The answer lines of the script, without their line feeds.
+ghost use Rattle.runend_metadata.specs.EndsType.{IsEndsTypeNumber};
+
 use crate::parse::name_of;
 use column_base::{DType, Nullability, VortexError, VortexResult};
+use runend_commands::Command;
 use std::alloc::{AllocError, Allocator};
 use vortex_runend::{
-    ArrayRef, ConstantArray, RunEndArray, RunEndArrayExt, RunEndArraySlotsExt, ScalarView,
+    ArrayRef, ConstantArray, RunEndArray, RunEndArrayExt, RunEndArraySlotsExt, RunEndMetadata,
+    Scalar, ScalarView, SumAnswer, SumValue,
 };
 
 /// The line `value V` of one row. Refused as `Unsupported` where the row is neither null nor a whole
@@ -15,6 +19,74 @@ pub fn value_line<A: Allocator + Copy>(
     let mut line = String::from_str(alloc, "value")?;
     push_row(&mut line, row)?;
     Ok(line)
+}
+
+/// The line `sum N`, or `sum overflow` where the sum left its range, or `sum 0 empty` where all rows are
+/// null.
+pub fn sum_line<A: Allocator + Copy>(alloc: A, answer: SumAnswer) -> Result<String<A>, AllocError> {
+    match answer.sum {
+        None => String::from_str(alloc, "sum overflow"),
+        Some(_) if answer.is_empty => String::from_str(alloc, "sum 0 empty"),
+        Some(SumValue::Unsigned(number)) => format!(in alloc; "sum {number}"),
+        Some(SumValue::Signed(number)) => format!(in alloc; "sum {number}"),
+    }
+}
+
+/// The line `minmax V V` of the least and the greatest row, or `minmax none` where all rows are null.
+/// Refused as `Unsupported` where a row is no whole number, and as `OutOfMemory`.
+pub fn extremes_line<A: Allocator + Copy>(
+    alloc: A,
+    extremes: &Option<(Scalar<A>, Scalar<A>)>,
+) -> VortexResult<String<A>> {
+    let mut line = String::from_str(alloc, "minmax")?;
+    match extremes {
+        None => line.push_str(" none")?,
+        Some((least, greatest)) => {
+            push_row(&mut line, least.view())?;
+            push_row(&mut line, greatest.view())?;
+        }
+    }
+    Ok(line)
+}
+
+/// How the line of a truth begins that a command asks for: `constant`, `strict` or `sorted`.
+pub fn truth_name<A: Allocator>(asked: &Command<A>) -> &'static str {
+    match asked {
+        Command::IsConstant => "constant",
+        Command::IsSorted { strict: true } => "strict",
+        _ => "sorted",
+    }
+}
+
+/// The line of a truth: its name, then `true` or `false`.
+pub fn truth_line<A: Allocator + Copy>(
+    alloc: A,
+    name: &str,
+    truth: bool,
+) -> Result<String<A>, AllocError> {
+    format!(in alloc; "{name} {truth}")
+}
+
+/// The line `meta HH ..` of a record's bytes, each as two upper case hexadecimal digits.
+pub fn bytes_line<A: Allocator + Copy>(alloc: A, bytes: &[u8]) -> Result<String<A>, AllocError> {
+    let mut line = String::from_str(alloc, "meta")?;
+    for byte in bytes {
+        write!(line, " {byte:02X}")?;
+    }
+    Ok(line)
+}
+
+/// The line `read ETYPE runs N offset N` of a record.
+pub fn record_line<A: Allocator + Copy>(
+    alloc: A,
+    metadata: &RunEndMetadata,
+) -> Result<String<A>, AllocError>
+    requires { IsEndsTypeNumber metadata.now.ends_ptype }
+{
+    let name = name_of(metadata.ends_ptype());
+    let runs = metadata.num_runs;
+    let offset = metadata.offset;
+    format!(in alloc; "read {name} runs {runs} offset {offset}")
 }
 
 /// The line `rows V ..` of all rows. Refused as `Unsupported` where a row is neither null nor a whole

@@ -36,6 +36,24 @@ pub enum Command<'a> {
     At(u64),
     /// The rows from the first number to before the second, counted from 0, replace the column.
     Slice(u64, u64),
+    /// The rows are cast to this type.
+    Cast(PType, Nullability),
+    /// Each null is filled. The word is yet to be read, since the column's type says what it may be.
+    Fill(&'a str),
+    /// The sum of the rows is shown.
+    Sum,
+    /// The least and the greatest row are shown.
+    MinMax,
+    /// Whether the rows are constant is shown.
+    Constant,
+    /// Whether the rows are sorted is shown.
+    Sorted,
+    /// Whether the rows are strictly sorted is shown.
+    Strict,
+    /// The bytes of the column's metadata record are shown.
+    Meta,
+    /// What a metadata record of these bytes says is shown. The words are yet to be read.
+    Read(Words<'a>),
 }
 
 /// What a `runs` line says of the run column.
@@ -57,7 +75,7 @@ pub struct RunsLine<'a> {
 }
 
 /// What the line says. The words behind the type of a `col` line are not looked at, nor are the ends
-/// and values of a `runs` line.
+/// and values of a `runs` line, nor the value of a `fill` line, nor the bytes of a `read` line.
 pub fn read_line(line: &str) -> Line<'_> {
     let mut words = Words::new(line);
     let Some(name) = words.next() else {
@@ -90,6 +108,21 @@ fn read_command<'a>(name: &str, mut words: Words<'a>) -> Option<Command<'a>> {
             let stop = parse_count(words.next()?)?;
             ended(words, Command::Slice(start, stop))
         }
+        "cast" => {
+            let (ptype, nullability) = parse_type(words.next()?)?;
+            ended(words, Command::Cast(ptype, nullability))
+        }
+        "fill" => {
+            let value = words.next()?;
+            ended(words, Command::Fill(value))
+        }
+        "sum" => ended(words, Command::Sum),
+        "minmax" => ended(words, Command::MinMax),
+        "constant" => ended(words, Command::Constant),
+        "sorted" => ended(words, Command::Sorted),
+        "strict" => ended(words, Command::Strict),
+        "meta" => ended(words, Command::Meta),
+        "read" => Some(Command::Read(words)),
         _ => None,
     }
 }

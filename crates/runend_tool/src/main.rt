@@ -4,6 +4,7 @@
 mod answer;
 mod command;
 mod parse;
+mod record;
 mod script;
 mod serve;
 #[cfg(test)]

@@ -1,12 +1,14 @@
 //! What the words of a command stand for.
-ghost use Rattle.std.specs.Prelude.{◌≡◌, ◌≢◌, ◌<◌, ◌^◌, MatchOption};
+ghost use Rattle.std.specs.Prelude.{◌≡◌, ◌≢◌, ◌↔◌, ◌<◌, ◌^◌, [], ◌∷◌, Ok, IfSome, IsSome, MatchOption};
 ghost use Rattle.std.specs.Option.{SomeIff};
 ghost use Rattle.std.specs.Str.Parse.{IsNumeral, digits_value};
+ghost use Rattle.hex.specs.Hex.{decode_of};
 ghost use Rattle.column_base.specs.declared.dtype.PType.{PType};
 ghost use Rattle.column_base.specs.declared.dtype.Nullability.{Nullability};
-ghost use Rattle.runend_tool.specs.Parse.{IsWholeNumber, whole_number, magnitude, ptype_name, type_name, ReadsNumber, ReadsValue};
+ghost use Rattle.runend_tool.specs.Parse.{IsByteWord, IsWholeNumber, whole_number, magnitude, ptype_name, type_name, ReadsNumber, ReadsValue};
 
 use column_base::{NativePType, Nullability, PType};
+use hex::FromHex;
 
 /// The number of a word of decimal digits, or `None` where the word is anything else or the number
 /// is 2^64 or more. Zeros may lead.
@@ -37,6 +39,21 @@ pub fn parse_native<T: NativePType>(word: &str) -> Option<T>
     ensures { ReadsNumber T.number T.PTYPE word.now result }
 {
     T::narrow(parse_integer(word)?)
+}
+
+/// The byte of a word of two hexadecimal digits of either case, or `None` where the word is anything else.
+pub fn parse_byte(word: &str) -> Option<u8>
+    ensures byte { IfSome result (λ byte. decode_of word.now ≡ Ok (byte ∷ [])) }
+    ensures found { IsSome result ↔ IsByteWord word.now }
+{
+    Some(decode_byte(word)?[0])
+}
+
+fn decode_byte(word: &str) -> Option<[u8; 1]>
+    ensures byte { IfSome result (λ bytes. decode_of word.now ≡ Ok bytes) }
+    ensures found { IsSome result ↔ IsByteWord word.now }
+{
+    <[u8; 1] as FromHex>::from_hex(word).ok()
 }
 
 /// The row that a word stands for: `Some(None)` for `null` where rows may be null, otherwise the

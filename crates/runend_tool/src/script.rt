@@ -7,10 +7,13 @@ ghost use Rattle.runend_array.specs.Fault.{PartsFault};
 ghost use Rattle.runend_commands.specs.Step.{IsStep};
 ghost use Rattle.runend_tool.specs.Listed.{AreRunsOf, IsFlatOf};
 
-use crate::answer::{form_line, refusal_line, rows_line, value_line};
+use crate::answer::{
+    extremes_line, form_line, refusal_line, rows_line, sum_line, truth_line, truth_name, value_line,
+};
 use crate::command::{Command, Line, RunsLine, SLASH, read_line};
-use crate::values::read_values;
-use column_base::{Nullability, PType, VortexError, VortexResult};
+use crate::record::{meta_line, read_record};
+use crate::values::{read_scalar, read_values};
+use column_base::{DType, Nullability, PType, VortexError, VortexResult};
 use runend_commands::{Answer, Command as ColumnCommand, execute};
 use std::alloc::Allocator;
 use vortex_runend::{ArrayRef, ExecutionCtx, PrimitiveArray, RunEnd};
@@ -193,41 +196,67 @@ fn perform_on<A: Allocator + Copy>(
     ensures session { ctx.new ≡ ctx.old }
 {
     match command {
-        Command::Encode => reply_of(ColumnCommand::Encode, column, ctx),
-        Command::Decode => reply_of(ColumnCommand::Decode, column, ctx),
-        Command::At(index) => reply_of(ColumnCommand::At(index as usize), column, ctx),
-        Command::Slice(start, stop) => {
-            let range = start as usize..stop as usize;
-            reply_of(ColumnCommand::Slice(range), column, ctx)
-        }
         Command::Show => Ok(Reply::Line(form_line(*ctx.allocator(), column)?)),
         Command::Rows => Ok(Reply::Line(rows_line(*ctx.allocator(), column)?)),
-        Command::Col(_, _, _) | Command::Runs(_) => Ok(Reply::Bad),
+        Command::Meta => Ok(Reply::Line(meta_line(column, ctx)?)),
+        Command::Read(words) => match read_record(words, ctx)? {
+            Some(line) => Ok(Reply::Line(line)),
+            None => Ok(Reply::Bad),
+        },
+        _ => match column_command(command, column.dtype()) {
+            Some(executed) => reply_of(executed, column, ctx),
+            None => Ok(Reply::Bad),
+        },
+    }
+}
+
+// The command that is executed on a column of the type, or `None` where the line is no such command or
+// a word of it is none that the type has.
+fn column_command<A: Allocator>(command: Command<'_>, dtype: DType) -> Option<ColumnCommand<A>> {
+    match command {
+        Command::Encode => Some(ColumnCommand::Encode),
+        Command::Decode => Some(ColumnCommand::Decode),
+        Command::At(index) => Some(ColumnCommand::At(index as usize)),
+        Command::Slice(start, stop) => Some(ColumnCommand::Slice(start as usize..stop as usize)),
+        Command::Cast(ptype, nullability) => {
+            let target = DType::Primitive(ptype, nullability);
+            Some(ColumnCommand::Cast(target))
+        }
+        Command::Fill(word) => Some(ColumnCommand::FillNull(read_scalar(dtype, word)?)),
+        Command::Sum => Some(ColumnCommand::Sum),
+        Command::MinMax => Some(ColumnCommand::MinMax),
+        Command::Constant => Some(ColumnCommand::IsConstant),
+        Command::Sorted => Some(ColumnCommand::IsSorted { strict: false }),
+        Command::Strict => Some(ColumnCommand::IsSorted { strict: true }),
+        _ => None,
     }
 }
 
 // Executes the command. What it is refused as is the error here, as for lines that are no commands.
 fn reply_of<A: Allocator + Copy>(
-    command: ColumnCommand,
+    command: ColumnCommand<A>,
     column: &mut ArrayRef<A>,
     ctx: &mut ExecutionCtx<A>,
 ) -> VortexResult<Reply<A>>
     ensures kept { OnErr result (column.new ≡ column.old) }
     ensures session { ctx.new ≡ ctx.old }
 {
-    match answer_to(command, column, ctx)? {
-        Answer::Done => Ok(Reply::Done),
-        Answer::Value(scalar) => {
-            let line = value_line(*ctx.allocator(), scalar.view())?;
-            Ok(Reply::Line(line))
-        }
-        Answer::Refused(error) => Err(error),
-    }
+    let alloc = *ctx.allocator();
+    let name = truth_name(&command);
+    let line = match answer_to(command, column, ctx)? {
+        Answer::Done => return Ok(Reply::Done),
+        Answer::Refused(error) => return Err(error),
+        Answer::Value(scalar) => value_line(alloc, scalar.view())?,
+        Answer::Sum(answer) => sum_line(alloc, answer)?,
+        Answer::MinMax(extremes) => extremes_line(alloc, &extremes)?,
+        Answer::Bool(truth) => truth_line(alloc, name, truth)?,
+    };
+    Ok(Reply::Line(line))
 }
 
-// The answer to one command, executed by itself.
+// The answer to one command, executed by itself. Refused as `OutOfMemory` alone.
 fn answer_to<A: Allocator + Copy>(
-    command: ColumnCommand,
+    command: ColumnCommand<A>,
     column: &mut ArrayRef<A>,
     ctx: &mut ExecutionCtx<A>,
 ) -> VortexResult<Answer<A>>
@@ -235,7 +264,9 @@ fn answer_to<A: Allocator + Copy>(
     ensures kept { OnErr result (column.new ≡ column.old) }
     ensures session { ctx.new ≡ ctx.old }
 {
-    let mut answers = execute(column, &[command], ctx)?;
+    let mut commands = Vec::new(*ctx.allocator());
+    commands.push(command)?;
+    let mut answers = execute(column, &commands, ctx)?;
     match answers.pop() {
         Some(answer) => Ok(answer),
         None => unreachable!(),

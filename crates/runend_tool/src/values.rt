@@ -4,13 +4,15 @@ ghost use Rattle.std.specs.Iterator.{IsFinite};
 ghost use Rattle.column_base.specs.Numbers.{numbers, ptype_of};
 ghost use Rattle.column_base.specs.ValidityForm.{HasLength};
 ghost use Rattle.column_base.specs.Validity.{form_of};
+ghost use Rattle.runend_tool.specs.Scalars.{ReadsOwned, ReadsScalar};
 
-use crate::parse::parse_row;
+use crate::parse::{parse_integer, parse_row};
 use column_base::{
-    BitBufferMut, NativePType, Nullability, PType, PrimitiveValues, Validity, VortexError,
+    BitBufferMut, DType, NativePType, Nullability, PType, PrimitiveValues, Validity, VortexError,
     VortexResult,
 };
 use std::alloc::Allocator;
+use vortex_runend::{Scalar, ScalarValue};
 
 /// Stored numbers, and which rows of them are there.
 #[derive(Drop)]
@@ -43,6 +45,33 @@ pub fn read_values<'a, I: Iterator<Item = &'a str> + Drop, A: Allocator + Copy>(
         PType::I32 => read_natives::<i32, I, A>(alloc, nullability, words),
         PType::I64 => read_natives::<i64, I, A>(alloc, nullability, words),
     }
+}
+
+/// The scalar that the word stands for: null of the nullable type for `null`, whether rows may be null or
+/// not, and otherwise the number, in the type of the rows. `None` where the word is neither `null` nor a
+/// number of the type, or the rows are no whole numbers.
+pub fn read_scalar<A: Allocator>(dtype: DType, word: &str) -> Option<Scalar<A>>
+    ensures { ReadsScalar dtype word.now result }
+{
+    let DType::Primitive(ptype, _) = dtype else {
+        return None;
+    };
+    if word == "null" {
+        return Scalar::try_new(DType::Primitive(ptype, Nullability::Nullable), None).ok();
+    }
+    let value = read_number(ptype, word)?;
+    Scalar::try_new(dtype, Some(value)).ok()
+}
+
+// The owned value of the word's number, where the widest type of that sign has it.
+fn read_number<A: Allocator>(ptype: PType, word: &str) -> Option<ScalarValue<A>>
+    ensures { ReadsOwned ptype word.now result }
+{
+    let number = parse_integer(word)?;
+    if ptype.is_unsigned_int() {
+        return Some(ScalarValue::Unsigned(u64::narrow(number)?));
+    }
+    Some(ScalarValue::Signed(i64::narrow(number)?))
 }
 
 fn read_natives<'a, T: NativePType, I: Iterator<Item = &'a str> + Drop, A: Allocator + Copy>(

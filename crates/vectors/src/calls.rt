@@ -1,13 +1,16 @@
 //! Calls, and what comes of them.
-use crate::printer::{push_row, push_validity};
+use crate::printer::{
+    push_metadata, push_record, push_row, push_sum, push_truth, push_validity, push_word,
+};
 use bytes::Bytes;
 use column_base::VortexResult;
 use runend_commands::{Answer, Command, execute};
 use std::alloc::Allocator;
 use std::rc::Rc;
 use vortex_runend::{
-    ArrayRef, ExecutionCtx, FlatColumn, ListViewArray, RowValidity, RunEnd, RunEndProbe, Validity,
-    VarBinKind, VarBinViewArray, View, VortexError, validity,
+    ArrayRef, DType, ExecutionCtx, FlatColumn, ListViewArray, RowValidity, RunEnd, RunEndMetadata,
+    RunEndProbe, Validity, VarBinKind, VarBinViewArray, View, VortexError, deserialize, serialize,
+    validity,
 };
 
 /// A call with what it is given.
@@ -16,7 +19,9 @@ pub enum Call<A: Allocator> {
     /// A column is made.
     Make(Maker<A>),
     /// Something is done to a column.
-    On(ArrayRef<A>, Task),
+    On(ArrayRef<A>, Task<A>),
+    /// A record of these bytes is read.
+    Read(Vec<u8, A>),
 }
 
 /// How a column is made.
@@ -31,15 +36,18 @@ pub enum Maker<A: Allocator> {
     /// Of elements, offsets, sizes and validity.
     Lists(Rc<FlatColumn<A>, A>, ArrayRef<A>, ArrayRef<A>, RowValidity<A>),
     Views(Vec<View, A>, Vec<Bytes<A>, A>, VarBinKind, Validity<A>),
+    /// Of a type, a number of rows, the bytes of a record, ends and values.
+    Deserialize(DType, usize, Vec<u8, A>, ArrayRef<A>, ArrayRef<A>),
 }
 
 /// What is done to a column.
 #[derive(Drop)]
-pub enum Task {
-    Command(Command),
+pub enum Task<A: Allocator> {
+    Command(Command<A>),
     Row(usize),
     Probe(usize),
     Validity,
+    Meta,
 }
 
 /// What a call, or a line, is answered.
@@ -85,6 +93,10 @@ impl<A: Allocator + Copy> Call<A> {
                     column: Some(column),
                 })
             }
+            Call::Read(bytes) => Ok(Outcome {
+                reply: read_of(&bytes, ample)?,
+                column: None,
+            }),
         }
     }
 }
@@ -107,14 +119,17 @@ impl<A: Allocator + Copy> Maker<A> {
                 RunEnd::try_new_offset_length(ends, values, offset, length, ctx)?
             }
             Maker::Whole(ends, values) => RunEnd::try_new(ends, values, ctx)?,
+            Maker::Deserialize(dtype, length, bytes, ends, values) => {
+                deserialize(dtype, length, &bytes, ends, values, ctx)?
+            }
         };
         Ok(ArrayRef::RunEnd(Box::new(ample, runs)?))
     }
 }
 
-impl Task {
+impl<A: Allocator + Copy> Task<A> {
     // What comes of it, with memory for it from `ctx`, and for what is said of it from `ample`.
-    fn done<A: Allocator + Copy>(
+    fn done(
         self,
         column: &mut ArrayRef<A>,
         ctx: &mut ExecutionCtx<A>,
@@ -125,31 +140,45 @@ impl Task {
             Task::Row(index) => row_of(column, index, ample),
             Task::Probe(index) => probe_of(column, index, ample),
             Task::Validity => validity_of(column, ctx, ample),
+            Task::Meta => meta_of(column, ctx, ample),
         }
     }
 }
 
 // What one command answers.
 fn run_command<A: Allocator + Copy>(
-    command: Command,
+    command: Command<A>,
     column: &mut ArrayRef<A>,
     ctx: &mut ExecutionCtx<A>,
     ample: A,
 ) -> VortexResult<Reply<A>> {
-    let commands = [command];
-    let Ok(mut answers) = execute(column, &commands, ctx) else {
+    let mut commands = Vec::new(ample);
+    commands.push(command)?;
+    let Ok(mut answers) = execute(column, commands.as_slice(), ctx) else {
         return Ok(Reply::NoRoom);
     };
     match answers.pop() {
-        Some(Answer::Done) => Ok(Reply::Done),
-        Some(Answer::Refused(error)) => Ok(Reply::Refused(error)),
-        Some(Answer::Value(scalar)) => {
-            let mut text = String::new(ample);
-            push_row(&mut text, scalar.view())?;
-            Ok(Reply::Says(text))
-        }
+        Some(answer) => reply_to(answer, ample),
         None => Ok(Reply::Bad),
     }
+}
+
+// What is said of the answer to a command.
+fn reply_to<A: Allocator + Copy>(answer: Answer<A>, ample: A) -> VortexResult<Reply<A>> {
+    let mut text = String::new(ample);
+    match answer {
+        Answer::Done => return Ok(Reply::Done),
+        Answer::Refused(error) => return Ok(Reply::Refused(error)),
+        Answer::Value(scalar) => push_row(&mut text, scalar.view())?,
+        Answer::Sum(total) => push_sum(&mut text, total)?,
+        Answer::MinMax(Some((least, greatest))) => {
+            push_row(&mut text, least.view())?;
+            push_row(&mut text, greatest.view())?;
+        }
+        Answer::MinMax(None) => push_word(&mut text, "none")?,
+        Answer::Bool(truth) => push_truth(&mut text, truth)?,
+    }
+    Ok(Reply::Says(text))
 }
 
 fn row_of<A: Allocator + Copy>(
@@ -198,6 +227,36 @@ fn validity_of<A: Allocator + Copy>(
         Ok(rows) => {
             let mut text = String::new(ample);
             push_validity(&mut text, &rows)?;
+            Ok(Reply::Says(text))
+        }
+        Err(error) => Ok(Reply::Refused(error)),
+    }
+}
+
+fn meta_of<A: Allocator + Copy>(
+    column: &ArrayRef<A>,
+    ctx: &mut ExecutionCtx<A>,
+    ample: A,
+) -> VortexResult<Reply<A>> {
+    let ArrayRef::RunEnd(runs) = column else {
+        return Ok(Reply::Bad);
+    };
+    match serialize(runs, ctx) {
+        Ok(bytes) => {
+            let mut text = String::new(ample);
+            push_record(&mut text, &bytes)?;
+            Ok(Reply::Says(text))
+        }
+        Err(error) => Ok(Reply::Refused(error)),
+    }
+}
+
+// What the record of these bytes says.
+fn read_of<A: Allocator + Copy>(bytes: &[u8], ample: A) -> VortexResult<Reply<A>> {
+    match RunEndMetadata::decode(bytes) {
+        Ok(metadata) => {
+            let mut text = String::new(ample);
+            push_metadata(&mut text, &metadata)?;
             Ok(Reply::Says(text))
         }
         Err(error) => Ok(Reply::Refused(error)),

@@ -1,7 +1,5 @@
-//! The lines of a file of vectors: what each asks, and whether the answer is the expected one.
-ghost use Rattle.std.specs.Prelude.{◌≡◌, ◌≢◌, ◌++◌, ◌↔◌, IfOk, OnOk, OnErr, IsOkUnless};
-ghost use Rattle.std.specs.String.{string_bytes};
-ghost use Rattle.vectors.specs.Lines.{one_more, difference};
+//! The lines of a file of vectors: what each asks is done, and its answer is counted.
+ghost use Rattle.std.specs.Prelude.{◌≡◌, IfOk, OnErr, IsOkUnless};
 ghost use Rattle.vectors.specs.Outcomes.{ChangesNothing};
 
 use crate::bench::{Bench, Heap};
@@ -15,70 +13,24 @@ use crate::refuse::{Found, refused_in_turn};
 use crate::session::{crate_thresholds, set_kernels, set_thresholds};
 use column_base::VortexResult;
 use std::alloc::Allocator;
+use vector_report::{Report, read_line};
 use vortex_runend::{ArrayRef, ConstantArray, ExecutionCtx, RunEndArraySlotsExt, VortexError};
-
-/// What parts a request from its expected answer.
-const ARROW: &str = " => ";
-
-/// What is printed of the lines.
-#[derive(Drop)]
-pub struct Report<A: Allocator> {
-    /// The lines whose answer is another one, and how many are.
-    pub text: String<A>,
-    /// How many lines are answered as is expected.
-    pub agree: usize,
-    /// How many are not.
-    pub differ: usize,
-}
 
 /// Runs all lines, and reports which of them are not answered as they expect.
 pub fn run_lines<'a>(text: &str, bench: &mut Bench<'a>) -> VortexResult<Report<Heap<'a>>>
     ensures only { IsOkUnless result VortexError.OutOfMemory }
 {
     let ample = *bench.ctx.allocator();
-    let mut report = Report {
-        text: String::new(ample),
-        agree: 0,
-        differ: 0,
-    };
-    for (index, line) in text.lines().enumerate() {
-        if line.is_empty() || line.starts_with('#') {
+    let mut report = Report::new(ample);
+    for (before, line) in text.lines().enumerate() {
+        let Some(line) = read_line(line) else {
             continue;
-        }
-        let (request, expected) = line.split_once(ARROW).unwrap_or((line, "ok"));
-        let answer = bench.answer(request)?;
-        report.count(index.saturating_add(1), expected, answer.as_str())?;
+        };
+        let answer = bench.answer(line.request)?;
+        report.count(before, line.expected, answer.as_str())?;
     }
-    let (agree, differ) = (report.agree, report.differ);
-    writeln!(report.text, "{agree} agree, {differ} differ")?;
+    report.total()?;
     Ok(report)
-}
-
-impl<A: Allocator + Copy> Report<A> {
-    // Counts the line of this number, and reports it where its answer is another than expected.
-    fn count(&mut self, number: usize, expected: &str, answer: &str) -> VortexResult<()>
-        ensures only { IsOkUnless result VortexError.OutOfMemory }
-        ensures agrees { answer.now ≡ expected.now → (self.new.agree ≡ one_more self.old.agree) × (self.new.differ ≡ self.old.differ) }
-        ensures differs { answer.now ≢ expected.now → (self.new.agree ≡ self.old.agree) × (self.new.differ ≡ one_more self.old.differ) }
-        ensures silent { answer.now ≡ expected.now → string_bytes self.new.text ≡ string_bytes self.old.text }
-        ensures reported { answer.now ≢ expected.now → OnOk result (string_bytes self.new.text ≡ string_bytes self.old.text ++ difference number answer.now) }
-    {
-        if answer == expected {
-            self.agree = self.agree.saturating_add(1);
-            return Ok(());
-        }
-        self.differ = self.differ.saturating_add(1);
-        writeln!(self.text, "line {number}: got {answer}")?;
-        Ok(())
-    }
-
-    /// The exit status: 0 where each line is answered as it expects, else 1.
-    pub fn status(&self) -> u8
-        ensures agrees { result ≡ 0 ↔ (self.now.differ ≡ 0) }
-        ensures differs { self.now.differ ≢ 0 → result ≡ 1 }
-    {
-        if self.differ == 0 { 0 } else { 1 }
-    }
 }
 
 impl<'a> Bench<'a> {

@@ -1,9 +1,9 @@
 //! What a call is given: copies of the columns that a line names, and what its words say.
 use crate::calls::{Call, Maker, Task};
 use crate::columns::Columns;
-use crate::flats::{bits_of_word, flat_column, flat_of, row_validity};
-use crate::reader::{self, Lists, Runs, Views};
-use crate::values::{Value, bytes_of, read_count, read_value};
+use crate::flats::{bits_of_word, flat_column, flat_of, row_validity, scalar_of};
+use crate::reader::{self, Lists, Record, Runs, Views};
+use crate::values::{Value, bytes_of, bytes_of_words, read_count, read_value};
 use bytes::Bytes;
 use column_base::VortexResult;
 use runend_commands::Command;
@@ -20,10 +20,18 @@ pub fn prepare<A: Allocator + Copy>(
     ctx: &mut ExecutionCtx<A>,
 ) -> VortexResult<Option<Call<A>>> {
     let task = match call {
-        reader::Call::Command(command) => Task::Command(command_of(command)),
+        reader::Call::Command(command) => match prepared_command(command, ctx)? {
+            Some(command) => Task::Command(command),
+            None => return Ok(None),
+        },
         reader::Call::Row(index) => Task::Row(index),
         reader::Call::Probe(index) => Task::Probe(index),
         reader::Call::Validity => Task::Validity,
+        reader::Call::Meta => Task::Meta,
+        reader::Call::Read(words) => {
+            let bytes = bytes_of_words(*ctx.allocator(), words)?;
+            return Ok(bytes.map(|bytes| Call::Read(bytes)));
+        }
         _ => {
             let maker = prepared_maker(call, columns, ctx)?;
             return Ok(maker.map(|maker| Call::Make(maker)));
@@ -35,12 +43,34 @@ pub fn prepare<A: Allocator + Copy>(
     }
 }
 
-fn command_of(command: reader::Command) -> Command {
+// The command with what it is given.
+fn prepared_command<A: Allocator + Copy>(
+    command: reader::Command<'_>,
+    ctx: &mut ExecutionCtx<A>,
+) -> VortexResult<Option<Command<A>>> {
+    let alloc = *ctx.allocator();
     match command {
-        reader::Command::Slice(start, stop) => Command::Slice(start..stop),
-        reader::Command::Encode => Command::Encode,
-        reader::Command::Decode => Command::Decode,
-        reader::Command::At(index) => Command::At(index),
+        reader::Command::Fill(dtype, value) => {
+            Ok(scalar_of(alloc, dtype, value)?.map(|scalar| Command::FillNull(scalar)))
+        }
+        _ => Ok(plain_command(command)),
+    }
+}
+
+// The command, where it is given nothing that takes memory.
+fn plain_command<A: Allocator>(command: reader::Command<'_>) -> Option<Command<A>> {
+    match command {
+        reader::Command::Slice(start, stop) => Some(Command::Slice(start..stop)),
+        reader::Command::Cast(dtype) => Some(Command::Cast(dtype)),
+        reader::Command::Encode => Some(Command::Encode),
+        reader::Command::Decode => Some(Command::Decode),
+        reader::Command::At(index) => Some(Command::At(index)),
+        reader::Command::Sum => Some(Command::Sum),
+        reader::Command::MinMax => Some(Command::MinMax),
+        reader::Command::Constant => Some(Command::IsConstant),
+        reader::Command::Sorted => Some(Command::IsSorted { strict: false }),
+        reader::Command::Strict => Some(Command::IsSorted { strict: true }),
+        _ => None,
     }
 }
 
@@ -78,6 +108,7 @@ fn prepared_maker<A: Allocator + Copy>(
         )| Maker::Whole(ends, values))),
         reader::Call::Lists(lists) => prepared_lists(lists, columns, ctx),
         reader::Call::Views(views) => prepared_views(*ctx.allocator(), views),
+        reader::Call::Deserialize(record) => prepared_record(record, columns, ctx),
         _ => Ok(None),
     }
 }
@@ -95,6 +126,21 @@ fn prepared_runs<A: Allocator + Copy>(
         Some(values) => Ok(Some((ends, values))),
         None => Ok(None),
     }
+}
+
+fn prepared_record<A: Allocator + Copy>(
+    record: Record<'_>,
+    columns: &Columns<A>,
+    ctx: &mut ExecutionCtx<A>,
+) -> VortexResult<Option<Maker<A>>> {
+    let (Some(bytes), Some(ends), Some(values)) = (
+        bytes_of_words(*ctx.allocator(), record.bytes)?,
+        copy_of(record.ends, columns, ctx)?,
+        copy_of(record.values, columns, ctx)?,
+    ) else {
+        return Ok(None);
+    };
+    Ok(Some(Maker::Deserialize(record.dtype, record.length, bytes, ends, values)))
 }
 
 fn prepared_lists<A: Allocator + Copy>(

@@ -1,12 +1,14 @@
 //! Values, types and forms as words. Each call puts its words behind a text, separated by spaces.
 ghost use Rattle.std.specs.Prelude.{IsOkUnless};
+ghost use Rattle.runend_metadata.specs.EndsType.{IsEndsTypeNumber};
 
 use crate::types::push_type;
 use column_base::{VortexError, VortexResult};
 use std::alloc::Allocator;
 use vortex_runend::{
-    ArrayRef, BitBuffer, DType, FlatColumn, ListViewArray, PrimitiveValues, RowValidity,
-    RunEndArray, RunEndArrayExt, RunEndArraySlotsExt, ScalarView, Validity,
+    ArrayRef, BitBuffer, DType, FlatColumn, ListViewArray, Nullability, PrimitiveValues,
+    RowValidity, RunEndArray, RunEndArrayExt, RunEndArraySlotsExt, RunEndMetadata, ScalarView,
+    SumAnswer, SumValue, Validity,
 };
 
 /// One word. Refused as `OutOfMemory` alone.
@@ -163,7 +165,25 @@ fn push_numbers<A: Allocator + Copy>(
 
 fn push_truths<A: Allocator + Copy>(text: &mut String<A>, bits: &BitBuffer<A>) -> VortexResult<()> {
     for index in 0..bits.len() {
-        push_word(text, if bits.value(index) { "true" } else { "false" })?;
+        push_truth(text, bits.value(index))?;
+    }
+    Ok(())
+}
+
+/// A truth value.
+pub fn push_truth<A: Allocator + Copy>(text: &mut String<A>, truth: bool) -> VortexResult<()> {
+    push_word(text, if truth { "true" } else { "false" })
+}
+
+/// A sum: the number, or `overflow`, and behind it `empty` where no row is valid.
+pub fn push_sum<A: Allocator + Copy>(text: &mut String<A>, total: SumAnswer) -> VortexResult<()> {
+    match total.sum {
+        None => push_word(text, "overflow")?,
+        Some(SumValue::Unsigned(number)) => push_number(text, i128::from(number))?,
+        Some(SumValue::Signed(number)) => push_number(text, i128::from(number))?,
+    }
+    if total.is_empty {
+        push_word(text, "empty")?;
     }
     Ok(())
 }
@@ -330,6 +350,31 @@ fn push_bits<A: Allocator + Copy>(text: &mut String<A>, bits: &BitBuffer<A>) -> 
         text.push_str(if bits.value(index) { "1" } else { "0" })?;
     }
     Ok(())
+}
+
+/// The bytes of a record, a word of two hexadecimal digits each, or `-` where there are none.
+pub fn push_record<A: Allocator + Copy>(text: &mut String<A>, bytes: &[u8]) -> VortexResult<()> {
+    if bytes.is_empty() {
+        push_word(text, "-")?;
+    }
+    for byte in bytes {
+        push_space(text)?;
+        write!(text, "{byte:02X}")?;
+    }
+    Ok(())
+}
+
+/// What a record says: the type of the ends, the number of runs, and the offset.
+pub fn push_metadata<A: Allocator + Copy>(
+    text: &mut String<A>,
+    metadata: &RunEndMetadata,
+) -> VortexResult<()>
+    requires { IsEndsTypeNumber metadata.now.ends_ptype }
+{
+    let ends_type = DType::Primitive(metadata.ends_ptype(), Nullability::NonNullable);
+    push_dtype(text, ends_type)?;
+    push_number(text, i128::from(metadata.num_runs))?;
+    push_number(text, i128::from(metadata.offset))
 }
 
 /// A refusal: its number and its fields in order.

@@ -58,19 +58,25 @@ pub enum Call<'a> {
     Whole(Runs<'a>),
     Lists(Lists<'a>),
     Views(Views<'a>),
-    Command(Command),
+    Deserialize(Record<'a>),
+    Command(Command<'a>),
     Row(usize),
     Probe(usize),
     Validity,
+    /// The record of a run column.
+    Meta,
+    /// What a record says. It is asked of no column, so its request is named `read`, as no column is.
+    Read(&'a [&'a str]),
 }
 
 impl<'a> Call<'a> {
-    /// Does it make a column? Else it is done to one.
+    /// Does it make a column? Else it is done to one, or to none.
     pub fn makes(self) -> bool {
         match self {
-            Call::Copy(_) | Call::Encode(_) | Call::Runs(_) => true,
-            Call::Whole(_) | Call::Lists(_) | Call::Views(_) => true,
-            Call::Command(_) | Call::Row(_) | Call::Probe(_) | Call::Validity => false,
+            Call::Copy(_) | Call::Encode(_) | Call::Runs(_) | Call::Whole(_) => true,
+            Call::Lists(_) | Call::Views(_) | Call::Deserialize(_) => true,
+            Call::Command(_) | Call::Row(_) | Call::Probe(_) => false,
+            Call::Validity | Call::Meta | Call::Read(_) => false,
         }
     }
 }
@@ -107,13 +113,31 @@ pub struct Views<'a> {
     pub buffers: &'a [&'a str],
 }
 
+/// A run column of a record's bytes, ends and values: of so many rows of the type.
+#[derive(Clone, Copy)]
+pub struct Record<'a> {
+    pub dtype: DType,
+    pub length: usize,
+    pub bytes: &'a [&'a str],
+    pub ends: &'a str,
+    pub values: &'a str,
+}
+
 /// Commands on a column.
 #[derive(Clone, Copy)]
-pub enum Command {
+pub enum Command<'a> {
     Slice(usize, usize),
+    Cast(DType),
+    Fill(DType, Value<'a>),
     Encode,
     Decode,
     At(usize),
+    Sum,
+    MinMax,
+    Constant,
+    Sorted,
+    /// Sorted, with each row below the next.
+    Strict,
 }
 
 /// What of a column is looked at.
@@ -138,10 +162,18 @@ pub fn read_request<'a>(words: &'a [&'a str]) -> Option<Request<'a>> {
     match *first {
         "kernels" => Some(Request::Kernels(read_kernels(rest)?)),
         "thresholds" => read_thresholds(rest),
-        "refuse" => match read_on_column(rest)? {
+        "refuse" => match read_done(rest)? {
             Request::Call(name, call) => Some(Request::Refuse(name, call)),
             _ => None,
         },
+        _ => read_done(words),
+    }
+}
+
+// What these words ask of a record or of a column, whose name is the first of them.
+fn read_done<'a>(words: &'a [&'a str]) -> Option<Request<'a>> {
+    match words {
+        ["read", bytes @ ..] => Some(Request::Call("read", Call::Read(bytes))),
         _ => read_on_column(words),
     }
 }
@@ -188,16 +220,27 @@ fn read_look(verb: &str) -> Option<Look> {
 // A command on a column, or a look at it by a call.
 fn read_call<'a>(verb: &str, words: &'a [&'a str]) -> Option<Call<'a>> {
     match (verb, words) {
-        ("slice", [start, stop]) => Some(Call::Command(Command::Slice(
-            read_count(start)?,
-            read_count(stop)?,
-        ))),
-        ("encode", []) => Some(Call::Command(Command::Encode)),
-        ("decode", []) => Some(Call::Command(Command::Decode)),
-        ("at", [index]) => Some(Call::Command(Command::At(read_count(index)?))),
         ("row", [index]) => Some(Call::Row(read_count(index)?)),
         ("probe", [index]) => Some(Call::Probe(read_count(index)?)),
         ("validity", []) => Some(Call::Validity),
+        ("meta", []) => Some(Call::Meta),
+        _ => Some(Call::Command(read_command(verb, words)?)),
+    }
+}
+
+fn read_command<'a>(verb: &str, words: &'a [&'a str]) -> Option<Command<'a>> {
+    match (verb, words) {
+        ("slice", [start, stop]) => Some(Command::Slice(read_count(start)?, read_count(stop)?)),
+        ("cast", [dtype]) => Some(Command::Cast(read_type(dtype)?)),
+        ("fill", [dtype, value]) => Some(Command::Fill(read_type(dtype)?, read_value(value)?)),
+        ("encode", []) => Some(Command::Encode),
+        ("decode", []) => Some(Command::Decode),
+        ("at", [index]) => Some(Command::At(read_count(index)?)),
+        ("sum", []) => Some(Command::Sum),
+        ("minmax", []) => Some(Command::MinMax),
+        ("constant", []) => Some(Command::Constant),
+        ("sorted", []) => Some(Command::Sorted),
+        ("strict", []) => Some(Command::Strict),
         _ => None,
     }
 }
@@ -249,6 +292,9 @@ fn read_made<'a>(maker: &str, words: &'a [&'a str]) -> Option<Call<'a>> {
         ("views", [kind, validity, parts @ ..]) => {
             Some(Call::Views(read_views(kind, *validity, parts)?))
         }
+        ("deserialize", [dtype, length, parts @ ..]) => {
+            Some(Call::Deserialize(read_record(dtype, length, parts)?))
+        }
         _ => None,
     }
 }
@@ -289,6 +335,19 @@ fn read_views<'a>(kind: &str, validity: &'a str, parts: &'a [&'a str]) -> Option
         views,
         buffers,
     })
+}
+
+fn read_record<'a>(dtype: &str, length: &str, parts: &'a [&'a str]) -> Option<Record<'a>> {
+    match split_at_slash(parts)? {
+        (bytes, [ends, values]) => Some(Record {
+            dtype: read_type(dtype)?,
+            length: read_count(length)?,
+            bytes,
+            ends: read_name(ends)?,
+            values: read_name(values)?,
+        }),
+        _ => None,
+    }
 }
 
 // The words before the first slash, and those behind it.

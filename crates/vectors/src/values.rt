@@ -216,6 +216,33 @@ pub fn bytes_of<A: Allocator + Copy>(alloc: A, digits: &str) -> VortexResult<Opt
     }
 }
 
+/// The bytes of these words, two hexadecimal digits each, or `None` where a word is none of a byte. The
+/// word of no bytes is `-`.
+pub fn bytes_of_words<A: Allocator + Copy>(
+    alloc: A,
+    words: &[&str],
+) -> VortexResult<Option<Vec<u8, A>>> {
+    let mut bytes = Vec::new(alloc);
+    if let ["-"] = words {
+        return Ok(Some(bytes));
+    }
+    for word in words {
+        match byte_of(alloc, word)? {
+            Some(byte) => bytes.push(byte)?,
+            None => return Ok(None),
+        }
+    }
+    Ok(if words.is_empty() { None } else { Some(bytes) })
+}
+
+// The byte of two hexadecimal digits.
+fn byte_of<A: Allocator + Copy>(alloc: A, word: &str) -> VortexResult<Option<u8>> {
+    match bytes_of(alloc, word)? {
+        Some(bytes) if bytes.len() == 1 => Ok(bytes.first().copied()),
+        _ => Ok(None),
+    }
+}
+
 /// The validity word's bits, or `None` where it has another letter than 0 and 1. The word of no bits
 /// is `-`.
 pub fn read_bits(word: &str) -> Option<&[u8]> {

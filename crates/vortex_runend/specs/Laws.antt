@@ -1,6 +1,9 @@
 -- The laws of encodings, stated over lists of optional values, so of whole numbers too.
-use Rattle.std.specs.Prelude.{IsTrue, ◌≡◌, ◌≢◌, ◌+◌, ◌≤◌, ◌↔◌, ℕ, List, Option, Some, length, slice_get, slice_range}
+use Rattle.std.specs.Prelude.{IsTrue, ◌≡◌, ◌≢◌, ◌+◌, ◌≤◌, ◌↔◌, ℕ, ℤ, List, Option, Some, None, length, slice_get, slice_range}
+use Rattle.column_core.specs.Refusal.{range_fault}
 use Rattle.column_core.specs.Value.{Value}
+use Rattle.column_ops.specs.Fill.{fill_rows}
+use Rattle.column_ops.specs.Take.{take_rows, take_fault}
 use Rattle.runend_codec.specs.Cover.{Covers, IsTightCover}
 use Rattle.runend_array.specs.Data.{data_eq, data_writes}
 
@@ -38,3 +41,15 @@ SliceOfSlice = (rows : List (Option Value)) (start stop first last : ℕ)
 -- what a run column holds beside its slots is equal exactly where its offset is, and where it is equal a hash of it makes equal writes
 abbrev pub EqualDataHashEqually : Type 0
 EqualDataHashEqually = (offset other : ℕ) → (IsTrue (data_eq offset other) ↔ (offset ≡ other)) × (IsTrue (data_eq offset other) → data_writes offset ≡ data_writes other)
+
+-- rows taken from rows that were taken are those that the composed indices take, and where the first indices are all of rows, so are these
+abbrev pub TakeOfTake : Type 0
+TakeOfTake = (rows : List (Option Value)) (first second : List (Option ℤ))
+    → (take_rows (take_rows rows first) second ≡ take_rows rows (take_rows first second))
+    × (take_fault first (length rows) ≡ None → take_fault (take_rows first second) (length rows) ≡ None)
+
+-- a range of filled rows is the range filled, and is refused exactly where the range of the rows is
+abbrev pub FillThenSlice : Type 0
+FillThenSlice = (rows : List (Option Value)) (value : Value) (start stop : ℕ)
+    → (slice_range (fill_rows rows value) start stop ≡ fill_rows (slice_range rows start stop) value)
+    × (range_fault start stop (length (fill_rows rows value)) ≡ range_fault start stop (length rows))

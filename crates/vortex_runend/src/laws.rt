@@ -1,6 +1,7 @@
-//! The laws of encodings and of slices, each proved of every list of optional values, so of whole
-//! numbers too, the law of what a run column holds beside its slots, and those of commands and of the
-//! metadata record.
+//! The laws of encodings, and of rows that are sliced, taken and filled, each proved of every list of
+//! optional values, so of whole numbers too, the law of what a run column holds beside its slots, and
+//! those of commands and of the metadata record. Those of filter, of strategies of a take, of commands, of
+//! sums and of the record stand in the crates below.
 //!
 //! An encoding of a list is its tight exact cover: runs of which none is empty, none can be joined
 //! with the next, and none is hidden. But for the last, each function here does nothing: its clause is
@@ -8,12 +9,14 @@
 ghost use Rattle.std.specs.Prelude.{◌≡◌, IfOk, IsOkUnless};
 ghost use Rattle.runend_array.specs.Array.{column_of, dtype_of, rows};
 ghost use Rattle.runend_array.specs.Encoding.{IsPlainNumbers};
-ghost use Rattle.vortex_runend.specs.Laws.{DecodingAnEncoding, EqualListsEqualEncodings, NeighboursDiffer, NoCoverIsShorter, SliceOfSlice, TightCoverIsUnique, EqualDataHashEqually};
+ghost use Rattle.vortex_runend.specs.Laws.{DecodingAnEncoding, EqualListsEqualEncodings, NeighboursDiffer, NoCoverIsShorter, SliceOfSlice, TakeOfTake, FillThenSlice, TightCoverIsUnique, EqualDataHashEqually};
 
 pub use runend_aggregate::{sum_signed_runs, sum_unsigned_runs};
 use runend_array::{ArrayRef, ExecutionCtx, RunEnd, VortexError, VortexResult};
 pub use runend_commands::laws::runs_agree;
 pub use runend_metadata::laws::{spelling_is_unique, write_then_read};
+pub use runend_positions::strategies_agree;
+pub use runend_select::laws::filter_is_take;
 use std::alloc::Allocator;
 
 /// A list has one encoding: two tight exact covers of it have equal ends and equal values.
@@ -50,6 +53,19 @@ pub fn decoding_an_encoding()
 /// For scanners: a range of a range needs no column in between.
 pub fn slice_of_slice()
     ensures { SliceOfSlice }
+{}
+
+/// A take of a take is the take of the composed indices, those of the first take at the places that the
+/// second names. Where no index of the first is out of bounds, no composed index is.
+/// For dictionary cascades: codes into codes are folded once, and the rows are read once.
+pub fn take_of_take()
+    ensures { TakeOfTake }
+{}
+
+/// A range of filled rows is the filled range, refused exactly where the range is.
+/// For time-series stores: gaps can be filled before a window is cut or after it.
+pub fn fill_then_slice()
+    ensures { FillThenSlice }
 {}
 
 /// `RunEndData::array_eq` is equality of offsets, and data that it finds equal hash equally: `array_hash`

@@ -1,4 +1,4 @@
-use Rattle.std.proofs.Common.{◌≡◌, ℕ, ◌+◌, ◌-◌, ◌<◌, ◌≤◌, length, replicate, sym, ap, ◌∙◌, arith, rules}
+use Rattle.std.proofs.Common.{◌<◌, ◌≤◌, length, replicate, sym, ap, ◌∙◌, arith, rules}
 use Rattle.std.specs.Prelude.{option_map, unsigned_abs}
 use Rattle.std.proofs.lemmas.List.{length-map, length-replicate}
 use Rattle.column_base.proofs.Ranges.{length-slice_range}

@@ -14,15 +14,21 @@ ghost use Rattle.runend_array.specs.Lists.{AreLists, HasRows, index_count, list_
 ghost use Rattle.column_core.specs.Value.{element_of as element_type_of};
 ghost use Rattle.runend_array.specs.ListRuns.{AreListsInRuns};
 ghost use Rattle.runend_array.specs.ListSlice.{AreListsInRange};
+ghost use Rattle.runend_array.specs.ListTake.{AreListsAt, ArePlacesOf, lists_taken, nullability_taken};
+ghost use Rattle.column_base.specs.Types.{nullability_of, with_nullability as dtype_with};
+ghost use Rattle.column_base.specs.ValidityForm.{HasLength, nullability_in};
+ghost use Rattle.column_base.specs.Validity.{form_of};
 
 use crate::array_ref::{ArrayRef, out_of_bounds};
 use crate::lists::index::{index_at, index_len, is_index};
 use crate::lists::runs::{index_in_runs, validity_in_runs};
 use crate::lists::slice::{index_between, validity_between};
+use crate::lists::take::{index_taken, validity_taken};
 use crate::session::ExecutionCtx;
 use crate::validities::RowValidity;
 use column_core::{
-    DType, ElementDType, FlatColumn, PrimitiveArray, ScalarView, VortexError, VortexResult,
+    DType, ElementDType, FlatColumn, PrimitiveArray, ScalarView, Validity, VortexError,
+    VortexResult,
 };
 use std::alloc::Allocator;
 use std::marker::Model;
@@ -352,6 +358,31 @@ impl<A: Allocator + Copy> ListViewArray<A> {
         let offsets = index_between(alloc, &self.offsets, start, stop)?;
         let sizes = index_between(alloc, &self.sizes, start, stop)?;
         let validity = validity_between(alloc, &self.validity, self.len(), start, stop)?;
+        Ok(ListViewArray::new_unchecked(elements, offsets, sizes, validity))
+    }
+
+    /// The rows at these positions, null for null, where the valid positions are below the number of
+    /// rows: lists over the same elements, with flat offsets and sizes as they are stored, 0 for null,
+    /// and bits of validity only where some row is null and some is not. The type has null where that of
+    /// the lists or the positions have. Refused as `OutOfMemory` alone.
+    pub fn take_at(
+        &self,
+        alloc: A,
+        positions: &[u64],
+        places: &Validity<A>,
+    ) -> VortexResult<ListViewArray<A>>
+        requires counted { HasLength (form_of places.now) (length positions.now) }
+        requires within { ArePlacesOf (list_count self.now) positions.now (form_of places.now) }
+        ensures only { IsOkUnless result VortexError.OutOfMemory }
+        ensures rows { IfOk result (λ part. list_rows part ≡ lists_taken self.now positions.now (form_of places.now)) }
+        ensures dtype { IfOk result (λ part. list_dtype part
+            ≡ dtype_with (list_dtype self.now) (nullability_taken (nullability_of (list_dtype self.now)) (nullability_in (form_of places.now)))) }
+        ensures form { IfOk result (λ part. AreListsAt self.now positions.now (form_of places.now) part) }
+    {
+        let elements = self.elements.clone()?;
+        let offsets = index_taken(alloc, &self.offsets, positions, places)?;
+        let sizes = index_taken(alloc, &self.sizes, positions, places)?;
+        let validity = validity_taken(alloc, &self.validity, self.len(), positions, places)?;
         Ok(ListViewArray::new_unchecked(elements, offsets, sizes, validity))
     }
 

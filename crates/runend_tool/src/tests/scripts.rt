@@ -17,10 +17,10 @@ fn answered<A: Allocator + Copy>(alloc: A, text: &str) -> VortexResult<(String<A
 }
 
 const SHOWN: &str =
-    "col u8? 7 7 null\nencode\nshow\nrows\nat 2\nat 3\nslice 1 3\nruns i8 u8 0 2 1 2 / 4 5\nslice 1 2\nshow\n";
+    "col u8? 7 7 null\nencode\nshow\nrows\nat 2\nat 3\nslice 1 3\nruns i8 u8 0 2 1 2 / 4 5\nslice 1 2\nshow\nminmax\nencode\nmeta\nread 08 01\ncol u8? 3 null\nsum\nminmax\nconstant\nstrict\n";
 
 const SHOWN_ANSWERS: &str =
-    "ok\nok\nruns u8? u8 offset 0 length 3 ends 2 3 values 7 null\nrows 7 7 null\nvalue null\nrefused 8 3 3\nok\nok\nok\nconst i8 5 length 1\n";
+    "ok\nok\nruns u8? u8 offset 0 length 3 ends 2 3 values 7 null\nrows 7 7 null\nvalue null\nrefused 8 3 3\nok\nok\nok\nconst i8 5 length 1\nminmax 5 5\nok\nmeta 10 01\nread u16 runs 0 offset 0\nok\nsum 3\nminmax 3 3\nconstant false\nstrict false\n";
 
 #[test]
 fn answers_of_scripts(rt: HostRuntime) -> Result<(), Fail> {
@@ -129,6 +129,184 @@ fn refused_runs_leave_no_column(rt: HostRuntime) -> Result<(), Fail> {
             ("rows", "line 7: bad command"),
         ],
     )?;
+    Ok(())
+}
+
+#[test]
+fn a_first_script(rt: HostRuntime) -> Result<(), Fail> {
+    assert_answers(
+        &rt,
+        rt.alloc(),
+        &[
+            ("col i32 1 1 1 4 4 4 2 2 5 5 5 5", "ok"),
+            ("encode", "ok"),
+            (
+                "show",
+                "runs i32 u8 offset 0 length 12 ends 3 6 8 12 values 1 4 2 5",
+            ),
+            ("at 11", "value 5"),
+            ("slice 4 9", "ok"),
+            ("rows", "rows 4 4 2 2 5"),
+            ("sum", "sum 17"),
+            ("jump", "line 8: bad command"),
+        ],
+    )?;
+    Ok(())
+}
+
+#[test]
+fn aggregates_leave_the_column(rt: HostRuntime) -> Result<(), Fail> {
+    assert_answers(
+        &rt,
+        rt.alloc(),
+        &[
+            ("runs i32? u8 2 5 2 5 7 10 / 9 null 3 9", "ok"),
+            ("sum", "sum 6"),
+            ("minmax", "minmax 3 3"),
+            ("constant", "constant false"),
+            ("sorted", "sorted true"),
+            ("strict", "strict false"),
+            (
+                "show",
+                "runs i32? u8 offset 2 length 5 ends 2 5 7 10 values 9 null 3 9",
+            ),
+            ("col u8? 200 100 null", "ok"),
+            ("sum", "sum 300"),
+            ("minmax", "minmax 100 200"),
+            ("constant", "constant false"),
+            ("sorted", "sorted false"),
+            ("strict", "strict false"),
+            ("show", "flat u8? 200 100 null"),
+        ],
+    )?;
+    Ok(())
+}
+
+#[test]
+fn casts_keep_the_visible_runs(rt: HostRuntime) -> Result<(), Fail> {
+    assert_answers(
+        &rt,
+        rt.alloc(),
+        &[
+            ("runs i32 u32 2 3 2 5 / 300 7", "ok"),
+            ("cast u8", "ok"),
+            ("rows", "rows 7 7 7"),
+            ("meta", "meta 08 02 10 01 18 02"),
+            ("show", "runs u8 u32 offset 2 length 3 ends 5 values 7"),
+            ("runs i32 u32 0 5 2 5 / 300 7", "ok"),
+            ("cast u8", "refused 14"),
+            (
+                "show",
+                "runs i32 u32 offset 0 length 5 ends 2 5 values 300 7",
+            ),
+            ("runs i32? u8 0 7 2 4 7 / 10 null 20", "ok"),
+            ("cast i64", "refused 15"),
+            ("cast i64?", "ok"),
+            (
+                "show",
+                "runs i64? u8 offset 0 length 7 ends 2 4 7 values 10 null 20",
+            ),
+            ("col i8 -1 1", "ok"),
+            ("cast u64", "refused 14"),
+            ("cast i8?", "ok"),
+            ("show", "flat i8? -1 1"),
+        ],
+    )?;
+    Ok(())
+}
+
+#[test]
+fn the_first_row_that_does_not_fit_decides(rt: HostRuntime) -> Result<(), Fail> {
+    assert_answers(
+        &rt,
+        rt.alloc(),
+        &[
+            ("runs i32? u8 0 3 1 2 3 / 300 null 7", "ok"),
+            ("cast u8", "refused 14"),
+            ("runs i32? u8 0 3 1 2 3 / null 300 7", "ok"),
+            ("cast u8", "refused 15"),
+            ("decode", "ok"),
+            ("cast u8", "refused 15"),
+            ("show", "flat i32? null 300 7"),
+        ],
+    )?;
+    Ok(())
+}
+
+#[test]
+fn fills_of_nulls(rt: HostRuntime) -> Result<(), Fail> {
+    assert_answers(
+        &rt,
+        rt.alloc(),
+        &[
+            ("runs i32? u8 2 5 2 5 7 10 / 9 null 3 9", "ok"),
+            ("fill null", "refused 16"),
+            ("fill 0", "ok"),
+            ("show", "runs i32 u8 offset 2 length 5 ends 5 7 values 0 3"),
+            ("fill null", "refused 16"),
+            ("fill -4", "ok"),
+            ("rows", "rows 0 0 0 3 3"),
+            ("col u8? null 3", "ok"),
+            ("fill 255", "ok"),
+            ("show", "flat u8 255 3"),
+            ("col i64? null", "ok"),
+            ("encode", "ok"),
+            ("slice 0 1", "ok"),
+            ("fill -9223372036854775808", "ok"),
+            ("show", "flat i64 -9223372036854775808"),
+        ],
+    )?;
+    Ok(())
+}
+
+#[test]
+fn fills_that_are_no_rows(rt: HostRuntime) -> Result<(), Fail> {
+    for line in ["fill 256", "fill -1", "fill +1", "fill Null", "fill 0x1"] {
+        let bad = "line 2: bad command";
+        assert_answers(&rt, rt.alloc(), &[("col u8? null", "ok"), (line, bad)])?;
+    }
+    assert_answers(&rt, rt.alloc(), &[("fill 0", "line 1: bad command")])?;
+    assert_answers(&rt, rt.alloc(), &[("cast u8", "line 1: bad command")])?;
+    Ok(())
+}
+
+#[test]
+fn records_of_columns(rt: HostRuntime) -> Result<(), Fail> {
+    assert_answers(
+        &rt,
+        rt.alloc(),
+        &[
+            ("runs i32 u32 1 7 2 5 10 / 1 2 3", "ok"),
+            ("meta", "meta 08 02 10 03 18 01"),
+            ("read 08 02 10 03 18 aC 02", "read u32 runs 3 offset 300"),
+            ("read 08 04", "refused 18 4"),
+            ("read 0B", "refused 17"),
+            ("slice 1 2", "ok"),
+            ("meta", "not runs"),
+            ("slice 1 0", "refused 9 1 0 1"),
+            ("read", "read u8 runs 0 offset 0"),
+        ],
+    )?;
+    Ok(())
+}
+
+#[test]
+fn records_that_are_not_spelt(rt: HostRuntime) -> Result<(), Fail> {
+    for line in [
+        "read 1",
+        "read GG",
+        "read 0G",
+        "read +8",
+        "read 008",
+        "read 08 2",
+        "read 0x",
+        "read 08,02",
+    ] {
+        let bad = "line 2: bad command";
+        assert_answers(&rt, rt.alloc(), &[("col u8", "ok"), (line, bad)])?;
+    }
+    assert_answers(&rt, rt.alloc(), &[("read 08 02", "line 1: bad command")])?;
+    assert_answers(&rt, rt.alloc(), &[("meta", "line 1: bad command")])?;
     Ok(())
 }
 

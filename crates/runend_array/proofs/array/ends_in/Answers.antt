@@ -1,4 +1,4 @@
-use Rattle.std.proofs.Common.{◌≡◌, map, sym, ap, ◌∙◌}
+use Rattle.std.proofs.Common.{map, sym, ap, ◌∙◌}
 use Rattle.std.specs.Prelude.{unsigned_abs}
 use Rattle.column_base.proofs.Ranges.{slice_range_of_map}
 use Rattle.runend_array.proofs.array.ends_in.Goals as goal

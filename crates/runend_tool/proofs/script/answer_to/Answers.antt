@@ -1,6 +1,6 @@
-use Rattle.std.proofs.Common.{◌≡◌, ◌++◌, [], ◌∷◌, ◌∙◌, List, subst, sym}
+use Rattle.std.proofs.Common.{◌≡◌, ◌++◌, [], ◌∷◌, ◌∙◌, List, subst, sym, rules}
 use Rattle.runend_commands.specs.declared.command.Answer.{Answer}
-use Rattle.runend_commands.specs.Step.{IsStep}
+use Rattle.runend_commands.specs.Step.{IsRun, IsStep}
 use Rattle.runend_commands.proofs.Chains.{chain_of_one}
 use Rattle.runend_tool.proofs.script.answer_to.Goals as goal
 
@@ -15,6 +15,8 @@ returns-clause-step g c =
     let before = c.args.column.now in
     let after = c.execute.new.column in
     let answers = c.in_ok-answers in
-    let one = chain_of_one IsStep before after c.args.command answers.answers.items answers.ensures.run in
+    let listed : c.deref.result.now ≡ c.args.command ∷ [] = search rules in
+    let run = subst (λ (commands : List _). IsRun before commands answers.answers.items after) listed answers.ensures.run in
+    let one = chain_of_one IsStep before after c.args.command answers.answers.items run in
     let same = last_of_one c.pop.new.self.items c.in-Some.answer one.0 (sym c.in-Some.ensures.items ∙ one.1) in
     subst (λ (answer : Answer _). IsStep before c.args.command answer after) (sym same) one.2

@@ -1,0 +1,66 @@
+//! Rows kept as they are in a type that may lack null, of any kind of item.
+ghost use Rattle.std.specs.Prelude.{◌≡◌, ◌≢◌, Err, None, IfOk, IsSome, length};
+ghost use Rattle.column_base.specs.declared.dtype.Nullability.TheVariants.{NonNullable};
+ghost use Rattle.column_base.specs.ValidityForm.{HasLength, flags};
+ghost use Rattle.column_base.specs.Validity.{form_of};
+ghost use Rattle.column_core.specs.Optionals.{optionals};
+ghost use Rattle.column_core.specs.Refusal.{IsRefusedBy};
+ghost use Rattle.column_ops.specs.Cast.{null_fault, null_row_fault};
+ghost use Rattle.column_ops.specs.Fault.{first_fault};
+ghost use Rattle.column_ops.specs.Written.{AreWritten};
+
+use crate::row_writer::RowWriter;
+use crate::rows::row_at;
+use column_core::{Nullability, Validity, VortexError, VortexResult};
+use std::alloc::Allocator;
+
+/// Null, as a row of a type with this nullability. Refused as `NullNotAllowed` where rows may not be
+/// null. Takes no memory.
+pub(crate) fn null_row<T: Drop>(nullability: Nullability) -> VortexResult<Option<T>>
+    ensures refused { IsRefusedBy (null_fault nullability) result }
+    ensures no_memory { result ≢ Err VortexError.OutOfMemory }
+    ensures null { IfOk result (λ row. row ≡ None) }
+    ensures nullable { IfOk result (λ row. nullability ≢ NonNullable) }
+{
+    match nullability {
+        Nullability::NonNullable => Err(VortexError::NullNotAllowed),
+        Nullability::Nullable => Ok(None),
+    }
+}
+
+// The row, null only where rows may be null.
+fn kept_row<T: Copy + Drop>(row: Option<T>, nullability: Nullability) -> VortexResult<Option<T>>
+    ensures refused { IsRefusedBy (null_row_fault nullability row) result }
+    ensures no_memory { result ≢ Err VortexError.OutOfMemory }
+    ensures same { IfOk result (λ kept. kept ≡ row) }
+    ensures valid { IfOk result (λ kept. nullability ≡ NonNullable → IsSome kept) }
+{
+    match row {
+        None => null_row(nullability),
+        Some(item) => Ok(Some(item)),
+    }
+}
+
+/// The rows in a type of that nullability, with the blank item stored under null. Refused as
+/// `NullNotAllowed` for a null where rows may not be null; else as `OutOfMemory` alone.
+pub(crate) fn keep_items<T: Copy + Drop, A: Allocator + Copy>(
+    alloc: A,
+    items: &[T],
+    validity: &Validity<A>,
+    blank: T,
+    nullability: Nullability,
+) -> VortexResult<(Vec<T, A>, Validity<A>)>
+    requires { HasLength (form_of validity.now) (length items.now) }
+    ensures refused { IsRefusedBy (first_fault (null_row_fault nullability) (optionals items.now (flags (form_of validity.now) (length items.now)))) result }
+    ensures kept { IfOk result (λ parts. AreWritten blank
+        (optionals items.now (flags (form_of validity.now) (length items.now)))
+        nullability parts.0.items (form_of parts.1)) }
+{
+    let mut rows = RowWriter::with_room(alloc, blank, nullability, items.len())?;
+    for row in 0..items.len() {
+        let item = row_at(items, validity, row);
+        let kept = kept_row(item, nullability)?;
+        rows.push(kept)?;
+    }
+    Ok(rows.finish())
+}

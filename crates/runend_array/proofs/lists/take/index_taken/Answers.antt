@@ -1,0 +1,5 @@
+use Rattle.runend_array.proofs.ListTake.{PlainIndex-taken}
+use Rattle.runend_array.proofs.lists.take.index_taken.Goals as goal
+
+pub returns-clause-form : goal.returns-clause-form
+returns-clause-form g c = PlainIndex-taken c.new_unchecked-flat.result c.in_ok-numbers.numbers.items _ c.new_unchecked-flat.ensures c.in_ok-numbers.ensures.numbers

@@ -1,0 +1,39 @@
+-- The least and the greatest row, copied.
+use Rattle.std.proofs.Common.{◌≡◌, Option, Some, None}
+use Rattle.std.specs.Prelude.{All, IfNone, IfOk, IfSome, Result, Ok, Err}
+use Rattle.column_base.specs.declared.dtype.DType.{DType}
+use Rattle.column_base.specs.declared.dtype.DType.TheVariants as column
+use Rattle.column_base.specs.declared.error.VortexError.{VortexError}
+use Rattle.column_core.specs.ScalarForm.{ScalarForm}
+use Rattle.column_core.specs.ScalarView.{sees}
+use Rattle.column_core.specs.Value.{IsLists, PlainColumn}
+use Rattle.column_core.specs.declared.view.ScalarView.{ScalarView}
+use Rattle.column_order.specs.OrderFacts.{IsGreatest, IsLeast}
+use Rattle.runend_aggregate.specs.OrderFault.{order_fault}
+use Rattle.runend_commands.specs.Extremes.{AreCopiesOf, AreExtremesIfAny}
+
+-- a type whose rows have an order is none of lists
+pub single_if_ordered : (t : DType) → order_fault t ≡ None → ¬ IsLists t
+single_if_ordered (column.List e n) same lists = cc
+single_if_ordered t same lists = absurd lists
+
+-- copies of the least and the greatest row are these
+extremes_copied : {A : Type 0} (before : PlainColumn) (found : Option (ScalarView A × ScalarView A)) (scalars : Option (ScalarForm × ScalarForm))
+    → IfNone found (All (λ row. row ≡ None) before.rows) → IfSome found (λ ends. IsLeast before.rows (sees ends.0)) → IfSome found (λ ends. IsGreatest before.rows (sees ends.1))
+    → AreCopiesOf before.dtype found scalars → AreExtremesIfAny before scalars
+extremes_copied before None None none least greatest copies = none
+extremes_copied before None (Some scalars) none least greatest copies = absurd copies
+extremes_copied before (Some views) None none least greatest copies = absurd copies
+extremes_copied before (Some views) (Some scalars) none least greatest copies = record {
+  first_dtype = copies.0.0;
+  last_dtype = copies.1.0;
+  least = rw copies.0.1 least;
+  greatest = rw copies.1.1 greatest;
+}
+
+-- and so are copies that may be refused
+pub extremes_answered : {A : Type 0} (before : PlainColumn) (found : Option (ScalarView A × ScalarView A)) (result : Result (Option (ScalarForm × ScalarForm)) VortexError)
+    → IfNone found (All (λ row. row ≡ None) before.rows) → IfSome found (λ ends. IsLeast before.rows (sees ends.0)) → IfSome found (λ ends. IsGreatest before.rows (sees ends.1))
+    → IfOk result (AreCopiesOf before.dtype found) → IfOk result (AreExtremesIfAny before)
+extremes_answered before found (Ok scalars) none least greatest copies = extremes_copied before found scalars none least greatest copies
+extremes_answered before found (Err error) none least greatest copies = tt

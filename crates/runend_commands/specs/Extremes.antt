@@ -1,0 +1,35 @@
+-- The least and the greatest row of a column, and the scalars that they are answered as.
+use Rattle.std.specs.Prelude.{◌≡◌, All, Option, None, Some, option_map}
+use Rattle.column_base.specs.declared.dtype.DType.{DType}
+use Rattle.column_core.specs.ScalarForm.{ScalarForm}
+use Rattle.column_core.specs.ScalarView.{sees}
+use Rattle.column_core.specs.Value.{PlainColumn, Single, Value}
+use Rattle.column_core.specs.declared.view.ScalarView.{ScalarView}
+use Rattle.column_order.specs.OrderFacts.{IsGreatest, IsLeast}
+
+-- what a scalar shows in a row
+abbrev pub shown : ScalarForm → Option Value
+shown scalar = option_map Single scalar.value
+
+-- the least and the greatest row, as scalars of the column's type
+pub record AreExtremes (before : PlainColumn) (first last : ScalarForm) : Type 0 where
+  pub first_dtype : first.dtype ≡ before.dtype
+  pub last_dtype : last.dtype ≡ before.dtype
+  pub least : IsLeast before.rows (shown first)
+  pub greatest : IsGreatest before.rows (shown last)
+
+-- the least and the greatest row, or none where all rows are null
+abbrev pub AreExtremesIfAny : PlainColumn → Option (ScalarForm × ScalarForm) → Type 0
+AreExtremesIfAny before None = All (λ row. row ≡ None) before.rows
+AreExtremesIfAny before (Some ends) = AreExtremes before ends.0 ends.1
+
+-- a scalar of the type, that shows what the view shows
+abbrev pub IsCopyOf : {A : Type 0} → DType → ScalarView A → ScalarForm → Type 0
+IsCopyOf dtype view scalar = (scalar.dtype ≡ dtype) × (shown scalar ≡ sees view)
+
+-- two such scalars, where there are two views
+abbrev pub AreCopiesOf : {A : Type 0} → DType → Option (ScalarView A × ScalarView A) → Option (ScalarForm × ScalarForm) → Type 0
+AreCopiesOf dtype None None = Unit {0}
+AreCopiesOf dtype None (Some scalars) = ⊥
+AreCopiesOf dtype (Some views) None = ⊥
+AreCopiesOf dtype (Some views) (Some scalars) = IsCopyOf dtype views.0 scalars.0 × IsCopyOf dtype views.1 scalars.1

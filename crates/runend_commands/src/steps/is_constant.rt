@@ -1,0 +1,60 @@
+//! The command IsConstant.
+ghost use Rattle.std.specs.Prelude.{◌≡◌, ◌≢◌, ◌↔◌, Err, IfOk, IsTrue};
+ghost use Rattle.column_core.specs.FlatColumn.{leaf_of};
+ghost use Rattle.column_core.specs.Leaf.{single_rows};
+ghost use Rattle.column_core.specs.Refusal.{IsRefusedBy};
+ghost use Rattle.column_order.specs.OrderFacts as order;
+ghost use Rattle.runend_aggregate.specs.OrderFault.{order_fault};
+ghost use Rattle.runend_array.specs.Array.{column_of, dtype_of, rows};
+ghost use Rattle.runend_array.specs.declared.session.Kernel.TheVariants.{IsConstant as constant_kernel};
+ghost use Rattle.runend_commands.specs.KernelForms.{HasKernel};
+ghost use Rattle.runend_commands.specs.Outcomes.{IsOutcome};
+ghost use Rattle.runend_commands.specs.declared.command.Command.TheVariants.{IsConstant};
+
+use crate::command::Answer;
+use crate::steps::Outcome;
+use crate::steps::flat_rows::flat_rows;
+use crate::steps::kernel_runs::runs_for;
+use column_core::{FlatColumn, VortexError, VortexResult};
+use column_order::FlatOrder;
+use runend_aggregate::is_constant;
+use runend_array::{ArrayRef, ExecutionCtx, Kernel};
+use std::alloc::Allocator;
+
+/// Whether any two rows are equal.
+pub fn is_constant_column<A: Allocator + Copy>(
+    column: &ArrayRef<A>,
+    ctx: &mut ExecutionCtx<A>,
+) -> VortexResult<Outcome<A>>
+    ensures outcome { IsOutcome ctx.old column.now IsConstant result }
+    ensures session { ctx.new ≡ ctx.old }
+{
+    let constant = are_rows_equal(column, ctx)?;
+    Ok(Outcome::Answers(Answer::Bool(constant)))
+}
+
+// The same, by the kernel where it serves the column.
+fn are_rows_equal<A: Allocator + Copy>(
+    column: &ArrayRef<A>,
+    ctx: &mut ExecutionCtx<A>,
+) -> VortexResult<bool>
+    ensures refused { IsRefusedBy (order_fault (dtype_of column.now)) result }
+    ensures answer { IfOk result (λ constant. IsTrue constant ↔ order.IsConstant (rows column.now)) }
+    ensures kernel { HasKernel ctx.old constant_kernel (column_of column.now) → result ≢ Err VortexError.OutOfMemory }
+    ensures session { ctx.new ≡ ctx.old }
+{
+    match runs_for(column, Kernel::IsConstant, ctx) {
+        Some(runs) => is_constant(runs, ctx),
+        None => {
+            let flat = flat_rows(column, ctx)?;
+            Ok(is_flat_constant(&flat))
+        }
+    }
+}
+
+// The same of all rows of a flat column.
+fn is_flat_constant<A: Allocator + Copy>(flat: &FlatColumn<A>) -> bool
+    ensures { IsTrue result ↔ order.IsConstant (single_rows (leaf_of flat.now)) }
+{
+    flat.is_constant(0..flat.len())
+}

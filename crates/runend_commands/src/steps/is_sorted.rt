@@ -1,0 +1,62 @@
+//! The command IsSorted.
+ghost use Rattle.std.specs.Prelude.{◌≡◌, ◌≢◌, ◌↔◌, Err, IfOk, IsTrue};
+ghost use Rattle.column_core.specs.FlatColumn.{leaf_of};
+ghost use Rattle.column_core.specs.Leaf.{single_rows};
+ghost use Rattle.column_core.specs.Refusal.{IsRefusedBy};
+ghost use Rattle.column_order.specs.OrderFacts as order;
+ghost use Rattle.runend_aggregate.specs.OrderFault.{order_fault};
+ghost use Rattle.runend_array.specs.Array.{column_of, dtype_of, rows};
+ghost use Rattle.runend_array.specs.declared.session.Kernel.TheVariants.{IsSorted as sorted_kernel};
+ghost use Rattle.runend_commands.specs.KernelForms.{HasKernel};
+ghost use Rattle.runend_commands.specs.Outcomes.{IsOutcome};
+ghost use Rattle.runend_commands.specs.declared.command.Command.TheVariants.{IsSorted};
+
+use crate::command::Answer;
+use crate::steps::Outcome;
+use crate::steps::flat_rows::flat_rows;
+use crate::steps::kernel_runs::runs_for;
+use column_core::{FlatColumn, VortexError, VortexResult};
+use column_order::FlatOrder;
+use runend_aggregate::is_sorted;
+use runend_array::{ArrayRef, ExecutionCtx, Kernel};
+use std::alloc::Allocator;
+
+/// Whether no row is above the next, or, where `strict` is asked, each is below the next.
+pub fn is_sorted_column<A: Allocator + Copy>(
+    column: &ArrayRef<A>,
+    strict: bool,
+    ctx: &mut ExecutionCtx<A>,
+) -> VortexResult<Outcome<A>>
+    ensures outcome { IsOutcome ctx.old column.now (IsSorted strict) result }
+    ensures session { ctx.new ≡ ctx.old }
+{
+    let sorted = are_rows_sorted(column, strict, ctx)?;
+    Ok(Outcome::Answers(Answer::Bool(sorted)))
+}
+
+// The same, by the kernel where it serves the column.
+fn are_rows_sorted<A: Allocator + Copy>(
+    column: &ArrayRef<A>,
+    strict: bool,
+    ctx: &mut ExecutionCtx<A>,
+) -> VortexResult<bool>
+    ensures refused { IsRefusedBy (order_fault (dtype_of column.now)) result }
+    ensures answer { IfOk result (λ sorted. IsTrue sorted ↔ order.IsSorted strict (rows column.now)) }
+    ensures kernel { HasKernel ctx.old sorted_kernel (column_of column.now) → result ≢ Err VortexError.OutOfMemory }
+    ensures session { ctx.new ≡ ctx.old }
+{
+    match runs_for(column, Kernel::IsSorted, ctx) {
+        Some(runs) => is_sorted(runs, strict, ctx),
+        None => {
+            let flat = flat_rows(column, ctx)?;
+            Ok(is_flat_sorted(&flat, strict))
+        }
+    }
+}
+
+// The same of all rows of a flat column.
+fn is_flat_sorted<A: Allocator + Copy>(flat: &FlatColumn<A>, strict: bool) -> bool
+    ensures { IsTrue result ↔ order.IsSorted strict (single_rows (leaf_of flat.now)) }
+{
+    flat.is_sorted(0..flat.len(), strict)
+}

@@ -1,0 +1,63 @@
+//! The command Sum.
+ghost use Rattle.std.specs.Prelude.{◌≡◌, ◌≢◌, Err, IfOk};
+ghost use Rattle.column_core.specs.Refusal.{IsRefusedBy};
+ghost use Rattle.column_sums.specs.SumAnswer.{sum_fault, IsSumAnswer};
+ghost use Rattle.runend_array.specs.Array.{column_of, dtype_of, rows};
+ghost use Rattle.runend_array.specs.declared.session.Kernel.TheVariants.{Sum as sum_kernel};
+ghost use Rattle.runend_commands.specs.KernelForms.{HasKernel};
+ghost use Rattle.runend_commands.specs.Outcomes.{IsOutcome};
+ghost use Rattle.runend_commands.specs.declared.command.Command.TheVariants.{Sum};
+
+use crate::command::Answer;
+use crate::steps::Outcome;
+use crate::steps::flat_rows::flat_rows;
+use crate::steps::kernel_runs::runs_for;
+use column_core::{DType, VortexError, VortexResult};
+use column_sums::{SumAnswer, sum_flat};
+use runend_aggregate::sum;
+use runend_array::{ArrayRef, ExecutionCtx, Kernel};
+use std::alloc::Allocator;
+
+/// The sum of the rows that are not null.
+pub fn sum_column<A: Allocator + Copy>(
+    column: &ArrayRef<A>,
+    ctx: &mut ExecutionCtx<A>,
+) -> VortexResult<Outcome<A>>
+    ensures outcome { IsOutcome ctx.old column.now Sum result }
+    ensures session { ctx.new ≡ ctx.old }
+{
+    let total = sum_of_rows(column, ctx)?;
+    Ok(Outcome::Answers(Answer::Sum(total)))
+}
+
+// The sum, by the kernel where it serves the column.
+fn sum_of_rows<A: Allocator + Copy>(
+    column: &ArrayRef<A>,
+    ctx: &mut ExecutionCtx<A>,
+) -> VortexResult<SumAnswer>
+    ensures refused { IsRefusedBy (sum_fault (dtype_of column.now)) result }
+    ensures answer { IfOk result (IsSumAnswer (dtype_of column.now) (rows column.now)) }
+    ensures kernel { HasKernel ctx.old sum_kernel (column_of column.now) → result ≢ Err VortexError.OutOfMemory }
+    ensures session { ctx.new ≡ ctx.old }
+{
+    match runs_for(column, Kernel::Sum, ctx) {
+        Some(runs) => sum(runs, ctx),
+        None => sum_row_by_row(column, ctx),
+    }
+}
+
+// The sum, row by row.
+fn sum_row_by_row<A: Allocator + Copy>(
+    column: &ArrayRef<A>,
+    ctx: &mut ExecutionCtx<A>,
+) -> VortexResult<SumAnswer>
+    ensures refused { IsRefusedBy (sum_fault (dtype_of column.now)) result }
+    ensures answer { IfOk result (IsSumAnswer (dtype_of column.now) (rows column.now)) }
+    ensures session { ctx.new ≡ ctx.old }
+{
+    let DType::Primitive(_, _) = column.dtype() else {
+        return Err(VortexError::Unsupported);
+    };
+    let flat = flat_rows(column, ctx)?;
+    sum_flat(&flat)
+}

@@ -1,0 +1,85 @@
+-- Rows of the visible runs, and what is made of their values one by one.
+use Rattle.std.proofs.Common.{◌≡◌, ℕ, ◌+◌, ◌-◌, ◌<◌, zero, suc, List, [], ◌∷◌, Option, Some, None, length, map, refl, sym, ap, ◌∙◌, arith}
+use Rattle.std.specs.Prelude.{slice_range, option_map, IfOk, Result, Ok, Err}
+use Rattle.std.proofs.lemmas.List.{ext_get_or, length-map, get_or-map}
+use Rattle.std.proofs.lemmas.List.FromFn.{get_or-map-range_with_len}
+use Rattle.column_core.specs.Value.{FlatValue, Single, Value}
+use Rattle.column_ops.specs.Fill.{fill_rows}
+use Rattle.runend_codec.specs.Visible.{visible}
+use Rattle.runend_codec.specs.Window.{run_at, run_rows, IsWindow}
+use Rattle.runend_codec.proofs.RunAt.{run_of_row_within}
+use Rattle.runend_codec.proofs.RunRows.{length-run_rows}
+use Rattle.runend_codec.proofs.SlicedRuns.{slice_range-none, IsWindow-of_none}
+use Rattle.runend_codec.proofs.VisibleRuns.{visible_is}
+use Rattle.runend_codec.proofs.VisibleLaws.{length-visible_ends, rows_of_visible, window_of_visible}
+use Rattle.runend_array.specs.Column.{AreRuns, Runs, column_of_runs, column_rows}
+use Rattle.runend_map.specs.VisibleForm.{visible_ends, visible_values, window_start}
+
+-- no rows have no visible items
+pub visible-none : {B : Type 0} (ends : List ℕ) (offset count : ℕ) (items : List B) → count ≡ 0 → slice_range items 0 0 ≡ visible ends offset count items
+visible-none ends offset zero items none = slice_range-none items 0 0 refl
+visible-none ends offset (suc n) items none = absurd (omega arith)
+
+-- the items between the run of the first row and that of the last
+pub visible-between : {B : Type 0} (ends : List ℕ) (offset count : ℕ) (items : List B) (start stop : ℕ) → 0 < count
+    → start ≡ run_at ends (offset + 0) → stop ≡ run_at ends (offset + count - 1) + 1 → slice_range items start stop ≡ visible ends offset count items
+visible-between ends offset count items start stop some first last =
+    let place : offset + 0 ≡ offset = omega arith in
+    let from : start ≡ run_at ends offset = first ∙ ap (run_at ends) place in
+    ap (λ (k : ℕ). slice_range items k stop) from ∙ ap (λ (k : ℕ). slice_range items (run_at ends offset) k) last ∙ sym (visible_is ends offset count items some)
+
+-- the visible runs are a window over as many rows
+window_at : (ends : List ℕ) (offset count : ℕ) → IsWindow ends offset count → IsWindow (visible ends offset count ends) (window_start count offset) count
+window_at ends offset zero window = IsWindow-of_none
+window_at ends offset (suc n) window = window_of_visible ends offset (suc n) window (omega arith)
+
+pub visible_window : (r : Runs) → AreRuns r → IsWindow (visible_ends r) (window_start r.count r.offset) r.count
+visible_window r runs = window_at r.ends r.offset r.count runs.window
+
+-- with a value for each
+pub visible_paired : (r : Runs) → AreRuns r → length (visible_values r) ≡ length (visible_ends r)
+visible_paired r runs = length-visible_ends r.ends (column_rows r.values) r.offset r.count runs.window runs.paired
+
+-- and they show the same rows
+rows_at : {B : Type 0} (ends : List ℕ) (values : List (Option B)) (offset count : ℕ) → IsWindow ends offset count → length values ≡ length ends
+    → run_rows (visible ends offset count ends) (visible ends offset count values) (window_start count offset) count ≡ run_rows ends values offset count
+rows_at ends values offset zero window paired = refl
+rows_at ends values offset (suc n) window paired = rows_of_visible ends values offset (suc n) window paired (omega arith)
+
+pub visible_rows : (r : Runs) → AreRuns r → run_rows (visible_ends r) (visible_values r) (window_start r.count r.offset) r.count ≡ column_rows (column_of_runs r)
+visible_rows r runs = rows_at r.ends (column_rows r.values) r.offset r.count runs.window runs.paired
+
+-- what is made of each value shows what is made of each row
+pub run_rows-map : {B C : Type 0} (f : Option B → Option C) (ends : List ℕ) (values : List (Option B)) (offset count : ℕ) → IsWindow ends offset count → length values ≡ length ends
+    → run_rows ends (map f values) offset count ≡ map f (run_rows ends values offset count)
+run_rows-map f ends values offset count window paired =
+    ext_get_or None _ _ (length-run_rows ends (map f values) offset count ∙ sym (length-map (run_rows ends values offset count) f ∙ length-run_rows ends values offset count)) (λ i h.
+    let lt : i < count = rw length-run_rows at h in
+    let inside = run_of_row_within ends offset count i window lt in
+    let long = length-run_rows ends values offset count in
+    get_or-map-range_with_len _ offset count i (offset + i) None lt refl
+    ∙ get_or-map f values (run_at ends (offset + i)) None None (omega arith)
+    ∙ ap f (sym (get_or-map-range_with_len _ offset count i (offset + i) None lt refl))
+    ∙ sym (get_or-map f (run_rows ends values offset count) i None None (omega arith)))
+
+pub mapped_rows : (f : Option Value → Option Value) (r : Runs) (values : List (Option Value)) → AreRuns r → values ≡ map f (visible_values r)
+    → run_rows (visible_ends r) values (window_start r.count r.offset) r.count ≡ map f (column_rows (column_of_runs r))
+mapped_rows f r values runs same =
+    ap (λ (xs : List (Option Value)). run_rows (visible_ends r) xs (window_start r.count r.offset) r.count) same
+    ∙ run_rows-map f (visible_ends r) (visible_values r) (window_start r.count r.offset) r.count (visible_window r runs) (visible_paired r runs)
+    ∙ ap (map f) (visible_rows r runs)
+
+-- a filled value is a filled row
+pub single-filled : (rows : List (Option FlatValue)) (value : FlatValue) → map (option_map (λ (v : FlatValue). Single v)) (fill_rows rows value) ≡ fill_rows (map (option_map (λ (v : FlatValue). Single v)) rows) (Single value)
+single-filled [] value = refl
+single-filled (None ∷ rows) value = ap (λ (xs : List (Option Value)). Some (Single value) ∷ xs) (single-filled rows value)
+single-filled (Some x ∷ rows) value = ap (λ (xs : List (Option Value)). Some (Single x) ∷ xs) (single-filled rows value)
+
+-- what follows for a value that is answered
+pub if_ok : {T E : Type 0} {P Q : T → Type 0} (result : Result T E) → ((value : T) → P value → Q value) → IfOk result P → IfOk result Q
+if_ok (Ok value) f answered = f value answered
+if_ok (Err error) f answered = answered
+
+pub if_ok_both : {T E : Type 0} {P Q R : T → Type 0} (result : Result T E) → ((value : T) → P value → Q value → R value) → IfOk result P → IfOk result Q → IfOk result R
+if_ok_both (Ok value) f one other = f value one other
+if_ok_both (Err error) f one other = one

@@ -1,0 +1,21 @@
+use Rattle.std.proofs.Common.{◌∙◌, map, ap}
+use Rattle.column_base.proofs.ValidityRows.{nullable-of_bits}
+use Rattle.column_base.specs.Numbers.{numbers}
+use Rattle.column_base.specs.Validity.{form_of}
+use Rattle.column_base.specs.declared.dtype.DType.TheVariants as column
+use Rattle.column_core.specs.Leaf.{OfNumbers, single_rows}
+use Rattle.column_core.specs.PrimitiveForm.{PrimitiveForm, primitive_dtype}
+use Rattle.column_core.specs.Value.{Number}
+use Rattle.runend_map.proofs.OwedRows.{written_rows}
+use Rattle.runend_map.proofs.answers.column_of_numbers.Goals as goal
+
+pub returns-clause-rows : goal.returns-clause-rows
+returns-clause-rows g c =
+    ap (λ (f : PrimitiveForm). single_rows (OfNumbers f)) c.new_unchecked.ensures
+    ∙ written_rows (λ n. Number n) g.T.NativePType.number c.default.result c.args.rows.now (numbers c.wrap.result) (form_of c.from_bits-validity.result) c.freeze.result
+    (c.wrap.ensures.shows ∙ ap (map g.T.NativePType.number) c.in_ok-items.ensures.items) c.from_bits-validity.ensures.flags (c.freeze.ensures ∙ c.in_ok-flags.ensures.flags)
+
+pub returns-clause-dtype : goal.returns-clause-dtype
+returns-clause-dtype g c =
+    let nullable = nullable-of_bits (form_of c.from_bits-validity.result) c.freeze.result c.from_bits-validity.ensures.flags c.from_bits-validity.ensures.all_valid in
+    ap primitive_dtype c.new_unchecked.ensures ∙ (λ i. column.Primitive (c.wrap.ensures.typed i) (nullable i))

@@ -1,0 +1,42 @@
+use Rattle.std.proofs.Common.{◌∙◌, Option, sym, ap, subst, length}
+use Rattle.column_base.specs.declared.error.VortexError.{VortexError}
+use Rattle.column_core.specs.FlatColumn.{leaf_of}
+use Rattle.column_core.specs.Leaf.{leaf_rows}
+use Rattle.column_core.specs.PrimitiveForm.{optional_numbers}
+use Rattle.column_core.specs.Refusal.{IsErrorFor}
+use Rattle.column_ops.specs.Cast.{is_numbers}
+use Rattle.column_ops.proofs.IndexPositions.{refused-passed_on}
+use Rattle.runend_array.specs.Array.{rows}
+use Rattle.runend_array.specs.Column.{column_of_runs, plain_of}
+use Rattle.column_ops.specs.Codes.{code_fault}
+use Rattle.runend_map.proofs.CodeRows.{same_fault, taken_count, taken_over}
+use Rattle.runend_map.proofs.KeptRows.{if_ok}
+use Rattle.runend_map.proofs.OneKind.{no_fault}
+use Rattle.runend_map.proofs.codes.take_from_flat.Goals as goal
+
+pub returns-in_err-taken-clause-refused : goal.returns-in_err-taken-clause-refused
+returns-in_err-taken-clause-refused g c =
+    let numbers = sym (c.is_number_type.ensures ∙ ap is_numbers c.dtype.ensures) ∙ c.if-not-is_number_type.false in
+    let count = length (leaf_rows (leaf_of c.args.dictionary.now)) in
+    let same = same_fault c.args.codes.now (optional_numbers c.in_ok-indices.indices) c.in_ok-indices.ensures.valid c.in_ok-indices.ensures.codes count numbers in
+    refused-passed_on (code_fault (plain_of (column_of_runs c.args.codes.now)) count) c.in_err-taken.field-0.0 c.from_residual-in_err-taken.result c.from_residual-in_err-taken.ensures.1
+    (subst (λ (o : Option VortexError). IsErrorFor o c.in_err-taken.field-0.0) same c.in_err-taken.ensures.refused)
+
+pub placed-requires : goal.placed-requires
+placed-requires g c = record {
+  paired = taken_count c.args.codes.now (optional_numbers c.in_ok-indices.indices) c.in_ok-indices.ensures.valid c.in_ok-indices.ensures.codes (leaf_rows (leaf_of c.args.dictionary.now))
+      (leaf_of c.in_ok-taken.taken) c.in_ok-taken.ensures.made.rows;
+}
+
+pub returns-clause-refused : goal.returns-clause-refused
+returns-clause-refused g c =
+    let numbers = sym (c.is_number_type.ensures ∙ ap is_numbers c.dtype.ensures) ∙ c.if-not-is_number_type.false in
+    let count = length (leaf_rows (leaf_of c.args.dictionary.now)) in
+    let same = same_fault c.args.codes.now (optional_numbers c.in_ok-indices.indices) c.in_ok-indices.ensures.valid c.in_ok-indices.ensures.codes count numbers in
+    no_fault (code_fault (plain_of (column_of_runs c.args.codes.now)) count) c.placed.result (sym same ∙ c.in_ok-taken.ensures.refused) c.placed.ensures.only
+
+pub returns-clause-rows : goal.returns-clause-rows
+returns-clause-rows g c =
+    if_ok c.placed.result (λ taken rows_are.
+    taken_over c.args.codes.now (optional_numbers c.in_ok-indices.indices) c.in_ok-indices.ensures.valid c.in_ok-indices.ensures.codes (leaf_of c.args.dictionary.now) (leaf_of c.in_ok-taken.taken)
+    (rows taken) c.in_ok-taken.ensures.made.rows rows_are) c.placed.ensures.rows

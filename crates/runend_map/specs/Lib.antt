@@ -1,0 +1,5 @@
+pub mod Asked
+pub mod Codes
+pub mod ComparisonForm
+pub mod Owed
+pub mod VisibleForm

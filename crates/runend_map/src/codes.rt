@@ -1,0 +1,109 @@
+//! Run columns of codes, and what their dictionaries have for them.
+ghost use Rattle.std.specs.Prelude.{◌≡◌, true, length, map, IfOk, IsOkUnless};
+ghost use Rattle.column_core.specs.FlatColumn.{leaf_of};
+ghost use Rattle.column_core.specs.Leaf.{leaf_dtype, leaf_rows, single_rows};
+ghost use Rattle.column_core.specs.PrimitiveForm.{optional_numbers, primitive_dtype};
+ghost use Rattle.column_core.specs.Refusal.{IsRefusedBy};
+ghost use Rattle.column_ops.specs.Cast.{is_numbers};
+ghost use Rattle.column_ops.specs.Codes.{code_fault, code_number, code_rows};
+ghost use Rattle.column_ops.specs.Nullable.{take_dtype};
+ghost use Rattle.runend_codec.specs.Window.{run_rows};
+ghost use Rattle.runend_array.specs.Array.{column_of, dtype_of, rows};
+ghost use Rattle.runend_array.specs.Column.{AreRuns, column_dtype, column_of_runs, column_rows, plain_of};
+ghost use Rattle.runend_map.specs.Codes.{keeps_runs};
+ghost use Rattle.runend_map.specs.Owed.{IsMappedRuns};
+ghost use Rattle.runend_map.specs.VisibleForm.{visible_ends, visible_values as values_of_visible, window_start};
+
+use crate::visible::{over_visible_runs, shown_rows, visible_values};
+use column_core::{DType, FlatColumn, PrimitiveArray, VortexError, VortexResult};
+use column_ops::ColumnOps;
+use runend_array::{ArrayRef, ExecutionCtx, RunEndArray, RunEndArrayExt, array_of};
+use std::alloc::Allocator;
+
+/// Is it a type of whole numbers?
+pub(crate) fn is_number_type(dtype: DType) -> bool
+    ensures { result ≡ is_numbers dtype }
+{
+    match dtype {
+        DType::Primitive(_, _) => true,
+        _ => false,
+    }
+}
+
+// Is it a type over whose values runs of codes are kept?
+fn is_kept_type(dtype: DType) -> bool
+    ensures { result ≡ keeps_runs dtype }
+{
+    match dtype {
+        DType::Bool(_) => true,
+        DType::Primitive(_, _) => true,
+        _ => false,
+    }
+}
+
+// The codes of the visible runs. Refused as `OutOfMemory` alone.
+fn visible_codes<A: Allocator + Copy>(
+    codes: &RunEndArray<A>,
+    alloc: A,
+) -> VortexResult<PrimitiveArray<A>>
+    requires numbers { is_numbers (column_dtype codes.now.values) ≡ true }
+    ensures only { IsOkUnless result VortexError.OutOfMemory }
+    ensures codes { IfOk result (λ indices. map code_number (values_of_visible codes.now) ≡ optional_numbers indices) }
+    ensures dtype { IfOk result (λ indices. primitive_dtype indices ≡ column_dtype codes.now.values) }
+    ensures valid { AreRuns codes.now }
+{
+    let values = visible_values(codes, alloc)?;
+    match values {
+        FlatColumn::Primitive(indices) => Ok(indices),
+        _ => unreachable!(),
+    }
+}
+
+// What the dictionary has for the visible runs, put over these runs, or in each row.
+fn placed<A: Allocator + Copy>(
+    codes: &RunEndArray<A>,
+    taken: FlatColumn<A>,
+    kept: bool,
+    alloc: A,
+) -> VortexResult<ArrayRef<A>>
+    requires paired { length (leaf_rows (leaf_of taken)) ≡ length (values_of_visible codes.now) }
+    ensures only { IsOkUnless result VortexError.OutOfMemory }
+    ensures rows { IfOk result (λ part. rows part ≡ run_rows (visible_ends codes.now) (single_rows (leaf_of taken)) (window_start codes.now.count codes.now.offset) codes.now.count) }
+    ensures dtype { IfOk result (λ part. dtype_of part ≡ leaf_dtype (leaf_of taken)) }
+    ensures form { IfOk result (λ part. IsMappedRuns kept codes.now (column_of part)) }
+{
+    if kept {
+        let part = over_visible_runs(codes, taken, alloc)?;
+        Ok(part)
+    } else {
+        let flat = shown_rows(codes, taken, alloc)?;
+        Ok(array_of(flat))
+    }
+}
+
+/// The dictionary's row for each code, null for null, in a type with null where the dictionary's or the codes'
+/// has: of a dictionary of whole numbers or truth values a run column of the visible runs, with flat values,
+/// else a flat column. Only codes of visible runs are looked at.
+///
+/// Refused as `TypeMismatch` unless the codes are whole numbers; then as `OutOfBounds`, with the code and the
+/// number of rows of the dictionary, at the first code that is no null and is negative or not below that
+/// number; else as `OutOfMemory` alone.
+pub(crate) fn take_from_flat<A: Allocator + Copy>(
+    codes: &RunEndArray<A>,
+    dictionary: &FlatColumn<A>,
+    ctx: &mut ExecutionCtx<A>,
+) -> VortexResult<ArrayRef<A>>
+    ensures refused { IsRefusedBy (code_fault (plain_of (column_of_runs codes.now)) (length (leaf_rows (leaf_of dictionary.now)))) result }
+    ensures rows { IfOk result (λ taken. rows taken ≡ code_rows (single_rows (leaf_of dictionary.now)) (column_rows (column_of_runs codes.now))) }
+    ensures dtype { IfOk result (λ taken. dtype_of taken ≡ take_dtype (leaf_dtype (leaf_of dictionary.now)) (column_dtype codes.now.values)) }
+    ensures form { IfOk result (λ taken. IsMappedRuns (keeps_runs (leaf_dtype (leaf_of dictionary.now))) codes.now (column_of taken)) }
+    ensures session { ctx.new ≡ ctx.old }
+{
+    if !is_number_type(codes.dtype()) {
+        return Err(VortexError::TypeMismatch);
+    }
+    let alloc = *ctx.allocator();
+    let indices = visible_codes(codes, alloc)?;
+    let taken = dictionary.take(alloc, &indices)?;
+    placed(codes, taken, is_kept_type(dictionary.dtype()), alloc)
+}

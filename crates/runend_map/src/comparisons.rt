@@ -1,0 +1,158 @@
+//! Run columns compared: with a constant by visible runs, with other columns row by row.
+ghost use Rattle.std.specs.Prelude.{◌≡◌, ◌≢◌, ◌<◌, ◌↔◌, Err, None, length, option_map, IfOk, IsOkUnless, IsTrue};
+ghost use Rattle.column_base.specs.declared.dtype.DType.TheVariants as column;
+ghost use Rattle.column_base.specs.declared.dtype.Nullability.TheVariants.{Nullable};
+ghost use Rattle.column_base.specs.Types.{nullability_of};
+ghost use Rattle.column_core.specs.Refusal.{IsRefusedBy};
+ghost use Rattle.column_core.specs.Value.{IsLists, MayBeNull, Single};
+ghost use Rattle.column_order.specs.CompareFault.{compare_column_fault, compare_scalar_fault, is_same_kind};
+ghost use Rattle.column_order.specs.Comparing.{compare_dtype, compare_rows, compare_with};
+ghost use Rattle.runend_array.specs.Array.{column_of, dtype_of, rows};
+ghost use Rattle.runend_array.specs.Column.{IsFlat, OfConstant, column_dtype, column_of_runs, column_rows};
+ghost use Rattle.runend_array.specs.Encoding.{IsDecodedForm};
+ghost use Rattle.runend_map.specs.ComparisonForm.{IsComparisonForm, IsNullConstant};
+
+use crate::decoded::flat_rows;
+use crate::visible::{is_lists, shown_rows, shown_truths, visible_values};
+use column_core::{DType, Nullability, Scalar, ScalarView, VortexError, VortexResult};
+use column_order::{CompareOperator, FlatOrder};
+use runend_array::{ArrayRef, ConstantArray, ExecutionCtx, RunEndArray, RunEndArrayExt};
+use std::alloc::Allocator;
+
+// Are the two types equal but for nullability?
+fn same_kind(left: DType, right: DType) -> bool
+    ensures { result ≡ is_same_kind left right }
+{
+    left.with_nullability(Nullability::Nullable) == right.with_nullability(Nullability::Nullable)
+}
+
+// Why rows of two types are not compared.
+fn kind_fault(left: DType, right: DType) -> Option<VortexError>
+    ensures { result ≡ compare_scalar_fault left right }
+{
+    if is_lists(left) {
+        return Some(VortexError::Unsupported);
+    }
+    if same_kind(left, right) {
+        None
+    } else {
+        Some(VortexError::TypeMismatch)
+    }
+}
+
+// Why a column is not compared with another one.
+fn column_fault<A: Allocator + Copy>(
+    array: &RunEndArray<A>,
+    right: &ArrayRef<A>,
+) -> Option<VortexError>
+    ensures { result ≡ compare_column_fault (column_dtype array.now.values) (dtype_of right.now) array.now.count (length (rows right.now)) }
+{
+    if let Some(error) = kind_fault(array.dtype(), right.dtype()) {
+        return Some(error);
+    }
+    let (left, right) = (array.len(), right.len());
+    if left == right {
+        None
+    } else {
+        Some(VortexError::ColumnLength { left, right })
+    }
+}
+
+// Is it null?
+fn is_null<A: Allocator>(scalar: &Scalar<A>) -> bool
+    ensures null { IsTrue result ↔ (scalar.now.value ≡ None) }
+    ensures typed { IsTrue result → MayBeNull (nullability_of scalar.now.dtype) }
+{
+    match scalar.view() {
+        ScalarView::Null => true,
+        _ => false,
+    }
+}
+
+// Null in each of `count` rows of truth values. Takes no memory.
+fn null_truths<A: Allocator + Copy>(count: usize) -> ArrayRef<A>
+    ensures { column_of result ≡ OfConstant (record { dtype = column.Bool Nullable; value = None; count = count }) }
+{
+    let null = Scalar::try_new(DType::Bool(Nullability::Nullable), None).unwrap();
+    ArrayRef::Constant(ConstantArray::new(null, count))
+}
+
+// Each row compared with a scalar of its kind.
+fn compare_to_scalar<A: Allocator + Copy>(
+    array: &RunEndArray<A>,
+    operator: CompareOperator,
+    right: &Scalar<A>,
+    ctx: &mut ExecutionCtx<A>,
+) -> VortexResult<ArrayRef<A>>
+    requires kind { compare_scalar_fault (column_dtype array.now.values) right.now.dtype ≡ None }
+    ensures only { IsOkUnless result VortexError.OutOfMemory }
+    ensures null { right.now.value ≡ None → 0 < array.now.count → result ≢ Err VortexError.OutOfMemory }
+    ensures rows { IfOk result (λ truths. rows truths ≡ compare_with operator (column_rows (column_of_runs array.now)) (option_map Single right.now.value)) }
+    ensures dtype { IfOk result (λ truths. dtype_of truths ≡ compare_dtype (column_dtype array.now.values) right.now.dtype) }
+    ensures form { IfOk result (λ truths. IsDecodedForm (rows truths) (column_of truths)) }
+    ensures session { ctx.new ≡ ctx.old }
+{
+    // Null in each row, whatever the values are.
+    if is_null(right) && !array.is_empty() {
+        return Ok(null_truths(array.len()));
+    }
+    let alloc = *ctx.allocator();
+    let values = visible_values(array, alloc)?;
+    let truths = values.compare_scalar(alloc, operator, right)?;
+    shown_truths(array, truths, ctx)
+}
+
+// Each row compared with the one beside it. The answer has a truth value for each row, so that to write
+// both columns row by row costs no more than to walk runs beside rows.
+fn compare_beside<A: Allocator + Copy>(
+    array: &RunEndArray<A>,
+    operator: CompareOperator,
+    right: &ArrayRef<A>,
+    ctx: &mut ExecutionCtx<A>,
+) -> VortexResult<ArrayRef<A>>
+    requires kind { compare_column_fault (column_dtype array.now.values) (dtype_of right.now) array.now.count (length (rows right.now)) ≡ None }
+    ensures only { IsOkUnless result VortexError.OutOfMemory }
+    ensures rows { IfOk result (λ truths. rows truths ≡ compare_rows operator (column_rows (column_of_runs array.now)) (rows right.now)) }
+    ensures dtype { IfOk result (λ truths. dtype_of truths ≡ compare_dtype (column_dtype array.now.values) (dtype_of right.now)) }
+    ensures form { IfOk result (λ truths. IsFlat (column_of truths)) }
+    ensures session { ctx.new ≡ ctx.old }
+{
+    let alloc = *ctx.allocator();
+    let values = visible_values(array, alloc)?;
+    let left = shown_rows(array, values, alloc)?;
+    let right = flat_rows(right, alloc)?;
+    let truths = left.compare_column(alloc, operator, &right)?;
+    Ok(ArrayRef::Bool(truths))
+}
+
+/// Does the operator hold of each row and the row of `right` beside it? Null where either row is null. The
+/// answer has null where either type has. A right side that is a constant is compared with each visible run
+/// once, and the answer is a constant null where there is a row and all answers are null; else, and with
+/// every other right side, it is flat. With a constant null no value is looked at, and no memory is taken
+/// where there is a row.
+///
+/// Refused as `Unsupported` for lists; then as `TypeMismatch` where the two types differ in more than
+/// nullability; then as `ColumnLength`, with the number of rows of this column and of the right one, where
+/// these differ; else as `OutOfMemory` alone.
+pub fn compare<A: Allocator + Copy>(
+    array: &RunEndArray<A>,
+    operator: CompareOperator,
+    right: &ArrayRef<A>,
+    ctx: &mut ExecutionCtx<A>,
+) -> VortexResult<ArrayRef<A>>
+    ensures refused { IsRefusedBy (compare_column_fault (column_dtype array.now.values) (dtype_of right.now)
+        (length (column_rows (column_of_runs array.now))) (length (rows right.now))) result }
+    ensures null { IsNullConstant (column_of right.now) → result ≢ Err VortexError.OutOfMemory }
+    ensures rows { IfOk result (λ truths. rows truths ≡ compare_rows operator (column_rows (column_of_runs array.now)) (rows right.now)) }
+    ensures dtype { IfOk result (λ truths. dtype_of truths ≡ compare_dtype (column_dtype array.now.values) (dtype_of right.now)) }
+    ensures form { IfOk result (λ truths. IsComparisonForm (column_of right.now) (column_of truths)) }
+    ensures session { ctx.new ≡ ctx.old }
+{
+    if let Some(error) = column_fault(array, right) {
+        return Err(error);
+    }
+    match right {
+        ArrayRef::Constant(constant) => compare_to_scalar(array, operator, constant.scalar(), ctx),
+        _ => compare_beside(array, operator, right, ctx),
+    }
+}

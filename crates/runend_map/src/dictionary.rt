@@ -1,0 +1,125 @@
+//! Rows of dictionaries of any form, taken by codes.
+ghost use Rattle.std.specs.Prelude.{◌≡◌, true, length, IfOk, IsOkUnless};
+ghost use Rattle.column_core.specs.FlatColumn.{leaf_of};
+ghost use Rattle.column_core.specs.Leaf.{leaf_dtype, single_rows};
+ghost use Rattle.column_core.specs.PrimitiveForm.{optional_numbers, primitive_dtype};
+ghost use Rattle.column_core.specs.Refusal.{IsRefusedBy};
+ghost use Rattle.column_ops.specs.Cast.{is_numbers};
+ghost use Rattle.column_ops.specs.Codes.{code_fault, code_numbers, code_rows};
+ghost use Rattle.column_ops.specs.Nullable.{take_dtype};
+ghost use Rattle.runend_array.specs.Array.{column_of, dtype_of, rows};
+ghost use Rattle.runend_array.specs.Column.{IsFlat, column_dtype, column_of_runs, column_rows, plain_of};
+ghost use Rattle.runend_map.specs.Codes.{keeps_runs};
+ghost use Rattle.runend_map.specs.Owed.{IsMappedRuns};
+
+use crate::codes::{is_number_type, take_from_flat};
+use crate::decoded::flat_rows;
+use crate::visible::{is_lists, shown_rows, visible_values};
+use column_core::{FlatColumn, PrimitiveArray, VortexError, VortexResult};
+use runend_array::{ArrayRef, ExecutionCtx, RunEndArray, RunEndArrayExt};
+use runend_select::take_rows;
+use std::alloc::Allocator;
+
+// The codes of a flat column of whole numbers.
+fn numbers_of<A: Allocator>(flat: FlatColumn<A>) -> PrimitiveArray<A>
+    requires numbers { is_numbers (leaf_dtype (leaf_of flat)) ≡ true }
+    ensures codes { code_numbers (single_rows (leaf_of flat)) ≡ optional_numbers result }
+    ensures dtype { primitive_dtype result ≡ leaf_dtype (leaf_of flat) }
+{
+    match flat {
+        FlatColumn::Primitive(numbers) => numbers,
+        _ => unreachable!(),
+    }
+}
+
+// The codes of all rows, of which only those of visible runs are looked at. Refused as `OutOfMemory` alone.
+fn codes_of_runs<A: Allocator + Copy>(
+    codes: &RunEndArray<A>,
+    alloc: A,
+) -> VortexResult<PrimitiveArray<A>>
+    requires numbers { is_numbers (column_dtype codes.now.values) ≡ true }
+    ensures only { IsOkUnless result VortexError.OutOfMemory }
+    ensures codes { IfOk result (λ indices. code_numbers (column_rows (column_of_runs codes.now)) ≡ optional_numbers indices) }
+    ensures dtype { IfOk result (λ indices. primitive_dtype indices ≡ column_dtype codes.now.values) }
+{
+    let values = visible_values(codes, alloc)?;
+    let shown = shown_rows(codes, values, alloc)?;
+    Ok(numbers_of(shown))
+}
+
+// The dictionary's row for each code, null for null, flat.
+fn take_each<A: Allocator + Copy>(
+    codes: &RunEndArray<A>,
+    dictionary: &ArrayRef<A>,
+    ctx: &mut ExecutionCtx<A>,
+) -> VortexResult<ArrayRef<A>>
+    requires numbers { is_numbers (column_dtype codes.now.values) ≡ true }
+    ensures refused { IsRefusedBy (code_fault (plain_of (column_of_runs codes.now)) (length (rows dictionary.now))) result }
+    ensures rows { IfOk result (λ taken. rows taken ≡ code_rows (rows dictionary.now) (column_rows (column_of_runs codes.now))) }
+    ensures dtype { IfOk result (λ taken. dtype_of taken ≡ take_dtype (dtype_of dictionary.now) (column_dtype codes.now.values)) }
+    ensures flat { IfOk result (λ taken. IsFlat (column_of taken)) }
+    ensures session { ctx.new ≡ ctx.old }
+{
+    let alloc = *ctx.allocator();
+    let indices = codes_of_runs(codes, alloc)?;
+    let taken = take_rows(dictionary, &indices, ctx)?;
+    Ok(taken)
+}
+
+/// The dictionary's row for each code, null for null, in a type with null where the dictionary's or the codes'
+/// has: of a dictionary of whole numbers or truth values a run column of the visible runs, with flat values,
+/// else a flat column. The dictionary may be of any form and of any kind, and of the codes only those of
+/// visible runs are looked at.
+///
+/// Refused as `TypeMismatch` unless the codes are whole numbers, and that before any memory is taken; then as
+/// `OutOfBounds`, with the code and the number of rows of the dictionary, at the first code that is no null
+/// and is negative or not below that number; else as `OutOfMemory` alone.
+pub fn take_from<A: Allocator + Copy>(
+    codes: &RunEndArray<A>,
+    dictionary: &ArrayRef<A>,
+    ctx: &mut ExecutionCtx<A>,
+) -> VortexResult<ArrayRef<A>>
+    ensures refused { IsRefusedBy (code_fault (plain_of (column_of_runs codes.now)) (length (rows dictionary.now))) result }
+    ensures rows { IfOk result (λ taken. rows taken ≡ code_rows (rows dictionary.now) (column_rows (column_of_runs codes.now))) }
+    ensures dtype { IfOk result (λ taken. dtype_of taken ≡ take_dtype (dtype_of dictionary.now) (column_dtype codes.now.values)) }
+    ensures form { IfOk result (λ taken. IsMappedRuns (keeps_runs (dtype_of dictionary.now)) codes.now (column_of taken)) }
+    ensures session { ctx.new ≡ ctx.old }
+{
+    if !is_number_type(codes.dtype()) {
+        return Err(VortexError::TypeMismatch);
+    }
+    if is_lists(dictionary.dtype()) {
+        return take_each(codes, dictionary, ctx);
+    }
+    let alloc = *ctx.allocator();
+    let flat = flat_rows(dictionary, alloc)?;
+    let taken = take_from_flat(codes, &flat, ctx)?;
+    Ok(taken)
+}
+
+/// The dictionary's row for each code, null for null, flat, in a type with null where the dictionary's or the
+/// codes' has. Both may be of any form, and the dictionary of any kind.
+///
+/// Refused as `TypeMismatch` unless the codes are whole numbers, and that before any memory is taken; then as
+/// `OutOfBounds`, with the code and the number of rows of the dictionary, at the first code that is no null
+/// and is negative or not below that number; else as `OutOfMemory` alone.
+pub fn take_from_rows<A: Allocator + Copy>(
+    codes: &ArrayRef<A>,
+    dictionary: &ArrayRef<A>,
+    ctx: &mut ExecutionCtx<A>,
+) -> VortexResult<ArrayRef<A>>
+    ensures refused { IsRefusedBy (code_fault (plain_of (column_of codes.now)) (length (rows dictionary.now))) result }
+    ensures rows { IfOk result (λ taken. rows taken ≡ code_rows (rows dictionary.now) (rows codes.now)) }
+    ensures dtype { IfOk result (λ taken. dtype_of taken ≡ take_dtype (dtype_of dictionary.now) (dtype_of codes.now)) }
+    ensures flat { IfOk result (λ taken. IsFlat (column_of taken)) }
+    ensures session { ctx.new ≡ ctx.old }
+{
+    if !is_number_type(codes.dtype()) {
+        return Err(VortexError::TypeMismatch);
+    }
+    let alloc = *ctx.allocator();
+    let flat = flat_rows(codes, alloc)?;
+    let indices = numbers_of(flat);
+    let taken = take_rows(dictionary, &indices, ctx)?;
+    Ok(taken)
+}

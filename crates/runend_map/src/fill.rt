@@ -1,0 +1,39 @@
+//! Nulls of run columns, filled.
+ghost use Rattle.std.specs.Prelude.{◌≡◌, IfOk, IfSome};
+ghost use Rattle.column_core.specs.Refusal.{IsRefusedBy};
+ghost use Rattle.column_core.specs.Value.{Single};
+ghost use Rattle.column_ops.specs.Fill.{fill_dtype, fill_fault, fill_rows};
+ghost use Rattle.runend_array.specs.Array.{column_of, dtype_of, rows};
+ghost use Rattle.runend_array.specs.Column.{column_dtype, column_of_runs, column_rows};
+ghost use Rattle.runend_map.specs.VisibleForm.{IsOverVisibleRuns};
+
+use crate::visible::{is_lists, over_visible_runs, visible_values};
+use column_core::{Scalar, VortexError, VortexResult};
+use column_ops::ColumnOps;
+use runend_array::{ArrayRef, ExecutionCtx, RunEndArray, RunEndArrayExt};
+use std::alloc::Allocator;
+
+/// The rows with the scalar's value in place of each null, of the column's kind and without null: a run
+/// column of the visible runs, with flat values. Work is by visible runs.
+///
+/// Refused as `Unsupported` for lists; then as `TypeMismatch` for a scalar of another kind; then as
+/// `NullFill` for null; else as `OutOfMemory` alone.
+pub fn fill_null<A: Allocator + Copy>(
+    array: &RunEndArray<A>,
+    value: &Scalar<A>,
+    ctx: &mut ExecutionCtx<A>,
+) -> VortexResult<ArrayRef<A>>
+    ensures refused { IsRefusedBy (fill_fault (column_dtype array.now.values) value.now) result }
+    ensures rows { IfOk result (λ filled. IfSome value.now.value (λ flat. rows filled ≡ fill_rows (column_rows (column_of_runs array.now)) (Single flat))) }
+    ensures dtype { IfOk result (λ filled. dtype_of filled ≡ fill_dtype (column_dtype array.now.values)) }
+    ensures form { IfOk result (λ filled. IsOverVisibleRuns array.now (column_of filled)) }
+    ensures session { ctx.new ≡ ctx.old }
+{
+    if is_lists(array.dtype()) {
+        return Err(VortexError::Unsupported);
+    }
+    let alloc = *ctx.allocator();
+    let values = visible_values(array, alloc)?;
+    let filled = values.fill_null(alloc, value)?;
+    over_visible_runs(array, filled, alloc)
+}

@@ -1,0 +1,23 @@
+//! Kernels that work on the values of the visible runs of a column and keep the runs: nulls filled,
+//! values cast and compared. Hidden runs decide nothing, and what a kernel answers over runs is what its
+//! definition answers over rows.
+#![tactic(auto)]
+
+mod answers;
+mod casts;
+mod codes;
+mod comparisons;
+mod decoded;
+mod dictionary;
+mod fill;
+mod rowwise;
+mod scalar_fn;
+mod visible;
+
+pub use casts::cast;
+pub use column_order::CompareOperator;
+pub use comparisons::compare;
+pub use dictionary::{take_from, take_from_rows};
+pub use fill::fill_null;
+pub use rowwise::{cast_rows, fill_rows};
+pub use scalar_fn::{map_rows, map_rows_bool};

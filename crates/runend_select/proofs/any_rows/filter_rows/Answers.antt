@@ -1,0 +1,14 @@
+use Rattle.std.proofs.Common.{◌∙◌, length, sym}
+use Rattle.column_base.specs.Mask.{mask_bits}
+use Rattle.runend_array.specs.Array.{rows}
+use Rattle.runend_select.proofs.FilterFaults.{fault_here, no_fault}
+use Rattle.runend_select.proofs.any_rows.filter_rows.Goals as goal
+
+pub returns-then-len-clause-refused : goal.returns-then-len-clause-refused
+returns-then-len-clause-refused g c =
+    fault_here (length (mask_bits c.args.mask.now)) (length (rows c.args.array.now)) c.len-then-len.result c.len-then-len-2.result
+    (λ same. c.if-len.true (c.len.ensures ∙ same ∙ sym c.len-2.ensures)) c.len-then-len.ensures c.len-then-len-2.ensures
+
+pub returns-clause-refused : goal.returns-clause-refused
+returns-clause-refused g c =
+    no_fault (length (mask_bits c.args.mask.now)) (length (rows c.args.array.now)) (sym c.len.ensures ∙ c.if-len.false ∙ c.len-2.ensures)

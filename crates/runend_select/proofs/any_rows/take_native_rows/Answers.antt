@@ -1,0 +1,38 @@
+use Rattle.std.proofs.Common.{◌∙◌, Option, ap, length, map, subst, sym}
+use Rattle.column_base.specs.declared.error.VortexError.{VortexError}
+use Rattle.column_base.specs.Validity.{form_of}
+use Rattle.column_core.specs.PrimitiveForm.{optional_numbers, primitive_with}
+use Rattle.column_core.specs.Refusal.{IsErrorFor}
+use Rattle.column_ops.specs.Take.{take_fault, take_rows}
+use Rattle.column_ops.proofs.IndexPositions.{refused-passed_on}
+use Rattle.runend_array.specs.Array.{rows}
+use Rattle.runend_select.proofs.CheckedIndices.{same-fault, same-indices}
+use Rattle.runend_select.proofs.RowPositions.{fits-positions, numbers-of_positions, within-positions}
+use Rattle.runend_select.proofs.any_rows.take_native_rows.Goals as goal
+
+pub returns-in_err-positions-clause-refused : goal.returns-in_err-positions-clause-refused
+returns-in_err-positions-clause-refused g c =
+    let error = c.in_err-positions.field-0.0 in
+    let same = same-fault g.T.NativePType.PTYPE g.T.NativePType.number c.args.indices.now (form_of c.args.validity.now) c.len.result (length (rows c.args.array.now)) c.len.ensures in
+    let fault = take_fault (optional_numbers (primitive_with g.T.NativePType.PTYPE (map g.T.NativePType.number c.args.indices.now) (form_of c.args.validity.now))) (length (rows c.args.array.now)) in
+    refused-passed_on fault error c.from_residual.result c.from_residual.ensures.1 (subst (λ (f : Option VortexError). IsErrorFor f error) same c.in_err-positions.ensures.refused)
+
+pub take_values-requires-clause-counted : goal.take_values-requires-clause-counted
+take_values-requires-clause-counted g c =
+    rw c.as_slice.ensures.value
+    (fits-positions g.T.NativePType.number c.args.indices.now (form_of c.args.validity.now) c.len.result c.in_ok-positions.positions.items c.requires.fits c.in_ok-positions.ensures.refused c.in_ok-positions.ensures.positions)
+
+pub take_values-requires-clause-within : goal.take_values-requires-clause-within
+take_values-requires-clause-within g c =
+    rw (c.as_slice.ensures.value, ← c.len.ensures)
+    (within-positions g.T.NativePType.number c.args.indices.now (form_of c.args.validity.now) c.len.result c.in_ok-positions.positions.items c.requires.fits c.in_ok-positions.ensures.refused c.in_ok-positions.ensures.positions)
+
+pub returns-clause-refused : goal.returns-clause-refused
+returns-clause-refused g c =
+    sym (same-fault g.T.NativePType.PTYPE g.T.NativePType.number c.args.indices.now (form_of c.args.validity.now) c.len.result (length (rows c.args.array.now)) c.len.ensures) ∙ c.in_ok-positions.ensures.refused
+
+pub returns-clause-rows : goal.returns-clause-rows
+returns-clause-rows g c =
+    let made = rw c.as_slice.ensures.value at c.in_ok-taken.ensures.made in
+    let numbers = numbers-of_positions g.T.NativePType.number c.args.indices.now (form_of c.args.validity.now) c.len.result c.in_ok-positions.positions.items c.requires.fits c.in_ok-positions.ensures.refused c.in_ok-positions.ensures.positions in
+    rw c.in_ok-taken-2.ensures.form (made.rows ∙ ap (take_rows (rows c.args.array.now)) (numbers ∙ same-indices g.T.NativePType.PTYPE g.T.NativePType.number c.args.indices.now (form_of c.args.validity.now)))

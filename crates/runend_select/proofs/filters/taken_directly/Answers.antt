@@ -1,0 +1,21 @@
+use Rattle.std.proofs.Common.{◌∙◌, sym}
+use Rattle.runend_array.specs.Column.{column_of_runs, column_rows, column_dtype}
+use Rattle.runend_codec.proofs.RunRows.{length-run_rows}
+use Rattle.runend_select.proofs.KeptColumn.{take_dtype-required}
+use Rattle.runend_select.proofs.SetPlaces.{bounds-places, take_rows-places}
+use Rattle.runend_select.proofs.filters.taken_directly.Goals as goal
+
+pub taken_rows-requires-clause-in_bounds : goal.taken_rows-requires-clause-in_bounds
+taken_rows-requires-clause-in_bounds g c =
+    bounds-places c.args.bits.now c.args.array.now.count c.as_slice.result.now c.requires.masked (c.as_slice.ensures.value ∙ c.in_ok-places.ensures.places)
+
+pub returns-clause-made : goal.returns-clause-made
+returns-clause-made g c =
+    let array = c.args.array.now in
+    let made = c.in_ok-taken.ensures.made in
+    let long = c.requires.masked ∙ sym (length-run_rows array.ends (column_rows array.values) array.offset array.count) in
+    record {
+      rows = made.rows ∙ take_rows-places c.args.bits.now (column_rows (column_of_runs array)) c.as_slice.result.now long (c.as_slice.ensures.value ∙ c.in_ok-places.ensures.places);
+      dtype = made.dtype ∙ take_dtype-required (column_dtype array.values);
+      form = made.form;
+    }

@@ -1,0 +1,23 @@
+use Rattle.std.proofs.Common.{◌∙◌, ap}
+use Rattle.column_base.specs.Mask.{mask_bits}
+use Rattle.runend_array.specs.Lists.{list_rows}
+use Rattle.runend_select.proofs.FilterFaults.{first-all_selected, first-none_selected}
+use Rattle.runend_select.proofs.list_values.select_lists.Goals as goal
+
+pub returns-in_ok-kept-in-AllTrue-clause-made : goal.returns-in_ok-kept-in-AllTrue-clause-made
+returns-in_ok-kept-in-AllTrue-clause-made g c =
+    let kept = c.in_ok-kept-in-AllTrue.ensures in
+    record {
+      rows = kept.rows ∙ first-all_selected (mask_bits c.args.mask.now) c.in-AllTrue.field-0 c.len.result (list_rows c.args.lists.now) (ap mask_bits c.in-AllTrue.is) c.requires.masked c.len.ensures.rows;
+      dtype = kept.dtype;
+      form = tt;
+    }
+
+pub returns-in_ok-kept-in-AllFalse-clause-made : goal.returns-in_ok-kept-in-AllFalse-clause-made
+returns-in_ok-kept-in-AllFalse-clause-made g c =
+    let kept = c.in_ok-kept-in-AllFalse.ensures in
+    record {
+      rows = kept.rows ∙ first-none_selected (mask_bits c.args.mask.now) c.in-AllFalse.field-0 (list_rows c.args.lists.now) (ap mask_bits c.in-AllFalse.is);
+      dtype = kept.dtype;
+      form = tt;
+    }

@@ -1,0 +1,24 @@
+use Rattle.std.proofs.Common.{ℕ, List, ap, ◌∙◌, sym, subst}
+use Rattle.column_base.specs.Mask.{mask_bits}
+use Rattle.column_core.specs.Counted.{Counted}
+use Rattle.runend_codec.specs.Window.{IsWindow}
+use Rattle.runend_positions.specs.Indices.{optional_indices, runs_of}
+use Rattle.runend_positions.specs.Pick.{run_of_null}
+use Rattle.runend_select.proofs.ComputedRows.{ok_then}
+use Rattle.runend_select.proofs.Fitting.{naturals-of}
+use Rattle.runend_select.proofs.taken_runs.runs_by.Goals as goal
+
+pub physical_indices-requires-clause-window : goal.physical_indices-requires-clause-window
+physical_indices-requires-clause-window g c =
+    let same = naturals-of g.E.NativePType.number g.E.UnsignedPType.natural g.met.E.UnsignedPType.natural_law c.args.ends.now in
+    let here = ap (λ (counted : Counted). counted.ends) c.new-counted.ensures in
+    subst (λ (ends : List ℕ). IsWindow ends c.args.offset c.args.count) (same ∙ sym here) c.requires.window
+
+pub returns-clause-runs : goal.returns-clause-runs
+returns-clause-runs g c =
+    let same = naturals-of g.E.NativePType.number g.E.UnsignedPType.natural g.met.E.UnsignedPType.natural_law c.args.ends.now in
+    let here = ap (λ (counted : Counted). counted.ends) c.new-counted.ensures in
+    let picked = c.physical_indices.ensures.picked in
+    let null = run_of_null picked.0 c.new-counted.result.ends c.args.offset in
+    let places = optional_indices g.T.NativePType.number c.args.indices.now (mask_bits c.args.mask.now) in
+    ok_then c.physical_indices.result _ _ (λ runs is. record { null = null; answer = is ∙ ap (λ (ends : List ℕ). runs_of ends c.args.offset null places) (here ∙ sym same) }) picked.2

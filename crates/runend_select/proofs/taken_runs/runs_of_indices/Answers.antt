@@ -1,0 +1,21 @@
+use Rattle.std.proofs.Common.{◌≡◌, ℕ, length, map, replicate, ap, ◌∙◌, sym, subst}
+use Rattle.std.proofs.lemmas.List.{length-map}
+use Rattle.column_base.specs.Validity.{form_of}
+use Rattle.column_base.specs.ValidityForm.{flags}
+use Rattle.column_base.proofs.ValidityRows.{length-flags}
+use Rattle.runend_positions.specs.Indices.{AreInBounds, optional_indices}
+use Rattle.runend_select.proofs.TakenRuns.{runs-of_no_rows}
+use Rattle.runend_select.proofs.taken_runs.runs_of_indices.Goals as goal
+
+pub returns-then-is_empty-clause-runs : goal.returns-then-is_empty-clause-runs
+returns-then-is_empty-clause-runs g c =
+    let number = g.T.NativePType.number in
+    let indices = c.args.indices.now in
+    let form = form_of c.args.validity.now in
+    let long = length-map indices number in
+    let none : c.args.array.now.count ≡ 0 = c.is_empty.ensures.0 c.if-is_empty.true in
+    let bounds = subst (λ (n : ℕ). AreInBounds (optional_indices number indices (flags form (length indices))) n) none c.requires.in_bounds in
+    record {
+      null = 0;
+      answer = c.in_ok-zeros.ensures.items ∙ ap (λ (n : ℕ). replicate n 0) (sym long) ∙ runs-of_no_rows c.args.array.now.ends c.args.array.now.offset (map number indices) (flags form (length indices)) (length-flags form (length indices) c.requires.fits ∙ sym long) bounds;
+    }

@@ -1,0 +1,32 @@
+use Rattle.std.proofs.Common.{refl, length}
+use Rattle.column_base.specs.Validity.{form_of}
+use Rattle.column_base.specs.ValidityForm.{flags}
+use Rattle.runend_array.specs.Canonical.{canonical_column}
+use Rattle.runend_array.specs.Column.{column_dtype, column_of_runs, column_rows}
+use Rattle.runend_codec.proofs.RunRows.{length-run_rows}
+use Rattle.runend_positions.specs.Indices.{optional_indices}
+use Rattle.runend_select.proofs.AllNull.{all_null, flat-taken, not_all_null, null_dtype, null_rows}
+use Rattle.runend_select.proofs.takes.take_indices_unchecked.Goals as goal
+
+pub returns-then-are_all_null-clause-rows : goal.returns-then-are_all_null-clause-rows
+returns-then-are_all_null-clause-rows g c =
+    rw c.null_rows-nulls.ensures (null_rows g.T.NativePType.number c.args.indices.now (form_of c.args.validity.now) c.requires.fits (column_rows (column_of_runs c.args.array.now)) (c.are_all_null.ensures.0 c.if-are_all_null.true))
+
+pub returns-then-are_all_null-clause-dtype : goal.returns-then-are_all_null-clause-dtype
+returns-then-are_all_null-clause-dtype g c =
+    rw (c.null_rows-nulls.ensures, c.dtype.ensures) (null_dtype (column_dtype c.args.array.now.values) (form_of c.args.validity.now) (length c.args.indices.now) (c.are_all_null.ensures.0 c.if-are_all_null.true))
+
+pub returns-then-are_all_null-clause-form : goal.returns-then-are_all_null-clause-form
+returns-then-are_all_null-clause-form g c =
+    rw c.null_rows-nulls.ensures (all_null g.T.NativePType.number c.args.indices.now (form_of c.args.validity.now) c.requires.fits (c.are_all_null.ensures.0 c.if-are_all_null.true), refl)
+
+pub taken_rows-requires-clause-in_bounds : goal.taken_rows-requires-clause-in_bounds
+taken_rows-requires-clause-in_bounds g c =
+    let array = c.args.array.now in
+    rw (length-run_rows array.ends (column_rows array.values) array.offset array.count) at c.requires.in_bounds
+
+pub returns-clause-form : goal.returns-clause-form
+returns-clause-form g c =
+    let indices = optional_indices g.T.NativePType.number c.args.indices.now (flags (form_of c.args.validity.now) (length c.args.indices.now)) in
+    let not = not_all_null g.T.NativePType.number c.args.indices.now (form_of c.args.validity.now) c.requires.fits (λ h. let yes = c.are_all_null.ensures.1 h in let no = c.if-are_all_null.false in cc) in
+    rw c.in_ok-taken-2.ensures.form (flat-taken indices (canonical_column c.in_ok-taken.taken) c.in_ok-taken.ensures.made.form not)

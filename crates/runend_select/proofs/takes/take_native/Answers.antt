@@ -1,0 +1,33 @@
+use Rattle.std.proofs.Common.{◌∙◌, Option, length, map, subst, sym}
+use Rattle.column_base.specs.declared.error.VortexError.{VortexError}
+use Rattle.column_base.specs.Validity.{form_of}
+use Rattle.column_core.specs.PrimitiveForm.{optional_numbers, primitive_with}
+use Rattle.column_core.specs.Refusal.{IsErrorFor}
+use Rattle.column_ops.specs.Take.{take_fault}
+use Rattle.column_ops.proofs.IndexPositions.{refused-passed_on}
+use Rattle.runend_array.specs.Column.{column_of_runs, column_rows}
+use Rattle.runend_codec.proofs.RunRows.{length-run_rows}
+use Rattle.runend_select.proofs.CheckedIndices.{AreInBounds-checked, same-fault}
+use Rattle.runend_select.proofs.takes.take_native.Goals as goal
+
+pub returns-in_err-check_indices-clause-refused : goal.returns-in_err-check_indices-clause-refused
+returns-in_err-check_indices-clause-refused g c =
+    let array = c.args.array.now in
+    let error = c.in_err-check_indices.field-0.0 in
+    let counted = c.len.ensures ∙ sym (length-run_rows array.ends (column_rows array.values) array.offset array.count) in
+    let same = same-fault g.T.NativePType.PTYPE g.T.NativePType.number c.args.indices.now (form_of c.args.validity.now) c.len.result (length (column_rows (column_of_runs array))) counted in
+    let fault = take_fault (optional_numbers (primitive_with g.T.NativePType.PTYPE (map g.T.NativePType.number c.args.indices.now) (form_of c.args.validity.now))) (length (column_rows (column_of_runs array))) in
+    refused-passed_on fault error c.from_residual.result c.from_residual.ensures.1
+    (subst (λ (f : Option VortexError). IsErrorFor f error) same c.in_err-check_indices.ensures)
+
+pub returns-clause-refused : goal.returns-clause-refused
+returns-clause-refused g c =
+    let array = c.args.array.now in
+    let counted = c.len.ensures ∙ sym (length-run_rows array.ends (column_rows array.values) array.offset array.count) in
+    sym (same-fault g.T.NativePType.PTYPE g.T.NativePType.number c.args.indices.now (form_of c.args.validity.now) c.len.result (length (column_rows (column_of_runs array))) counted) ∙ c.in_ok-check_indices.ensures
+
+pub take_indices_unchecked-requires-clause-in_bounds : goal.take_indices_unchecked-requires-clause-in_bounds
+take_indices_unchecked-requires-clause-in_bounds g c =
+    let array = c.args.array.now in
+    let counted = length-run_rows array.ends (column_rows array.values) array.offset array.count in
+    rw counted (AreInBounds-checked _ array.count (rw c.len.ensures at c.in_ok-check_indices.ensures))

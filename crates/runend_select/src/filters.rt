@@ -1,0 +1,179 @@
+//! Filters of run columns.
+ghost use Rattle.std.specs.Prelude.{◌≡◌, ◌↔◌, IfOk, IsOkUnless, IsTrue, count_by, length};
+ghost use Rattle.column_base.specs.Mask.{mask_bits};
+ghost use Rattle.column_core.specs.Refusal.{IsRefusedBy};
+ghost use Rattle.column_ops.specs.Filter.{filter_fault, filter_rows};
+ghost use Rattle.runend_array.specs.Array.{column_of, dtype_of, rows};
+ghost use Rattle.runend_array.specs.Canonical.{canonical_column};
+ghost use Rattle.runend_array.specs.Column.{column_dtype, column_of_runs, column_rows};
+ghost use Rattle.runend_select.specs.Computed.{IsComputedAs};
+ghost use Rattle.runend_select.specs.FilterForm.{AreSelectedRuns, HasNoRuns, IsFilterForm, IsSelectedForm, TakesDirectly};
+
+use crate::kept_runs::filter_ends;
+use crate::places::set_places;
+use crate::run_values::select_values;
+use crate::taken_runs::taken_rows;
+use column_core::{BitBuffer, Mask, Validity, VortexError, VortexResult};
+use runend_array::{
+    ArrayRef, Canonical, ExecutionCtx, RunEnd, RunEndArray, RunEndArrayExt, RunEndArraySlotsExt,
+    Thresholds,
+};
+use std::alloc::Allocator;
+
+// Are so few rows selected, of so many runs, that they are taken one by one?
+fn takes_directly(selected: usize, runs: usize, thresholds: Thresholds) -> bool
+    ensures { IsTrue result ↔ TakesDirectly selected runs thresholds }
+{
+    if selected < thresholds.min_run_filter_rows {
+        return true;
+    }
+    // A product that saturates is no less than any number of runs.
+    selected.saturating_mul(thresholds.filter_factor) < runs
+}
+
+// The selected rows, taken one by one.
+fn taken_directly<A: Allocator + Copy>(
+    alloc: A,
+    array: &RunEndArray<A>,
+    bits: &BitBuffer<A>,
+    thresholds: Thresholds,
+) -> VortexResult<Canonical<A>>
+    requires masked { length bits.now ≡ array.now.count }
+    ensures only { IsOkUnless result VortexError.OutOfMemory }
+    ensures made { IfOk result (λ taken. IsComputedAs (filter_rows bits.now (column_rows (column_of_runs array.now))) (column_dtype array.now.values) (canonical_column taken)) }
+{
+    let places = set_places(alloc, bits)?;
+    let taken = taken_rows(
+        alloc,
+        array,
+        places.as_slice(),
+        &Validity::NonNullable,
+        thresholds,
+    )?;
+    Ok(taken)
+}
+
+// The runs with a selected row.
+fn kept_column<A: Allocator + Copy>(
+    alloc: A,
+    array: &RunEndArray<A>,
+    bits: &BitBuffer<A>,
+) -> VortexResult<RunEndArray<A>>
+    requires masked { length bits.now ≡ array.now.count }
+    ensures only { IsOkUnless result VortexError.OutOfMemory }
+    ensures rows { IfOk result (λ kept. column_rows (column_of_runs kept) ≡ filter_rows bits.now (column_rows (column_of_runs array.now))) }
+    ensures dtype { IfOk result (λ kept. column_dtype kept.values ≡ column_dtype array.now.values) }
+    ensures form { IfOk result (λ kept. AreSelectedRuns array.now bits.now kept) }
+{
+    let ends = match array.ends() {
+        ArrayRef::Primitive(plain) => plain.values(),
+        _ => unreachable!(),
+    };
+    let (kept_ends, kept) = filter_ends(alloc, ends, array.offset(), array.len(), bits)?;
+    let values = select_values(alloc, array.values(), &kept)?;
+    let values = values.into_array(alloc)?;
+    let kept_ends = ArrayRef::Primitive(kept_ends);
+    Ok(RunEnd::new_unchecked(kept_ends, values, 0, bits.true_count()))
+}
+
+// The rows at which the bits are true.
+fn filter_bits<A: Allocator + Copy>(
+    array: &RunEndArray<A>,
+    bits: &BitBuffer<A>,
+    ctx: &mut ExecutionCtx<A>,
+) -> VortexResult<ArrayRef<A>>
+    requires masked { length bits.now ≡ array.now.count }
+    ensures only { IsOkUnless result VortexError.OutOfMemory }
+    ensures rows { IfOk result (λ kept. rows kept ≡ filter_rows bits.now (column_rows (column_of_runs array.now))) }
+    ensures dtype { IfOk result (λ kept. dtype_of kept ≡ column_dtype array.now.values) }
+    ensures form { IfOk result (λ kept. IsSelectedForm (TakesDirectly (count_by (λ bit. bit) bits.now) (length array.now.ends) ctx.old.thresholds) array.now bits.now (column_of kept)) }
+    ensures session { ctx.new ≡ ctx.old }
+{
+    let alloc = *ctx.allocator();
+    let thresholds = ctx.session().thresholds();
+    let runs = array.values().len();
+    if takes_directly(bits.true_count(), runs, thresholds) {
+        let taken = taken_directly(alloc, array, bits, thresholds)?;
+        let taken = taken.into_array(alloc)?;
+        return Ok(taken);
+    }
+    let kept = kept_column(alloc, array, bits)?;
+    let boxed = Box::new(alloc, kept)?;
+    Ok(ArrayRef::RunEnd(boxed))
+}
+
+// The same column, in memory of its own.
+fn unchanged<A: Allocator + Copy>(
+    array: &RunEndArray<A>,
+    ctx: &mut ExecutionCtx<A>,
+) -> VortexResult<ArrayRef<A>>
+    ensures only { IsOkUnless result VortexError.OutOfMemory }
+    ensures form { IfOk result (λ copy. column_of copy ≡ column_of_runs array.now) }
+    ensures session { ctx.new ≡ ctx.old }
+{
+    let ends = array.ends().try_clone(ctx)?;
+    let values = array.values().try_clone(ctx)?;
+    let copy = RunEnd::new_unchecked(ends, values, array.offset(), array.len());
+    let boxed = Box::new(*ctx.allocator(), copy)?;
+    Ok(ArrayRef::RunEnd(boxed))
+}
+
+// No rows of the column.
+fn without_rows<A: Allocator + Copy>(
+    array: &RunEndArray<A>,
+    ctx: &mut ExecutionCtx<A>,
+) -> VortexResult<ArrayRef<A>>
+    ensures only { IsOkUnless result VortexError.OutOfMemory }
+    ensures dtype { IfOk result (λ none. dtype_of none ≡ column_dtype array.now.values) }
+    ensures form { IfOk result (λ none. HasNoRuns array.now (column_of none)) }
+    ensures session { ctx.new ≡ ctx.old }
+{
+    let alloc = *ctx.allocator();
+    let ends = array.ends_between(alloc, 0, 0)?;
+    let values = array.values().rows_between(alloc, 0, 0)?;
+    let values = values.into_array(alloc)?;
+    let ends = ArrayRef::Primitive(ends);
+    let none = RunEnd::new_unchecked(ends, values, 0, 0);
+    let boxed = Box::new(alloc, none)?;
+    Ok(ArrayRef::RunEnd(boxed))
+}
+
+/// The rows at which the mask is true, in order. Under `AllTrue` the column is unchanged, under
+/// `AllFalse` it has no runs and offset 0. Else the rows are taken one by one into a flat column, where
+/// few are selected by the session's thresholds, or the runs with a selected row are left, at offset 0
+/// and with flat values.
+///
+/// Refused as `MaskLength`, with the mask's length and the number of rows, where they differ, and that
+/// before any memory is taken; else as `OutOfMemory` alone.
+pub fn filter<A: Allocator + Copy>(
+    array: &RunEndArray<A>,
+    mask: &Mask<A>,
+    ctx: &mut ExecutionCtx<A>,
+) -> VortexResult<ArrayRef<A>>
+    ensures refused { IsRefusedBy (filter_fault (length (mask_bits mask.now)) (length (column_rows (column_of_runs array.now)))) result }
+    ensures rows { IfOk result (λ kept. rows kept ≡ filter_rows (mask_bits mask.now) (column_rows (column_of_runs array.now))) }
+    ensures dtype { IfOk result (λ kept. dtype_of kept ≡ column_dtype array.now.values) }
+    ensures form { IfOk result (λ kept. IsFilterForm ctx.old.thresholds array.now mask.now (column_of kept)) }
+    ensures session { ctx.new ≡ ctx.old }
+{
+    if mask.len() != array.len() {
+        return Err(VortexError::MaskLength {
+            mask: mask.len(),
+            length: array.len(),
+        });
+    }
+    match mask {
+        Mask::AllTrue(_) => {
+            let copy = unchanged(array, ctx)?;
+            Ok(copy)
+        }
+        Mask::AllFalse(_) => {
+            let none = without_rows(array, ctx)?;
+            Ok(none)
+        }
+        Mask::Values(bits) => {
+            let kept = filter_bits(array, bits, ctx)?;
+            Ok(kept)
+        }
+    }
+}

@@ -1,0 +1,170 @@
+//! Rows at indices, found by the runs that they are in.
+ghost use Rattle.std.specs.Prelude.{◌≡◌, ◌<◌, IfOk, IsOkUnless, length, map, unsigned_abs};
+ghost use Rattle.column_base.specs.Mask.{mask_bits};
+ghost use Rattle.column_base.specs.Numbers.{numbers, ptype_of};
+ghost use Rattle.column_base.specs.Types.{IsUnsigned, nullability_of, with_nullability as dtype_with};
+ghost use Rattle.column_base.specs.ValidityForm.{HasLength, flags, nullability_in};
+ghost use Rattle.column_base.specs.Validity.{form_of};
+ghost use Rattle.column_ops.specs.Nullable.{either_nullable};
+ghost use Rattle.column_ops.specs.Take.{take_rows};
+ghost use Rattle.runend_array.specs.Canonical.{canonical_column};
+ghost use Rattle.runend_array.specs.Column.{column_dtype, column_of_runs, column_rows};
+ghost use Rattle.runend_codec.specs.Window.{IsWindow};
+ghost use Rattle.runend_positions.specs.Indices.{AreInBounds, optional_indices};
+ghost use Rattle.runend_select.specs.RunsOf.{AreRunsOf};
+ghost use Rattle.runend_select.specs.Computed.{IsComputedAs};
+
+use crate::run_values::take_values;
+use column_base::match_each_unsigned;
+use column_core::{
+    CountedEnds, Mask, NativePType, PrimitiveValues, UnsignedPType, Validity, VortexError,
+    VortexResult,
+};
+use runend_array::{
+    ArrayRef, Canonical, RunEndArray, RunEndArrayExt, RunEndArraySlotsExt, Thresholds,
+};
+use runend_codec::copies_of;
+use runend_positions::{TakeThresholds, physical_indices};
+use std::alloc::Allocator;
+
+// Which indices are valid, of so many.
+fn mask_of<A: Allocator + Copy>(
+    alloc: A,
+    validity: &Validity<A>,
+    count: usize,
+) -> VortexResult<Mask<A>>
+    requires { HasLength (form_of validity.now) count }
+    ensures only { IsOkUnless result VortexError.OutOfMemory }
+    ensures bits { IfOk result (λ mask. mask_bits mask ≡ flags (form_of validity.now) count) }
+{
+    match validity {
+        Validity::NonNullable => Ok(Mask::AllTrue(count)),
+        Validity::AllValid => Ok(Mask::AllTrue(count)),
+        Validity::AllInvalid => Ok(Mask::AllFalse(count)),
+        Validity::Bits(bits) => {
+            let bits = bits.try_clone(alloc)?;
+            Ok(Mask::Values(bits))
+        }
+    }
+}
+
+// The thresholds by which a strategy is picked.
+fn take_thresholds(thresholds: Thresholds) -> TakeThresholds
+    ensures sorted { result.sorted_runs_per_index ≡ thresholds.sorted_runs_per_index }
+    ensures table { result.table_len_per_index ≡ thresholds.table_len_per_index }
+    ensures unsorted { result.unsorted_runs_per_index ≡ thresholds.unsorted_runs_per_index }
+    ensures runs { result.unsorted_min_runs ≡ thresholds.unsorted_min_runs }
+{
+    TakeThresholds {
+        sorted_runs_per_index: thresholds.sorted_runs_per_index,
+        table_len_per_index: thresholds.table_len_per_index,
+        unsorted_min_runs: thresholds.unsorted_min_runs,
+        unsorted_runs_per_index: thresholds.unsorted_runs_per_index,
+    }
+}
+
+// The run of each valid index, of indices of `count` rows from position `offset` on.
+fn runs_by<E: UnsignedPType, T: NativePType, A: Allocator + Copy>(
+    alloc: A,
+    ends: &[E],
+    offset: usize,
+    count: usize,
+    indices: &[T],
+    mask: &Mask<A>,
+    thresholds: TakeThresholds,
+) -> VortexResult<Vec<u64, A>>
+    requires window { IsWindow (map unsigned_abs (map E.number ends.now)) offset count }
+    requires some { 0 < count }
+    requires masked { length (mask_bits mask.now) ≡ length indices.now }
+    requires in_bounds { AreInBounds (optional_indices T.number indices.now (mask_bits mask.now)) count }
+    ensures only { IsOkUnless result VortexError.OutOfMemory }
+    ensures runs { IfOk result (λ runs. AreRunsOf (map unsigned_abs (map E.number ends.now)) offset (optional_indices T.number indices.now (mask_bits mask.now)) runs.items) }
+{
+    let mut counted = CountedEnds::new(ends);
+    physical_indices(
+        &mut counted,
+        alloc,
+        offset,
+        count,
+        indices,
+        mask,
+        thresholds,
+    )
+}
+
+// The same for the ends of a buffer.
+fn runs_among<T: NativePType, A: Allocator + Copy>(
+    alloc: A,
+    ends: &PrimitiveValues<A>,
+    offset: usize,
+    count: usize,
+    indices: &[T],
+    mask: &Mask<A>,
+    thresholds: TakeThresholds,
+) -> VortexResult<Vec<u64, A>>
+    requires unsigned { IsUnsigned (ptype_of ends.now) }
+    requires window { IsWindow (map unsigned_abs (numbers ends.now)) offset count }
+    requires some { 0 < count }
+    requires masked { length (mask_bits mask.now) ≡ length indices.now }
+    requires in_bounds { AreInBounds (optional_indices T.number indices.now (mask_bits mask.now)) count }
+    ensures only { IsOkUnless result VortexError.OutOfMemory }
+    ensures runs { IfOk result (λ runs. AreRunsOf (map unsigned_abs (numbers ends.now)) offset (optional_indices T.number indices.now (mask_bits mask.now)) runs.items) }
+{
+    match_each_unsigned!(ends, items => runs_by(alloc, items.as_slice(), offset, count, indices, mask, thresholds), _ => unreachable!())
+}
+
+// The run of each valid index.
+fn runs_of_indices<T: NativePType, A: Allocator + Copy>(
+    alloc: A,
+    array: &RunEndArray<A>,
+    indices: &[T],
+    validity: &Validity<A>,
+    thresholds: Thresholds,
+) -> VortexResult<Vec<u64, A>>
+    requires fits { HasLength (form_of validity.now) (length indices.now) }
+    requires in_bounds { AreInBounds (optional_indices T.number indices.now (flags (form_of validity.now) (length indices.now))) array.now.count }
+    ensures only { IsOkUnless result VortexError.OutOfMemory }
+    ensures runs { IfOk result (λ runs. AreRunsOf array.now.ends array.now.offset (optional_indices T.number indices.now (flags (form_of validity.now) (length indices.now))) runs.items) }
+{
+    if array.is_empty() {
+        // No index is valid.
+        let zeros = copies_of(alloc, 0, indices.len())?;
+        return Ok(zeros);
+    }
+    let mask = mask_of(alloc, validity, indices.len())?;
+    let ends = match array.ends() {
+        ArrayRef::Primitive(plain) => plain.values(),
+        _ => unreachable!(),
+    };
+    let picks = take_thresholds(thresholds);
+    runs_among(
+        alloc,
+        ends,
+        array.offset(),
+        array.len(),
+        indices,
+        &mask,
+        picks,
+    )
+}
+
+/// The rows at the indices, null for null, in a flat form. Refused as `OutOfMemory` alone.
+pub(crate) fn taken_rows<T: NativePType, A: Allocator + Copy>(
+    alloc: A,
+    array: &RunEndArray<A>,
+    indices: &[T],
+    validity: &Validity<A>,
+    thresholds: Thresholds,
+) -> VortexResult<Canonical<A>>
+    requires fits { HasLength (form_of validity.now) (length indices.now) }
+    requires in_bounds { AreInBounds (optional_indices T.number indices.now (flags (form_of validity.now) (length indices.now))) array.now.count }
+    ensures only { IsOkUnless result VortexError.OutOfMemory }
+    ensures made { IfOk result (λ taken. IsComputedAs
+        (take_rows (column_rows (column_of_runs array.now)) (optional_indices T.number indices.now (flags (form_of validity.now) (length indices.now))))
+        (dtype_with (column_dtype array.now.values) (either_nullable (nullability_of (column_dtype array.now.values)) (nullability_in (form_of validity.now))))
+        (canonical_column taken)) }
+{
+    let runs = runs_of_indices(alloc, array, indices, validity, thresholds)?;
+    let taken = take_values(alloc, array.values(), runs.as_slice(), validity)?;
+    Ok(taken)
+}

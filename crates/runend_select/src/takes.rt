@@ -1,0 +1,156 @@
+//! Rows of run columns at indices.
+ghost use Rattle.std.specs.Prelude.{◌≡◌, ◌↔◌, ◌<◌, None, Some, IfOk, IsOkUnless, IsTrue, Option, ℤ, count_by, length, map, slice_get};
+ghost use Rattle.column_base.specs.Types.{nullability_of, with_nullability as dtype_with};
+ghost use Rattle.column_base.specs.declared.dtype.Nullability.TheVariants.{Nullable};
+ghost use Rattle.column_base.specs.ValidityForm.{HasLength, flags, nullability_in};
+ghost use Rattle.column_base.specs.Validity.{form_of};
+ghost use Rattle.column_core.specs.PrimitiveForm.{optional_numbers, primitive_dtype, primitive_with};
+ghost use Rattle.column_core.specs.Refusal.{IsRefusedBy};
+ghost use Rattle.column_ops.specs.Nullable.{either_nullable, take_dtype};
+ghost use Rattle.column_ops.specs.Take.{index_fault, take_fault, take_rows};
+ghost use Rattle.runend_array.specs.Array.{column_of, dtype_of, rows};
+ghost use Rattle.runend_array.specs.Column.{column_dtype, column_of_runs, column_rows};
+ghost use Rattle.runend_positions.specs.Indices.{AreInBounds, optional_indices};
+ghost use Rattle.runend_select.specs.TakeForm.{IsTakeForm};
+
+use crate::taken_runs::taken_rows;
+use column_base::match_each_native;
+use column_core::{
+    DType, NativePType, Nullability, PrimitiveArray, Scalar, Validity, VortexError, VortexResult,
+};
+use runend_array::{ArrayRef, ConstantArray, ExecutionCtx, RunEndArray, RunEndArrayExt};
+use std::alloc::Allocator;
+
+// Is it an index of one of `count` rows?
+fn check_index(index: i128, count: usize) -> VortexResult<()>
+    ensures { IsRefusedBy (index_fault count (Some index)) result }
+{
+    if index < 0 || index >= count as i128 {
+        return Err(VortexError::OutOfBounds {
+            index,
+            length: count,
+        });
+    }
+    Ok(())
+}
+
+// Is the index at a place null, or one of `count` rows?
+fn check_place<T: NativePType, A: Allocator>(
+    indices: &[T],
+    validity: &Validity<A>,
+    place: usize,
+    count: usize,
+) -> VortexResult<()>
+    requires there { place < length indices.now }
+    requires fits { HasLength (form_of validity.now) (length indices.now) }
+    ensures { (index : Option ℤ) × (slice_get (optional_indices T.number indices.now (flags (form_of validity.now) (length indices.now))) place ≡ Some index)
+        × IsRefusedBy (index_fault count index) result }
+{
+    if validity.is_valid(place) {
+        return check_index(indices[place].widen(), count);
+    }
+    Ok(())
+}
+
+// Is each index null, or one of `count` rows? Refused as `OutOfBounds`, with the index and the number of
+// rows, at the first that is not.
+fn check_indices<T: NativePType, A: Allocator>(
+    indices: &[T],
+    validity: &Validity<A>,
+    count: usize,
+) -> VortexResult<()>
+    requires fits { HasLength (form_of validity.now) (length indices.now) }
+    ensures { IsRefusedBy (take_fault (optional_indices T.number indices.now (flags (form_of validity.now) (length indices.now))) count) result }
+{
+    for place in 0..indices.len() {
+        check_place(indices, validity, place, count)?;
+    }
+    Ok(())
+}
+
+// Is there a row, and is each null?
+fn are_all_null<A: Allocator>(validity: &Validity<A>, count: usize) -> bool
+    requires { HasLength (form_of validity.now) count }
+    ensures { IsTrue result ↔ ((0 < count) × (count_by (λ bit. bit) (flags (form_of validity.now) count) ≡ 0)) }
+{
+    match validity {
+        Validity::NonNullable => false,
+        Validity::AllValid => false,
+        Validity::AllInvalid => count > 0,
+        Validity::Bits(bits) => count > 0 && bits.true_count() == 0,
+    }
+}
+
+// Null in each of `count` rows, of the type with null.
+fn null_rows<A: Allocator>(dtype: DType, count: usize) -> ConstantArray<A>
+    ensures { result ≡ record { dtype = dtype_with dtype Nullable; value = None; count = count } }
+{
+    let nullable = dtype.with_nullability(Nullability::Nullable);
+    ConstantArray::new(Scalar::try_new(nullable, None).unwrap(), count)
+}
+
+/// The rows at the indices, null for null: a constant null where there is an index and each is null,
+/// else flat. The type has null where the column's or the indices' has. Refused as `OutOfMemory` alone.
+pub fn take_indices_unchecked<T: NativePType, A: Allocator + Copy>(
+    array: &RunEndArray<A>,
+    indices: &[T],
+    validity: &Validity<A>,
+    ctx: &mut ExecutionCtx<A>,
+) -> VortexResult<ArrayRef<A>>
+    requires fits { HasLength (form_of validity.now) (length indices.now) }
+    requires in_bounds { AreInBounds (optional_indices T.number indices.now (flags (form_of validity.now) (length indices.now))) (length (column_rows (column_of_runs array.now))) }
+    ensures only { IsOkUnless result VortexError.OutOfMemory }
+    ensures rows { IfOk result (λ taken. rows taken ≡ take_rows (column_rows (column_of_runs array.now)) (optional_indices T.number indices.now (flags (form_of validity.now) (length indices.now)))) }
+    ensures dtype { IfOk result (λ taken. dtype_of taken ≡ dtype_with (column_dtype array.now.values) (either_nullable (nullability_of (column_dtype array.now.values)) (nullability_in (form_of validity.now)))) }
+    ensures form { IfOk result (λ taken. IsTakeForm (optional_indices T.number indices.now (flags (form_of validity.now) (length indices.now))) (column_of taken)) }
+    ensures session { ctx.new ≡ ctx.old }
+{
+    if are_all_null(validity, indices.len()) {
+        let nulls = null_rows(array.dtype(), indices.len());
+        return Ok(ArrayRef::Constant(nulls));
+    }
+    let alloc = *ctx.allocator();
+    let thresholds = ctx.session().thresholds();
+    let taken = taken_rows(alloc, array, indices, validity, thresholds)?;
+    let taken = taken.into_array(alloc)?;
+    Ok(taken)
+}
+
+// The rows at indices of one native type.
+fn take_native<T: NativePType, A: Allocator + Copy>(
+    array: &RunEndArray<A>,
+    indices: &[T],
+    validity: &Validity<A>,
+    ctx: &mut ExecutionCtx<A>,
+) -> VortexResult<ArrayRef<A>>
+    requires fits { HasLength (form_of validity.now) (length indices.now) }
+    ensures refused { IsRefusedBy (take_fault (optional_numbers (primitive_with T.PTYPE (map T.number indices.now) (form_of validity.now))) (length (column_rows (column_of_runs array.now)))) result }
+    ensures rows { IfOk result (λ taken. rows taken ≡ take_rows (column_rows (column_of_runs array.now)) (optional_numbers (primitive_with T.PTYPE (map T.number indices.now) (form_of validity.now)))) }
+    ensures dtype { IfOk result (λ taken. dtype_of taken ≡ take_dtype (column_dtype array.now.values) (primitive_dtype (primitive_with T.PTYPE (map T.number indices.now) (form_of validity.now)))) }
+    ensures form { IfOk result (λ taken. IsTakeForm (optional_numbers (primitive_with T.PTYPE (map T.number indices.now) (form_of validity.now))) (column_of taken)) }
+    ensures session { ctx.new ≡ ctx.old }
+{
+    check_indices(indices, validity, array.len())?;
+    let taken = take_indices_unchecked(array, indices, validity, ctx)?;
+    Ok(taken)
+}
+
+/// The rows at the indices, null for null: a constant null where there is an index and each is null,
+/// else flat. The type has null where the column's or the indices' has.
+///
+/// Refused as `OutOfBounds`, with the index and the number of rows, at the first valid index that is
+/// negative or not below that number, and that before any memory is taken; else as `OutOfMemory` alone.
+pub fn take<A: Allocator + Copy>(
+    array: &RunEndArray<A>,
+    indices: &PrimitiveArray<A>,
+    ctx: &mut ExecutionCtx<A>,
+) -> VortexResult<ArrayRef<A>>
+    ensures refused { IsRefusedBy (take_fault (optional_numbers indices.now) (length (column_rows (column_of_runs array.now)))) result }
+    ensures rows { IfOk result (λ taken. rows taken ≡ take_rows (column_rows (column_of_runs array.now)) (optional_numbers indices.now)) }
+    ensures dtype { IfOk result (λ taken. dtype_of taken ≡ take_dtype (column_dtype array.now.values) (primitive_dtype indices.now)) }
+    ensures form { IfOk result (λ taken. IsTakeForm (optional_numbers indices.now) (column_of taken)) }
+    ensures session { ctx.new ≡ ctx.old }
+{
+    let validity = indices.validity();
+    match_each_native!(indices.values(), items => take_native(array, items.as_slice(), validity, ctx))
+}
