@@ -1,11 +1,10 @@
-//! Strategies of a take, and kernels that no command reaches, called directly.
+//! Calls that no command makes: the table of a take, the ends of kept runs, functions of rows.
 use crate::columns::{assert_rows, assert_stored, context, required, run_column};
 use std::test::Fail;
 use vortex_runend::compute::{
-    TakeThresholds, filter_run_end_primitive, map_rows, map_rows_bool, physical_indices,
-    physical_indices_linear_sorted, run_index_table,
+    filter_run_end_primitive, map_rows, map_rows_bool, run_index_table, take_from,
 };
-use vortex_runend::{ArrayRef, BitBufferMut, CountedEnds, Mask, ScalarView};
+use vortex_runend::{ArrayRef, BitBufferMut, CountedEnds, Mask, ScalarView, VortexError};
 
 // Where four runs end, in rows.
 const ENDS: [u32; 4] = [3, 6, 8, 12];
@@ -17,34 +16,6 @@ fn each_row_is_in_its_run(rt: HostRuntime) -> Result<(), Fail> {
         table.as_slice(),
         [0u64, 0, 0, 1, 1, 1, 2, 2, 3, 3, 3, 3].as_slice()
     );
-    Ok(())
-}
-
-#[test]
-fn sorted_indices_are_merged_with_the_ends(rt: HostRuntime) -> Result<(), Fail> {
-    let indices = [0u64, 2, 3, 6, 8, 11];
-    let mut ends = CountedEnds::new(&ENDS);
-    let mask = Mask::AllTrue(6);
-    let runs = physical_indices_linear_sorted(&mut ends, rt.alloc(), 0, &indices, &mask)?;
-    assert_eq!(rt; runs.as_slice(), [0u64, 0, 1, 2, 3, 3].as_slice());
-    Ok(())
-}
-
-#[test]
-fn every_pick_finds_the_same_runs(rt: HostRuntime) -> Result<(), Fail> {
-    let indices = [5i32, 2, 11, 0];
-    let mask = Mask::AllTrue(4);
-    for most in [0, 1, 8, 16] {
-        let thresholds = TakeThresholds {
-            sorted_runs_per_index: most,
-            table_len_per_index: most,
-            unsorted_min_runs: most,
-            unsorted_runs_per_index: most,
-        };
-        let mut ends = CountedEnds::new(&ENDS);
-        let runs = physical_indices(&mut ends, rt.alloc(), 0, 12, &indices, &mask, thresholds)?;
-        assert_eq!(rt; runs.as_slice(), [1u64, 0, 3, 0].as_slice());
-    }
     Ok(())
 }
 
@@ -80,5 +51,21 @@ fn functions_are_asked_for_visible_rows(rt: HostRuntime) -> Result<(), Fail> {
     for index in 0..3usize {
         assert!(rt; matches!(small.scalar_at(index), Ok(ScalarView::Bool(true))));
     }
+    Ok(())
+}
+
+#[test]
+fn codes_of_visible_runs_are_looked_up(rt: HostRuntime) -> Result<(), Fail> {
+    let mut ctx = context(rt.alloc());
+    let dictionary = ArrayRef::Primitive(required(rt.alloc(), &[2i32, 3])?);
+    let ends = required(rt.alloc(), &[3u32, 5, 7])?;
+    let codes = ArrayRef::Primitive(required(rt.alloc(), &[9i32, 1, 0])?);
+    let column = run_column(ends, codes, 3, 4, &mut ctx)?;
+    let ArrayRef::RunEnd(runs) = &column else {
+        return Err(VortexError::Unsupported.into());
+    };
+    let rows = take_from(runs, &dictionary, &mut ctx)?;
+    assert_rows(&rt, &rows, &[Some(3), Some(3), Some(2), Some(2)]);
+    assert!(rt; matches!(rows, ArrayRef::RunEnd(_)));
     Ok(())
 }

@@ -9,7 +9,7 @@ use column_base::VortexResult;
 use runend_commands::Command;
 use std::alloc::Allocator;
 use std::rc::Rc;
-use vortex_runend::{ArrayRef, ExecutionCtx, RowValidity, Validity, View};
+use vortex_runend::{ArrayRef, DType, ExecutionCtx, Mask, RowValidity, Validity, View};
 
 /// The call on copies of the columns that it names, or `None` where one does not stand, or a word
 /// is none that the call can be given.
@@ -20,7 +20,7 @@ pub fn prepare<A: Allocator + Copy>(
     ctx: &mut ExecutionCtx<A>,
 ) -> VortexResult<Option<Call<A>>> {
     let task = match call {
-        reader::Call::Command(command) => match prepared_command(command, ctx)? {
+        reader::Call::Command(command) => match prepared_command(command, columns, ctx)? {
             Some(command) => Task::Command(command),
             None => return Ok(None),
         },
@@ -46,14 +46,39 @@ pub fn prepare<A: Allocator + Copy>(
 // The command with what it is given.
 fn prepared_command<A: Allocator + Copy>(
     command: reader::Command<'_>,
+    columns: &Columns<A>,
     ctx: &mut ExecutionCtx<A>,
 ) -> VortexResult<Option<Command<A>>> {
     let alloc = *ctx.allocator();
     match command {
+        reader::Command::Filter(word) => Ok(bits_of_word(alloc, word)?.map(|bits| Command::Filter(
+            Mask::from_buffer(bits),
+        ))),
+        reader::Command::Take(dtype, words) => prepared_take(dtype, words, ctx),
+        reader::Command::CompareScalar(operator, dtype, value) => {
+            Ok(scalar_of(alloc, dtype, value)?.map(|scalar| Command::CompareScalar(
+                operator, scalar,
+            )))
+        }
+        reader::Command::CompareColumn(operator, name) => {
+            Ok(copy_of(name, columns, ctx)?.map(|right| Command::CompareColumn(operator, right)))
+        }
         reader::Command::Fill(dtype, value) => {
             Ok(scalar_of(alloc, dtype, value)?.map(|scalar| Command::FillNull(scalar)))
         }
         _ => Ok(plain_command(command)),
+    }
+}
+
+// The indices are made as a flat column is.
+fn prepared_take<A: Allocator + Copy>(
+    dtype: DType,
+    words: &[&str],
+    ctx: &mut ExecutionCtx<A>,
+) -> VortexResult<Option<Command<A>>> {
+    match flat_column(dtype, words, ctx)? {
+        Some(ArrayRef::Primitive(indices)) => Ok(Some(Command::Take(indices))),
+        _ => Ok(None),
     }
 }
 

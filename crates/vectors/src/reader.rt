@@ -1,6 +1,7 @@
 //! What the words of a line ask.
 use crate::types::read_type;
 use crate::values::{Value, read_count, read_value};
+use vortex_runend::compute::CompareOperator;
 use vortex_runend::{DType, Kernel, Thresholds, VarBinKind};
 
 /// The word between ends and values, and between views and buffers.
@@ -127,6 +128,13 @@ pub struct Record<'a> {
 #[derive(Clone, Copy)]
 pub enum Command<'a> {
     Slice(usize, usize),
+    /// By a word of 0 and 1.
+    Filter(&'a str),
+    /// By indices of a type of whole numbers.
+    Take(DType, &'a [&'a str]),
+    CompareScalar(CompareOperator, DType, Value<'a>),
+    /// With the column of this name.
+    CompareColumn(CompareOperator, &'a str),
     Cast(DType),
     Fill(DType, Value<'a>),
     Encode,
@@ -231,6 +239,9 @@ fn read_call<'a>(verb: &str, words: &'a [&'a str]) -> Option<Call<'a>> {
 fn read_command<'a>(verb: &str, words: &'a [&'a str]) -> Option<Command<'a>> {
     match (verb, words) {
         ("slice", [start, stop]) => Some(Command::Slice(read_count(start)?, read_count(stop)?)),
+        ("filter", [bits]) => Some(Command::Filter(*bits)),
+        ("take", [dtype, indices @ ..]) => Some(Command::Take(read_type(dtype)?, indices)),
+        ("compare", [operator, rest @ ..]) => read_comparison(read_operator(operator)?, rest),
         ("cast", [dtype]) => Some(Command::Cast(read_type(dtype)?)),
         ("fill", [dtype, value]) => Some(Command::Fill(read_type(dtype)?, read_value(value)?)),
         ("encode", []) => Some(Command::Encode),
@@ -241,6 +252,31 @@ fn read_command<'a>(verb: &str, words: &'a [&'a str]) -> Option<Command<'a>> {
         ("constant", []) => Some(Command::Constant),
         ("sorted", []) => Some(Command::Sorted),
         ("strict", []) => Some(Command::Strict),
+        _ => None,
+    }
+}
+
+// A comparison with a named column, or with a value of a type.
+fn read_comparison<'a>(operator: CompareOperator, words: &'a [&'a str]) -> Option<Command<'a>> {
+    match words {
+        ["column", name] => Some(Command::CompareColumn(operator, read_name(name)?)),
+        [dtype, value] => Some(Command::CompareScalar(
+            operator,
+            read_type(dtype)?,
+            read_value(value)?,
+        )),
+        _ => None,
+    }
+}
+
+fn read_operator(word: &str) -> Option<CompareOperator> {
+    match word {
+        "eq" => Some(CompareOperator::Eq),
+        "ne" => Some(CompareOperator::NotEq),
+        "gt" => Some(CompareOperator::Gt),
+        "ge" => Some(CompareOperator::Gte),
+        "lt" => Some(CompareOperator::Lt),
+        "le" => Some(CompareOperator::Lte),
         _ => None,
     }
 }
