@@ -1,3 +1,4 @@
+pub mod BitWords
 pub mod KnownInput
 pub mod WordForms
 pub mod WordSplits

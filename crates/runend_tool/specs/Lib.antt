@@ -2,3 +2,4 @@ pub mod Words
 pub mod Parse
 pub mod Listed
 pub mod Scalars
+pub mod Bits

@@ -36,6 +36,11 @@ pub enum Command<'a> {
     At(u64),
     /// The rows from the first number to before the second, counted from 0, replace the column.
     Slice(u64, u64),
+    /// The rows that a word of bits selects replace the column. The word is yet to be read, and is empty
+    /// where the line has none.
+    Filter(&'a str),
+    /// The rows at the listed indices replace the column. The words are yet to be read.
+    Take(Words<'a>),
     /// The rows are cast to this type.
     Cast(PType, Nullability),
     /// Each null is filled. The word is yet to be read, since the column's type says what it may be.
@@ -75,7 +80,8 @@ pub struct RunsLine<'a> {
 }
 
 /// What the line says. The words behind the type of a `col` line are not looked at, nor are the ends
-/// and values of a `runs` line, nor the value of a `fill` line, nor the bytes of a `read` line.
+/// and values of a `runs` line, the bits of a `filter` line, the indices of a `take` line, the value of a
+/// `fill` line and the bytes of a `read` line.
 pub fn read_line(line: &str) -> Line<'_> {
     let mut words = Words::new(line);
     let Some(name) = words.next() else {
@@ -108,6 +114,11 @@ fn read_command<'a>(name: &str, mut words: Words<'a>) -> Option<Command<'a>> {
             let stop = parse_count(words.next()?)?;
             ended(words, Command::Slice(start, stop))
         }
+        "filter" => {
+            let bits = words.next().unwrap_or("");
+            ended(words, Command::Filter(bits))
+        }
+        "take" => Some(Command::Take(words)),
         "cast" => {
             let (ptype, nullability) = parse_type(words.next()?)?;
             ended(words, Command::Cast(ptype, nullability))

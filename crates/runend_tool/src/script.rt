@@ -12,7 +12,7 @@ use crate::answer::{
 };
 use crate::command::{Command, Line, RunsLine, SLASH, read_line};
 use crate::record::{meta_line, read_record};
-use crate::values::{read_scalar, read_values};
+use crate::values::{read_indices, read_mask, read_scalar, read_values};
 use column_base::{DType, Nullability, PType, VortexError, VortexResult};
 use runend_commands::{Answer, Command as ColumnCommand, execute};
 use std::alloc::Allocator;
@@ -201,6 +201,14 @@ fn perform_on<A: Allocator + Copy>(
         Command::Meta => Ok(Reply::Line(meta_line(column, ctx)?)),
         Command::Read(words) => match read_record(words, ctx)? {
             Some(line) => Ok(Reply::Line(line)),
+            None => Ok(Reply::Bad),
+        },
+        Command::Filter(bits) => match read_mask(*ctx.allocator(), bits)? {
+            Some(mask) => reply_of(ColumnCommand::Filter(mask), column, ctx),
+            None => Ok(Reply::Bad),
+        },
+        Command::Take(words) => match read_indices(*ctx.allocator(), words)? {
+            Some(indices) => reply_of(ColumnCommand::Take(indices), column, ctx),
             None => Ok(Reply::Bad),
         },
         _ => match column_command(command, column.dtype()) {

@@ -1,18 +1,21 @@
 //! The values that a line of the script lists.
-ghost use Rattle.std.specs.Prelude.{◌≡◌, length, IfOk, IfSome, IsOkUnless};
+ghost use Rattle.std.specs.Prelude.{◌≡◌, ◌↔◌, false, length, IfOk, IfSome, IsOkUnless, IsSome, MatchOption};
 ghost use Rattle.std.specs.Iterator.{IsFinite};
 ghost use Rattle.column_base.specs.Numbers.{numbers, ptype_of};
 ghost use Rattle.column_base.specs.ValidityForm.{HasLength};
 ghost use Rattle.column_base.specs.Validity.{form_of};
+ghost use Rattle.column_base.specs.Mask.{mask_bits, IsNormalMask};
+ghost use Rattle.runend_tool.specs.Bits.{IsBitWord, bit_digit, bit_word, is_bit_digit};
 ghost use Rattle.runend_tool.specs.Scalars.{ReadsOwned, ReadsScalar};
 
 use crate::parse::{parse_integer, parse_row};
+use crate::words::Words;
 use column_base::{
-    BitBufferMut, DType, NativePType, Nullability, PType, PrimitiveValues, Validity, VortexError,
-    VortexResult,
+    BitBufferMut, DType, Mask, NativePType, Nullability, PType, PrimitiveValues, Validity,
+    VortexError, VortexResult,
 };
 use std::alloc::Allocator;
-use vortex_runend::{Scalar, ScalarValue};
+use vortex_runend::{PrimitiveArray, Scalar, ScalarValue};
 
 /// Stored numbers, and which rows of them are there.
 #[derive(Drop)]
@@ -72,6 +75,56 @@ fn read_number<A: Allocator>(ptype: PType, word: &str) -> Option<ScalarValue<A>>
         return Some(ScalarValue::Unsigned(u64::narrow(number)?));
     }
     Some(ScalarValue::Signed(i64::narrow(number)?))
+}
+
+/// The mask of the bits of the word, by `Mask::from_buffer`: a row for each `0` or `1`, selected where it
+/// is `1`. `None` where a byte is neither. Refused as `OutOfMemory` alone.
+pub fn read_mask<A: Allocator + Copy>(alloc: A, word: &str) -> VortexResult<Option<Mask<A>>>
+    ensures only { IsOkUnless result VortexError.OutOfMemory }
+    ensures bits { IfOk result (λ read. IfSome read (λ mask. (bit_word (mask_bits mask) ≡ word.now) × IsNormalMask mask)) }
+    ensures found { IfOk result (λ read. IsSome read ↔ IsBitWord word.now) }
+{
+    let mut bits = BitBufferMut::with_capacity(alloc, word.len())?;
+    for byte in word.as_bytes() {
+        let Some(bit) = bit_of(*byte) else {
+            return Ok(None);
+        };
+        bits.append(bit)?;
+    }
+    Ok(Some(Mask::from_buffer(bits.freeze())))
+}
+
+// The bit whose digit the byte is, where it is one.
+fn bit_of(byte: u8) -> Option<bool>
+    ensures { MatchOption result (is_bit_digit byte ≡ false) (λ bit. byte ≡ bit_digit bit) }
+{
+    match byte {
+        b'0' => Some(false),
+        b'1' => Some(true),
+        _ => None,
+    }
+}
+
+/// The indices that the words stand for, in `i64`, where `null` is a null index over a stored 0. They are
+/// nullable where a word is `null`. `None` where a word is neither `null` nor a number of `i64`. Refused as
+/// `OutOfMemory` alone.
+pub fn read_indices<A: Allocator + Copy>(
+    alloc: A,
+    words: Words<'_>,
+) -> VortexResult<Option<PrimitiveArray<A>>>
+    ensures only { IsOkUnless result VortexError.OutOfMemory }
+    ensures typed { IfOk result (λ read. IfSome read (λ indices. indices.ptype ≡ PType.I64)) }
+{
+    let mut nulls = words;
+    let nullability = match nulls.find(|word| *word == "null") {
+        Some(_) => Nullability::Nullable,
+        None => Nullability::NonNullable,
+    };
+    let Some(listed) = read_values(alloc, PType::I64, nullability, words)? else {
+        return Ok(None);
+    };
+    let indices = PrimitiveArray::new_unchecked(listed.numbers, listed.validity);
+    Ok(Some(indices))
 }
 
 fn read_natives<'a, T: NativePType, I: Iterator<Item = &'a str> + Drop, A: Allocator + Copy>(

@@ -147,8 +147,11 @@ fn a_first_script(rt: HostRuntime) -> Result<(), Fail> {
             ("at 11", "value 5"),
             ("slice 4 9", "ok"),
             ("rows", "rows 4 4 2 2 5"),
-            ("sum", "sum 17"),
-            ("jump", "line 8: bad command"),
+            ("take 4 0 2 5", "refused 8 5 5"),
+            ("take 4 0 2 1", "ok"),
+            ("rows", "rows 5 4 2 4"),
+            ("sum", "sum 15"),
+            ("jump", "line 11: bad command"),
         ],
     )?;
     Ok(())
@@ -267,6 +270,88 @@ fn fills_that_are_no_rows(rt: HostRuntime) -> Result<(), Fail> {
     }
     assert_answers(&rt, rt.alloc(), &[("fill 0", "line 1: bad command")])?;
     assert_answers(&rt, rt.alloc(), &[("cast u8", "line 1: bad command")])?;
+    Ok(())
+}
+
+#[test]
+fn filters_of_runs(rt: HostRuntime) -> Result<(), Fail> {
+    assert_answers(
+        &rt,
+        rt.alloc(),
+        &[
+            ("runs i32 u8 0 12 3 6 8 12 / 1 4 2 5", "ok"),
+            ("slice 2 7", "ok"),
+            ("filter 1001", "refused 10 4 5"),
+            ("filter 100110", "refused 10 6 5"),
+            ("filter", "refused 10 0 5"),
+            ("filter 11111", "ok"),
+            ("rows", "rows 1 4 4 4 2"),
+            ("filter 10011", "ok"),
+            ("rows", "rows 1 4 2"),
+            ("runs i32 u8 0 12 3 6 8 12 / 1 4 2 5", "ok"),
+            ("filter 000000000000", "ok"),
+            ("show", "runs i32 u8 offset 0 length 0 ends values"),
+            ("filter", "ok"),
+            ("show", "runs i32 u8 offset 0 length 0 ends values"),
+            ("filter 1", "refused 10 1 0"),
+            ("col i8? 1 null 3", "ok"),
+            ("filter 011", "ok"),
+            ("show", "flat i8? null 3"),
+            ("filter 00", "ok"),
+            ("show", "flat i8?"),
+        ],
+    )?;
+    Ok(())
+}
+
+#[test]
+fn takes_of_rows(rt: HostRuntime) -> Result<(), Fail> {
+    assert_answers(
+        &rt,
+        rt.alloc(),
+        &[
+            ("runs i32 u8 0 12 3 6 8 12 / 1 4 2 5", "ok"),
+            ("take 3 12", "refused 8 12 12"),
+            ("take 3 -1", "refused 8 -1 12"),
+            ("take 9 8 1 3", "ok"),
+            ("show", "flat i32 5 5 1 4"),
+            ("take 3 null 0", "ok"),
+            ("show", "flat i32? 4 null 5"),
+            ("take null 3 -1", "refused 8 3 3"),
+            ("take", "ok"),
+            ("show", "flat i32?"),
+            ("take 0", "refused 8 0 0"),
+            ("take null", "ok"),
+            ("rows", "rows null"),
+            ("runs i32 u8 0 5 2 5 / 1 9", "ok"),
+            ("take null null", "ok"),
+            ("show", "const i32? null length 2"),
+            ("take 1 0", "ok"),
+            ("rows", "rows null null"),
+        ],
+    )?;
+    Ok(())
+}
+
+#[test]
+fn bits_and_indices_that_are_none(rt: HostRuntime) -> Result<(), Fail> {
+    for line in [
+        "filter 2",
+        "filter 0x",
+        "filter 0 1",
+        "filter /",
+        "filter true",
+        "take 9223372036854775808",
+        "take -9223372036854775809",
+        "take +1",
+        "take 0 Null",
+        "take 1,0",
+    ] {
+        let bad = "line 2: bad command";
+        assert_answers(&rt, rt.alloc(), &[("col u8 1 2", "ok"), (line, bad)])?;
+    }
+    assert_answers(&rt, rt.alloc(), &[("filter", "line 1: bad command")])?;
+    assert_answers(&rt, rt.alloc(), &[("take", "line 1: bad command")])?;
     Ok(())
 }
 
