@@ -18,3 +18,4 @@ pub mod Digits
 pub mod Ranges
 pub mod Refusal
 pub mod Computed
+pub mod Kinds

@@ -1,5 +1,6 @@
 -- Why a call is refused: its first fault, with its fields, or none.
-use Rattle.std.specs.Prelude.{◌≡◌, ◌⊎◌, ◌||◌, ℕ, pos, cond, nat_lt, Option, Some, None, Result, Ok, Err}
+use Rattle.std.specs.Prelude.{◌≡◌, ◌⊎◌, ◌||◌, ℕ, pos, cond, nat_lt, List, [], ◌∷◌, Option, Some, None, Result, Ok, Err}
+use Rattle.std.specs.Option.{option_or}
 use Rattle.column_base.specs.declared.error.VortexError.{VortexError}
 use Rattle.column_base.specs.declared.error.VortexError.TheVariants.{BadRange, OutOfBounds, OutOfMemory}
 
@@ -10,6 +11,11 @@ range_fault start stop count = cond (nat_lt stop start || nat_lt count stop) (So
 -- there is no row of this number
 abbrev pub row_fault : ℕ → ℕ → Option VortexError
 row_fault index count = cond (nat_lt index count) None (Some (OutOfBounds (pos index) count))
+
+-- the fault of the first item that has one
+abbrev pub first_fault : {B : Type 0} → (B → Option VortexError) → List B → Option VortexError
+first_fault fault [] = None
+first_fault fault (x ∷ xs) = option_or (fault x) (first_fault fault xs)
 
 -- the error is that memory was refused, or it is the fault
 abbrev pub IsErrorFor : Option VortexError → VortexError → Type 0

@@ -5,6 +5,7 @@ mod boolean;
 mod counted;
 mod decimal;
 mod flat;
+mod kinds;
 mod primitive;
 mod scalar;
 mod varbinview;
@@ -18,6 +19,7 @@ pub use column_base::{
 pub use counted::CountedEnds;
 pub use decimal::DecimalArray;
 pub use flat::FlatColumn;
+pub use kinds::{is_list_type, is_number_type, is_same_kind};
 pub use primitive::PrimitiveArray;
 pub use scalar::{Scalar, ScalarValue};
 pub use varbinview::{VarBinKind, VarBinViewArray, View};

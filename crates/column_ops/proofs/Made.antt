@@ -34,7 +34,7 @@ AreWritten-map f blank rows wanted items form w =
       computed = record {
         blanked = rw long (AreBlankAtNulls-map f blank items (flags form (length items)) w.computed.blanked);
         normal = w.computed.normal;
-        has_row = rw long w.computed.has_row;
+        some = rw long w.computed.some;
       };
       nullability = w.nullability;
     }

@@ -1,5 +1,5 @@
 -- Rows cast to another type.
-use Rattle.std.specs.Prelude.{◌&&◌, ◌||◌, ◌^◌, ℕ, ℤ, pos, neg_ℤ, Bool, true, false, not, Option, Some, None, cond, int_le, int_lt}
+use Rattle.std.specs.Prelude.{◌&&◌, ◌||◌, ◌^◌, ℕ, ℤ, pos, neg_ℤ, Bool, not, Option, Some, None, cond, int_le, int_lt}
 use Rattle.column_base.specs.declared.dtype.PType.{PType}
 use Rattle.column_base.specs.declared.dtype.PType.TheVariants.{U8, U16, U32, U64, I8, I16, I32, I64}
 use Rattle.column_base.specs.declared.dtype.Nullability.{Nullability}
@@ -11,7 +11,7 @@ use Rattle.column_base.specs.declared.error.VortexError.TheVariants.{CastOutOfRa
 use Rattle.column_base.specs.Types.{nullability_of}
 use Rattle.column_core.specs.Value.{Number, PlainColumn, Single, Value}
 use Rattle.column_ops.specs.Fault.{first_fault}
-use Rattle.column_ops.specs.Fill.{is_list, same_kind}
+pub use Rattle.column_core.specs.Kinds.{is_list, is_numbers, same_kind}
 
 -- whether so many bits without a sign hold the number
 abbrev pub fits_unsigned : ℕ → ℤ → Bool
@@ -52,15 +52,6 @@ abbrev pub cast_row_fault : DType → Option Value → Option VortexError
 cast_row_fault dtype None = null_fault (nullability_of dtype)
 cast_row_fault dtype (Some (Single (Number z))) = number_fault dtype z
 cast_row_fault dtype (Some value) = None
-
--- whether the type is one of whole numbers
-abbrev pub is_numbers : DType → Bool
-is_numbers (column.Bool n) = false
-is_numbers (column.Primitive t n) = true
-is_numbers (column.Decimal d n) = false
-is_numbers (column.Utf8 n) = false
-is_numbers (column.Binary n) = false
-is_numbers (column.List e n) = false
 
 -- whether rows of the first type can be cast to the second: both are of whole numbers, or of one kind that is no list
 abbrev pub can_cast : DType → DType → Bool

@@ -4,7 +4,7 @@ use Rattle.column_base.specs.declared.dtype.Nullability.{Nullability}
 use Rattle.column_base.specs.declared.dtype.Nullability.TheVariants.{NonNullable, Nullable}
 use Rattle.column_base.specs.ValidityForm.{ValidityForm, HasLength, flags, nullability_in}
 use Rattle.column_core.specs.Optionals.{optionals, AreBlankAtNulls}
-use Rattle.column_ops.specs.Computed.{AreComputed}
+use Rattle.column_core.specs.Computed.{AreComputed}
 
 -- the rows that were written, the item that is stored under null, and whether rows may be null
 pub record RowWriterForm (T : Type 0) : Type 0 where

@@ -9,10 +9,12 @@ ghost use Rattle.column_core.specs.Refusal.{IsRefusedBy};
 ghost use Rattle.column_ops.specs.Fill.{fill_fault, fill_rows};
 ghost use Rattle.column_ops.specs.Written.{AreWritten};
 
-use crate::kinds::{is_list_type, is_same_kind};
 use crate::row_writer::RowWriter;
 use crate::rows::row_at;
-use column_core::{DType, Nullability, Scalar, ScalarValue, Validity, VortexError, VortexResult};
+use column_core::{
+    DType, Nullability, Scalar, ScalarValue, Validity, VortexError, VortexResult, is_list_type,
+    is_same_kind,
+};
 use std::alloc::Allocator;
 
 /// The rows with the value in place of each null. Refused as `OutOfMemory` alone.

@@ -7,9 +7,10 @@ ghost use Rattle.column_core.specs.Leaf.{leaf_dtype, leaf_rows, single_rows};
 ghost use Rattle.column_core.specs.Refusal.{IsRefusedBy};
 ghost use Rattle.column_core.specs.ScalarView.{sees, IsViewOf};
 ghost use Rattle.column_core.specs.Value.{Single, Truth};
-ghost use Rattle.column_order.specs.CompareFault.{compare_column_fault, compare_scalar_fault, length_fault};
+ghost use Rattle.column_order.specs.CompareFault.{compare_column_fault, compare_scalar_fault};
 ghost use Rattle.column_order.specs.Comparing.{compare_dtype, compare_rows, compare_with, compared, either_nullability, IsStoredComparison};
 
+use crate::faults::{column_fault, kind_fault};
 use crate::operator::CompareOperator;
 use crate::truths::{column_of_truths, push_truth};
 use crate::views::compare_views;
@@ -41,40 +42,6 @@ fn joined_nullability(left: DType, right: DType) -> Nullability
     match left.nullability() {
         Nullability::NonNullable => right.nullability(),
         Nullability::Nullable => Nullability::Nullable,
-    }
-}
-
-// Why a column is not compared with a value of that type.
-fn kind_fault<A: Allocator>(column: &FlatColumn<A>, dtype: DType) -> Option<VortexError>
-    ensures { result ≡ compare_scalar_fault (leaf_dtype (leaf_of column.now)) dtype }
-{
-    let left = column.dtype().with_nullability(Nullability::Nullable);
-    if left == dtype.with_nullability(Nullability::Nullable) {
-        None
-    } else {
-        Some(VortexError::TypeMismatch)
-    }
-}
-
-// Why two columns of so many rows are not compared.
-fn count_fault(left: usize, right: usize) -> Option<VortexError>
-    ensures { result ≡ length_fault left right }
-{
-    if left == right {
-        None
-    } else {
-        Some(VortexError::ColumnLength { left, right })
-    }
-}
-
-// Why a column is not compared with another one.
-fn column_fault<A: Allocator>(column: &FlatColumn<A>, right: &FlatColumn<A>) -> Option<VortexError>
-    ensures { result ≡ compare_column_fault (leaf_dtype (leaf_of column.now)) (leaf_dtype (leaf_of right.now))
-        (length (leaf_rows (leaf_of column.now))) (length (leaf_rows (leaf_of right.now))) }
-{
-    match kind_fault(column, right.dtype()) {
-        Some(error) => Some(error),
-        None => count_fault(column.len(), right.len()),
     }
 }
 
@@ -117,7 +84,7 @@ pub(crate) fn compare_scalar<A: Allocator + Copy>(
     ensures dtype { IfOk result (λ truths. bool_dtype truths ≡ compare_dtype (leaf_dtype (leaf_of column.now)) right.now.dtype) }
     ensures stored { IfOk result IsStoredComparison }
 {
-    if let Some(error) = kind_fault(column, right.dtype()) {
+    if let Some(error) = kind_fault(column.dtype(), right.dtype()) {
         return Err(error);
     }
     compare_to_view(column, alloc, operator, &right.view(), right.dtype())
@@ -163,7 +130,8 @@ pub(crate) fn compare_column<A: Allocator + Copy>(
     ensures dtype { IfOk result (λ truths. bool_dtype truths ≡ compare_dtype (leaf_dtype (leaf_of column.now)) (leaf_dtype (leaf_of right.now))) }
     ensures stored { IfOk result IsStoredComparison }
 {
-    if let Some(error) = column_fault(column, right) {
+    let fault = column_fault(column.dtype(), right.dtype(), column.len(), right.len());
+    if let Some(error) = fault {
         return Err(error);
     }
     compare_beside(column, alloc, operator, right)

@@ -4,12 +4,14 @@
 
 mod compare;
 mod extremes;
+mod faults;
 mod flat_order;
 mod operator;
 mod sorted;
 mod truths;
 mod views;
 
+pub use faults::{column_fault, kind_fault};
 pub use flat_order::FlatOrder;
 pub use operator::CompareOperator;
 pub use views::compare_views;

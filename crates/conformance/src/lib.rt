@@ -13,6 +13,8 @@ mod errors;
 #[cfg(test)]
 mod flat;
 #[cfg(test)]
+mod indices;
+#[cfg(test)]
 mod kinds;
 #[cfg(test)]
 mod lists;

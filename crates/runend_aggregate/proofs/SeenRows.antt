@@ -11,7 +11,7 @@ use Rattle.column_core.specs.Value.{FlatValue, Truth, Number, DecimalNumber, Tex
 use Rattle.column_core.specs.ScalarView.{sees, IsViewOf}
 use Rattle.column_core.specs.declared.view.ScalarView.{ScalarView}
 use Rattle.column_core.specs.declared.view.ScalarView.TheVariants as view
-use Rattle.column_order.specs.CompareFault.{is_list_type}
+use Rattle.column_core.specs.Kinds.{is_list}
 use Rattle.column_order.specs.Order.{row_cmp}
 use Rattle.column_order.proofs.OrderLaws.{row_equal}
 use Rattle.column_order.proofs.RowRanges.{AreSame}
@@ -20,7 +20,7 @@ abbrev single : Option FlatValue → Option Value
 single = option_map (λ (v : FlatValue). Single v)
 
 -- a view of another type shows no list
-no_list : {A : Type 0} (t : DType) (seen : ScalarView A) → is_list_type t ≡ false → IsViewOf t seen → (v : Option FlatValue) × (single v ≡ sees seen)
+no_list : {A : Type 0} (t : DType) (seen : ScalarView A) → is_list t ≡ false → IsViewOf t seen → (v : Option FlatValue) × (single v ≡ sees seen)
 no_list t view.Null flat typed = (None, refl)
 no_list t (view.Bool b) flat typed = (Some (Truth b), refl)
 no_list t (view.Unsigned n) flat typed = (Some (Number _), refl)
@@ -36,7 +36,7 @@ no_list (column.Binary n) (view.List elements start size) flat typed = absurd ty
 no_list (column.List e n) (view.List elements start size) flat typed = cc
 
 -- rows that the order does not tell apart are one
-pub seen_equal : {A : Type 0} (t : DType) (a b : ScalarView A) → is_list_type t ≡ false → IsViewOf t a → IsViewOf t b → row_cmp (sees a) (sees b) ≡ Equal → sees a ≡ sees b
+pub seen_equal : {A : Type 0} (t : DType) (a b : ScalarView A) → is_list t ≡ false → IsViewOf t a → IsViewOf t b → row_cmp (sees a) (sees b) ≡ Equal → sees a ≡ sees b
 seen_equal t a b flat typed_a typed_b same =
     let v = no_list t a flat typed_a in
     let w = no_list t b flat typed_b in

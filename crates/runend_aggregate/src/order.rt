@@ -1,7 +1,7 @@
 //! Whether the rows of a run column are constant or sorted, by its visible runs.
 ghost use Rattle.std.specs.Prelude.{◌≡◌, ◌≢◌, ◌≤◌, ◌↔◌, Err, IfOk, IsTrue, false, length, slice_range};
 ghost use Rattle.column_core.specs.Refusal.{IsRefusedBy};
-ghost use Rattle.column_order.specs.CompareFault.{is_list_type};
+ghost use Rattle.column_core.specs.Kinds.{is_list};
 ghost use Rattle.column_order.specs.OrderFacts.{IsConstant, IsSorted};
 ghost use Rattle.column_order.specs.Steps.{is_step_of};
 ghost use Rattle.runend_array.specs.Array.{dtype_of, rows};
@@ -18,7 +18,7 @@ use std::ops::Range;
 
 // Are any two of the rows from `range.start` to `range.end - 1` equal?
 fn are_equal<A: Allocator + Copy>(values: &ArrayRef<A>, range: Range<usize>) -> bool
-    requires flat { is_list_type (dtype_of values.now) ≡ false }
+    requires flat { is_list (dtype_of values.now) ≡ false }
     requires ordered { range.start ≤ range.end }
     requires in_bounds { range.end ≤ length (rows values.now) }
     ensures { IsTrue result ↔ IsConstant (slice_range (rows values.now) range.start range.end) }
@@ -62,7 +62,7 @@ fn is_step(ordering: Ordering, strict: bool) -> bool
 
 // Is each of the rows from `range.start` to `range.end - 2` one that may stand before the next?
 fn are_sorted<A: Allocator + Copy>(values: &ArrayRef<A>, range: Range<usize>, strict: bool) -> bool
-    requires flat { is_list_type (dtype_of values.now) ≡ false }
+    requires flat { is_list (dtype_of values.now) ≡ false }
     requires ordered { range.start ≤ range.end }
     requires in_bounds { range.end ≤ length (rows values.now) }
     ensures { IsTrue result ↔ IsSorted strict (slice_range (rows values.now) range.start range.end) }

@@ -1,7 +1,7 @@
 //! The rows of a column, and how they stand to one another.
 ghost use Rattle.std.specs.Prelude.{◌≡◌, ◌<◌, Some, false, length, option_map, slice_get};
 ghost use Rattle.column_core.specs.ScalarView.{sees, IsViewOf};
-ghost use Rattle.column_order.specs.CompareFault.{is_list_type};
+ghost use Rattle.column_core.specs.Kinds.{is_list};
 ghost use Rattle.column_order.specs.Steps.{HasOrderAt, is_past};
 ghost use Rattle.runend_array.specs.Array.{dtype_of, rows};
 ghost use Rattle.runend_aggregate.specs.OrderFault.{order_fault};
@@ -40,7 +40,7 @@ pub(crate) fn order_at<A: Allocator + Copy>(
     left: usize,
     right: usize,
 ) -> Ordering
-    requires flat { is_list_type (dtype_of values.now) ≡ false }
+    requires flat { is_list (dtype_of values.now) ≡ false }
     requires left { left < length (rows values.now) }
     requires right { right < length (rows values.now) }
     ensures order { HasOrderAt (rows values.now) left right result }

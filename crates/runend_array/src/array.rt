@@ -435,11 +435,10 @@ impl<A: Allocator + Copy> RunEndArray<A> {
         ensures dtype { IfOk result (λ flat. column_dtype (canonical_column flat) ≡ column_dtype self.now.values) }
         ensures form { IfOk result (λ flat. IsComputedFlat (canonical_column flat)) }
     {
-        let values = self.values.canonicalize_in(alloc)?;
         let Some(ends) = plain_ends(&self.ends) else {
             unreachable!()
         };
-        values.shown_by(alloc, ends, self.offset, self.length)
+        self.values.shown_by(alloc, ends, self.offset, self.length)
     }
 
     /// The runs of the rows from `start` to `stop - 1`, of which there is one at least: from the run of

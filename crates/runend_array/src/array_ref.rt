@@ -1,12 +1,16 @@
 //! Arrays of any form.
 ghost use Rattle.std.specs.Prelude.{◌≡◌, ◌≤◌, ◌↔◌, Some, [], pos, length, slice_get, IsTrue, IfOk, IsErrOf, IsOkUnless};
+ghost use Rattle.column_core.specs.PrimitiveForm.{primitive_dtype};
 ghost use Rattle.column_core.specs.ScalarView.{sees, IsViewOf};
+ghost use Rattle.runend_codec.specs.Ends.{IsEndsType, ends_of};
+ghost use Rattle.runend_codec.specs.Window.{IsWindow, run_rows};
 ghost use Rattle.runend_array.specs.Array.{column_of, dtype_of, rows};
 ghost use Rattle.runend_array.specs.Canonical.{IsCanonical, IsFlatPart, canonical_column};
 ghost use Rattle.runend_array.specs.Column.{column_dtype, column_rows};
+ghost use Rattle.runend_array.specs.Encoding.{IsComputedFlat};
 
 use crate::array::RunEndArray;
-use crate::canonical::Canonical;
+use crate::canonical::{Canonical, decimals_shown, views_shown};
 use crate::constant::ConstantArray;
 use crate::lists::ListViewArray;
 use crate::session::ExecutionCtx;
@@ -15,6 +19,7 @@ use column_core::{
     BoolArray, DType, DecimalArray, FlatColumn, PrimitiveArray, ScalarView, VarBinViewArray,
     VortexError, VortexResult,
 };
+use runend_codec::{decode_numbers, decode_truths};
 use std::alloc::Allocator;
 
 /// A column in one of its forms: flat, lists, one value in each row, or run-end encoded.
@@ -183,7 +188,6 @@ impl<A: Allocator + Copy> ArrayRef<A> {
         flat.into_array(alloc)
     }
 
-    #[cycle(canonicalize_in)]
     pub(crate) fn canonicalize_in(&self, alloc: A) -> VortexResult<Canonical<A>>
         ensures only { IsOkUnless result VortexError.OutOfMemory }
         ensures rows { IfOk result (λ flat. column_rows (canonical_column flat) ≡ rows self.now) }
@@ -213,6 +217,61 @@ impl<A: Allocator + Copy> ArrayRef<A> {
             }
             ArrayRef::Constant(array) => write_constant(alloc, array),
             ArrayRef::RunEnd(array) => array.canonicalize_in(alloc),
+        }
+    }
+
+    // The rows that runs of these values show, from row `offset` on, `count` many, in a flat form, with 0,
+    // false or the view of nothing under null. Values that are flat are read where they are; a constant
+    // and runs are made flat first.
+    #[cycle(canonicalize_in)]
+    pub(crate) fn shown_by(
+        &self,
+        alloc: A,
+        ends: &PrimitiveArray<A>,
+        offset: usize,
+        count: usize,
+    ) -> VortexResult<Canonical<A>>
+        requires plain { IsEndsType (primitive_dtype ends.now) }
+        requires window { IsWindow (ends_of ends.now) offset count }
+        requires paired { length (rows self.now) ≡ length ends.now.numbers }
+        ensures only { IsOkUnless result VortexError.OutOfMemory }
+        ensures rows { IfOk result (λ flat. column_rows (canonical_column flat) ≡ run_rows (ends_of ends.now) (rows self.now) offset count) }
+        ensures dtype { IfOk result (λ flat. column_dtype (canonical_column flat) ≡ dtype_of self.now) }
+        ensures form { IfOk result (λ flat. IsComputedFlat (canonical_column flat)) }
+    {
+        match self {
+            ArrayRef::Primitive(values) => {
+                prove_eq!(values.len(), ends.len());
+                let array = decode_numbers(alloc, ends, values, offset, count)?;
+                Ok(Canonical::Flat(FlatColumn::Primitive(array)))
+            }
+            ArrayRef::Bool(values) => {
+                prove_eq!(values.len(), ends.len());
+                let array = decode_truths(alloc, ends, values, offset, count)?;
+                Ok(Canonical::Flat(FlatColumn::Bool(array)))
+            }
+            ArrayRef::Decimal(values) => {
+                prove_eq!(values.len(), ends.len());
+                let array = decimals_shown(alloc, ends, values, offset, count)?;
+                Ok(Canonical::Flat(FlatColumn::Decimal(array)))
+            }
+            ArrayRef::VarBinView(values) => {
+                prove_eq!(values.len(), ends.len());
+                let array = views_shown(alloc, ends, values, offset, count)?;
+                Ok(Canonical::Flat(FlatColumn::VarBinView(array)))
+            }
+            ArrayRef::ListView(lists) => {
+                let shown = lists.shown_by(alloc, ends, offset, count)?;
+                Ok(Canonical::List(shown))
+            }
+            ArrayRef::Constant(constant) => {
+                let values = write_constant(alloc, constant)?;
+                values.shown_by(alloc, ends, offset, count)
+            }
+            ArrayRef::RunEnd(array) => {
+                let values = array.canonicalize_in(alloc)?;
+                values.shown_by(alloc, ends, offset, count)
+            }
         }
     }
 

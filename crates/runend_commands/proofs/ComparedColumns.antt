@@ -1,5 +1,6 @@
 -- Faults of comparisons, where rows are written one by one.
 use Rattle.std.proofs.Common.{◌≡◌, ◌∙◌, ℕ, List, Bool, true, false, Option, Some, None, length, refl, sym, ap}
+use Rattle.std.specs.Option.{option_or}
 use Rattle.std.specs.Prelude.{if◌then◌else◌, ◌==◌, option_map}
 use Rattle.std.proofs.lemmas.List.{length-replicate}
 use Rattle.std.proofs.lemmas.Bool.Decides.{Decides-eqb}
@@ -10,7 +11,7 @@ use Rattle.column_base.specs.declared.error.VortexError.TheVariants.{ColumnLengt
 use Rattle.column_core.specs.Leaf.{Leaf, leaf_dtype, leaf_rows, single_rows}
 use Rattle.column_core.specs.ScalarForm.{ScalarForm}
 use Rattle.column_core.specs.Value.{FlatValue, IsLists, Single, Value}
-use Rattle.column_order.specs.CompareFault.{compare_column_fault, compare_scalar_fault, first_fault}
+use Rattle.column_order.specs.CompareFault.{compare_column_fault, compare_scalar_fault}
 use Rattle.column_order.specs.Comparing.{compare_rows, compare_with}
 use Rattle.column_order.specs.declared.operator.CompareOperator.{CompareOperator}
 use Rattle.column_order.proofs.RowRanges.{length-single_rows}
@@ -44,7 +45,7 @@ both_ordered left right left_count right_count none =
     let kinds = (no_column_fault left right left_count right_count none).0 in
     (ordered left (no_lists left right kinds), ordered right (no_lists_beside left right kinds))
 
-either_fault : (same : Bool) (kind : Option VortexError) (left right : ℕ) → same ≡ true → first_fault kind (if same then None else Some (ColumnLength left right)) ≡ kind
+either_fault : (same : Bool) (kind : Option VortexError) (left right : ℕ) → same ≡ true → option_or kind (if same then None else Some (ColumnLength left right)) ≡ kind
 either_fault true (Some error) left right as_many = refl
 either_fault true None left right as_many = refl
 either_fault false kind left right as_many = cc

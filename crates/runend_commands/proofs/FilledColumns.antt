@@ -1,19 +1,22 @@
 -- Rows whose nulls are filled, where the scalar fills.
-use Rattle.std.proofs.Common.{◌≡◌, ◌∙◌, None, map, sym, ap}
-use Rattle.std.specs.Prelude.{IfSome, option_map}
-use Rattle.column_core.specs.Leaf.{Leaf, leaf_dtype, leaf_rows, single_rows}
+use Rattle.std.proofs.Common.{◌≡◌, ◌∙◌, List, Option, None, Ok, Err, sym, ap}
+use Rattle.std.specs.Prelude.{IfOk, IfSome, Result}
+use Rattle.column_base.specs.declared.dtype.DType.{DType}
+use Rattle.column_base.specs.declared.error.VortexError.{VortexError}
+use Rattle.column_core.specs.Refusal.{IsRefusedBy}
 use Rattle.column_core.specs.ScalarForm.{ScalarForm}
-use Rattle.column_core.specs.Value.{FlatValue, Single}
-use Rattle.column_ops.specs.Computed.{IsMade}
-use Rattle.column_ops.specs.Fill.{fill_dtype, fill_fault, fill_rows}
+use Rattle.column_core.specs.Value.{Single, Value}
+use Rattle.column_ops.specs.Fill.{fill_fault, fill_rows}
+use Rattle.runend_array.specs.Array.{rows}
+use Rattle.runend_array.specs.declared.array_ref.ArrayRef.{ArrayRef}
 use Rattle.runend_map.proofs.FilledRows.{filling}
-use Rattle.runend_map.proofs.KeptRows.{single-filled}
 use Rattle.runend_commands.specs.Meaning.{rows_filled}
 
--- a flat column whose nulls are filled: its rows and its type, since a scalar that is not refused has a value
-pub filled_leaf : (values filled : Leaf) (scalar : ScalarForm) → fill_fault (leaf_dtype values) scalar ≡ None
-    → IfSome scalar.value (λ value. IsMade (fill_rows (leaf_rows values) value) (fill_dtype (leaf_dtype values)) filled)
-    → (single_rows filled ≡ rows_filled (single_rows values) scalar.value) × (leaf_dtype filled ≡ fill_dtype (leaf_dtype values))
-filled_leaf values filled scalar none made =
-    let by = filling (leaf_dtype values) scalar (λ value. IsMade (fill_rows (leaf_rows values) value) (fill_dtype (leaf_dtype values)) filled) none made in
-    (ap (map (option_map (λ (v : FlatValue). Single v))) by.2.rows ∙ single-filled (leaf_rows values) by.0 ∙ ap (rows_filled (single_rows values)) (sym by.1), by.2.dtype)
+-- a scalar that is not refused has a value, which is the one that fills
+pub filled_if_some : {A : Type 0} (dtype : DType) (scalar : ScalarForm) (before : List (Option Value)) (result : Result (ArrayRef A) VortexError)
+    → IsRefusedBy (fill_fault dtype scalar) result → IfOk result (λ filled. IfSome scalar.value (λ flat. rows filled ≡ fill_rows before (Single flat)))
+    → IfOk result (λ filled. rows filled ≡ rows_filled before scalar.value)
+filled_if_some dtype scalar before (Ok filled) none made =
+    let by = filling dtype scalar (λ flat. rows filled ≡ fill_rows before (Single flat)) none made in
+    by.2 ∙ ap (rows_filled before) (sym by.1)
+filled_if_some dtype scalar before (Err error) why made = tt

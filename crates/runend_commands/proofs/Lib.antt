@@ -4,7 +4,6 @@ pub mod TightColumns
 pub mod WholeRanges
 pub mod Extremes
 pub mod Agreement
-pub mod FilledColumns
-pub mod RowFaults
 pub mod ComparedColumns
+pub mod FilledColumns
 pub mod FlatForms

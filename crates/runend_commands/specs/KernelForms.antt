@@ -2,7 +2,7 @@
 use Rattle.std.specs.Prelude.{◌≡◌, ◌≢◌, List, true}
 use Rattle.column_base.specs.declared.error.VortexError.TheVariants.{OutOfMemory}
 use Rattle.column_core.specs.PrimitiveForm.{optional_numbers}
-use Rattle.runend_array.specs.Array.{column_of, rows}
+use Rattle.runend_array.specs.Array.{column_of, dtype_of, rows}
 use Rattle.runend_array.specs.Column.{Column, OfLeaf, OfConstant, OfLists, OfRuns, Runs, runs_with, IsFlat}
 use Rattle.runend_array.specs.Encoding.{IsDecodedForm}
 use Rattle.runend_array.specs.SessionForm.{SessionForm, is_registered_in}
@@ -12,10 +12,12 @@ use Rattle.runend_array.specs.declared.session.Kernel.TheVariants as kernel
 use Rattle.runend_compute.specs.SliceForm.{IsSliceForm}
 use Rattle.runend_select.specs.FilterForm.{IsFilterForm}
 use Rattle.runend_select.specs.TakeForm.{IsTakeForm}
+use Rattle.runend_map.specs.Codes.{keeps_runs}
+use Rattle.runend_map.specs.Owed.{IsMappedRuns}
 use Rattle.runend_map.specs.ComparisonForm.{IsComparisonForm}
 use Rattle.runend_map.specs.VisibleForm.{IsOverVisibleRuns}
 use Rattle.runend_commands.specs.declared.command.Command.{Command}
-use Rattle.runend_commands.specs.declared.command.Command.TheVariants.{Slice, Filter, Take, CompareScalar, CompareColumn, Cast, FillNull, Sum, IsConstant, IsSorted}
+use Rattle.runend_commands.specs.declared.command.Command.TheVariants.{Slice, Filter, Take, TakeFrom, CompareScalar, CompareColumn, Cast, FillNull, Sum, IsConstant, IsSorted}
 use Rattle.runend_commands.specs.declared.command.Answer.{Answer}
 use Rattle.runend_commands.specs.declared.command.Answer.TheVariants.{Done, Refused}
 use Rattle.runend_commands.specs.Parts.{IsPlainPart}
@@ -53,6 +55,7 @@ abbrev pub LeavesByKernel : {A : Type 0} → SessionForm → ArrayRef A → Comm
 LeavesByKernel session before (Slice range) Done after = ByKernel session kernel.Slice (column_of before) (λ runs. IsSliceForm runs range.start range.end (column_of after)) (IsPlainPart (column_of before) range.start range.end (column_of after))
 LeavesByKernel session before (Filter mask) Done after = ByKernel session kernel.Filter (column_of before) (λ runs. IsFilterForm session.thresholds runs mask (column_of after)) (IsFlat (column_of after))
 LeavesByKernel session before (Take indices) Done after = ByKernel session kernel.Take (column_of before) (λ runs. IsTakeForm (optional_numbers indices) (column_of after)) (IsFlat (column_of after))
+LeavesByKernel session before (TakeFrom dictionary) Done after = ByKernel session kernel.TakeFrom (column_of before) (λ runs. IsMappedRuns (keeps_runs (dtype_of dictionary)) runs (column_of after)) (IsFlat (column_of after))
 LeavesByKernel session before (CompareScalar operator value) Done after = ByKernel session kernel.Compare (column_of before) (λ runs. IsDecodedForm (rows after) (column_of after)) (IsFlat (column_of after))
 LeavesByKernel session before (CompareColumn operator right) Done after = ByKernel session kernel.Compare (column_of before) (λ runs. IsComparisonForm (column_of right) (column_of after)) (IsFlat (column_of after))
 LeavesByKernel session before (Cast dtype) Done after = KeepsRuns session kernel.Cast (column_of before) (column_of after)

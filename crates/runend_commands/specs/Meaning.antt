@@ -1,9 +1,13 @@
 -- What a command that is not refused does to a plain column, and which form it leaves.
-use Rattle.std.specs.Prelude.{◌≡◌, ◌↔◌, ℕ, IsTrue, List, length, Option, None, Some, option_map, slice_get, slice_range}
+use Rattle.std.specs.Prelude.{◌≡◌, ◌↔◌, ◌⊎◌, ℕ, All, IsTrue, List, length, Option, None, Some, option_map, slice_get, slice_range}
+use Rattle.column_base.specs.declared.dtype.PType.{PType}
+use Rattle.column_base.specs.declared.dtype.PType.TheVariants.{U64}
 use Rattle.column_base.specs.declared.dtype.DType.{DType}
+use Rattle.column_base.specs.Types.{IsLeastFor}
 use Rattle.column_base.specs.Mask.{mask_bits}
 use Rattle.column_core.specs.PrimitiveForm.{optional_numbers, primitive_dtype}
 use Rattle.column_core.specs.Value.{FlatValue, PlainColumn, Single, Value}
+use Rattle.column_ops.specs.Codes.{code_rows}
 use Rattle.column_ops.specs.Fill.{fill_dtype, fill_rows}
 use Rattle.column_ops.specs.Filter.{filter_rows}
 use Rattle.column_ops.specs.Nullable.{take_dtype}
@@ -14,9 +18,10 @@ use Rattle.column_sums.specs.SumAnswer.{IsSumAnswer}
 use Rattle.runend_array.specs.Array.{column_of, dtype_of, rows}
 use Rattle.runend_array.specs.Column.{Column, OfLeaf, OfConstant, OfLists, OfRuns, column_rows, plain_of, IsFlat}
 use Rattle.runend_codec.specs.Cover.{IsTightCover}
+use Rattle.runend_codec.specs.Window.{last_end}
 use Rattle.runend_array.specs.declared.array_ref.ArrayRef.{ArrayRef}
 use Rattle.runend_commands.specs.declared.command.Command.{Command}
-use Rattle.runend_commands.specs.declared.command.Command.TheVariants.{Slice, Filter, Take, CompareScalar, CompareColumn, Cast, FillNull, Encode, Decode, At, Sum, MinMax, IsConstant, IsSorted}
+use Rattle.runend_commands.specs.declared.command.Command.TheVariants.{Slice, Filter, Take, TakeFrom, CompareScalar, CompareColumn, Cast, FillNull, Encode, Decode, At, Sum, MinMax, IsConstant, IsSorted}
 use Rattle.runend_commands.specs.declared.command.Answer.{Answer}
 use Rattle.runend_commands.specs.declared.command.Answer.TheVariants.{Done, Value as ValueIs, Sum as SumIs, MinMax as MinMaxIs, Bool as BoolIs}
 use Rattle.runend_commands.specs.Extremes.{AreExtremesIfAny}
@@ -35,6 +40,7 @@ abbrev pub rows_after : {A : Type 0} → PlainColumn → Command A → List (Opt
 rows_after before (Slice range) = slice_range before.rows range.start range.end
 rows_after before (Filter mask) = filter_rows (mask_bits mask) before.rows
 rows_after before (Take indices) = take_rows before.rows (optional_numbers indices)
+rows_after before (TakeFrom dictionary) = code_rows (rows dictionary) before.rows
 rows_after before (CompareScalar operator value) = compare_with operator before.rows (option_map Single value.value)
 rows_after before (CompareColumn operator right) = compare_rows operator before.rows (rows right)
 rows_after before (FillNull value) = rows_filled before.rows value.value
@@ -43,6 +49,7 @@ rows_after before command = before.rows
 -- their type
 abbrev pub dtype_after : {A : Type 0} → PlainColumn → Command A → DType
 dtype_after before (Take indices) = take_dtype before.dtype (primitive_dtype indices)
+dtype_after before (TakeFrom dictionary) = take_dtype (dtype_of dictionary) before.dtype
 dtype_after before (CompareScalar operator value) = compare_dtype before.dtype value.dtype
 dtype_after before (CompareColumn operator right) = compare_dtype before.dtype (dtype_of right)
 dtype_after before (Cast dtype) = dtype
@@ -78,12 +85,17 @@ IsAnswer before IsConstant answer = IsTruthOf (order.IsConstant before.rows) ans
 IsAnswer before (IsSorted strict) answer = IsTruthOf (order.IsSorted strict before.rows) answer
 IsAnswer before command answer = answer ≡ Done
 
+-- the ends are of the least type that has the last of them; where all rows are null they may be u64
+abbrev pub AreNarrowEnds : PType → List ℕ → List (Option Value) → Type 0
+AreNarrowEnds ends_type ends rows = IsLeastFor (last_end ends) ends_type ⊎ ((ends_type ≡ U64) × All (λ row. row ≡ None) rows)
+
 -- a run column that is a tight exact cover of the rows, so of as few runs as can be
 abbrev pub IsTightColumn : List (Option Value) → Column → Type 0
 IsTightColumn rows (OfLeaf leaf) = ⊥
 IsTightColumn rows (OfConstant constant) = ⊥
 IsTightColumn rows (OfLists lists) = ⊥
-IsTightColumn rows (OfRuns ends_type ends values offset count) = IsTightCover rows ends (column_rows values) × (offset ≡ 0) × (count ≡ length rows)
+IsTightColumn rows (OfRuns ends_type ends values offset count) =
+    IsTightCover rows ends (column_rows values) × (offset ≡ 0) × (count ≡ length rows) × AreNarrowEnds ends_type ends rows
 
 -- what a command promises of the form that it leaves, whichever kernels there are: one that only answers leaves the array as it is
 abbrev pub LeavesForm : {A : Type 0} → ArrayRef A → Command A → ArrayRef A → Type 0

@@ -10,6 +10,7 @@ use Rattle.column_core.specs.PrimitiveForm.{optional_numbers}
 use Rattle.column_core.specs.Refusal.{range_fault, row_fault}
 use Rattle.column_core.specs.Value.{PlainColumn}
 use Rattle.column_ops.specs.Cast.{cast_fault}
+use Rattle.column_ops.specs.Codes.{code_fault}
 use Rattle.column_ops.specs.Fill.{fill_fault}
 use Rattle.column_ops.specs.Filter.{filter_fault}
 use Rattle.column_ops.specs.Take.{take_fault}
@@ -18,7 +19,7 @@ use Rattle.column_sums.specs.SumAnswer.{sum_fault}
 use Rattle.runend_aggregate.specs.OrderFault.{order_fault}
 use Rattle.runend_array.specs.Array.{dtype_of, rows}
 use Rattle.runend_commands.specs.declared.command.Command.{Command}
-use Rattle.runend_commands.specs.declared.command.Command.TheVariants.{Slice, Filter, Take, CompareScalar, CompareColumn, Cast, FillNull, Encode, Decode, At, Sum, MinMax, IsConstant, IsSorted}
+use Rattle.runend_commands.specs.declared.command.Command.TheVariants.{Slice, Filter, Take, TakeFrom, CompareScalar, CompareColumn, Cast, FillNull, Encode, Decode, At, Sum, MinMax, IsConstant, IsSorted}
 
 -- the rows are lists
 abbrev pub lists_fault : DType → Option VortexError
@@ -35,6 +36,7 @@ abbrev pub refusal : {A : Type 0} → PlainColumn → Command A → Option Vorte
 refusal before (Slice range) = range_fault range.start range.end (length before.rows)
 refusal before (Filter mask) = filter_fault (length (mask_bits mask)) (length before.rows)
 refusal before (Take indices) = take_fault (optional_numbers indices) (length before.rows)
+refusal before (TakeFrom dictionary) = code_fault before (length (rows dictionary))
 refusal before (CompareScalar operator value) = compare_scalar_fault before.dtype value.dtype
 refusal before (CompareColumn operator right) = compare_column_fault before.dtype (dtype_of right) (length before.rows) (length (rows right))
 refusal before (Cast dtype) = cast_fault before dtype

@@ -18,6 +18,10 @@ pub enum Command<A: Allocator> {
     /// The rows at the indices, counted from 0, replace the column: null for a null index. Refused as
     /// `OutOfBounds` at the first valid index that is negative or not below the number of rows.
     Take(PrimitiveArray<A>),
+    /// The rows are codes, and each becomes the row of this column, the dictionary, that it numbers from 0; null
+    /// stays null. Refused as `TypeMismatch` unless the rows are whole numbers; then as `OutOfBounds` at the
+    /// first code that is negative or not below the dictionary's number of rows.
+    TakeFrom(ArrayRef<A>),
     /// Each row becomes whether the operator holds of it and the scalar, null where either is null.
     /// Refused as `Unsupported` where the rows are lists; then as `TypeMismatch` for a scalar of another
     /// kind.

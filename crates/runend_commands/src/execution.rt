@@ -30,14 +30,15 @@ pub fn execute<A: Allocator + Copy>(
 {
     let mut answers = Vec::with_capacity(*ctx.allocator(), commands.len())?;
     for command in commands {
-        let answer = answer_to(command, column, ctx);
+        let answer = execute_one(command, column, ctx);
         answers.push(answer).unwrap();
     }
     Ok(answers)
 }
 
-// Does one command, and answers it.
-fn answer_to<A: Allocator + Copy>(
+/// Does one command, and answers it, as `execute` does each of its list. A refused command leaves the column as
+/// it is, form included. Takes no memory of its own, so there is nothing else to refuse.
+pub fn execute_one<A: Allocator + Copy>(
     command: &Command<A>,
     column: &mut ArrayRef<A>,
     ctx: &mut ExecutionCtx<A>,

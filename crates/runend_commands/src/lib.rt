@@ -7,4 +7,4 @@ pub mod laws;
 mod steps;
 
 pub use command::{Answer, Command};
-pub use execution::execute;
+pub use execution::{execute, execute_one};

@@ -20,6 +20,7 @@ mod part;
 mod slice;
 mod sum;
 mod take;
+mod take_from;
 
 use crate::command::{Answer, Command};
 use crate::steps::at::look_up;
@@ -36,6 +37,7 @@ use crate::steps::min_max::min_max_of_column;
 use crate::steps::slice::slice_column;
 use crate::steps::sum::sum_column;
 use crate::steps::take::take_of_column;
+use crate::steps::take_from::take_from_column;
 use column_core::VortexResult;
 use runend_array::{ArrayRef, ExecutionCtx};
 use std::alloc::Allocator;
@@ -62,6 +64,7 @@ pub fn outcome_of<A: Allocator + Copy>(
         Command::Slice(range) => slice_column(column, range, ctx),
         Command::Filter(mask) => filter_column(column, mask, ctx),
         Command::Take(indices) => take_of_column(column, indices, ctx),
+        Command::TakeFrom(dictionary) => take_from_column(column, dictionary, ctx),
         Command::CompareScalar(operator, value) => {
             compare_column_with_scalar(column, *operator, value, ctx)
         }

@@ -1,5 +1,6 @@
 -- What the faults of types and lengths say where there is none.
 use Rattle.std.proofs.Common.{◌≡◌, ◌↔◌, ◌<◌, arith, zero, suc, ℕ, Bool, true, false, Option, Some, None, refl, sym, subst, inl, inr, ◌∙◌}
+use Rattle.std.specs.Option.{option_or}
 use Rattle.std.specs.Prelude.{Result, Ok, Err, IsErrAnd, IsOkUnless, IsTrue, if◌then◌else◌, ◌==◌}
 use Rattle.std.proofs.lemmas.Bool.Decides.{Decides-eqb}
 use Rattle.column_base.specs.declared.dtype.Nullability.{Nullability}
@@ -12,7 +13,8 @@ use Rattle.column_base.specs.Types.{nullability_of, with_nullability}
 use Rattle.column_core.specs.Refusal.{IsErrorFor, IsRefusedBy}
 use Rattle.column_core.specs.Value.{IsLists, MayBeNull}
 use Rattle.column_core.specs.SameType.{same_dtype-decides}
-use Rattle.column_order.specs.CompareFault.{compare_column_fault, compare_scalar_fault, first_fault, is_list_type, is_same_kind, length_fault}
+use Rattle.column_core.specs.Kinds.{is_list, same_kind}
+use Rattle.column_order.specs.CompareFault.{compare_column_fault, compare_scalar_fault, length_fault}
 use Rattle.column_order.specs.Comparing.{compare_dtype, either_nullability}
 
 -- what can be refused for want of memory alone, where there is no fault
@@ -29,7 +31,7 @@ no_lists (column.Utf8 n) right none = λ h. h
 no_lists (column.Binary n) right none = λ h. h
 no_lists (column.List e n) right none = cc
 
-lists_kept : (t : DType) → IsLists t → IsLists (with_nullability t Nullable)
+lists_kept : (t : DType) → IsLists t → IsLists (with_nullability t NonNullable)
 lists_kept (column.Bool n) h = h
 lists_kept (column.Primitive t n) h = h
 lists_kept (column.Decimal d n) h = h
@@ -37,7 +39,7 @@ lists_kept (column.Utf8 n) h = h
 lists_kept (column.Binary n) h = h
 lists_kept (column.List e n) h = h
 
-lists_back : (t : DType) → IsLists (with_nullability t Nullable) → IsLists t
+lists_back : (t : DType) → IsLists (with_nullability t NonNullable) → IsLists t
 lists_back (column.Bool n) h = h
 lists_back (column.Primitive t n) h = h
 lists_back (column.Decimal d n) h = h
@@ -53,10 +55,10 @@ alike false false none = cc
 -- nor is the other side of lists, which is of the same kind
 pub no_lists_beside : (left right : DType) → compare_scalar_fault left right ≡ None → ¬ IsLists right
 no_lists_beside left right none lists =
-    let same = (same_dtype-decides (with_nullability left Nullable) (with_nullability right Nullable)).0 (alike (is_list_type left) (is_same_kind left right) none) in
+    let same = (same_dtype-decides (with_nullability left NonNullable) (with_nullability right NonNullable)).0 (alike (is_list left) (same_kind left right) none) in
     no_lists left right none (lists_back left (subst IsLists (sym same) (lists_kept right lists)))
 
-both_none : (kind count : Option VortexError) → first_fault kind count ≡ None → (kind ≡ None) × (count ≡ None)
+both_none : (kind count : Option VortexError) → option_or kind count ≡ None → (kind ≡ None) × (count ≡ None)
 both_none None count none = (refl, none)
 both_none (Some error) count none = cc
 
@@ -79,19 +81,6 @@ either_null Nullable n h = refl
 
 pub null_dtype : (left right : DType) → MayBeNull (nullability_of right) → column.Bool Nullable ≡ compare_dtype left right
 null_dtype left right h = λ i. column.Bool (either_null (nullability_of left) (nullability_of right) h i)
-
-by_kind : (same : Bool) → same ≡ true → None ≡ (if same then None else Some TypeMismatch)
-by_kind true h = refl
-by_kind false h = cc
-
--- types of one kind that is no list have no fault
-pub no_kind_fault : (left right : DType) → ¬ IsLists left → is_same_kind left right ≡ true → None ≡ compare_scalar_fault left right
-no_kind_fault (column.Bool n) right single same = by_kind (is_same_kind (column.Bool n) right) same
-no_kind_fault (column.Primitive t n) right single same = by_kind (is_same_kind (column.Primitive t n) right) same
-no_kind_fault (column.Decimal d n) right single same = by_kind (is_same_kind (column.Decimal d n) right) same
-no_kind_fault (column.Utf8 n) right single same = by_kind (is_same_kind (column.Utf8 n) right) same
-no_kind_fault (column.Binary n) right single same = by_kind (is_same_kind (column.Binary n) right) same
-no_kind_fault (column.List e n) right single same = absurd (single tt)
 
 -- where there is no fault, memory was wanting
 pub only_memory : (fault : Option VortexError) (error : VortexError) → fault ≡ None → IsErrorFor fault error → error ≡ OutOfMemory

@@ -15,20 +15,10 @@ ghost use Rattle.runend_map.specs.Owed.{IsMappedRuns};
 ghost use Rattle.runend_map.specs.VisibleForm.{visible_ends, visible_values as values_of_visible, window_start};
 
 use crate::visible::{over_visible_runs, shown_rows, visible_values};
-use column_core::{DType, FlatColumn, PrimitiveArray, VortexError, VortexResult};
+use column_core::{DType, FlatColumn, PrimitiveArray, VortexError, VortexResult, is_number_type};
 use column_ops::ColumnOps;
 use runend_array::{ArrayRef, ExecutionCtx, RunEndArray, RunEndArrayExt, array_of};
 use std::alloc::Allocator;
-
-/// Is it a type of whole numbers?
-pub(crate) fn is_number_type(dtype: DType) -> bool
-    ensures { result ≡ is_numbers dtype }
-{
-    match dtype {
-        DType::Primitive(_, _) => true,
-        _ => false,
-    }
-}
 
 // Is it a type over whose values runs of codes are kept?
 fn is_kept_type(dtype: DType) -> bool

@@ -5,7 +5,7 @@ ghost use Rattle.column_base.specs.declared.dtype.Nullability.TheVariants.{Nulla
 ghost use Rattle.column_base.specs.Types.{nullability_of};
 ghost use Rattle.column_core.specs.Refusal.{IsRefusedBy};
 ghost use Rattle.column_core.specs.Value.{IsLists, MayBeNull, Single};
-ghost use Rattle.column_order.specs.CompareFault.{compare_column_fault, compare_scalar_fault, is_same_kind};
+ghost use Rattle.column_order.specs.CompareFault.{compare_column_fault, compare_scalar_fault};
 ghost use Rattle.column_order.specs.Comparing.{compare_dtype, compare_rows, compare_with};
 ghost use Rattle.runend_array.specs.Array.{column_of, dtype_of, rows};
 ghost use Rattle.runend_array.specs.Column.{IsFlat, OfConstant, column_dtype, column_of_runs, column_rows};
@@ -13,49 +13,20 @@ ghost use Rattle.runend_array.specs.Encoding.{IsDecodedForm};
 ghost use Rattle.runend_map.specs.ComparisonForm.{IsComparisonForm, IsNullConstant};
 
 use crate::decoded::flat_rows;
-use crate::visible::{is_lists, shown_rows, shown_truths, visible_values};
+use crate::visible::{shown_rows, shown_truths, visible_values};
 use column_core::{DType, Nullability, Scalar, ScalarView, VortexError, VortexResult};
-use column_order::{CompareOperator, FlatOrder};
+use column_order::{CompareOperator, FlatOrder, column_fault};
 use runend_array::{ArrayRef, ConstantArray, ExecutionCtx, RunEndArray, RunEndArrayExt};
 use std::alloc::Allocator;
 
-// Are the two types equal but for nullability?
-fn same_kind(left: DType, right: DType) -> bool
-    ensures { result ≡ is_same_kind left right }
-{
-    left.with_nullability(Nullability::Nullable) == right.with_nullability(Nullability::Nullable)
-}
-
-// Why rows of two types are not compared.
-fn kind_fault(left: DType, right: DType) -> Option<VortexError>
-    ensures { result ≡ compare_scalar_fault left right }
-{
-    if is_lists(left) {
-        return Some(VortexError::Unsupported);
-    }
-    if same_kind(left, right) {
-        None
-    } else {
-        Some(VortexError::TypeMismatch)
-    }
-}
-
 // Why a column is not compared with another one.
-fn column_fault<A: Allocator + Copy>(
+fn fault_beside<A: Allocator + Copy>(
     array: &RunEndArray<A>,
     right: &ArrayRef<A>,
 ) -> Option<VortexError>
     ensures { result ≡ compare_column_fault (column_dtype array.now.values) (dtype_of right.now) array.now.count (length (rows right.now)) }
 {
-    if let Some(error) = kind_fault(array.dtype(), right.dtype()) {
-        return Some(error);
-    }
-    let (left, right) = (array.len(), right.len());
-    if left == right {
-        None
-    } else {
-        Some(VortexError::ColumnLength { left, right })
-    }
+    column_fault(array.dtype(), right.dtype(), array.len(), right.len())
 }
 
 // Is it null?
@@ -148,7 +119,7 @@ pub fn compare<A: Allocator + Copy>(
     ensures form { IfOk result (λ truths. IsComparisonForm (column_of right.now) (column_of truths)) }
     ensures session { ctx.new ≡ ctx.old }
 {
-    if let Some(error) = column_fault(array, right) {
+    if let Some(error) = fault_beside(array, right) {
         return Err(error);
     }
     match right {

@@ -12,10 +12,10 @@ ghost use Rattle.runend_array.specs.Column.{IsFlat, column_dtype, column_of_runs
 ghost use Rattle.runend_map.specs.Codes.{keeps_runs};
 ghost use Rattle.runend_map.specs.Owed.{IsMappedRuns};
 
-use crate::codes::{is_number_type, take_from_flat};
+use crate::codes::take_from_flat;
 use crate::decoded::flat_rows;
 use crate::visible::{is_lists, shown_rows, visible_values};
-use column_core::{FlatColumn, PrimitiveArray, VortexError, VortexResult};
+use column_core::{FlatColumn, PrimitiveArray, VortexError, VortexResult, is_number_type};
 use runend_array::{ArrayRef, ExecutionCtx, RunEndArray, RunEndArrayExt};
 use runend_select::take_rows;
 use std::alloc::Allocator;

@@ -2,3 +2,5 @@ pub mod BitWords
 pub mod KnownInput
 pub mod WordForms
 pub mod WordSplits
+pub mod Sessions
+pub mod Replies

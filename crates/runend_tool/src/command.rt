@@ -17,6 +17,19 @@ pub enum Line<'a> {
     Bad,
 }
 
+/// What a line sets of the session.
+#[derive(Clone, Copy)]
+pub enum Setting {
+    /// Every kernel is registered.
+    AllKernels,
+    /// No kernel is registered.
+    NoKernels,
+    /// The thresholds are those of the crate.
+    CrateThresholds,
+    /// The thresholds are all 0.
+    ZeroThresholds,
+}
+
 /// A command on the column.
 #[derive(Clone, Copy)]
 pub enum Command<'a> {
@@ -55,6 +68,8 @@ pub enum Command<'a> {
     Sorted,
     /// Whether the rows are strictly sorted is shown.
     Strict,
+    /// The session is set, and the column stays.
+    Set(Setting),
     /// The bytes of the column's metadata record are shown.
     Meta,
     /// What a metadata record of these bytes says is shown. The words are yet to be read.
@@ -132,6 +147,7 @@ fn read_command<'a>(name: &str, mut words: Words<'a>) -> Option<Command<'a>> {
         "constant" => ended(words, Command::Constant),
         "sorted" => ended(words, Command::Sorted),
         "strict" => ended(words, Command::Strict),
+        "kernels" | "thresholds" => read_setting(name, words),
         "meta" => ended(words, Command::Meta),
         "read" => Some(Command::Read(words)),
         _ => None,
@@ -155,6 +171,18 @@ fn read_runs(mut words: Words<'_>) -> Option<Command<'_>> {
         ends,
         values: words,
     }))
+}
+
+// The command of a `kernels` or `thresholds` line with these words.
+fn read_setting<'a>(name: &str, mut words: Words<'a>) -> Option<Command<'a>> {
+    let setting = match (name, words.next()?) {
+        ("kernels", "all") => Setting::AllKernels,
+        ("kernels", "none") => Setting::NoKernels,
+        ("thresholds", "crate") => Setting::CrateThresholds,
+        ("thresholds", "zero") => Setting::ZeroThresholds,
+        _ => return None,
+    };
+    ended(words, Command::Set(setting))
 }
 
 // The command, where no word is left.

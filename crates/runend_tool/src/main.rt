@@ -7,6 +7,7 @@ mod parse;
 mod record;
 mod script;
 mod serve;
+mod session;
 #[cfg(test)]
 mod tests;
 mod values;

@@ -1,20 +1,22 @@
 //! Runs a script of commands on one column.
-ghost use Rattle.std.specs.Prelude.{◌≡◌, ◌⊎◌, IfOk, IfSome, IsOkUnless, MatchResult, OnErr};
+ghost use Rattle.std.specs.Prelude.{◌≡◌, ◌⊎◌, ◌↔◌, IfOk, IfSome, IsOkUnless, IsTrue, MatchResult, OnErr};
 ghost use Rattle.std.specs.Iterator.{IsFinite};
 ghost use Rattle.runend_array.specs.Array.{column_of};
 ghost use Rattle.runend_array.specs.Column.{AreParts, column_of_runs, runs_of};
 ghost use Rattle.runend_array.specs.Fault.{PartsFault};
-ghost use Rattle.runend_commands.specs.Step.{IsStep};
+ghost use Rattle.runend_commands.specs.declared.command.Answer.TheVariants.{Done};
+ghost use Rattle.runend_tool.specs.declared.command.Command.TheVariants as line;
 ghost use Rattle.runend_tool.specs.Listed.{AreRunsOf, IsFlatOf};
+ghost use Rattle.runend_tool.specs.Replies.{IsKeptOrStep, IsReplyTo};
+ghost use Rattle.runend_tool.specs.Session.{IsSessionAfter, IsSetFrom};
 
-use crate::answer::{
-    extremes_line, form_line, refusal_line, rows_line, sum_line, truth_line, truth_name, value_line,
-};
-use crate::command::{Command, Line, RunsLine, SLASH, read_line};
+use crate::answer::{answer_line, form_line, has_line, refusal_line, rows_line};
+use crate::command::{Command, Line, RunsLine, SLASH, Setting, read_line};
 use crate::record::{meta_line, read_record};
+use crate::session::set_session;
 use crate::values::{read_indices, read_mask, read_scalar, read_values};
 use column_base::{DType, Nullability, PType, VortexError, VortexResult};
-use runend_commands::{Answer, Command as ColumnCommand, execute};
+use runend_commands::{Answer, Command as ColumnCommand, execute_one};
 use std::alloc::Allocator;
 use vortex_runend::{ArrayRef, ExecutionCtx, PrimitiveArray, RunEnd};
 
@@ -41,12 +43,13 @@ enum Reply<A: Allocator> {
 
 /// Runs the script line by line until a line is no command. Refusals are answered, and leave the
 /// column as it is; `OutOfMemory` alone ends the script without an answer.
+#[tactic(auto, using(crate::proofs::Sessions::set_from_same, crate::proofs::Sessions::set_from_more))]
 pub fn script<A: Allocator + Copy>(
     text: &str,
     ctx: &mut ExecutionCtx<A>,
 ) -> VortexResult<ScriptAnswer<A>>
     ensures only { IsOkUnless result VortexError.OutOfMemory }
-    ensures session { ctx.new ≡ ctx.old }
+    ensures session { IsSetFrom ctx.old ctx.new }
 {
     let mut answers = String::new(*ctx.allocator());
     let mut column = None;
@@ -73,13 +76,14 @@ pub fn script<A: Allocator + Copy>(
 }
 
 // What comes of the line, where refusals are answers.
+#[tactic(auto, using(crate::proofs::Sessions::set_from_same, crate::proofs::Sessions::set_from_command))]
 fn reply_to<A: Allocator + Copy>(
     line: &str,
     column: &mut Option<ArrayRef<A>>,
     ctx: &mut ExecutionCtx<A>,
 ) -> VortexResult<Reply<A>>
     ensures only { IsOkUnless result VortexError.OutOfMemory }
-    ensures session { ctx.new ≡ ctx.old }
+    ensures session { IsSetFrom ctx.old ctx.new }
 {
     let command = match read_line(line) {
         Line::Blank => return Ok(Reply::Silent),
@@ -98,19 +102,21 @@ fn reply_to<A: Allocator + Copy>(
 
 // Does the command. It is bad where it asks for rows that are none of their type, or for a column
 // where none stands yet.
+#[tactic(auto, using(crate::proofs::Sessions::left_by_others))]
 fn perform<A: Allocator + Copy>(
     command: Command<'_>,
     column: &mut Option<ArrayRef<A>>,
     ctx: &mut ExecutionCtx<A>,
 ) -> VortexResult<Reply<A>>
     ensures kept { OnErr result (column.new ≡ column.old) }
-    ensures session { ctx.new ≡ ctx.old }
+    ensures session { IsSessionAfter command.entry column.old ctx.old ctx.new }
 {
     let made = match command {
         Command::Col(ptype, nullability, words) => {
             plain_of(*ctx.allocator(), ptype, nullability, words)?
         }
         Command::Runs(line) => runs_of_line(line, ctx)?,
+        Command::Set(setting) => return Ok(set_beside(setting, column, ctx)),
         _ => {
             return match column {
                 Some(array) => perform_on(command, array, ctx),
@@ -123,6 +129,22 @@ fn perform<A: Allocator + Copy>(
     };
     *column = Some(array);
     Ok(Reply::Done)
+}
+
+// Sets the session beside the column that stands. It is bad where none stands yet.
+#[tactic(auto, using(crate::proofs::Sessions::unset_without_column, crate::proofs::Sessions::set_beside_column))]
+fn set_beside<A: Allocator + Copy>(
+    setting: Setting,
+    column: &Option<ArrayRef<A>>,
+    ctx: &mut ExecutionCtx<A>,
+) -> Reply<A>
+    ensures session { IsSessionAfter (line.Set setting) column.now ctx.old ctx.new }
+{
+    if column.is_none() {
+        return Reply::Bad;
+    }
+    set_session(setting, ctx);
+    Reply::Done
 }
 
 // The flat column of the rows that the words stand for, or `None` where a word stands for none.
@@ -187,11 +209,13 @@ fn runs_of_parts<A: Allocator + Copy>(
 }
 
 // Does the command on the column that stands.
+#[tactic(auto, using(crate::proofs::Replies::step_of_reply))]
 fn perform_on<A: Allocator + Copy>(
     command: Command<'_>,
     column: &mut ArrayRef<A>,
     ctx: &mut ExecutionCtx<A>,
 ) -> VortexResult<Reply<A>>
+    ensures step { IfOk result (λ reply. IsKeptOrStep column.old column.new) }
     ensures kept { OnErr result (column.new ≡ column.old) }
     ensures session { ctx.new ≡ ctx.old }
 {
@@ -240,43 +264,44 @@ fn column_command<A: Allocator>(command: Command<'_>, dtype: DType) -> Option<Co
     }
 }
 
-// Executes the command. What it is refused as is the error here, as for lines that are no commands.
+// Executes the command, and answers by the line of what it was answered. A command that is done needs no line, so
+// that want of memory for one leaves the column as it was. `Unsupported` where there is no line, as there is none
+// of what is no whole number.
+#[tactic(auto, using(crate::proofs::Replies::kept_if_other))]
 fn reply_of<A: Allocator + Copy>(
     command: ColumnCommand<A>,
     column: &mut ArrayRef<A>,
     ctx: &mut ExecutionCtx<A>,
 ) -> VortexResult<Reply<A>>
+    ensures answered { IfOk result (λ reply. IsReplyTo column.old command column.new reply) }
     ensures kept { OnErr result (column.new ≡ column.old) }
     ensures session { ctx.new ≡ ctx.old }
 {
-    let alloc = *ctx.allocator();
-    let name = truth_name(&command);
-    let line = match answer_to(command, column, ctx)? {
-        Answer::Done => return Ok(Reply::Done),
-        Answer::Refused(error) => return Err(error),
-        Answer::Value(scalar) => value_line(alloc, scalar.view())?,
-        Answer::Sum(answer) => sum_line(alloc, answer)?,
-        Answer::MinMax(extremes) => extremes_line(alloc, &extremes)?,
-        Answer::Bool(truth) => truth_line(alloc, name, truth)?,
-    };
+    let answer = execute_one(&command, column, ctx);
+    if is_done(&answer) {
+        return Ok(Reply::Done);
+    }
+    if !has_line(&command, &answer) {
+        return Err(want_of(&answer));
+    }
+    let line = answer_line(&command, &answer, ctx)?;
     Ok(Reply::Line(line))
 }
 
-// The answer to one command, executed by itself. Refused as `OutOfMemory` alone.
-fn answer_to<A: Allocator + Copy>(
-    command: ColumnCommand<A>,
-    column: &mut ArrayRef<A>,
-    ctx: &mut ExecutionCtx<A>,
-) -> VortexResult<Answer<A>>
-    ensures step { IfOk result (λ answer. IsStep column.old command answer column.new) }
-    ensures kept { OnErr result (column.new ≡ column.old) }
-    ensures session { ctx.new ≡ ctx.old }
+// Is it answered that the command is done?
+fn is_done<A: Allocator>(answer: &Answer<A>) -> bool
+    ensures { IsTrue result ↔ (answer.now ≡ Done) }
 {
-    let mut commands = Vec::new(*ctx.allocator());
-    commands.push(command)?;
-    let mut answers = execute(column, &commands, ctx)?;
-    match answers.pop() {
-        Some(answer) => Ok(answer),
-        None => unreachable!(),
+    match answer {
+        Answer::Done => true,
+        _ => false,
+    }
+}
+
+// Why an answer has no line.
+fn want_of<A: Allocator>(answer: &Answer<A>) -> VortexError {
+    match answer {
+        Answer::Refused(error) => *error,
+        _ => VortexError::Unsupported,
     }
 }

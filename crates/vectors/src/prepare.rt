@@ -55,6 +55,9 @@ fn prepared_command<A: Allocator + Copy>(
             Mask::from_buffer(bits),
         ))),
         reader::Command::Take(dtype, words) => prepared_take(dtype, words, ctx),
+        reader::Command::TakeFrom(name) => {
+            Ok(copy_of(name, columns, ctx)?.map(|dictionary| Command::TakeFrom(dictionary)))
+        }
         reader::Command::CompareScalar(operator, dtype, value) => {
             Ok(scalar_of(alloc, dtype, value)?.map(|scalar| Command::CompareScalar(
                 operator, scalar,

@@ -132,6 +132,8 @@ pub enum Command<'a> {
     Filter(&'a str),
     /// By indices of a type of whole numbers.
     Take(DType, &'a [&'a str]),
+    /// From the column of this name, by codes.
+    TakeFrom(&'a str),
     CompareScalar(CompareOperator, DType, Value<'a>),
     /// With the column of this name.
     CompareColumn(CompareOperator, &'a str),
@@ -241,6 +243,7 @@ fn read_command<'a>(verb: &str, words: &'a [&'a str]) -> Option<Command<'a>> {
         ("slice", [start, stop]) => Some(Command::Slice(read_count(start)?, read_count(stop)?)),
         ("filter", [bits]) => Some(Command::Filter(*bits)),
         ("take", [dtype, indices @ ..]) => Some(Command::Take(read_type(dtype)?, indices)),
+        ("codes", [dictionary]) => Some(Command::TakeFrom(read_name(dictionary)?)),
         ("compare", [operator, rest @ ..]) => read_comparison(read_operator(operator)?, rest),
         ("cast", [dtype]) => Some(Command::Cast(read_type(dtype)?)),
         ("fill", [dtype, value]) => Some(Command::Fill(read_type(dtype)?, read_value(value)?)),

@@ -17,6 +17,6 @@ pub use runend_array::{
     UnsignedPType, Validity, VarBinKind, VarBinViewArray, View, VortexError, VortexResult,
     VortexSession, compress, decompress_bool, ops, trimmed_ends_iter, validity,
 };
-pub use runend_commands::{Answer, Command, execute};
+pub use runend_commands::{Answer, Command, execute, execute_one};
 pub use runend_metadata::RunEndMetadata;
 pub use runend_record::{deserialize, serialize};

@@ -1,12 +1,16 @@
-use Rattle.std.proofs.Common.{rules, ℕ, List, Option, length, ap, sym, ◌∙◌}
+use Rattle.std.proofs.Common.{rules, arith, ◌≡◌, ◌<◌, ℕ, List, length, ap, sym, ◌∙◌}
 use Rattle.std.specs.Prelude.{unsigned_abs}
 use Rattle.std.proofs.lemmas.List.{length-map}
 use Rattle.std.proofs.lemmas.Result.{IfOk-weaker}
-use Rattle.column_core.specs.Value.{Value}
+use Rattle.column_core.specs.PrimitiveForm.{primitive_dtype}
+use Rattle.runend_codec.specs.Ends.{IsEndsType, ends_of}
+use Rattle.runend_codec.specs.Window.{IsWindow, run_rows}
 use Rattle.runend_array.specs.Array.{rows}
 use Rattle.runend_array.specs.Column.{end_numbers}
-use Rattle.runend_codec.specs.Ends.{ends_of}
-use Rattle.runend_codec.specs.Window.{run_rows}
+use Rattle.runend_array.specs.Lists.{Lists, list_count, list_rows}
+use Rattle.runend_array.specs.Falls.{deep_le-parts}
+use Rattle.runend_array.specs.declared.array.RunEndArray.TheDeep.{size-ArrayRef, size-RunEndArray}
+use Rattle.runend_array.proofs.ListRows.{length-list_rows}
 use Rattle.runend_array.proofs.+canonicalize_in.Goals as goal
 
 pub array::RunEndArray::canonicalize_in-unreachable-requires : goal.array::RunEndArray::canonicalize_in-unreachable-requires
@@ -15,29 +19,34 @@ array::RunEndArray::canonicalize_in-unreachable-requires g t c = c.in_default.en
 pub array::RunEndArray::canonicalize_in-unreachable-unreachable : goal.array::RunEndArray::canonicalize_in-unreachable-unreachable
 array::RunEndArray::canonicalize_in-unreachable-unreachable g t c = c.in_default.ensures c.self.invariant.plain
 
-pub array::RunEndArray::canonicalize_in-shown_by-requires-clause-plain : goal.array::RunEndArray::canonicalize_in-shown_by-requires-clause-plain
-array::RunEndArray::canonicalize_in-shown_by-requires-clause-plain g t c = rw c.in-Some.ensures.1 at c.self.invariant.plain
-
-pub array::RunEndArray::canonicalize_in-shown_by-requires-clause-window : goal.array::RunEndArray::canonicalize_in-shown_by-requires-clause-window
-array::RunEndArray::canonicalize_in-shown_by-requires-clause-window g t c = rw c.in-Some.ensures.1 at c.self.invariant.runs.window
-
-pub array::RunEndArray::canonicalize_in-shown_by-requires-clause-paired : goal.array::RunEndArray::canonicalize_in-shown_by-requires-clause-paired
-array::RunEndArray::canonicalize_in-shown_by-requires-clause-paired g t c =
-    ap length c.in_ok-values.ensures.rows ∙ c.self.invariant.runs.paired ∙ ap (λ ends. length (end_numbers ends)) c.in-Some.ensures.1 ∙ length-map c.in-Some.ends.now.numbers unsigned_abs
+pub array::RunEndArray::canonicalize_in-shown_by-requires : goal.array::RunEndArray::canonicalize_in-shown_by-requires
+array::RunEndArray::canonicalize_in-shown_by-requires g t c κs within =
+    let ends = c.in-Some.ends.now in
+    let plain : IsEndsType (primitive_dtype ends) = rw c.in-Some.ensures.1 at c.self.invariant.plain in
+    let window : IsWindow (ends_of ends) c.self.inside.offset c.self.inside.length = rw c.in-Some.ensures.1 at c.self.invariant.runs.window in
+    let paired : length (rows c.self.inside.values) ≡ length ends.numbers =
+    c.self.invariant.runs.paired ∙ ap (λ e. length (end_numbers e)) c.in-Some.ensures.1 ∙ length-map ends.numbers unsigned_abs in
+    let size : size-RunEndArray g.row.A.Denot g.A.Allocator c.args.self.now ≡ t = c.decreases in
+    let fall : size-ArrayRef g.row.A.Denot g.A.Allocator c.self.inside.values < t =
+    omega (arith, (rw (← c.self.view_is) at size), deep_le-parts g.A.Allocator c.self.inside.ends c.self.inside.values c.self.invariant.plain) in
+    (fall, search (rules, plain, window, paired))
 
 pub array::RunEndArray::canonicalize_in-returns-clause-rows : goal.array::RunEndArray::canonicalize_in-returns-clause-rows
 array::RunEndArray::canonicalize_in-returns-clause-rows g t c =
-    let ends = ends_of c.in-Some.ends.now in
     let offset = c.self.inside.offset in
     let count = c.self.inside.length in
     rw (← c.self.view_is)
-    (IfOk-weaker c.shown_by.result _ _ (λ flat same.
-    same ∙ ap (λ (xs : List (Option Value)). run_rows ends xs offset count) c.in_ok-values.ensures.rows
-    ∙ ap (λ (es : List ℕ). run_rows es (rows c.self.inside.values) offset count) (sym (ap end_numbers c.in-Some.ensures.1))) c.shown_by.ensures.rows)
+    (IfOk-weaker c.shown_by.result _ _ (λ flat same. same ∙ ap (λ (ends : List ℕ). run_rows ends (rows c.self.inside.values) offset count) (sym (ap end_numbers c.in-Some.ensures.1)))
+    c.shown_by.ensures.rows)
 
 pub array::RunEndArray::canonicalize_in-returns-clause-dtype : goal.array::RunEndArray::canonicalize_in-returns-clause-dtype
-array::RunEndArray::canonicalize_in-returns-clause-dtype g t c =
-    rw (← c.self.view_is) (IfOk-weaker c.shown_by.result _ _ (λ flat same. same ∙ c.in_ok-values.ensures.dtype) c.shown_by.ensures.dtype)
+array::RunEndArray::canonicalize_in-returns-clause-dtype g t c = rw (← c.self.view_is) c.shown_by.ensures.dtype
 
-pub array::RunEndArray::canonicalize_in-canonicalize_in-requires : goal.array::RunEndArray::canonicalize_in-canonicalize_in-requires
-array::RunEndArray::canonicalize_in-canonicalize_in-requires g t c κs within = search rules
+pub array_ref::ArrayRef::shown_by-shown_by-requires-clause-paired : goal.array_ref::ArrayRef::shown_by-shown_by-requires-clause-paired
+array_ref::ArrayRef::shown_by-shown_by-requires-clause-paired g t c =
+    ap list_count c.deref.ensures ∙ sym (length-list_rows c.in-ListView.lists.value) ∙ sym (ap (λ array. length (rows array)) c.in-ListView.is) ∙ c.requires.paired
+
+pub array_ref::ArrayRef::shown_by-returns-in_ok-shown-in-ListView-clause-rows : goal.array_ref::ArrayRef::shown_by-returns-in_ok-shown-in-ListView-clause-rows
+array_ref::ArrayRef::shown_by-returns-in_ok-shown-in-ListView-clause-rows g t c =
+    let ends = ends_of c.args.ends.now in
+    rw c.in-ListView.is (c.in_ok-shown-in-ListView.ensures.rows ∙ ap (λ (lists : Lists). run_rows ends (list_rows lists) c.args.offset c.args.count) c.deref.ensures)

@@ -12,12 +12,10 @@ ghost use Rattle.runend_commands.specs.Outcomes.{IsOutcome};
 ghost use Rattle.runend_commands.specs.declared.command.Command.TheVariants.{Cast};
 
 use crate::steps::Outcome;
-use crate::steps::flat_rows::flat_rows;
 use crate::steps::kernel_runs::runs_for;
 use column_core::{DType, VortexResult};
-use column_ops::ColumnOps;
-use runend_array::{ArrayRef, ExecutionCtx, Kernel, array_of};
-use runend_map::cast;
+use runend_array::{ArrayRef, ExecutionCtx, Kernel};
+use runend_map::{cast, cast_rows};
 use std::alloc::Allocator;
 
 /// The rows in the type.
@@ -49,23 +47,6 @@ fn rows_in<A: Allocator + Copy>(
 {
     match runs_for(column, Kernel::Cast, ctx) {
         Some(runs) => cast(runs, dtype, ctx),
-        None => cast_row_by_row(column, dtype, ctx),
+        None => cast_rows(column, dtype, ctx),
     }
-}
-
-// The rows in the type, cast row by row.
-fn cast_row_by_row<A: Allocator + Copy>(
-    column: &ArrayRef<A>,
-    dtype: DType,
-    ctx: &mut ExecutionCtx<A>,
-) -> VortexResult<ArrayRef<A>>
-    ensures refused { IsRefusedBy (cast_fault (plain column.now) dtype) result }
-    ensures rows { IfOk result (λ cast. rows cast ≡ rows column.now) }
-    ensures dtype { IfOk result (λ cast. dtype_of cast ≡ dtype) }
-    ensures form { IfOk result (λ cast. IsFlat (column_of cast)) }
-    ensures session { ctx.new ≡ ctx.old }
-{
-    let flat = flat_rows(column, ctx)?;
-    let cast = flat.cast(*ctx.allocator(), dtype)?;
-    Ok(array_of(cast))
 }

@@ -1,7 +1,7 @@
 //! The command CompareColumn.
 ghost use Rattle.std.specs.Prelude.{◌≡◌, None, length, IfOk, IsOkUnless};
 ghost use Rattle.column_core.specs.Refusal.{IsRefusedBy};
-ghost use Rattle.column_order.specs.CompareFault.{compare_column_fault, compare_scalar_fault, is_list_type, is_same_kind};
+ghost use Rattle.column_order.specs.CompareFault.{compare_column_fault};
 ghost use Rattle.column_order.specs.Comparing.{compare_dtype, compare_rows};
 ghost use Rattle.runend_array.specs.Array.{column_of, dtype_of, rows};
 ghost use Rattle.runend_array.specs.Column.{IsFlat};
@@ -14,8 +14,8 @@ ghost use Rattle.runend_commands.specs.declared.command.Command.TheVariants.{Com
 use crate::steps::Outcome;
 use crate::steps::flat_rows::flat_rows;
 use crate::steps::kernel_runs::runs_for;
-use column_core::{DType, Nullability, VortexError, VortexResult};
-use column_order::{CompareOperator, FlatOrder};
+use column_core::{VortexError, VortexResult};
+use column_order::{CompareOperator, FlatOrder, column_fault};
 use runend_array::{ArrayRef, ExecutionCtx, Kernel};
 use runend_map::compare;
 use std::alloc::Allocator;
@@ -67,59 +67,20 @@ fn truths_row_by_row<A: Allocator + Copy>(
     ensures form { IfOk result (λ truths. IsFlat (column_of truths)) }
     ensures session { ctx.new ≡ ctx.old }
 {
-    if let Some(error) = column_fault(column, right) {
+    if let Some(error) = fault_beside(column, right) {
         return Err(error);
     }
     truths_of_rows(column, operator, right, ctx)
 }
 
-// Is it a type of lists?
-fn is_lists(dtype: DType) -> bool
-    ensures { result ≡ is_list_type dtype }
-{
-    match dtype {
-        DType::List(_, _) => true,
-        _ => false,
-    }
-}
-
-// Are the two types equal but for nullability?
-fn same_kind(left: DType, right: DType) -> bool
-    ensures { result ≡ is_same_kind left right }
-{
-    left.with_nullability(Nullability::Nullable) == right.with_nullability(Nullability::Nullable)
-}
-
-// Why rows of two types are not compared.
-fn kind_fault(left: DType, right: DType) -> Option<VortexError>
-    ensures { result ≡ compare_scalar_fault left right }
-{
-    if is_lists(left) {
-        return Some(VortexError::Unsupported);
-    }
-    if same_kind(left, right) {
-        None
-    } else {
-        Some(VortexError::TypeMismatch)
-    }
-}
-
 // Why two columns are not compared.
-fn column_fault<A: Allocator + Copy>(
+fn fault_beside<A: Allocator + Copy>(
     column: &ArrayRef<A>,
     right: &ArrayRef<A>,
 ) -> Option<VortexError>
     ensures { result ≡ compare_column_fault (dtype_of column.now) (dtype_of right.now) (length (rows column.now)) (length (rows right.now)) }
 {
-    if let Some(error) = kind_fault(column.dtype(), right.dtype()) {
-        return Some(error);
-    }
-    let (left, right) = (column.len(), right.len());
-    if left == right {
-        None
-    } else {
-        Some(VortexError::ColumnLength { left, right })
-    }
+    column_fault(column.dtype(), right.dtype(), column.len(), right.len())
 }
 
 // The truth of each row and the one beside it, of columns that can be compared.

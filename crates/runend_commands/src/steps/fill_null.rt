@@ -12,12 +12,10 @@ ghost use Rattle.runend_commands.specs.Outcomes.{IsOutcome};
 ghost use Rattle.runend_commands.specs.declared.command.Command.TheVariants.{FillNull};
 
 use crate::steps::Outcome;
-use crate::steps::flat_rows::flat_rows;
 use crate::steps::kernel_runs::runs_for;
 use column_core::{Scalar, VortexResult};
-use column_ops::ColumnOps;
-use runend_array::{ArrayRef, ExecutionCtx, Kernel, array_of};
-use runend_map::fill_null;
+use runend_array::{ArrayRef, ExecutionCtx, Kernel};
+use runend_map::{fill_null, fill_rows};
 use std::alloc::Allocator;
 
 /// The rows with each null filled.
@@ -49,23 +47,6 @@ fn filled_rows<A: Allocator + Copy>(
 {
     match runs_for(column, Kernel::FillNull, ctx) {
         Some(runs) => fill_null(runs, value, ctx),
-        None => filled_row_by_row(column, value, ctx),
+        None => fill_rows(column, value, ctx),
     }
-}
-
-// The rows with each null filled, row by row.
-fn filled_row_by_row<A: Allocator + Copy>(
-    column: &ArrayRef<A>,
-    value: &Scalar<A>,
-    ctx: &mut ExecutionCtx<A>,
-) -> VortexResult<ArrayRef<A>>
-    ensures refused { IsRefusedBy (fill_fault (dtype_of column.now) value.now) result }
-    ensures rows { IfOk result (λ filled. rows filled ≡ rows_filled (rows column.now) value.now.value) }
-    ensures dtype { IfOk result (λ filled. dtype_of filled ≡ fill_dtype (dtype_of column.now)) }
-    ensures form { IfOk result (λ filled. IsFlat (column_of filled)) }
-    ensures session { ctx.new ≡ ctx.old }
-{
-    let flat = flat_rows(column, ctx)?;
-    let filled = flat.fill_null(*ctx.allocator(), value)?;
-    Ok(array_of(filled))
 }

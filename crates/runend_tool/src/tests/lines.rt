@@ -1,5 +1,5 @@
 //! Lines that are commands, and lines that are not.
-use crate::command::{Command, Line, read_line};
+use crate::command::{Command, Line, Setting, read_line};
 use crate::values::read_values;
 use column_base::VortexResult;
 use std::alloc::Allocator;
@@ -27,6 +27,10 @@ fn kind_of(line: &str) -> &'static str {
         Line::Command(Command::Constant) => "constant",
         Line::Command(Command::Sorted) => "sorted",
         Line::Command(Command::Strict) => "strict",
+        Line::Command(Command::Set(Setting::AllKernels)) => "kernels all",
+        Line::Command(Command::Set(Setting::NoKernels)) => "kernels none",
+        Line::Command(Command::Set(Setting::CrateThresholds)) => "thresholds crate",
+        Line::Command(Command::Set(Setting::ZeroThresholds)) => "thresholds zero",
         Line::Command(Command::Meta) => "meta",
         Line::Command(Command::Read(_)) => "read",
     }
@@ -88,6 +92,17 @@ fn kinds_of_lines(rt: HostRuntime) {
         ("sorted strict", "bad"),
         (" strict", "strict"),
         ("strict 1", "bad"),
+        ("kernels all", "kernels all"),
+        (" kernels  none ", "kernels none"),
+        ("kernels", "bad"),
+        ("kernels All", "bad"),
+        ("kernels zero", "bad"),
+        ("kernels all none", "bad"),
+        ("thresholds crate", "thresholds crate"),
+        ("thresholds zero", "thresholds zero"),
+        ("thresholds", "bad"),
+        ("thresholds all", "bad"),
+        ("thresholds zero 0", "bad"),
         ("meta", "meta"),
         ("meta 08", "bad"),
         ("read", "read"),

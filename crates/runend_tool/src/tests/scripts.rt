@@ -395,6 +395,38 @@ fn records_that_are_not_spelt(rt: HostRuntime) -> Result<(), Fail> {
     Ok(())
 }
 
+// Each line is answered by the line beside it with all kernels, none, either threshold, in a column of
+// rows between a null and a fill. The first line sets the kernels, and the first form is what they leave.
+fn assert_session(rt: &impl Abort, alloc: Global, kernels: &str, filled: &str) -> VortexResult<()> {
+    assert_answers(
+        rt,
+        alloc,
+        &[
+            ("col i64? 4 4 4 null null null 4 4 5 5 5 5", "ok"),
+            (kernels, "ok"),
+            ("thresholds zero", "ok"),
+            ("encode", "ok"),
+            ("slice 3 7", "ok"),
+            ("fill 0", "ok"),
+            ("show", filled),
+            ("take 0 9", "refused 8 9 4"),
+            ("sum", "sum 4"),
+            ("kernels all", "ok"),
+            ("encode", "ok"),
+            ("show", "runs i64 u8 offset 0 length 4 ends 3 4 values 0 4"),
+        ],
+    )
+}
+
+#[test]
+fn kernels_decide_forms_alone(rt: HostRuntime) -> Result<(), Fail> {
+    let flat = "flat i64 0 0 0 4";
+    let runs = "runs i64 u8 offset 3 length 4 ends 6 8 values 0 4";
+    assert_session(&rt, rt.alloc(), "kernels none", flat)?;
+    assert_session(&rt, rt.alloc(), "kernels all", runs)?;
+    Ok(())
+}
+
 #[test]
 fn a_slice_wants_a_column(rt: HostRuntime) -> Result<(), Fail> {
     assert_answers(&rt, rt.alloc(), &[("slice 0 0", "line 1: bad command")])?;

@@ -10,7 +10,7 @@ loop-command-preserved g c =
     let l = c.loop-command in
     let commands = c.args.commands.now in
     let command = c.command-item.result in
-    let answer = c.answer_to-answer in
+    let answer = c.execute_one-answer in
     let pushed : c.push.new.self.items ≡ l.answers.items ++ answer.result ∷ [] = rw c.unwrap.ensures at c.push.ensures.items in
     let step : IsStepIn c.args.ctx.now l.column command answer.result answer.new.column = rw l.invariant.session at answer.ensures.step in
     record {

@@ -14,11 +14,11 @@ use Rattle.runend_map.proofs.OneKind.{no_column_fault, no_fault}
 use Rattle.runend_map.proofs.comparisons.compare.Goals as goal
 
 pub returns-in-Some-clause-refused : goal.returns-in-Some-clause-refused
-returns-in-Some-clause-refused g c = rw length-run_rows (inr (sym c.column_fault.ensures ∙ c.in-Some.is))
+returns-in-Some-clause-refused g c = rw length-run_rows (inr (sym c.fault_beside.ensures ∙ c.in-Some.is))
 
 pub returns-in-Constant-clause-refused : goal.returns-in-Constant-clause-refused
 returns-in-Constant-clause-refused g c =
-    rw length-run_rows (no_fault _ c.compare_to_scalar.result (sym c.column_fault.ensures ∙ c.in_default.is) c.compare_to_scalar.ensures.only)
+    rw length-run_rows (no_fault _ c.compare_to_scalar.result (sym c.fault_beside.ensures ∙ c.in_default.is) c.compare_to_scalar.ensures.only)
 
 pub returns-in-Constant-clause-rows : goal.returns-in-Constant-clause-rows
 returns-in-Constant-clause-rows g c =
@@ -26,7 +26,7 @@ returns-in-Constant-clause-rows g c =
     let left = column_rows (column_of_runs r) in
     let constant = c.in-Constant.constant in
     let right : rows c.args.right.now ≡ column_rows (OfConstant constant) = ap (λ (array : ArrayRef _). rows array) c.in-Constant.is in
-    let as_many = (no_column_fault (column_dtype r.values) (dtype_of c.args.right.now) r.count (length (rows c.args.right.now)) (sym c.column_fault.ensures ∙ c.in_default.is)).1 in
+    let as_many = (no_column_fault (column_dtype r.values) (dtype_of c.args.right.now) r.count (length (rows c.args.right.now)) (sym c.fault_beside.ensures ∙ c.in_default.is)).1 in
     let counted : length left ≡ constant.count =
     length-run_rows r.ends (column_rows r.values) r.offset r.count ∙ as_many ∙ ap length right ∙ length-replicate constant.count (option_map (λ (v : FlatValue). Single v) constant.value) in
     if_ok c.compare_to_scalar.result (λ truths same.
@@ -35,4 +35,4 @@ returns-in-Constant-clause-rows g c =
 
 pub returns-in_default-right-clause-refused : goal.returns-in_default-right-clause-refused
 returns-in_default-right-clause-refused g c =
-    rw length-run_rows (no_fault _ c.compare_beside.result (sym c.column_fault.ensures ∙ c.in_default.is) c.compare_beside.ensures.only)
+    rw length-run_rows (no_fault _ c.compare_beside.result (sym c.fault_beside.ensures ∙ c.in_default.is) c.compare_beside.ensures.only)

@@ -1,7 +1,7 @@
 use Rattle.std.proofs.Common.{inl, inr, refl, ap}
 use Rattle.runend_commands.specs.declared.command.Answer.TheVariants.{Refused}
 use Rattle.runend_commands.specs.Step.{IsShort, IsRefused}
-use Rattle.runend_commands.proofs.execution.answer_to.Goals as goal
+use Rattle.runend_commands.proofs.execution.execute_one.Goals as goal
 
 pub returns-in-Err-clause-step : goal.returns-in-Err-clause-step
 returns-in-Err-clause-step g c =

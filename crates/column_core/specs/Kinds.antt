@@ -1,0 +1,29 @@
+-- Kinds of types: types that differ in nullability alone are of one kind.
+use Rattle.std.specs.Prelude.{Bool, true, false}
+use Rattle.column_base.specs.contracts.dtype.DTypePartialEq.TheImpl as dtype_eq
+use Rattle.column_base.specs.declared.dtype.Nullability.TheVariants.{NonNullable}
+use Rattle.column_base.specs.declared.dtype.DType.{DType}
+use Rattle.column_base.specs.declared.dtype.DType.TheVariants as column
+use Rattle.column_base.specs.Types.{with_nullability}
+
+-- whether the type is one of lists
+abbrev pub is_list : DType → Bool
+is_list (column.Bool n) = false
+is_list (column.Primitive t n) = false
+is_list (column.Decimal d n) = false
+is_list (column.Utf8 n) = false
+is_list (column.Binary n) = false
+is_list (column.List e n) = true
+
+-- whether the type is one of whole numbers
+abbrev pub is_numbers : DType → Bool
+is_numbers (column.Bool n) = false
+is_numbers (column.Primitive t n) = true
+is_numbers (column.Decimal d n) = false
+is_numbers (column.Utf8 n) = false
+is_numbers (column.Binary n) = false
+is_numbers (column.List e n) = false
+
+-- whether two types are equal but for nullability
+abbrev pub same_kind : DType → DType → Bool
+same_kind t u = (dtype_eq.ghosts).eq (with_nullability t NonNullable) (with_nullability u NonNullable)

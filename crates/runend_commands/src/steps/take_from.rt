@@ -1,0 +1,54 @@
+//! The command TakeFrom.
+ghost use Rattle.std.specs.Prelude.{◌≡◌, length, IfOk};
+ghost use Rattle.column_core.specs.Refusal.{IsRefusedBy};
+ghost use Rattle.column_ops.specs.Codes.{code_fault, code_rows};
+ghost use Rattle.column_ops.specs.Nullable.{take_dtype};
+ghost use Rattle.runend_array.specs.Array.{column_of, dtype_of, rows};
+ghost use Rattle.runend_array.specs.Column.{IsFlat};
+ghost use Rattle.runend_array.specs.declared.session.Kernel.TheVariants.{TakeFrom as take_from_kernel};
+ghost use Rattle.runend_map.specs.Codes.{keeps_runs};
+ghost use Rattle.runend_map.specs.Owed.{IsMappedRuns};
+ghost use Rattle.runend_commands.specs.KernelForms.{HasKernel, OnRuns};
+ghost use Rattle.runend_commands.specs.Meaning.{plain};
+ghost use Rattle.runend_commands.specs.Outcomes.{IsOutcome};
+ghost use Rattle.runend_commands.specs.declared.command.Command.TheVariants.{TakeFrom};
+
+use crate::steps::Outcome;
+use crate::steps::kernel_runs::runs_for;
+use column_core::VortexResult;
+use runend_array::{ArrayRef, ExecutionCtx, Kernel};
+use runend_map::{take_from, take_from_rows};
+use std::alloc::Allocator;
+
+/// The dictionary's rows for the codes.
+pub fn take_from_column<A: Allocator + Copy>(
+    column: &ArrayRef<A>,
+    dictionary: &ArrayRef<A>,
+    ctx: &mut ExecutionCtx<A>,
+) -> VortexResult<Outcome<A>>
+    ensures outcome { IsOutcome ctx.old column.now (TakeFrom dictionary.now) result }
+    ensures session { ctx.new ≡ ctx.old }
+{
+    let taken = rows_for_codes(column, dictionary, ctx)?;
+    Ok(Outcome::Becomes(taken))
+}
+
+// The dictionary's rows for the codes, taken by the kernel where it serves the column.
+fn rows_for_codes<A: Allocator + Copy>(
+    column: &ArrayRef<A>,
+    dictionary: &ArrayRef<A>,
+    ctx: &mut ExecutionCtx<A>,
+) -> VortexResult<ArrayRef<A>>
+    ensures refused { IsRefusedBy (code_fault (plain column.now) (length (rows dictionary.now))) result }
+    ensures rows { IfOk result (λ taken. rows taken ≡ code_rows (rows dictionary.now) (rows column.now)) }
+    ensures dtype { IfOk result (λ taken. dtype_of taken ≡ take_dtype (dtype_of dictionary.now) (dtype_of column.now)) }
+    ensures kernel { HasKernel ctx.old take_from_kernel (column_of column.now) → OnRuns (column_of column.now)
+        (λ runs. IfOk result (λ taken. IsMappedRuns (keeps_runs (dtype_of dictionary.now)) runs (column_of taken))) }
+    ensures otherwise { ¬ HasKernel ctx.old take_from_kernel (column_of column.now) → IfOk result (λ taken. IsFlat (column_of taken)) }
+    ensures session { ctx.new ≡ ctx.old }
+{
+    match runs_for(column, Kernel::TakeFrom, ctx) {
+        Some(runs) => take_from(runs, dictionary, ctx),
+        None => take_from_rows(column, dictionary, ctx),
+    }
+}
