@@ -1,5 +1,5 @@
 -- What lines of a script set of the session.
-use Rattle.std.specs.Prelude.{◌≡◌, ◌⊎◌, Bool, Option, Some, true, false}
+use Rattle.std.specs.Prelude.{◌≡◌, Bool, Option, Some, true, false}
 use Rattle.runend_array.specs.SessionForm.{SessionForm, crate_thresholds, is_registered_in, no_thresholds}
 use Rattle.runend_array.specs.declared.session.Kernel.{Kernel}
 use Rattle.runend_array.specs.declared.session.Thresholds.{Thresholds}
@@ -29,16 +29,3 @@ IsSetTo ZeroThresholds before after = AreThresholdsSet no_thresholds before afte
 abbrev pub IsSessionAfter : {X : Type 0} → Command → Option X → SessionForm → SessionForm → Type 0
 IsSessionAfter (Set setting) (Some column) before after = IsSetTo setting before after
 IsSessionAfter command column before after = after ≡ before
-
--- the kernels that some lines leave: as they were, all, or none
-abbrev pub AreKernelsLeft : SessionForm → SessionForm → Type 0
-AreKernelsLeft before after = ((k : Kernel) → is_registered_in after k ≡ is_registered_in before k) ⊎ (((k : Kernel) → is_registered_in after k ≡ true) ⊎ ((k : Kernel) → is_registered_in after k ≡ false))
-
--- the thresholds that some lines leave: as they were, the crate's, or 0
-abbrev pub AreThresholdsLeft : SessionForm → SessionForm → Type 0
-AreThresholdsLeft before after = (after.thresholds ≡ before.thresholds) ⊎ ((after.thresholds ≡ crate_thresholds) ⊎ (after.thresholds ≡ no_thresholds))
-
--- the session that some lines leave
-pub record IsSetFrom (before after : SessionForm) : Type 0 where
-  pub kernels : AreKernelsLeft before after
-  pub thresholds : AreThresholdsLeft before after

@@ -8,7 +8,7 @@ ghost use Rattle.runend_commands.specs.declared.command.Answer.TheVariants.{Done
 ghost use Rattle.runend_tool.specs.declared.command.Command.TheVariants as line;
 ghost use Rattle.runend_tool.specs.Listed.{AreRunsOf, IsFlatOf};
 ghost use Rattle.runend_tool.specs.Replies.{IsKeptOrStep, IsReplyTo};
-ghost use Rattle.runend_tool.specs.Session.{IsSessionAfter, IsSetFrom};
+ghost use Rattle.runend_tool.specs.Session.{IsSessionAfter};
 
 use crate::answer::{answer_line, form_line, has_line, refusal_line, rows_line};
 use crate::command::{Command, Line, RunsLine, SLASH, Setting, read_line};
@@ -43,13 +43,11 @@ enum Reply<A: Allocator> {
 
 /// Runs the script line by line until a line is no command. Refusals are answered, and leave the
 /// column as it is; `OutOfMemory` alone ends the script without an answer.
-#[tactic(auto, using(crate::proofs::Sessions::set_from_same, crate::proofs::Sessions::set_from_more))]
 pub fn script<A: Allocator + Copy>(
     text: &str,
     ctx: &mut ExecutionCtx<A>,
 ) -> VortexResult<ScriptAnswer<A>>
     ensures only { IsOkUnless result VortexError.OutOfMemory }
-    ensures session { IsSetFrom ctx.old ctx.new }
 {
     let mut answers = String::new(*ctx.allocator());
     let mut column = None;
@@ -76,14 +74,12 @@ pub fn script<A: Allocator + Copy>(
 }
 
 // What comes of the line, where refusals are answers.
-#[tactic(auto, using(crate::proofs::Sessions::set_from_same, crate::proofs::Sessions::set_from_command))]
 fn reply_to<A: Allocator + Copy>(
     line: &str,
     column: &mut Option<ArrayRef<A>>,
     ctx: &mut ExecutionCtx<A>,
 ) -> VortexResult<Reply<A>>
     ensures only { IsOkUnless result VortexError.OutOfMemory }
-    ensures session { IsSetFrom ctx.old ctx.new }
 {
     let command = match read_line(line) {
         Line::Blank => return Ok(Reply::Silent),

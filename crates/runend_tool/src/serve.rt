@@ -1,7 +1,6 @@
 //! Reads the whole input, and writes an answer or the reason why there is none.
 ghost use Rattle.std.specs.Prelude.{◌≡◌, ◌≢◌, ◌⊎◌, IfOk, OnOk, vec_len};
 ghost use Rattle.std.specs.Io.KnownBytes.{Appends, Consumes, IsAtEnd};
-ghost use Rattle.runend_tool.specs.Session.{IsSetFrom};
 ghost use Rattle.runend_tool.specs.declared.serve.Failure.TheVariants.{OutOfMemory};
 
 use crate::script::script;
@@ -50,7 +49,6 @@ impl From<AllocError> for Failure {
 /// Reads a script, runs it, and writes its answers. The status is 0 where each line was answered; 2
 /// after a line that is no command, or where the input is not UTF-8; 3 where memory was refused, a
 /// read failed or a write failed.
-#[tactic(auto, using(crate::proofs::Sessions::set_from_same))]
 pub fn serve<R: Read, W: Write, E: Write, A: Allocator + Copy>(
     input: &mut R,
     out: &mut W,
@@ -58,7 +56,6 @@ pub fn serve<R: Read, W: Write, E: Write, A: Allocator + Copy>(
     ctx: &mut ExecutionCtx<A>,
 ) -> u8
     ensures status { (result ≡ 0) ⊎ (result ≡ 2) ⊎ (result ≡ 3) }
-    ensures session { IsSetFrom ctx.old ctx.new }
 {
     let status = match read_input(input, *ctx.allocator()) {
         Ok(bytes) => answer(&bytes, out, err, ctx),
@@ -68,14 +65,12 @@ pub fn serve<R: Read, W: Write, E: Write, A: Allocator + Copy>(
 }
 
 // Runs the script of these bytes, and writes its answers.
-#[tactic(auto, using(crate::proofs::Sessions::set_from_same))]
 fn answer<W: Write, E: Write, A: Allocator + Copy>(
     bytes: &[u8],
     out: &mut W,
     err: &mut E,
     ctx: &mut ExecutionCtx<A>,
 ) -> Status
-    ensures session { IsSetFrom ctx.old ctx.new }
 {
     let Ok(text) = str::from_utf8(bytes) else {
         return print(out, "not UTF-8\n", Status::BadInput);
