@@ -1,10 +1,11 @@
 -- When a filter is refused, and what it is where the mask is all true or all false.
-use Rattle.std.proofs.Common.{◌≡◌, ◌≢◌, ◌∙◌, ℕ, zero, suc, List, [], ◌∷◌, Bool, true, false, Some, None, length, take, drop, ◌-◌, replicate, arith, ap, refl, sym, inr, cond}
-use Rattle.std.specs.Prelude.{◌==◌, slice_range}
+use Rattle.std.proofs.Common.{◌≡◌, ◌≢◌, ◌∙◌, ℕ, zero, suc, List, [], ◌∷◌, Bool, true, false, Option, Some, None, Ok, Err, inl, length, take, drop, ◌-◌, replicate, arith, ap, refl, sym, inr, cond}
+use Rattle.std.specs.Prelude.{◌==◌, IsOkUnless, Result, slice_range}
 use Rattle.std.proofs.lemmas.Bool.Decides.{Decides-eqb}
 use Rattle.std.proofs.lemmas.List.{length-replicate, take_all}
-use Rattle.column_base.specs.declared.error.VortexError.TheVariants.{MaskLength}
-use Rattle.column_core.specs.Refusal.{IsErrorFor}
+use Rattle.column_base.specs.declared.error.VortexError.{VortexError}
+use Rattle.column_base.specs.declared.error.VortexError.TheVariants.{MaskLength, OutOfMemory}
+use Rattle.column_core.specs.Refusal.{IsErrorFor, IsRefusedBy}
 use Rattle.column_ops.specs.Filter.{filter_fault, filter_rows}
 use Rattle.runend_array.specs.Column.{Column, OfLeaf, OfConstant, OfLists, OfRuns, Runs, column_rows}
 use Rattle.runend_codec.specs.Window.{run_rows}
@@ -12,6 +13,14 @@ use Rattle.runend_select.specs.FilterForm.{HasNoRuns}
 
 pub no_fault : (mask rows : ℕ) → mask ≡ rows → filter_fault mask rows ≡ None
 no_fault mask rows same = let equal : (mask == rows) ≡ true = (Decides-eqb mask rows).1 same in rw equal refl
+
+-- what is refused by no fault is refused for want of memory alone
+pub only_memory : {T : Type 0} (fault : Option VortexError) (result : Result T VortexError) → fault ≡ None → IsRefusedBy fault result → IsOkUnless result OutOfMemory
+only_memory fault (Ok value) none told = tt
+only_memory fault (Err error) none told = elim told [
+  | inl short ↦ short
+  | inr has ↦ let never : ◌≡◌ {A = Option VortexError} None (Some error) = sym none ∙ has in absurd (cc)
+]
 
 fault_by : (mask rows : ℕ) (b : Bool) → (mask == rows) ≡ b → mask ≢ rows → cond b None (Some (MaskLength mask rows)) ≡ Some (MaskLength mask rows)
 fault_by mask rows true is other = absurd (other ((Decides-eqb mask rows).0 is))
