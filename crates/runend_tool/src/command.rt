@@ -124,11 +124,7 @@ fn read_command<'a>(name: &str, mut words: Words<'a>) -> Option<Command<'a>> {
             let index = parse_count(words.next()?)?;
             ended(words, Command::At(index))
         }
-        "slice" => {
-            let start = parse_count(words.next()?)?;
-            let stop = parse_count(words.next()?)?;
-            ended(words, Command::Slice(start, stop))
-        }
+        "slice" => read_slice(words),
         "filter" => {
             let bits = words.next().unwrap_or("");
             ended(words, Command::Filter(bits))
@@ -152,6 +148,13 @@ fn read_command<'a>(name: &str, mut words: Words<'a>) -> Option<Command<'a>> {
         "read" => Some(Command::Read(words)),
         _ => None,
     }
+}
+
+// The command of a `slice` line: where the rows start, and where they stop.
+fn read_slice(mut words: Words<'_>) -> Option<Command<'_>> {
+    let start = parse_count(words.next()?)?;
+    let stop = parse_count(words.next()?)?;
+    ended(words, Command::Slice(start, stop))
 }
 
 // The command of a `runs` line with these words. A slash parts the ends from the values.

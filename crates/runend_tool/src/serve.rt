@@ -70,8 +70,7 @@ fn answer<W: Write, E: Write, A: Allocator + Copy>(
     out: &mut W,
     err: &mut E,
     ctx: &mut ExecutionCtx<A>,
-) -> Status
-{
+) -> Status {
     let Ok(text) = str::from_utf8(bytes) else {
         return print(out, "not UTF-8\n", Status::BadInput);
     };
