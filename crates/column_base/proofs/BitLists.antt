@@ -1,22 +1,10 @@
 -- Lemmas on lists of bits.
 use Rattle.std.proofs.Common.{◌≡◌, ◌≢◌, ◌+◌, ◌-◌, ◌<◌, ◌∙◌, ℕ, suc, List, [], ◌∷◌, ◌++◌, Bool, true, false, cond, length, take, drop, set, refl, sym, ap, arith, get_or, add-one, ⊎_elim}
 use Rattle.std.specs.Prelude.{◌↔◌, replicate, count_by, All, Contains}
-use Rattle.std.specs.List.{range_with_len}
 use Rattle.std.proofs.lemmas.Bool.{cases_eq}
 use Rattle.std.proofs.lemmas.List.{set_split, get_or-set_same, get_or-set_other, take_more}
 use Rattle.std.proofs.lemmas.List.Elements.{All-head, All-tail, All-same, All-replicate, Contains-push, Contains-push_cases, Contains-append_left}
 use Rattle.std.proofs.lemmas.List.Sums.{count_by-le-length, count_by_more_no, count_by_more_yes, sum_by-cons}
-use Rattle.column_base.specs.Bits.{set_indices_from}
-
--- a range of at least one number begins with its first
-range_with_len-next : (from n k : ℕ) → n ≡ k + 1 → range_with_len from n ≡ from ∷ range_with_len (from + 1) k
-range_with_len-next from n k h = rw (h, add-one k) refl
-
--- the places from a true bit on are its own and those behind it
-pub set_indices_from-true : (from : ℕ) (bits : List Bool) → from < length bits → get_or bits from false ≡ true → set_indices_from from bits ≡ from ∷ set_indices_from (from + 1) bits
-set_indices_from-true from bits h set =
-    let next : length bits - from ≡ length bits - (from + 1) + 1 = omega arith in
-    rw (range_with_len-next from (length bits - from) (length bits - (from + 1)) next, set) refl
 
 -- a true bit in front counts
 pub count_by-true : (bits : List Bool) → count_by (λ b. b) (true ∷ bits) ≡ 1 + count_by (λ b. b) bits

@@ -1,3 +1,11 @@
 pub mod BitLists
 pub mod Ranges
 pub mod ValidityRows
+pub mod WordDigits
+pub mod WordMasks
+pub mod WordGrowth
+pub mod WordClears
+pub mod WordFills
+pub mod WordCopies
+pub mod WordCounts
+pub mod WordPlaces

@@ -1,10 +1,6 @@
 -- What lists of bits show.
-use Rattle.std.specs.Prelude.{◌-◌, ℕ, List, Bool, true, false, length, filter, slice_index_or, Contains}
+use Rattle.std.specs.Prelude.{ℕ, List, Bool, true, false, length, filter, slice_index_or, Contains}
 use Rattle.std.specs.List.{range_with_len}
-
--- the places from `from` on at which a bit is true, in ascending order
-abbrev pub set_indices_from : ℕ → List Bool → List ℕ
-set_indices_from from bits = filter (λ i. slice_index_or bits i false) (range_with_len from (length bits - from))
 
 -- the places at which a bit is true, in ascending order
 abbrev pub set_indices_of : List Bool → List ℕ

@@ -3,6 +3,7 @@ pub mod Types
 pub mod Number
 pub mod Numbers
 pub mod Bits
+pub mod Words
 pub mod Mask
 pub mod ValidityForm
 pub mod Validity

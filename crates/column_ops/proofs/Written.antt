@@ -1,10 +1,13 @@
 -- Lemmas on rows that are written one by one.
 use Rattle.std.proofs.Common.{◌≡◌, ◌∙◌, ◌+◌, List, [], ◌∷◌, ◌++◌, Bool, true, false, Option, Some, None, length, replicate, refl, sym, ap, subst, arith}
-use Rattle.std.specs.Prelude.{if◌then◌else◌, unwrap_or, is_some, IsSome}
+use Rattle.std.specs.Prelude.{◌<◌, ◌↔◌, All, if◌then◌else◌, unwrap_or, is_some, IsSome}
 use Rattle.std.proofs.lemmas.List.{length_push, replicate_more}
+use Rattle.column_base.specs.declared.dtype.Nullability.TheVariants.{Nullable}
+use Rattle.column_base.specs.ValidityForm.{ValidityForm, NoneNull, AllNull, HasLength, IsNormal, flags}
+use Rattle.column_base.proofs.ValidityRows.{nullable-of_bits}
 use Rattle.column_core.specs.Optionals.{optionals, AreBlankAtNulls}
 use Rattle.column_core.proofs.OptionalRows.{optionals-push, AreBlankAtNulls-push}
-use Rattle.column_ops.specs.Written.{AreWellWritten, written_flags}
+use Rattle.column_ops.specs.Written.{AreWellWritten, AreWritten, written_flags}
 
 -- one row more, in items and in flags
 pub record Grows {T : Type 0} (blank : T) (items more : List T) (bits more_bits : Option (List Bool)) (row : Option T) : Type 0 where
@@ -64,3 +67,22 @@ rows-more blank items more bits more_bits row old grows =
     ap (optionals more) grows.flag ∙ ap (λ xs. optionals xs (written_flags bits (length items) ++ is_some row ∷ [])) grows.item
     ∙ optionals-push items (written_flags bits (length items)) (unwrap_or row blank) (is_some row) old.paired
     ∙ ap (λ r. optionals items (written_flags bits (length items)) ++ r ∷ []) (row-of_parts row blank)
+
+-- the rows with the validity that their flags have
+pub AreWritten-of_flags : {T : Type 0} (blank : T) (items : List T) (bits : List Bool) (form : ValidityForm)
+    → AreWellWritten blank items (Some bits) → flags form (length bits) ≡ bits → HasLength form (length bits) → IsNormal form
+    → (form ≡ NoneNull) ↔ All (λ bit. bit ≡ true) bits → (form ≡ AllNull) ↔ ((0 < length bits) × All (λ bit. bit ≡ false) bits)
+    → AreWritten blank (optionals items bits) Nullable items form
+AreWritten-of_flags blank items bits form well flagged fits normal all_valid all_null =
+    let paired : length items ≡ length bits = sym well.paired in
+    let told : flags form (length items) ≡ bits = ap (flags form) paired ∙ flagged in
+    record {
+      shown = ap (optionals items) told;
+      fits = rw paired fits;
+      computed = record {
+        blanked = rw told well.blanked;
+        normal = normal;
+        some = λ null. let some = (all_null.0 null).0 in omega arith;
+      };
+      nullability = nullable-of_bits form bits flagged all_valid;
+    }

@@ -429,7 +429,11 @@ impl<A: Allocator + Copy> RunEndArray<A> {
     }
 
     #[cycle(canonicalize_in)]
-    pub(crate) fn canonicalize_in(&self, alloc: A) -> VortexResult<Canonical<A>>
+    pub(crate) fn canonicalize_in(
+        &self,
+        alloc: A,
+        prefill_runs: usize,
+    ) -> VortexResult<Canonical<A>>
         ensures only { IsOkUnless result VortexError.OutOfMemory }
         ensures rows { IfOk result (λ flat. column_rows (canonical_column flat) ≡ column_rows (column_of_runs self.now)) }
         ensures dtype { IfOk result (λ flat. column_dtype (canonical_column flat) ≡ column_dtype self.now.values) }
@@ -438,7 +442,8 @@ impl<A: Allocator + Copy> RunEndArray<A> {
         let Some(ends) = plain_ends(&self.ends) else {
             unreachable!()
         };
-        self.values.shown_by(alloc, ends, self.offset, self.length)
+        self.values
+            .shown_by(alloc, ends, self.offset, self.length, prefill_runs)
     }
 
     /// The runs of the rows from `start` to `stop - 1`, of which there is one at least: from the run of
@@ -491,7 +496,8 @@ impl<A: Allocator + Copy> RunEndArray<A> {
         let runs = self.runs_of_rows(start, stop);
         let ends = self.ends_between(alloc, runs.start, runs.end)?;
         let values = self.values.rows_between(alloc, runs.start, runs.end)?;
-        let rows = values.shown_by(alloc, &ends, self.offset + start, stop - start)?;
+        // No session is at hand, and by default truth values are prefilled from 0 runs on.
+        let rows = values.shown_by(alloc, &ends, self.offset + start, stop - start, 0)?;
         Ok(rows)
     }
 

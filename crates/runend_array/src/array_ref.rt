@@ -184,11 +184,17 @@ impl<A: Allocator + Copy> ArrayRef<A> {
         ensures session { ctx.new ≡ ctx.old }
     {
         let alloc = *ctx.allocator();
-        let flat = self.canonicalize_in(alloc)?;
+        let prefill_runs = ctx.session().thresholds().prefill_runs;
+        let flat = self.canonicalize_in(alloc, prefill_runs)?;
         flat.into_array(alloc)
     }
 
-    pub(crate) fn canonicalize_in(&self, alloc: A) -> VortexResult<Canonical<A>>
+    // From `prefill_runs` runs on the rows of truth values start as the value of most runs.
+    pub(crate) fn canonicalize_in(
+        &self,
+        alloc: A,
+        prefill_runs: usize,
+    ) -> VortexResult<Canonical<A>>
         ensures only { IsOkUnless result VortexError.OutOfMemory }
         ensures rows { IfOk result (λ flat. column_rows (canonical_column flat) ≡ rows self.now) }
         ensures dtype { IfOk result (λ flat. column_dtype (canonical_column flat) ≡ dtype_of self.now) }
@@ -216,7 +222,7 @@ impl<A: Allocator + Copy> ArrayRef<A> {
                 Ok(Canonical::List(copy))
             }
             ArrayRef::Constant(array) => write_constant(alloc, array),
-            ArrayRef::RunEnd(array) => array.canonicalize_in(alloc),
+            ArrayRef::RunEnd(array) => array.canonicalize_in(alloc, prefill_runs),
         }
     }
 
@@ -230,6 +236,7 @@ impl<A: Allocator + Copy> ArrayRef<A> {
         ends: &PrimitiveArray<A>,
         offset: usize,
         count: usize,
+        prefill_runs: usize,
     ) -> VortexResult<Canonical<A>>
         requires plain { IsEndsType (primitive_dtype ends.now) }
         requires window { IsWindow (ends_of ends.now) offset count }
@@ -247,7 +254,7 @@ impl<A: Allocator + Copy> ArrayRef<A> {
             }
             ArrayRef::Bool(values) => {
                 prove_eq!(values.len(), ends.len());
-                let array = decode_truths(alloc, ends, values, offset, count)?;
+                let array = decode_truths(alloc, ends, values, offset, count, prefill_runs)?;
                 Ok(Canonical::Flat(FlatColumn::Bool(array)))
             }
             ArrayRef::Decimal(values) => {
@@ -266,11 +273,11 @@ impl<A: Allocator + Copy> ArrayRef<A> {
             }
             ArrayRef::Constant(constant) => {
                 let values = write_constant(alloc, constant)?;
-                values.shown_by(alloc, ends, offset, count)
+                values.shown_by(alloc, ends, offset, count, prefill_runs)
             }
             ArrayRef::RunEnd(array) => {
-                let values = array.canonicalize_in(alloc)?;
-                values.shown_by(alloc, ends, offset, count)
+                let values = array.canonicalize_in(alloc, prefill_runs)?;
+                values.shown_by(alloc, ends, offset, count, prefill_runs)
             }
         }
     }

@@ -55,13 +55,15 @@ impl<A: Allocator + Copy> Canonical<A> {
     }
 
     /// The rows that runs of these values show, from row `offset` on, `count` many, in a flat form, with 0,
-    /// false or the view of nothing under null. Refused as `OutOfMemory` alone.
+    /// false or the view of nothing under null. From `prefill_runs` runs on the rows of truth values start as
+    /// the value of most runs; the answer is the same. Refused as `OutOfMemory` alone.
     pub fn shown_by(
         self,
         alloc: A,
         ends: &PrimitiveArray<A>,
         offset: usize,
         count: usize,
+        prefill_runs: usize,
     ) -> VortexResult<Canonical<A>>
         requires plain { IsEndsType (primitive_dtype ends.now) }
         requires window { IsWindow (ends_of ends.now) offset count }
@@ -73,7 +75,7 @@ impl<A: Allocator + Copy> Canonical<A> {
     {
         match self {
             Canonical::Flat(values) => {
-                let array = decode_flat(alloc, ends, values, offset, count)?;
+                let array = decode_flat(alloc, ends, values, offset, count, prefill_runs)?;
                 Ok(Canonical::Flat(array))
             }
             Canonical::List(lists) => {

@@ -64,14 +64,16 @@ fn encode_nulls<A: Allocator + Copy>(
 }
 
 /// The rows that runs show, from row `offset` on, `count` many: a constant null where there is a run
-/// and all values are null, else a flat column with 0, false or the view of nothing under null.
-/// Refused as `OutOfMemory` alone.
+/// and all values are null, else a flat column with 0, false or the view of nothing under null. From
+/// `prefill_runs` runs on the rows of truth values start as the value of most runs; others make no use
+/// of it. Refused as `OutOfMemory` alone.
 pub(crate) fn decode_column<A: Allocator + Copy>(
     alloc: A,
     ends: &PrimitiveArray<A>,
     values: FlatColumn<A>,
     offset: usize,
     count: usize,
+    prefill_runs: usize,
 ) -> VortexResult<ArrayRef<A>>
     requires plain { IsEndsType (primitive_dtype ends.now) }
     requires window { IsWindow (ends_of ends.now) offset count }
@@ -84,7 +86,7 @@ pub(crate) fn decode_column<A: Allocator + Copy>(
     if has_nulls_alone(&values) {
         return Ok(ArrayRef::Constant(null_constant(values.dtype(), count)));
     }
-    let array = decode_flat(alloc, ends, values, offset, count)?;
+    let array = decode_flat(alloc, ends, values, offset, count, prefill_runs)?;
     Ok(array_of(array))
 }
 
@@ -114,6 +116,7 @@ pub fn runend_decode_primitive<A: Allocator + Copy>(
         FlatColumn::Primitive(values),
         offset,
         length,
+        0,
     )
 }
 
@@ -143,6 +146,7 @@ pub fn runend_decode_decimal<A: Allocator + Copy>(
         FlatColumn::Decimal(values),
         offset,
         length,
+        0,
     )
 }
 
@@ -172,6 +176,7 @@ pub fn runend_decode_varbinview<A: Allocator + Copy>(
         FlatColumn::VarBinView(values),
         offset,
         length,
+        0,
     )
 }
 

@@ -41,12 +41,14 @@ pub fn runend_decode_bools<A: Allocator + Copy>(
     ensures session { ctx.new ≡ ctx.old }
 {
     prove_eq!(values.len(), ends.len());
+    let prefill_runs = ctx.session().thresholds().prefill_runs;
     decode_column(
         *ctx.allocator(),
         &ends,
         FlatColumn::Bool(values),
         offset,
         length,
+        prefill_runs,
     )
 }
 
@@ -80,6 +82,7 @@ pub fn runend_decode_typed_bool<I: Iterator<Item = usize>, A: Allocator + Copy>(
         let dtype = DType::Bool(values_nullability);
         return Ok(ArrayRef::Constant(null_constant(dtype, length)));
     }
+    let prefill_runs = ctx.session().thresholds().prefill_runs;
     let (bits, validity) = decode_typed_bits(
         *ctx.allocator(),
         run_ends,
@@ -87,6 +90,7 @@ pub fn runend_decode_typed_bool<I: Iterator<Item = usize>, A: Allocator + Copy>(
         &values_validity,
         values_nullability,
         length,
+        prefill_runs,
     )?;
     Ok(ArrayRef::Bool(BoolArray::new_unchecked(bits, validity)))
 }

@@ -1,5 +1,5 @@
 -- Items as a computed column stores them: a blank one under null.
-use Rattle.std.proofs.Common.{◌≡◌, ℕ, zero, suc, ◌<◌, List, [], ◌∷◌, Bool, true, false, Some, None, length, map, refl, ◌∙◌, ap, arith}
+use Rattle.std.proofs.Common.{◌≡◌, ℕ, zero, suc, ◌<◌, List, [], ◌∷◌, Bool, true, false, Some, None, length, map, replicate, refl, ◌∙◌, ap, arith}
 use Rattle.std.specs.Prelude.{unwrap_or}
 use Rattle.std.specs.List.{slice_get}
 use Rattle.std.specs.Option.{option_map}
@@ -63,6 +63,16 @@ pub blanked-null : {B : Type 0} (blank : B) (items : List B) (form : ValidityFor
 blanked-null blank items form row fits within null =
     slice_get-map (λ o. unwrap_or o blank) (optionals items (flags form (length items))) row
     ∙ ap (option_map (λ o. unwrap_or o blank)) (null-at items (flags form (length items)) row within (flags-at form (length items) row fits within ∙ ap Some null))
+
+-- where no row is null, and where each is
+pub blanked-none_null : {B : Type 0} (blank : B) (items : List B) (n : ℕ) → n ≡ length items → blanked blank (optionals items (replicate n true)) ≡ items
+blanked-none_null blank [] n e = refl
+blanked-none_null blank (x ∷ items) zero e = cc
+blanked-none_null blank (x ∷ items) (suc n) e = ap (λ rows. x ∷ rows) (blanked-none_null blank items n (omega arith))
+
+pub blanked-all_null : {B : Type 0} (blank : B) (items : List B) → blanked blank (optionals items (replicate (length items) false)) ≡ replicate (length items) blank
+blanked-all_null blank [] = refl
+blanked-all_null blank (x ∷ items) = ap (λ rows. blank ∷ rows) (blanked-all_null blank items)
 
 -- stored items under a function of items
 pub map-blanked : {B C : Type 0} (f : B → C) (blank : B) (items : List B) (flags : List Bool) → map f (blanked blank (optionals items flags)) ≡ blanked (f blank) (optionals (map f items) flags)

@@ -1,29 +1,27 @@
 -- Flat columns of numbers that an encoder or a decoder has computed.
-use Rattle.std.proofs.Common.{◌≡◌, ℕ, ℤ, pos, zero, suc, ◌+◌, ◌^◌, ◌<◌, List, [], ◌∷◌, Bool, Option, Some, None, length, map, replicate, refl, sym, subst, ◌∙◌, ap, arith}
+use Rattle.std.proofs.Common.{◌≡◌, ℕ, ℤ, pos, zero, suc, ◌+◌, ◌<◌, List, [], ◌∷◌, Bool, Option, Some, None, length, map, replicate, refl, sym, subst, ◌∙◌, ap, arith}
 use Rattle.std.specs.Prelude.{unsigned_abs}
 use Rattle.std.specs.List.{slice_get}
 use Rattle.std.specs.Option.{option_map}
 use Rattle.std.proofs.lemmas.List.{length-map, length-replicate}
 use Rattle.std.proofs.lemmas.Option.{slice_get-map, get_or_from_slice_get}
-use Rattle.column_base.specs.declared.dtype.PType.TheVariants.{U64}
 use Rattle.column_base.specs.Types.{IsLeastFor}
-use Rattle.column_base.specs.ValidityForm.{ValidityForm, NeverNull, HasLength, IsNormal, flags, nullability_in}
+use Rattle.column_base.specs.ValidityForm.{NeverNull, IsNormal, flags, nullability_in}
 use Rattle.column_core.specs.Value.{FlatValue, Number, Value, Single}
-use Rattle.column_core.specs.PrimitiveForm.{PrimitiveForm, primitive_with, primitive_dtype, optionals, optional_numbers, row_flags, AreZeroAtNulls}
+use Rattle.column_core.specs.PrimitiveForm.{PrimitiveForm, optionals, optional_numbers, row_flags, AreZeroAtNulls}
 use Rattle.column_core.specs.Computed.{HasRowIfAllNull}
 use Rattle.runend_codec.specs.Window.{run_at, last_end, IsWindow}
 use Rattle.runend_codec.specs.Cover.{Covers, IsTightCover}
 use Rattle.runend_codec.specs.Ends.{ends_of}
 use Rattle.runend_codec.specs.Window.{run_rows}
-use Rattle.runend_codec.specs.Encoding.{number_rows, IsAllInvalid, IsFlatEncoding, HasNullsAlone}
+use Rattle.runend_codec.specs.Encoding.{IsFlatEncoding, HasNullsAlone}
 use Rattle.runend_codec.proofs.Lists.{slice_get-replicate}
 use Rattle.runend_codec.proofs.RunAt.{run_of_row_within}
-use Rattle.runend_codec.proofs.ShownRuns.{equal_from_Covers, shown_at-here}
-use Rattle.runend_codec.proofs.Grow.{IsTightCover-from_Tiles}
+use Rattle.runend_codec.proofs.ShownRuns.{equal_from_Covers}
 use Rattle.runend_codec.proofs.Decoded.{Covers-map}
 use Rattle.runend_codec.proofs.RunRows.{Covers-run_rows}
 use Rattle.runend_codec.proofs.StoredNumbers.{naturals-of_pos}
-use Rattle.runend_codec.proofs.NullRows.{values_of, length-number_rows, nulls-from_AllNull, null-at_each}
+use Rattle.runend_codec.proofs.NullRows.{values_of, null-at_each}
 
 -- optional numbers as values are equal only where they are
 option_map-one : {X Y : Type 0} (f : X → Y) → ((x y : X) → f x ≡ f y → x ≡ y) → (a b : Option X) → option_map f a ≡ option_map f b → a ≡ b
@@ -39,7 +37,7 @@ item_at (x ∷ xs) zero h = (x, refl)
 item_at (x ∷ xs) (suc k) h = item_at xs k (omega arith)
 
 -- a tight cover stays one under a function that tells all values apart
-IsTightCover-map : {X Y : Type 0} (f : X → Y) → ((x y : X) → f x ≡ f y → x ≡ y) → (rows : List X) (ends : List ℕ) (values : List X)
+pub IsTightCover-map : {X Y : Type 0} (f : X → Y) → ((x y : X) → f x ≡ f y → x ≡ y) → (rows : List X) (ends : List ℕ) (values : List X)
     → IsTightCover rows ends values → IsTightCover (map f rows) ends (map f values)
 IsTightCover-map {X} {Y} f one rows ends values c =
     let long : length (map f rows) ≡ length rows = length-map rows f in

@@ -23,3 +23,7 @@ pub mod TypedRows
 pub mod TrimmedItems
 pub mod VisibleRuns
 pub mod VisibleLaws
+pub mod Blocks
+pub mod ValidRuns
+pub mod Marked
+pub mod BitRuns

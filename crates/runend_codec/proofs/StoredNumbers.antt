@@ -1,11 +1,10 @@
 -- Numbers as a computed column stores them: 0 under null.
 use Rattle.std.proofs.Common.{◌≡◌, ◌≢◌, ℕ, ℤ, pos, zero, suc, ◌<◌, get_or, List, [], ◌∷◌, ◌++◌, Bool, true, false, not, Option, Some, None, if◌then◌else◌, length, map, replicate, refl, sym, ◌∙◌, ap, arith}
-use Rattle.std.specs.Prelude.{unsigned_abs, slice_index, All, IsSome}
+use Rattle.std.specs.Prelude.{unsigned_abs, slice_index}
 use Rattle.std.specs.List.{slice_get}
 use Rattle.std.specs.Option.{option_map, option_eq, is_some, UnwrapsOrElse}
 use Rattle.std.specs.declared.cmp.Ordering.{Ordering}
 use Rattle.std.proofs.lemmas.List.{length-map, map-append}
-use Rattle.std.proofs.lemmas.List.Elements.{All-push}
 use Rattle.std.proofs.lemmas.Option.{slice_get-map, slice_get_read, get_or_from_slice_get}
 use Rattle.column_base.specs.Number.{IsNumbered}
 use Rattle.column_base.specs.ValidityForm.{ValidityForm, HasLength, flags, flag_at}
@@ -83,11 +82,6 @@ slice_index-naturals number natural law xs k x here =
 pub naturals-of_pos : (ends : List ℕ) → map unsigned_abs (map (λ (end : ℕ). pos end) ends) ≡ ends
 naturals-of_pos [] = refl
 naturals-of_pos (end ∷ ends) = ap (λ (es : List ℕ). end ∷ es) (naturals-of_pos ends)
-
--- where each flag is true, each is once a row that shows a number is pushed
-pub All-push_some : {S : Type 0} (flags : List Bool) (row : Option S) → All (λ flag. flag ≡ true) flags → IsSome row → All (λ flag. flag ≡ true) (flags ++ is_some row ∷ [])
-All-push_some flags None all some = cc
-All-push_some flags (Some x) all some = All-push (λ flag. flag ≡ true) flags true all refl
 
 -- as many ends as stored ones
 pub length-naturals : {S : Type 0} (number : S → ℤ) (xs : List S) → length (map unsigned_abs (map number xs)) ≡ length xs

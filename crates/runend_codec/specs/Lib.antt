@@ -1,4 +1,5 @@
 pub mod Window
+pub mod BitRunsForm
 pub mod Cover
 pub mod WindowFault
 pub mod Ends

@@ -6,7 +6,6 @@ use Rattle.column_base.specs.declared.dtype.Nullability.{Nullability}
 use Rattle.column_base.specs.declared.dtype.Nullability.TheVariants.{NonNullable, Nullable}
 use Rattle.column_base.specs.declared.mask.Mask.{Mask}
 use Rattle.column_base.specs.declared.mask.Mask.TheVariants.{AllTrue, AllFalse, Values}
-use Rattle.column_base.specs.ValidityForm.{ValidityForm, AllNull}
 use Rattle.column_core.specs.Value.{Value, Truth, Number, Single}
 use Rattle.column_core.specs.Optionals.{optionals}
 use Rattle.runend_codec.specs.Window.{run_at, last_end}

@@ -12,10 +12,11 @@ ghost use Rattle.runend_codec.specs.Ends.{IsEndsType, ends_of};
 ghost use Rattle.runend_codec.specs.Decoding.{AreDecoded};
 ghost use Rattle.runend_codec.specs.Encoding.{IsDecodedFlat, blanked};
 
-use crate::run_writer::RunWriter;
+use crate::run_writer::{RunWriter, copies_of};
 use column_base::{match_each_native, match_each_unsigned};
 use column_core::{
-    BitBufferMut, NativePType, PrimitiveArray, UnsignedPType, Validity, VortexError, VortexResult,
+    BitBuffer, BitBufferMut, NativePType, PrimitiveArray, UnsignedPType, Validity, VortexError,
+    VortexResult,
 };
 use std::alloc::Allocator;
 
@@ -28,47 +29,72 @@ pub fn reach_of<E: UnsignedPType>(ends: &[E], run: usize, offset: usize, count: 
     rows.min(count as u64) as usize
 }
 
-// The item in a row, and the blank one for null.
-fn stored_at<T: Copy + Drop, A: Allocator>(
-    items: &[T],
-    validity: &Validity<A>,
-    row: usize,
-    blank: T,
-) -> T
-    requires within { row < length items.now }
-    requires fits { HasLength (form_of validity.now) (length items.now) }
-    ensures { slice_get (blanked blank (optionals items.now (flags (form_of validity.now) (length items.now)))) row ≡ Some result }
-{
-    if validity.is_valid(row) {
-        items[row]
-    } else {
-        blank
-    }
-}
-
-// The items that the runs show in the window, the blank one for null.
-fn decode_items<E: UnsignedPType, T: Copy + Drop, A: Allocator + Copy>(
+// The items that the runs show in the window, where no run is null.
+fn decode_valid<E: UnsignedPType, T: Copy + Drop, A: Allocator + Copy>(
     alloc: A,
     ends: &[E],
     values: &[T],
-    validity: &Validity<A>,
-    blank: T,
     offset: usize,
     count: usize,
 ) -> VortexResult<Vec<T, A>>
     requires window { IsWindow (map unsigned_abs (map E.number ends.now)) offset count }
     requires paired { length values.now ≡ length ends.now }
-    requires fits { HasLength (form_of validity.now) (length values.now) }
     ensures only { IsOkUnless result VortexError.OutOfMemory }
-    ensures cover { IfOk result (λ items. Covers items.items (map unsigned_abs (map E.number ends.now))
-        (blanked blank (optionals values.now (flags (form_of validity.now) (length values.now)))) offset count) }
+    ensures cover { IfOk result (λ items. Covers items.items (map unsigned_abs (map E.number ends.now)) values.now offset count) }
 {
     let mut rows = RunWriter::with_room(alloc, count)?;
     for run in 0..ends.len() {
-        let item = stored_at(values, validity, run, blank);
-        rows.repeat_to(item, reach_of(ends, run, offset, count));
+        rows.repeat_to(values[run], reach_of(ends, run, offset, count));
     }
     Ok(rows.finish())
+}
+
+// The item in a row, and the blank one for null.
+fn stored_at<T: Copy + Drop, A: Allocator>(
+    items: &[T],
+    marks: &BitBuffer<A>,
+    row: usize,
+    blank: T,
+) -> T
+    requires within { row < length items.now }
+    requires fits { length marks.now ≡ length items.now }
+    ensures { slice_get (blanked blank (optionals items.now marks.now)) row ≡ Some result }
+{
+    if marks.value(row) { items[row] } else { blank }
+}
+
+// The items that the runs show in the window, the blank one for null, and whether each row is valid.
+// The bits start true, so that only the runs of null write any.
+fn decode_marked<E: UnsignedPType, T: Copy + Drop, A: Allocator + Copy>(
+    alloc: A,
+    ends: &[E],
+    values: &[T],
+    marks: &BitBuffer<A>,
+    blank: T,
+    offset: usize,
+    count: usize,
+) -> VortexResult<(Vec<T, A>, BitBufferMut<A>)>
+    requires window { IsWindow (map unsigned_abs (map E.number ends.now)) offset count }
+    requires paired { length values.now ≡ length ends.now }
+    requires fits { length marks.now ≡ length values.now }
+    ensures only { IsOkUnless result VortexError.OutOfMemory }
+    ensures items { IfOk result (λ parts. Covers parts.0.items (map unsigned_abs (map E.number ends.now))
+        (blanked blank (optionals values.now marks.now)) offset count) }
+    ensures bits { IfOk result (λ parts. Covers parts.1 (map unsigned_abs (map E.number ends.now)) marks.now offset count) }
+{
+    let mut rows = RunWriter::with_room(alloc, count)?;
+    let mut bits = BitBufferMut::full(alloc, true, count)?;
+    let mut start = 0;
+    for run in 0..ends.len() {
+        let reach = reach_of(ends, run, offset, count);
+        let item = stored_at(values, marks, run, blank);
+        rows.repeat_to(item, reach);
+        if !marks.value(run) {
+            bits.fill_range(start, reach, false);
+        }
+        start = reach;
+    }
+    Ok((rows.finish(), bits))
 }
 
 // Whether each row that the runs show in the window is valid.
@@ -159,9 +185,25 @@ fn decode_under<E: UnsignedPType, T: Copy + Drop, A: Allocator + Copy>(
     ensures decoded { IfOk result (λ parts. AreDecoded blank (map unsigned_abs (map E.number ends.now)) values.now (form_of validity.now) offset count
         parts.0.items (form_of parts.1)) }
 {
-    let items = decode_items(alloc, ends, values, validity, blank, offset, count)?;
-    let rows = decode_validity(alloc, ends, validity, offset, count)?;
-    Ok((items, rows))
+    match validity {
+        Validity::NonNullable => {
+            let items = decode_valid(alloc, ends, values, offset, count)?;
+            Ok((items, Validity::NonNullable))
+        }
+        Validity::AllValid => {
+            let items = decode_valid(alloc, ends, values, offset, count)?;
+            Ok((items, Validity::AllValid))
+        }
+        Validity::AllInvalid => {
+            let items = copies_of(alloc, blank, count)?;
+            let rows = decode_validity(alloc, ends, validity, offset, count)?;
+            Ok((items, rows))
+        }
+        Validity::Bits(marks) => {
+            let (items, bits) = decode_marked(alloc, ends, values, marks, blank, offset, count)?;
+            Ok((items, Validity::from_bits(bits.freeze())))
+        }
+    }
 }
 
 /// The items and the validity of the rows that runs show, from row `offset` on, `count` many, with the

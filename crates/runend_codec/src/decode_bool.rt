@@ -1,6 +1,7 @@
 //! The decoder of truth values.
-ghost use Rattle.std.specs.Prelude.{◌≡◌, ◌<◌, IfOk, IsOkUnless, length as item_count, map, slice_get, unsigned_abs, Some, false};
-ghost use Rattle.column_base.specs.ValidityForm.{HasLength, flags};
+ghost use Rattle.std.specs.Prelude.{◌≡◌, ◌<◌, [], IfOk, IsOkUnless, count_by, length as item_count, map, slice_get, unsigned_abs, Some, false};
+ghost use Rattle.column_base.specs.ValidityForm.{HasLength, IsNormal, flags, nullability_in};
+ghost use Rattle.column_core.specs.Computed.{HasRowIfAllNull};
 ghost use Rattle.column_base.specs.Validity.{form_of};
 ghost use Rattle.column_core.specs.BoolForm.{BoolForm};
 ghost use Rattle.column_core.specs.Optionals.{optionals};
@@ -14,11 +15,12 @@ ghost use Rattle.runend_codec.specs.Decoding.{AreDecoded};
 ghost use Rattle.runend_codec.specs.Encoding.{IsDecodedLeaf, blanked};
 ghost use Rattle.column_core.specs.Leaf.{single_rows};
 
+use crate::bit_runs::{BitRuns, count_marked, is_majority, start_over};
 use crate::decode::{decode_validity, reach_of};
 use column_base::match_each_unsigned;
 use column_core::{
-    BitBuffer, BitBufferMut, BoolArray, FlatColumn, PrimitiveArray, UnsignedPType, Validity,
-    VortexError, VortexResult,
+    BitBuffer, BoolArray, FlatColumn, PrimitiveArray, UnsignedPType, Validity, VortexError,
+    VortexResult,
 };
 use std::alloc::Allocator;
 
@@ -31,6 +33,39 @@ fn truth_at<A: Allocator>(values: &BitBuffer<A>, validity: &Validity<A>, row: us
     validity.is_valid(row) && values.value(row)
 }
 
+// How many runs are true, of which a null one is none.
+fn count_truths<A: Allocator>(values: &BitBuffer<A>, validity: &Validity<A>) -> usize
+    requires { HasLength (form_of validity.now) (item_count values.now) }
+    ensures { result ≡ count_by (λ bit. bit) (blanked false (optionals values.now (flags (form_of validity.now) (item_count values.now)))) }
+{
+    match validity {
+        Validity::NonNullable => values.true_count(),
+        Validity::AllValid => values.true_count(),
+        Validity::AllInvalid => 0,
+        Validity::Bits(marks) => count_marked(values, marks),
+    }
+}
+
+// No bits yet. From `prefill_runs` runs on the rows start as the truth value of most runs, so that only
+// the other runs are written.
+fn start_truths<A: Allocator + Copy>(
+    alloc: A,
+    values: &BitBuffer<A>,
+    validity: &Validity<A>,
+    count: usize,
+    prefill_runs: usize,
+) -> VortexResult<BitRuns<A>>
+    requires fits { HasLength (form_of validity.now) (item_count values.now) }
+    ensures only { IsOkUnless result VortexError.OutOfMemory }
+    ensures empty { IfOk result (λ runs. runs ≡ []) }
+{
+    if values.len() < prefill_runs {
+        return BitRuns::with_room(alloc, count);
+    }
+    let majority = is_majority(count_truths(values, validity), values.len());
+    BitRuns::prefilled(alloc, majority, count)
+}
+
 // The truth values that the runs show in the window, false for null.
 fn decode_bits<E: UnsignedPType, A: Allocator + Copy>(
     alloc: A,
@@ -39,7 +74,8 @@ fn decode_bits<E: UnsignedPType, A: Allocator + Copy>(
     validity: &Validity<A>,
     offset: usize,
     count: usize,
-) -> VortexResult<BitBufferMut<A>>
+    prefill_runs: usize,
+) -> VortexResult<BitBuffer<A>>
     requires window { IsWindow (map unsigned_abs (map E.number ends.now)) offset count }
     requires paired { item_count values.now ≡ item_count ends.now }
     requires fits { HasLength (form_of validity.now) (item_count values.now) }
@@ -47,12 +83,62 @@ fn decode_bits<E: UnsignedPType, A: Allocator + Copy>(
     ensures cover { IfOk result (λ bits. Covers bits (map unsigned_abs (map E.number ends.now))
         (blanked false (optionals values.now (flags (form_of validity.now) (item_count values.now)))) offset count) }
 {
-    let mut rows = BitBufferMut::with_capacity(alloc, count)?;
+    let mut rows = start_truths(alloc, values, validity, count, prefill_runs)?;
     for run in 0..ends.len() {
-        let missing = reach_of(ends, run, offset, count).saturating_sub(rows.len());
-        rows.append_n(truth_at(values, validity, run), missing)?;
+        let reach = reach_of(ends, run, offset, count);
+        rows.repeat_to(truth_at(values, validity, run), reach)?;
     }
-    Ok(rows)
+    Ok(rows.finish())
+}
+
+// Whether each row that the runs show in the window is valid.
+fn decode_marks<E: UnsignedPType, A: Allocator + Copy>(
+    alloc: A,
+    ends: &[E],
+    marks: &BitBuffer<A>,
+    offset: usize,
+    count: usize,
+    prefill_runs: usize,
+) -> VortexResult<BitBuffer<A>>
+    requires window { IsWindow (map unsigned_abs (map E.number ends.now)) offset count }
+    requires paired { item_count marks.now ≡ item_count ends.now }
+    ensures only { IsOkUnless result VortexError.OutOfMemory }
+    ensures cover { IfOk result (λ bits. Covers bits (map unsigned_abs (map E.number ends.now)) marks.now offset count) }
+{
+    let mut rows = start_over(alloc, marks, count, prefill_runs)?;
+    for run in 0..ends.len() {
+        let reach = reach_of(ends, run, offset, count);
+        rows.repeat_to(marks.value(run), reach)?;
+    }
+    Ok(rows.finish())
+}
+
+// The validity of the rows that the runs show in the window.
+fn decode_nulls<E: UnsignedPType, A: Allocator + Copy>(
+    alloc: A,
+    ends: &[E],
+    validity: &Validity<A>,
+    offset: usize,
+    count: usize,
+    prefill_runs: usize,
+) -> VortexResult<Validity<A>>
+    requires window { IsWindow (map unsigned_abs (map E.number ends.now)) offset count }
+    requires fits { HasLength (form_of validity.now) (item_count ends.now) }
+    ensures only { IsOkUnless result VortexError.OutOfMemory }
+    ensures cover { IfOk result (λ rows. Covers (flags (form_of rows) count) (map unsigned_abs (map E.number ends.now))
+        (flags (form_of validity.now) (item_count ends.now)) offset count) }
+    ensures fits { IfOk result (λ rows. HasLength (form_of rows) count) }
+    ensures normal { IfOk result (λ rows. IsNormal (form_of rows)) }
+    ensures nullability { IfOk result (λ rows. nullability_in (form_of rows) ≡ nullability_in (form_of validity.now)) }
+    ensures some { IfOk result (λ rows. HasRowIfAllNull (form_of rows) count) }
+{
+    match validity {
+        Validity::Bits(marks) => {
+            let bits = decode_marks(alloc, ends, marks, offset, count, prefill_runs)?;
+            Ok(Validity::from_bits(bits))
+        }
+        _ => decode_validity(alloc, ends, validity, offset, count),
+    }
 }
 
 fn decode_under<E: UnsignedPType, A: Allocator + Copy>(
@@ -61,6 +147,7 @@ fn decode_under<E: UnsignedPType, A: Allocator + Copy>(
     values: &BoolArray<A>,
     offset: usize,
     count: usize,
+    prefill_runs: usize,
 ) -> VortexResult<BoolArray<A>>
     requires window { IsWindow (map unsigned_abs (map E.number ends.now)) offset count }
     requires paired { item_count values.now.bits ≡ item_count ends.now }
@@ -68,19 +155,29 @@ fn decode_under<E: UnsignedPType, A: Allocator + Copy>(
     ensures flat { IfOk result (λ array. IsDecodedLeaf (map unsigned_abs (map E.number ends.now)) (OfTruths values.now) offset count (OfTruths array)) }
 {
     let validity = values.validity();
-    let bits = decode_bits(alloc, ends, values.values(), validity, offset, count)?;
-    let rows = decode_validity(alloc, ends, validity, offset, count)?;
-    Ok(BoolArray::new_unchecked(bits.freeze(), rows))
+    let bits = decode_bits(
+        alloc,
+        ends,
+        values.values(),
+        validity,
+        offset,
+        count,
+        prefill_runs,
+    )?;
+    let rows = decode_nulls(alloc, ends, validity, offset, count, prefill_runs)?;
+    Ok(BoolArray::new_unchecked(bits, rows))
 }
 
 /// The rows that runs of truth values show, from row `offset` on, `count` many, as a flat column with
-/// false under null. Refused as `OutOfMemory` alone.
+/// false under null. From `prefill_runs` runs on the rows start as the truth value of most runs, and only
+/// the other runs are written; the answer is the same. Refused as `OutOfMemory` alone.
 pub fn decode_truths<A: Allocator + Copy>(
     alloc: A,
     ends: &PrimitiveArray<A>,
     values: &BoolArray<A>,
     offset: usize,
     count: usize,
+    prefill_runs: usize,
 ) -> VortexResult<BoolArray<A>>
     requires plain { IsEndsType (primitive_dtype ends.now) }
     requires window { IsWindow (ends_of ends.now) offset count }
@@ -88,5 +185,5 @@ pub fn decode_truths<A: Allocator + Copy>(
     ensures only { IsOkUnless result VortexError.OutOfMemory }
     ensures flat { IfOk result (λ array. IsDecodedLeaf (ends_of ends.now) (OfTruths values.now) offset count (OfTruths array)) }
 {
-    match_each_unsigned!(ends.values(), items => decode_under(alloc, items.as_slice(), values, offset, count), _ => unreachable!())
+    match_each_unsigned!(ends.values(), items => decode_under(alloc, items.as_slice(), values, offset, count, prefill_runs), _ => unreachable!())
 }

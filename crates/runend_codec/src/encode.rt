@@ -1,5 +1,5 @@
 //! The encoder: rows are walked once, with the run of the last row open.
-ghost use Rattle.std.specs.Prelude.{◌≡◌, ◌+◌, ◌<◌, ◌≤◌, ◌++◌, ◌↔◌, true, [], ◌∷◌, All, IfOk, OnOk, IsOkUnless, IsSome, IsTrue, is_some, length, map, option_map};
+ghost use Rattle.std.specs.Prelude.{◌≡◌, ◌+◌, ◌<◌, ◌≤◌, ◌++◌, ◌↔◌, true, [], ◌∷◌, All, IfOk, OnOk, IsOkUnless, IsSome, IsTrue, is_some, length, map, option_map, replicate};
 ghost use Rattle.column_base.specs.declared.dtype.Nullability.TheVariants.{NonNullable};
 ghost use Rattle.column_base.specs.ValidityForm.{NeverNull, HasLength, IsNormal, flags, nullability_in};
 ghost use Rattle.column_base.specs.Validity.{form_of};
@@ -75,6 +75,76 @@ fn encode_items<T: NativePType, A: Allocator + Copy>(
     ensures paired { IfOk result (λ runs. length runs.flags ≡ length runs.values.items) }
     ensures zeroed { IfOk result (λ runs. AreZeroAtNulls (map T.number runs.values.items) runs.flags) }
     ensures never { form_of validity.now ≡ NeverNull → IfOk result (λ runs. All (λ flag. flag ≡ true) runs.flags) }
+{
+    match validity {
+        Validity::NonNullable => encode_valid(alloc, items),
+        Validity::AllValid => encode_valid(alloc, items),
+        Validity::AllInvalid => encode_nullable(alloc, items, validity),
+        Validity::Bits(_) => encode_nullable(alloc, items, validity),
+    }
+}
+
+// The same of rows of which none is null. Their flags need no look at a row.
+fn encode_valid<T: NativePType, A: Allocator + Copy>(
+    alloc: A,
+    items: &[T],
+) -> VortexResult<Encoder<T, A>>
+    ensures only { IsOkUnless result VortexError.OutOfMemory }
+    ensures cover { IfOk result (λ runs. IsTightCover (optionals (map T.number items.now) (replicate (length items.now) true))
+        runs.ends.items (optionals (map T.number runs.values.items) runs.flags)) }
+    ensures paired { IfOk result (λ runs. length runs.flags ≡ length runs.values.items) }
+    ensures zeroed { IfOk result (λ runs. AreZeroAtNulls (map T.number runs.values.items) runs.flags) }
+    ensures valid { IfOk result (λ runs. All (λ flag. flag ≡ true) runs.flags) }
+{
+    let (ends, values) = valid_runs(alloc, items)?;
+    let flags = BitBufferMut::full(alloc, true, values.len())?;
+    Ok(Encoder {
+        ends,
+        values,
+        flags,
+    })
+}
+
+// The ends and the numbers of the runs, where none is null.
+fn valid_runs<T: NativePType, A: Allocator + Copy>(
+    alloc: A,
+    items: &[T],
+) -> VortexResult<(Vec<u64, A>, Vec<T, A>)>
+    ensures only { IsOkUnless result VortexError.OutOfMemory }
+    ensures cover { IfOk result (λ runs. IsTightCover (map T.number items.now) runs.0.items (map T.number runs.1.items)) }
+{
+    let mut ends = Vec::new(alloc);
+    let mut values = Vec::new(alloc);
+    let total = items.len();
+    if total == 0 {
+        return Ok((ends, values));
+    }
+    let mut open = items[0];
+    for row in 1..total {
+        let item = items[row];
+        if item != open {
+            ends.push(row as u64)?;
+            values.push(open)?;
+            open = item;
+        }
+    }
+    ends.push(total as u64)?;
+    values.push(open)?;
+    Ok((ends, values))
+}
+
+// The same of rows of which any may be null.
+fn encode_nullable<T: NativePType, A: Allocator + Copy>(
+    alloc: A,
+    items: &[T],
+    validity: &Validity<A>,
+) -> VortexResult<Encoder<T, A>>
+    requires { HasLength (form_of validity.now) (length items.now) }
+    ensures only { IsOkUnless result VortexError.OutOfMemory }
+    ensures cover { IfOk result (λ runs. IsTightCover (optionals (map T.number items.now) (flags (form_of validity.now) (length items.now)))
+        runs.ends.items (optionals (map T.number runs.values.items) runs.flags)) }
+    ensures paired { IfOk result (λ runs. length runs.flags ≡ length runs.values.items) }
+    ensures zeroed { IfOk result (λ runs. AreZeroAtNulls (map T.number runs.values.items) runs.flags) }
 {
     let mut runs = Encoder::new(alloc)?;
     let count = items.len();

@@ -70,13 +70,15 @@ fn decode_views<A: Allocator + Copy>(
 }
 
 /// The rows that runs show, from row `offset` on, `count` many, as a flat column with 0, false or the
-/// view of nothing under null. Refused as `OutOfMemory` alone.
+/// view of nothing under null. Of truth values, the rows start as the value of most runs from `prefill_runs`
+/// runs on; the answer is the same. Refused as `OutOfMemory` alone.
 pub fn decode_flat<A: Allocator + Copy>(
     alloc: A,
     ends: &PrimitiveArray<A>,
     values: FlatColumn<A>,
     offset: usize,
     count: usize,
+    prefill_runs: usize,
 ) -> VortexResult<FlatColumn<A>>
     requires plain { IsEndsType (primitive_dtype ends.now) }
     requires window { IsWindow (ends_of ends.now) offset count }
@@ -92,7 +94,7 @@ pub fn decode_flat<A: Allocator + Copy>(
         }
         FlatColumn::Bool(values) => {
             prove_eq!(values.len(), ends.len());
-            let array = decode_truths(alloc, ends, &values, offset, count)?;
+            let array = decode_truths(alloc, ends, &values, offset, count, prefill_runs)?;
             Ok(FlatColumn::Bool(array))
         }
         FlatColumn::Decimal(values) => {

@@ -1,6 +1,7 @@
 //! Codecs of run-end encoded flat columns: which run a row is in, the encoder, and the decoders.
 #![tactic(auto)]
 
+mod bit_runs;
 mod decode;
 mod decode_bool;
 mod encode;

@@ -37,7 +37,38 @@ fn last_of(ends: &[u64]) -> u64
     }
 }
 
-fn stored_as<T: NativePType, A: Allocator + Copy>(
+// A type of ends: what an end is cast to.
+trait EndsType: NativePType {
+    fn of_end(end: u64) -> Self
+        requires { HasNumber Self.PTYPE (pos end) }
+        ensures { Self.number result ≡ pos end };
+}
+
+impl EndsType for u8 {
+    fn of_end(end: u64) -> u8 {
+        end as u8
+    }
+}
+
+impl EndsType for u16 {
+    fn of_end(end: u64) -> u16 {
+        end as u16
+    }
+}
+
+impl EndsType for u32 {
+    fn of_end(end: u64) -> u32 {
+        end as u32
+    }
+}
+
+impl EndsType for u64 {
+    fn of_end(end: u64) -> u64 {
+        end
+    }
+}
+
+fn stored_as<T: EndsType, A: Allocator + Copy>(
     alloc: A,
     ends: &[u64],
 ) -> VortexResult<PrimitiveValues<A>>
@@ -49,14 +80,14 @@ fn stored_as<T: NativePType, A: Allocator + Copy>(
     Ok(T::wrap(narrow_all(alloc, ends)?))
 }
 
-fn narrow_all<T: NativePType, A: Allocator>(alloc: A, ends: &[u64]) -> VortexResult<Vec<T, A>>
+fn narrow_all<T: EndsType, A: Allocator>(alloc: A, ends: &[u64]) -> VortexResult<Vec<T, A>>
     requires { All (λ end. HasNumber T.PTYPE (pos end)) ends.now }
     ensures only { IsOkUnless result VortexError.OutOfMemory }
     ensures shows { IfOk result (λ items. map T.number items.items ≡ map (λ end. pos end) ends.now) }
 {
     let mut items = Vec::with_capacity(alloc, ends.len())?;
     for end in ends {
-        items.push(T::narrow(i128::from(*end)).unwrap())?;
+        items.push_reserved(T::of_end(*end));
     }
     Ok(items)
 }

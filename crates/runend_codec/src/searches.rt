@@ -1,5 +1,5 @@
 //! Which run a row is in. Ends and rows count rows, and runs are counted from 0.
-ghost use Rattle.std.specs.Prelude.{◌≡◌, ℕ, ◌+◌, ◌-◌, ◌^◌, ◌<◌, ◌≤◌, count_by, length, map, min, nat_le, nat_lt, unsigned_abs};
+ghost use Rattle.std.specs.Prelude.{◌≡◌, ℕ, ◌+◌, ◌-◌, ◌^◌, ◌<◌, ◌≤◌, IsTrue, count_by, length, map, min, nat_le, nat_lt, unsigned_abs};
 ghost use Rattle.std.specs.List.Sorted.{IsStrictlyIncreasing};
 ghost use Rattle.column_base.specs.Numbers.{numbers, ptype_of};
 ghost use Rattle.column_base.specs.Types.{IsUnsigned};
@@ -28,16 +28,25 @@ pub fn first_past<E: UnsignedPType>(ends: &mut CountedEnds<'_, E>, row: usize) -
     ensures bound { (k : ℕ) → length ends.old.ends < 2 ^ k → ends.new.tests ≤ ends.old.tests + k }
 {
     let mut low = 0;
-    let mut high = ends.len();
-    while low < high {
-        let middle = low + (high - low) / 2;
-        if ends.test(middle, row) {
-            low = middle + 1;
-        } else {
-            high = middle;
-        }
+    let mut left = ends.len();
+    while left != 0 {
+        let half = left / 2;
+        let ended = ends.test(low + half, row);
+        // Behind the middle of an even number of runs there is one fewer than before it.
+        low += number_if(ended, half + 1);
+        left = half - number_if(ended, 1 - left % 2);
     }
     low
+}
+
+// The number where the flag is true, and else 0. A product is no branch, which a search would miss
+// at every other test.
+fn number_if(flag: bool, number: usize) -> usize
+    ensures taken { IsTrue flag → result ≡ number }
+    ensures none { ¬ IsTrue flag → result ≡ 0 }
+    ensures within { result ≤ number }
+{
+    usize::from(flag) * number
 }
 
 /// `first_past` where there is one run: at most 1 test.

@@ -1,5 +1,5 @@
 //! The decoder of truth values, whose ends come from any iterator, so that runs may be empty.
-ghost use Rattle.std.specs.Prelude.{◌≡◌, ◌<◌, ◌↔◌, IsTrue, ℕ, List, Some, false, slice_get, IfOk, IsOkUnless, length, length as item_count};
+ghost use Rattle.std.specs.Prelude.{◌≡◌, [], count_by, ◌<◌, ◌↔◌, IsTrue, ℕ, List, Some, false, slice_get, IfOk, IsOkUnless, length, length as item_count};
 ghost use Rattle.column_base.specs.Mask.{mask_bits};
 ghost use Rattle.column_base.specs.ValidityForm.{HasLength, IsNormal, flags, nullability_in};
 ghost use Rattle.column_base.specs.Validity.{form_of};
@@ -10,6 +10,7 @@ ghost use Rattle.column_core.specs.Computed.{HasRowIfAllNull};
 ghost use Rattle.column_base.specs.declared.dtype.DType.TheVariants as column;
 ghost use Rattle.runend_codec.specs.Encoding.{HasNullsAlone, blanked};
 
+use crate::bit_runs::{BitRuns, count_marked, is_majority, start_over};
 use crate::typed::{next_end, no_null, no_value};
 use column_core::{
     BitBuffer, BitBufferMut, BoolArray, DType, Mask, Nullability, Validity, VortexError,
@@ -23,6 +24,7 @@ fn repeat_bits<I: Iterator<Item = usize>, A: Allocator + Copy>(
     mut run_ends: I,
     values: &BitBuffer<A>,
     count: usize,
+    prefill_runs: usize,
 ) -> VortexResult<BitBuffer<A>>
     requires can { I.can_next run_ends }
     requires ends { (ends : List ℕ) × AreRunEnds I.next_gives run_ends (length values.now) count ends }
@@ -30,12 +32,12 @@ fn repeat_bits<I: Iterator<Item = usize>, A: Allocator + Copy>(
     ensures fills { IfOk result (λ bits. (ends : List ℕ) → AreRunEnds I.next_gives run_ends (length values.now) count ends →
         Fills bits ends values.now count) }
 {
-    let mut bits = BitBufferMut::with_capacity(alloc, count)?;
+    let mut bits = start_over(alloc, values, count, prefill_runs)?;
     for run in 0..values.len() {
-        let missing = next_end(&mut run_ends).saturating_sub(bits.len());
-        bits.append_n(values.value(run), missing)?;
+        let end = next_end(&mut run_ends);
+        bits.repeat_to(values.value(run), end)?;
     }
-    Ok(bits.freeze())
+    Ok(bits.finish())
 }
 
 // The bit of a run, false where the mask is false.
@@ -47,6 +49,55 @@ fn bit_at<A: Allocator>(values: &BitBuffer<A>, mask: &Mask<A>, run: usize) -> bo
     mask.value(run) && values.value(run)
 }
 
+// How many runs are true under the mask.
+fn count_masked<A: Allocator>(values: &BitBuffer<A>, mask: &Mask<A>) -> usize
+    requires { length (mask_bits mask.now) ≡ length values.now }
+    ensures { result ≡ count_by (λ bit. bit) (blanked false (optionals values.now (mask_bits mask.now))) }
+{
+    match mask {
+        Mask::AllTrue(_) => values.true_count(),
+        Mask::AllFalse(_) => 0,
+        Mask::Values(marks) => count_marked(values, marks),
+    }
+}
+
+// No bits yet. From `prefill_runs` runs on the rows start as the bit of most runs under the mask, so that
+// only the other runs are written.
+fn start_bits<A: Allocator + Copy>(
+    alloc: A,
+    values: &BitBuffer<A>,
+    mask: &Mask<A>,
+    count: usize,
+    prefill_runs: usize,
+) -> VortexResult<BitRuns<A>>
+    requires masked { length (mask_bits mask.now) ≡ length values.now }
+    ensures only { IsOkUnless result VortexError.OutOfMemory }
+    ensures empty { IfOk result (λ runs. runs ≡ []) }
+{
+    if values.len() < prefill_runs {
+        return BitRuns::with_room(alloc, count);
+    }
+    let majority = is_majority(count_masked(values, mask), values.len());
+    BitRuns::prefilled(alloc, majority, count)
+}
+
+// The same of the mask alone.
+fn start_flags<A: Allocator + Copy>(
+    alloc: A,
+    mask: &Mask<A>,
+    count: usize,
+    prefill_runs: usize,
+) -> VortexResult<BitRuns<A>>
+    ensures only { IsOkUnless result VortexError.OutOfMemory }
+    ensures empty { IfOk result (λ runs. runs ≡ []) }
+{
+    if mask.len() < prefill_runs {
+        return BitRuns::with_room(alloc, count);
+    }
+    let majority = is_majority(mask.true_count(), mask.len());
+    BitRuns::prefilled(alloc, majority, count)
+}
+
 // The bit of each run, false for null, and whether it is valid, repeated up to the run's end.
 fn repeat_masked<I: Iterator<Item = usize>, A: Allocator + Copy>(
     alloc: A,
@@ -54,6 +105,7 @@ fn repeat_masked<I: Iterator<Item = usize>, A: Allocator + Copy>(
     values: &BitBuffer<A>,
     mask: &Mask<A>,
     count: usize,
+    prefill_runs: usize,
 ) -> VortexResult<(BitBuffer<A>, BitBuffer<A>)>
     requires can { I.can_next run_ends }
     requires ends { (ends : List ℕ) × AreRunEnds I.next_gives run_ends (length values.now) count ends }
@@ -64,20 +116,21 @@ fn repeat_masked<I: Iterator<Item = usize>, A: Allocator + Copy>(
     ensures flags { IfOk result (λ rows. (ends : List ℕ) → AreRunEnds I.next_gives run_ends (length values.now) count ends →
         Fills rows.1 ends (mask_bits mask.now) count) }
 {
-    let mut bits = BitBufferMut::with_capacity(alloc, count)?;
-    let mut flags = BitBufferMut::with_capacity(alloc, count)?;
+    let mut bits = start_bits(alloc, values, mask, count, prefill_runs)?;
+    let mut flags = start_flags(alloc, mask, count, prefill_runs)?;
     for run in 0..values.len() {
-        let missing = next_end(&mut run_ends).saturating_sub(bits.len());
-        bits.append_n(bit_at(values, mask, run), missing)?;
-        flags.append_n(mask.value(run), missing)?;
+        let end = next_end(&mut run_ends);
+        bits.repeat_to(bit_at(values, mask, run), end)?;
+        flags.repeat_to(mask.value(run), end)?;
     }
-    Ok((bits.freeze(), flags.freeze()))
+    Ok((bits.finish(), flags.finish()))
 }
 
 /// The rows of runs whose ends come from an iterator, as bits and a validity, with false under null:
 /// row i is the bit of the first run that ends past it, null where the mask is false there. Ends count
 /// rows; a run that ends where the one before it does shows no row. The validity of a type with null
-/// is that which `Validity::from_bits` makes. Refused as `OutOfMemory` alone.
+/// is that which `Validity::from_bits` makes. From `prefill_runs` runs on the rows start as the bit of most
+/// runs, and only the other runs are written; the answer is the same. Refused as `OutOfMemory` alone.
 ///
 /// The iterator gives an end for each value, none below the one before it, and the last is `count`.
 /// There is a bit of the mask for each value, and only under `Mask::AllTrue` has the type no null.
@@ -88,6 +141,7 @@ pub fn decode_typed_bits<I: Iterator<Item = usize>, A: Allocator + Copy>(
     mask: &Mask<A>,
     nullability: Nullability,
     count: usize,
+    prefill_runs: usize,
 ) -> VortexResult<(BitBuffer<A>, Validity<A>)>
     requires can { I.can_next run_ends }
     requires ends { (ends : List ℕ) × AreRunEnds I.next_gives run_ends (length values.now) count ends }
@@ -105,7 +159,7 @@ pub fn decode_typed_bits<I: Iterator<Item = usize>, A: Allocator + Copy>(
 {
     match mask {
         Mask::AllTrue(_) => {
-            let bits = repeat_bits(alloc, run_ends, values, count)?;
+            let bits = repeat_bits(alloc, run_ends, values, count, prefill_runs)?;
             Ok((bits, no_null(nullability)))
         }
         Mask::AllFalse(_) => {
@@ -113,7 +167,7 @@ pub fn decode_typed_bits<I: Iterator<Item = usize>, A: Allocator + Copy>(
             Ok((bits.freeze(), no_value(count)))
         }
         Mask::Values(_) => {
-            let (bits, flags) = repeat_masked(alloc, run_ends, values, mask, count)?;
+            let (bits, flags) = repeat_masked(alloc, run_ends, values, mask, count, prefill_runs)?;
             Ok((bits, Validity::from_bits(flags)))
         }
     }

@@ -125,7 +125,8 @@ pub(crate) fn shown_rows<A: Allocator + Copy>(
     ensures computed { IfOk result (λ flat. IsComputedLeaf (leaf_of flat)) }
 {
     let ends = ends_of_visible(array, alloc)?;
-    decode_flat(alloc, &ends, values, visible_offset(array), array.len())
+    // No session is at hand, and by default truth values are prefilled from 0 runs on.
+    decode_flat(alloc, &ends, values, visible_offset(array), array.len(), 0)
 }
 
 /// The truth values that the visible runs show, one for each run: a constant null where there is a run and

@@ -1,14 +1,18 @@
 -- A filter takes the rows at the places of the true bits.
 use Rattle.std.proofs.Common.{◌≡◌, ◌∙◌, ℕ, ℤ, zero, suc, pos, ◌+◌, ◌-◌, ◌<◌, ◌≤◌, List, [], ◌∷◌, Bool, true, false, cond, Option, Some, None, length, map, get_or, drop, replicate, arith, ap, refl, add-one}
-use Rattle.std.specs.Prelude.{◌≤ℤ◌, ◌<ℤ◌, All, IfSome}
+use Rattle.std.specs.Prelude.{◌≤ℤ◌, ◌<ℤ◌, filter, slice_index_or, All, IfSome}
 use Rattle.std.specs.List.{range_with_len}
 use Rattle.std.proofs.lemmas.Int.{ints}
 use Rattle.std.proofs.lemmas.List.Elements.{All-cons, All-head, All-nil, All-tail}
-use Rattle.column_base.specs.Bits.{set_indices_from, set_indices_of}
+use Rattle.column_base.specs.Bits.{set_indices_of}
 use Rattle.column_core.specs.Optionals.{optionals}
 use Rattle.column_ops.specs.Filter.{filter_rows}
 use Rattle.column_ops.specs.Take.{ArePositions, position_numbers, take_rows}
 use Rattle.runend_positions.specs.Indices.{AreInBounds, optional_indices}
+
+-- the places from one on at which a bit is true, in ascending order
+abbrev set_indices_from : ℕ → List Bool → List ℕ
+set_indices_from from bits = filter (λ i. slice_index_or bits i false) (range_with_len from (length bits - from))
 
 range-next : (from n k : ℕ) → n ≡ k + 1 → range_with_len from n ≡ from ∷ range_with_len (from + 1) k
 range-next from n k h = rw (h, add-one k) refl

@@ -86,11 +86,19 @@ fn reply_to<A: Allocator + Copy>(
         Line::Bad => return Ok(Reply::Bad),
         Line::Command(command) => command,
     };
-    match perform(command, column, ctx) {
+    let outcome = perform(command, column, ctx);
+    told(*ctx.allocator(), outcome)
+}
+
+// The same, with a refusal as its line; refused memory alone stays refused.
+fn told<A: Allocator + Copy>(alloc: A, outcome: VortexResult<Reply<A>>) -> VortexResult<Reply<A>>
+    ensures only { IsOkUnless result VortexError.OutOfMemory }
+{
+    match outcome {
         Ok(reply) => Ok(reply),
         Err(VortexError::OutOfMemory) => Err(VortexError::OutOfMemory),
         Err(error) => {
-            let refused = refusal_line(*ctx.allocator(), error)?;
+            let refused = refusal_line(alloc, error)?;
             Ok(Reply::Line(refused))
         }
     }

@@ -7,7 +7,7 @@ use Rattle.runend_codec.proofs.Lists.{slice_get-replicate}
 use Rattle.runend_array.proofs.ListRows.{slice_get-made}
 use Rattle.runend_codec.proofs.RunAt.{run_of_row_within}
 use Rattle.runend_codec.proofs.RunRows.{length-run_rows, slice_get-run_rows_of_window}
-use Rattle.runend_array.proofs.Refusals.{reason_of_refusal}
+use Rattle.runend_array.proofs.Refusals.{reason_of_refusal, value_is_no_refusal}
 use Rattle.runend_array.proofs.+scalar_at.Goals as goal
 
 pub array::RunEndArray::row_at-unreachable-requires : goal.array::RunEndArray::row_at-unreachable-requires
@@ -46,3 +46,9 @@ pub array_ref::ArrayRef::scalar_at-returns-else-index-len-6-clause-row : goal.ar
 array_ref::ArrayRef::scalar_at-returns-else-index-len-6-clause-row g t c =
     let within : c.args.index < c.in-Constant.array.count = omega (arith, c.len-in-Constant.ensures, c.if-index-len-6.false) in
     rw c.in-Constant.is (slice_get-replicate c.in-Constant.array.count c.args.index _ within ∙ ap Some (sym c.scalar_view.ensures.value))
+
+pub array::RunEndArray::row_at-returns-clause-of_type : goal.array::RunEndArray::row_at-returns-clause-of_type
+array::RunEndArray::row_at-returns-clause-of_type g t c = rw (← c.self.view_is) c.in-Ok.ensures.of_type
+
+pub array::RunEndArray::row_at-returns-clause-refused : goal.array::RunEndArray::row_at-returns-clause-refused
+array::RunEndArray::row_at-returns-clause-refused g t c = rw (← c.self.view_is) ((λ is_err. absurd (value_is_no_refusal _ _ is_err)), (λ past. absurd (omega (arith, past, c.if-index-self.false))))

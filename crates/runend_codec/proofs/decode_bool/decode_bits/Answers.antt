@@ -15,10 +15,10 @@ loop-run-preserved g c =
     let ends = map unsigned_abs (map number c.args.ends.now) in
     let stored = blanked false (optionals c.args.values.now (flags (form_of c.args.validity.now) (length c.args.values.now))) in
     let run = c.loop-run.run in
-    let missing = c.saturating_sub-missing.result in
-    let copies : missing ≡ min (slice_index ends run - c.args.offset) c.args.count - length c.loop-run.rows = omega (arith, c.reach_of.ensures) in
+    let missing = c.reach_of-reach.result - length c.loop-run.rows in
+    let copies : missing ≡ min (slice_index ends run - c.args.offset) c.args.count - length c.loop-run.rows = omega (arith, c.reach_of-reach.ensures) in
     let within : run < length ends = omega (arith, length-naturals number c.args.ends.now) in
-    rw c.in_ok-append_n.ensures.ok
+    rw c.in_ok-repeat_to.ensures.ok
     (Decoded-next ends stored c.args.offset c.args.count run c.loop-run.rows c.truth_at.result missing c.requires.window within c.truth_at.ensures copies c.loop-run.invariant)
 
 pub returns-clause-cover : goal.returns-clause-cover
@@ -29,4 +29,5 @@ returns-clause-cover g c =
     let long = length-naturals number c.args.ends.now in
     let paired = length-blanked false c.args.values.now (form_of c.args.validity.now) c.requires.fits in
     let all : c.loop-run.run ≡ length ends = omega arith in
-    Decoded-all ends (blanked false (optionals c.args.values.now marks)) c.args.offset c.args.count c.loop-run.run c.loop-run.rows c.requires.window (omega arith) all c.loop-run.invariant
+    rw c.finish.ensures
+    (Decoded-all ends (blanked false (optionals c.args.values.now marks)) c.args.offset c.args.count c.loop-run.run c.loop-run.rows c.requires.window (omega arith) all c.loop-run.invariant)

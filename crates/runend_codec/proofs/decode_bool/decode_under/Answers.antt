@@ -19,6 +19,6 @@ returns-clause-flat g c =
       nullability = rw c.validity-validity.ensures.form at c.in_ok-rows.ensures.nullability;
       some = c.in_ok-rows.ensures.some;
     } in
-    rw (c.new_unchecked.ensures, c.freeze.ensures)
+    rw c.new_unchecked.ensures
     (IsDecodedLeaf-truths ends values.bits values.validity c.args.offset c.args.count c.in_ok-bits.bits (form_of c.in_ok-rows.rows) c.requires.window (c.requires.paired ∙ sym long)
     c.validity-validity.ensures.counted decoded)

@@ -1,0 +1,144 @@
+//! A list of bits to read, 64 to a word.
+ghost use Rattle.std.specs.Prelude.{◌≡◌, ◌<◌, ◌≤◌, ◌↔◌, IsTrue, Some, [], length, slice_get, slice_range, count_by, IfOk, IsOkUnless};
+ghost use Rattle.column_base.specs.Bits.{set_indices_of};
+ghost use Rattle.column_base.specs.Words.{Packs, first_bits};
+
+use crate::bits::copies::copy_bits;
+use crate::bits::counts::{ones_between, ones_of};
+use crate::bits::fills::clear_from;
+use crate::bits::masks::words_for;
+use crate::bits::set_indices::SetIndices;
+use crate::error::{VortexError, VortexResult};
+use std::alloc::Allocator;
+use std::marker::Model;
+use std::ops::Range;
+
+/// Bits, which do not change.
+#[derive(Drop)]
+pub struct BitBuffer<A: Allocator> {
+    words: Vec<u64, A>,
+    count: usize,
+}
+
+impl<A: Allocator> Model for BitBuffer<A> {
+    ghost use Rattle.std.specs.Prelude.{List, Bool};
+    ghost use Rattle.column_base.specs.Words.{Packs, first_bits};
+
+    ghost Value = { List Bool };
+
+    ghost view = { λ buffer. first_bits buffer.count buffer.words.items };
+
+    ghost invariant = { λ buffer. Packs buffer.words.items (first_bits buffer.count buffer.words.items) };
+}
+
+impl<A: Allocator> BitBuffer<A> {
+    // The first `count` bits of the words, which have no word more and no 1 behind them.
+    pub(crate) fn of_words(words: Vec<u64, A>, count: usize) -> BitBuffer<A>
+        requires { Packs words.items (first_bits count words.items) }
+        ensures { result ≡ first_bits count words.items }
+    {
+        BitBuffer { words, count }
+    }
+
+    /// How many bits there are.
+    pub fn len(&self) -> usize
+        ensures { result ≡ length self.now }
+    {
+        self.count
+    }
+
+    /// Is there no bit?
+    pub fn is_empty(&self) -> bool
+        ensures { IsTrue result ↔ (self.now ≡ []) }
+    {
+        self.count == 0
+    }
+
+    /// The bit at `index`.
+    pub fn value(&self, index: usize) -> bool
+        requires { index < length self.now }
+        ensures { slice_get self.now index ≡ Some result }
+    {
+        (self.words[index / 64] >> (index % 64)) & 1 == 1
+    }
+
+    /// The words that hold the bits, 64 to a word from its lowest bit up: as few words as can, and
+    /// 0 behind the last bit.
+    pub fn words(&self) -> &[u64]
+        ensures { Packs result.now self.now }
+    {
+        &self.words
+    }
+
+    /// How many bits are true.
+    pub fn true_count(&self) -> usize
+        ensures { result ≡ count_by (λ bit. bit) self.now }
+    {
+        // Read for its range: the count of 1s is no larger.
+        let _count = self.count;
+        let words = self.words.as_slice();
+        ones_of(words)
+    }
+
+    /// How many of the bits from `start` to `stop - 1` are true.
+    pub fn count_range(&self, start: usize, stop: usize) -> usize
+        requires ordered { start ≤ stop }
+        requires in_bounds { stop ≤ length self.now }
+        ensures { result ≡ count_by (λ bit. bit) (slice_range self.now start stop) }
+    {
+        if start == stop {
+            return 0;
+        }
+        let words = self.words.as_slice();
+        let first = start / 64;
+        let last = stop / 64;
+        if first == last {
+            return ones_between(words[first], start % 64, stop % 64);
+        }
+        let front = ones_between(words[first], start % 64, 64);
+        let middle = ones_of(&words[first + 1..last]);
+        if stop % 64 == 0 {
+            return front + middle;
+        }
+        let back = ones_between(words[last], 0, stop % 64);
+        front + middle + back
+    }
+
+    /// The places of the true bits, from the first to the last.
+    pub fn set_indices(&self) -> SetIndices<'_>
+        ensures { result ≡ set_indices_of self.now }
+    {
+        // Read for its range: a buffer has no more than 2^58 words.
+        let _count = self.count;
+        let words = self.words.as_slice();
+        SetIndices::in_words(words)
+    }
+}
+
+impl<A: Allocator + Copy> BitBuffer<A> {
+    /// The bits from `range.start` to `range.end - 1`. Refused for want of memory alone.
+    pub fn slice(&self, alloc: A, range: Range<usize>) -> VortexResult<BitBuffer<A>>
+        requires ordered { range.start ≤ range.end }
+        requires in_bounds { range.end ≤ length self.now }
+        ensures bits { IfOk result (λ part. part ≡ slice_range self.now range.start range.end) }
+        ensures only { IsOkUnless result VortexError.OutOfMemory }
+    {
+        let count = range.end - range.start;
+        let mut part = vec![in alloc; 0; words_for(count)]?;
+        let words = part.as_mut_slice();
+        copy_bits(words, &self.words, range.start);
+        clear_from(words, count);
+        Ok(BitBuffer { words: part, count })
+    }
+
+    /// The same bits in memory of their own. Refused for want of memory alone.
+    pub fn try_clone(&self, alloc: A) -> VortexResult<BitBuffer<A>>
+        ensures bits { IfOk result (λ copy. copy ≡ self.now) }
+        ensures only { IsOkUnless result VortexError.OutOfMemory }
+    {
+        Ok(BitBuffer {
+            words: Vec::from_slice(alloc, &self.words)?,
+            count: self.count,
+        })
+    }
+}

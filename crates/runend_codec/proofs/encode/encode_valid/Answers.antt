@@ -1,0 +1,18 @@
+use Rattle.std.proofs.Common.{◌≡◌, length, map, sym, arith}
+use Rattle.std.proofs.lemmas.List.{length-map}
+use Rattle.runend_codec.proofs.ValidRuns.{IsTightCover-valid, AreZeroAtNulls-valid}
+use Rattle.runend_codec.proofs.encode.encode_valid.Goals as goal
+
+pub returns-clause-cover : goal.returns-clause-cover
+returns-clause-cover g c =
+    let number = g.T.NativePType.number in
+    let items = c.args.items.now in
+    let values = c.in_ok-ends.values.items in
+    let stored = length-map values number in
+    let count : c.len.result ≡ length (map number values) = omega arith in
+    rw c.in_ok-flags.ensures.bits
+    (IsTightCover-valid (map number items) c.in_ok-ends.ends.items (map number values) (length items) c.len.result
+    (sym (length-map items number)) count c.in_ok-ends.ensures.cover)
+
+pub returns-clause-zeroed : goal.returns-clause-zeroed
+returns-clause-zeroed g c = rw c.in_ok-flags.ensures.bits (AreZeroAtNulls-valid (map g.T.NativePType.number c.in_ok-ends.values.items) c.len.result)
