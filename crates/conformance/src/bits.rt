@@ -35,3 +35,42 @@ fn masks_and_validities_are_copied(rt: HostRuntime) -> Result<(), Fail> {
     assert!(rt; matches!(part.slice(rt.alloc(), 0..0)?, Validity::AllValid));
     Ok(())
 }
+
+#[test]
+fn bits_stand_in_words(rt: HostRuntime) -> Result<(), Fail> {
+    for count in [0usize, 1, 63, 64, 65, 128] {
+        let bits = BitBufferMut::full(rt.alloc(), true, count)?.freeze();
+        assert_eq!(rt; (bits.len(), bits.true_count()), (count, count));
+        assert_eq!(rt; bits.words().len(), count.div_ceil(64));
+    }
+    let mut grown = BitBufferMut::with_capacity(rt.alloc(), 0)?;
+    grown.append_n(true, 60)?;
+    grown.append_n(true, 5)?;
+    let grown = grown.freeze();
+    assert_eq!(rt; grown.words(), [18_446_744_073_709_551_615, 1].as_slice());
+    Ok(())
+}
+
+#[test]
+fn words_are_counted_and_filled_across_their_ends(rt: HostRuntime) -> Result<(), Fail> {
+    let mut bits = BitBufferMut::full(rt.alloc(), true, 128)?;
+    bits.fill_range(60, 70, false);
+    let filled = bits.freeze();
+    assert_eq!(rt; filled.true_count(), 118);
+    let mut bits = BitBufferMut::full(rt.alloc(), true, 128)?;
+    bits.truncate(128);
+    let full = bits.freeze();
+    assert_eq!(rt; full.count_range(0, 0), 0);
+    assert_eq!(rt; full.count_range(63, 65), 2);
+    assert_eq!(rt; full.count_range(1, 127), 126);
+    let part = filled.slice(rt.alloc(), 58..72)?;
+    assert_eq!(rt; part.words(), [12_291].as_slice());
+    let places: Vec<usize> = part.set_indices().collect(rt.alloc())?;
+    assert_eq!(rt; places.as_slice(), [0, 1, 12, 13].as_slice());
+    let mut bits = BitBufferMut::full(rt.alloc(), true, 65)?;
+    bits.truncate(3);
+    bits.append_n(false, 62)?;
+    let cut = bits.freeze();
+    assert_eq!(rt; cut.words(), [7, 0].as_slice());
+    Ok(())
+}

@@ -7,7 +7,7 @@ use Rattle.runend_codec.specs.Ends.{IsEndsType, ends_of}
 use Rattle.runend_codec.specs.Window.{IsWindow, run_rows}
 use Rattle.runend_array.specs.Array.{rows}
 use Rattle.runend_array.specs.Column.{end_numbers}
-use Rattle.runend_array.specs.Lists.{Lists, list_count, list_rows}
+use Rattle.runend_array.specs.Lists.{Lists, list_count, list_dtype, list_rows}
 use Rattle.runend_array.specs.Falls.{deep_le-parts}
 use Rattle.runend_array.specs.declared.array.RunEndArray.TheDeep.{size-ArrayRef, size-RunEndArray}
 use Rattle.runend_array.proofs.ListRows.{length-list_rows}
@@ -50,3 +50,63 @@ pub array_ref::ArrayRef::shown_by-returns-in_ok-shown-in-ListView-clause-rows : 
 array_ref::ArrayRef::shown_by-returns-in_ok-shown-in-ListView-clause-rows g t c =
     let ends = ends_of c.args.ends.now in
     rw c.in-ListView.is (c.in_ok-shown-in-ListView.ensures.rows ∙ ap (λ (lists : Lists). run_rows ends (list_rows lists) c.args.offset c.args.count) c.deref.ensures)
+
+pub array_ref::ArrayRef::shown_by-returns-in_ok-array-in-Primitive-clause-rows : goal.array_ref::ArrayRef::shown_by-returns-in_ok-array-in-Primitive-clause-rows
+array_ref::ArrayRef::shown_by-returns-in_ok-array-in-Primitive-clause-rows g t c = rw c.in-Primitive.is c.in_ok-array-in-Primitive.ensures.flat.rows
+
+pub array_ref::ArrayRef::shown_by-returns-in_ok-array-in-Primitive-clause-dtype : goal.array_ref::ArrayRef::shown_by-returns-in_ok-array-in-Primitive-clause-dtype
+array_ref::ArrayRef::shown_by-returns-in_ok-array-in-Primitive-clause-dtype g t c = rw c.in-Primitive.is c.in_ok-array-in-Primitive.ensures.flat.dtype
+
+pub array_ref::ArrayRef::shown_by-returns-in_ok-array-in-Primitive-clause-form : goal.array_ref::ArrayRef::shown_by-returns-in_ok-array-in-Primitive-clause-form
+array_ref::ArrayRef::shown_by-returns-in_ok-array-in-Primitive-clause-form g t c = c.in_ok-array-in-Primitive.ensures.flat.computed
+
+pub array_ref::ArrayRef::shown_by-returns-in_ok-array-in-Bool-clause-rows : goal.array_ref::ArrayRef::shown_by-returns-in_ok-array-in-Bool-clause-rows
+array_ref::ArrayRef::shown_by-returns-in_ok-array-in-Bool-clause-rows g t c = rw c.in-Bool.is c.in_ok-array-in-Bool.ensures.flat.rows
+
+pub array_ref::ArrayRef::shown_by-returns-in_ok-array-in-Bool-clause-dtype : goal.array_ref::ArrayRef::shown_by-returns-in_ok-array-in-Bool-clause-dtype
+array_ref::ArrayRef::shown_by-returns-in_ok-array-in-Bool-clause-dtype g t c = rw c.in-Bool.is c.in_ok-array-in-Bool.ensures.flat.dtype
+
+pub array_ref::ArrayRef::shown_by-returns-in_ok-array-in-Bool-clause-form : goal.array_ref::ArrayRef::shown_by-returns-in_ok-array-in-Bool-clause-form
+array_ref::ArrayRef::shown_by-returns-in_ok-array-in-Bool-clause-form g t c = c.in_ok-array-in-Bool.ensures.flat.computed
+
+pub array_ref::ArrayRef::shown_by-returns-in_ok-array-in-Decimal-clause-rows : goal.array_ref::ArrayRef::shown_by-returns-in_ok-array-in-Decimal-clause-rows
+array_ref::ArrayRef::shown_by-returns-in_ok-array-in-Decimal-clause-rows g t c = rw c.in-Decimal.is c.in_ok-array-in-Decimal.ensures.flat.rows
+
+pub array_ref::ArrayRef::shown_by-returns-in_ok-array-in-Decimal-clause-dtype : goal.array_ref::ArrayRef::shown_by-returns-in_ok-array-in-Decimal-clause-dtype
+array_ref::ArrayRef::shown_by-returns-in_ok-array-in-Decimal-clause-dtype g t c = rw c.in-Decimal.is c.in_ok-array-in-Decimal.ensures.flat.dtype
+
+pub array_ref::ArrayRef::shown_by-returns-in_ok-array-in-Decimal-clause-form : goal.array_ref::ArrayRef::shown_by-returns-in_ok-array-in-Decimal-clause-form
+array_ref::ArrayRef::shown_by-returns-in_ok-array-in-Decimal-clause-form g t c = c.in_ok-array-in-Decimal.ensures.flat.computed
+
+pub array_ref::ArrayRef::shown_by-returns-in_ok-array-in-VarBinView-clause-rows : goal.array_ref::ArrayRef::shown_by-returns-in_ok-array-in-VarBinView-clause-rows
+array_ref::ArrayRef::shown_by-returns-in_ok-array-in-VarBinView-clause-rows g t c = rw c.in-VarBinView.is c.in_ok-array-in-VarBinView.ensures.flat.rows
+
+pub array_ref::ArrayRef::shown_by-returns-in_ok-array-in-VarBinView-clause-dtype : goal.array_ref::ArrayRef::shown_by-returns-in_ok-array-in-VarBinView-clause-dtype
+array_ref::ArrayRef::shown_by-returns-in_ok-array-in-VarBinView-clause-dtype g t c = rw c.in-VarBinView.is c.in_ok-array-in-VarBinView.ensures.flat.dtype
+
+pub array_ref::ArrayRef::shown_by-returns-in_ok-array-in-VarBinView-clause-form : goal.array_ref::ArrayRef::shown_by-returns-in_ok-array-in-VarBinView-clause-form
+array_ref::ArrayRef::shown_by-returns-in_ok-array-in-VarBinView-clause-form g t c = c.in_ok-array-in-VarBinView.ensures.flat.computed
+
+pub array_ref::ArrayRef::shown_by-returns-in_ok-shown-in-ListView-clause-dtype : goal.array_ref::ArrayRef::shown_by-returns-in_ok-shown-in-ListView-clause-dtype
+array_ref::ArrayRef::shown_by-returns-in_ok-shown-in-ListView-clause-dtype g t c = rw c.in-ListView.is (c.in_ok-shown-in-ListView.ensures.dtype ∙ ap list_dtype c.deref.ensures)
+
+pub array_ref::ArrayRef::shown_by-returns-in_ok-shown-in-ListView-clause-form : goal.array_ref::ArrayRef::shown_by-returns-in_ok-shown-in-ListView-clause-form
+array_ref::ArrayRef::shown_by-returns-in_ok-shown-in-ListView-clause-form g t c = tt
+
+pub array_ref::ArrayRef::shown_by-returns-in_ok-values-in-Constant-clause-rows : goal.array_ref::ArrayRef::shown_by-returns-in_ok-values-in-Constant-clause-rows
+array_ref::ArrayRef::shown_by-returns-in_ok-values-in-Constant-clause-rows g t c = rw c.in-Constant.is (rw c.in_ok-values-in-Constant.ensures.rows at c.shown_by-in-Constant.ensures.rows)
+
+pub array_ref::ArrayRef::shown_by-returns-in_ok-values-in-Constant-clause-dtype : goal.array_ref::ArrayRef::shown_by-returns-in_ok-values-in-Constant-clause-dtype
+array_ref::ArrayRef::shown_by-returns-in_ok-values-in-Constant-clause-dtype g t c = rw c.in-Constant.is (rw c.in_ok-values-in-Constant.ensures.dtype at c.shown_by-in-Constant.ensures.dtype)
+
+pub array_ref::ArrayRef::shown_by-returns-in_ok-values-in-Constant-clause-form : goal.array_ref::ArrayRef::shown_by-returns-in_ok-values-in-Constant-clause-form
+array_ref::ArrayRef::shown_by-returns-in_ok-values-in-Constant-clause-form g t c = c.shown_by-in-Constant.ensures.form
+
+pub array_ref::ArrayRef::shown_by-returns-in_ok-values-in-RunEnd-clause-rows : goal.array_ref::ArrayRef::shown_by-returns-in_ok-values-in-RunEnd-clause-rows
+array_ref::ArrayRef::shown_by-returns-in_ok-values-in-RunEnd-clause-rows g t c = rw c.in-RunEnd.is (rw (c.in_ok-values-in-RunEnd.ensures.rows, c.deref-in-RunEnd.ensures) at c.shown_by-in-RunEnd.ensures.rows)
+
+pub array_ref::ArrayRef::shown_by-returns-in_ok-values-in-RunEnd-clause-dtype : goal.array_ref::ArrayRef::shown_by-returns-in_ok-values-in-RunEnd-clause-dtype
+array_ref::ArrayRef::shown_by-returns-in_ok-values-in-RunEnd-clause-dtype g t c = rw c.in-RunEnd.is (rw (c.in_ok-values-in-RunEnd.ensures.dtype, c.deref-in-RunEnd.ensures) at c.shown_by-in-RunEnd.ensures.dtype)
+
+pub array_ref::ArrayRef::shown_by-returns-in_ok-values-in-RunEnd-clause-form : goal.array_ref::ArrayRef::shown_by-returns-in_ok-values-in-RunEnd-clause-form
+array_ref::ArrayRef::shown_by-returns-in_ok-values-in-RunEnd-clause-form g t c = c.shown_by-in-RunEnd.ensures.form

@@ -130,3 +130,16 @@ array::RunEndArray::rows_between-returns-clause-part g t c =
     rw (← c.self.view_is)
     (part-of_runs whole c.args.start c.args.stop runs.result.start runs.result.end (ends_of c.in_ok-ends.ends) (canonical_column c.in_ok-values.values) (canonical_column made.rows)
     c.self.invariant.runs c.requires.some within first last ends_are c.in_ok-values.ensures.part made.ensures.rows made.ensures.dtype made.ensures.form)
+
+pub array_ref::ArrayRef::rows_between-returns-in_ok-part-in-ListView-clause-part : goal.array_ref::ArrayRef::rows_between-returns-in_ok-part-in-ListView-clause-part
+array_ref::ArrayRef::rows_between-returns-in_ok-part-in-ListView-clause-part g t c =
+    let made = c.in_ok-part-in-ListView in
+    rw c.in-ListView.is (record {
+      rows = rw c.deref-in-ListView.ensures at made.ensures.rows;
+      dtype = rw c.deref-in-ListView.ensures at made.ensures.dtype;
+      flat = tt;
+      some = λ none. absurd none;
+    })
+
+pub array_ref::ArrayRef::rows_between-returns-in-RunEnd-clause-part : goal.array_ref::ArrayRef::rows_between-returns-in-RunEnd-clause-part
+array_ref::ArrayRef::rows_between-returns-in-RunEnd-clause-part g t c = rw c.in-RunEnd.is (rw c.deref-in-RunEnd.ensures at c.rows_between.ensures.part)

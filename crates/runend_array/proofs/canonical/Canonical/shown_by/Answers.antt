@@ -13,3 +13,21 @@ shown_by-requires-clause-window g c = c.requires.window
 pub shown_by-requires-clause-paired : goal.shown_by-requires-clause-paired
 shown_by-requires-clause-paired g c =
     sym (length-list_rows c.in-List.lists) ∙ sym (ap (λ flat. length (column_rows (canonical_column flat))) c.in-List.is) ∙ c.requires.paired
+
+pub returns-in_ok-array-in-Flat-clause-rows : goal.returns-in_ok-array-in-Flat-clause-rows
+returns-in_ok-array-in-Flat-clause-rows g c = rw c.in-Flat.is c.in_ok-array-in-Flat.ensures.flat.rows
+
+pub returns-in_ok-array-in-Flat-clause-dtype : goal.returns-in_ok-array-in-Flat-clause-dtype
+returns-in_ok-array-in-Flat-clause-dtype g c = rw c.in-Flat.is c.in_ok-array-in-Flat.ensures.flat.dtype
+
+pub returns-in_ok-array-in-Flat-clause-form : goal.returns-in_ok-array-in-Flat-clause-form
+returns-in_ok-array-in-Flat-clause-form g c = c.in_ok-array-in-Flat.ensures.flat.computed
+
+pub returns-in_ok-shown-in-List-clause-rows : goal.returns-in_ok-shown-in-List-clause-rows
+returns-in_ok-shown-in-List-clause-rows g c = rw c.in-List.is c.in_ok-shown-in-List.ensures.rows
+
+pub returns-in_ok-shown-in-List-clause-dtype : goal.returns-in_ok-shown-in-List-clause-dtype
+returns-in_ok-shown-in-List-clause-dtype g c = rw c.in-List.is c.in_ok-shown-in-List.ensures.dtype
+
+pub returns-in_ok-shown-in-List-clause-form : goal.returns-in_ok-shown-in-List-clause-form
+returns-in_ok-shown-in-List-clause-form g c = tt
