@@ -70,8 +70,20 @@ fn cast_items<S: NativePType, T: NativePType, A: Allocator + Copy>(
     let mut rows = RowWriter::with_room(alloc, T::default(), nullability, items.len())?;
     for row in 0..items.len() {
         let item = row_at(items, validity, row);
-        let number = cast_row(item, nullability)?;
-        rows.push(number)?;
+        let number = match cast_row(item, nullability) {
+            Ok(number) => number,
+            Err(error) => {
+                drop(rows);
+                return Err(error);
+            }
+        };
+        match rows.push(number) {
+            Ok(()) => {}
+            Err(error) => {
+                drop(rows);
+                return Err(error);
+            }
+        }
     }
     Ok(rows.finish())
 }

@@ -34,7 +34,13 @@ pub(crate) fn fill_items<T: Copy + Drop, A: Allocator + Copy>(
     let mut rows = RowWriter::with_room(alloc, blank, Nullability::NonNullable, items.len())?;
     for row in 0..items.len() {
         let item = row_at(items, validity, row).unwrap_or(value);
-        rows.push(Some(item))?;
+        match rows.push(Some(item)) {
+            Ok(()) => {}
+            Err(error) => {
+                drop(rows);
+                return Err(error);
+            }
+        }
     }
     Ok(rows.finish())
 }

@@ -31,7 +31,13 @@ pub(crate) fn filter_items<T: Copy + Drop, A: Allocator + Copy>(
     let mut rows = RowWriter::with_room(alloc, blank, validity.nullability(), mask.true_count())?;
     for row in 0..items.len() {
         if mask.value(row) {
-            rows.push(row_at(items, validity, row))?;
+            match rows.push(row_at(items, validity, row)) {
+                Ok(()) => {}
+                Err(error) => {
+                    drop(rows);
+                    return Err(error);
+                }
+            }
         }
     }
     Ok(rows.finish())

@@ -59,8 +59,20 @@ pub(crate) fn keep_items<T: Copy + Drop, A: Allocator + Copy>(
     let mut rows = RowWriter::with_room(alloc, blank, nullability, items.len())?;
     for row in 0..items.len() {
         let item = row_at(items, validity, row);
-        let kept = kept_row(item, nullability)?;
-        rows.push(kept)?;
+        let kept = match kept_row(item, nullability) {
+            Ok(kept) => kept,
+            Err(error) => {
+                drop(rows);
+                return Err(error);
+            }
+        };
+        match rows.push(kept) {
+            Ok(()) => {}
+            Err(error) => {
+                drop(rows);
+                return Err(error);
+            }
+        }
     }
     Ok(rows.finish())
 }

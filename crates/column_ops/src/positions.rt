@@ -66,8 +66,20 @@ fn native_positions<T: NativePType, A: Allocator + Copy>(
     let mut positions = RowWriter::with_room(alloc, 0, validity.nullability(), indices.len())?;
     for place in 0..indices.len() {
         let index = number_at(indices, validity, place);
-        let position = position_of(index, count)?;
-        positions.push(position)?;
+        let position = match position_of(index, count) {
+            Ok(position) => position,
+            Err(error) => {
+                drop(positions);
+                return Err(error);
+            }
+        };
+        match positions.push(position) {
+            Ok(()) => {}
+            Err(error) => {
+                drop(positions);
+                return Err(error);
+            }
+        }
     }
     Ok(positions.finish())
 }

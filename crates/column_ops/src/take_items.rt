@@ -64,7 +64,13 @@ pub(crate) fn take_items<T: Copy + Drop, A: Allocator + Copy>(
     let mut rows = RowWriter::with_room(alloc, blank, nullability, positions.len())?;
     for place in 0..positions.len() {
         let position = row_at(positions, places, place);
-        rows.push(taken_at(items, validity, position))?;
+        match rows.push(taken_at(items, validity, position)) {
+            Ok(()) => {}
+            Err(error) => {
+                drop(rows);
+                return Err(error);
+            }
+        }
     }
     Ok(rows.finish())
 }

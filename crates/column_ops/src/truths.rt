@@ -1,5 +1,8 @@
 //! Operations on columns of truth values.
 ghost use Rattle.std.specs.Prelude.{◌≡◌, IfOk, IsOkUnless, length};
+ghost use Rattle.column_base.specs.ValidityForm.{HasLength};
+ghost use Rattle.column_base.specs.Validity.{form_of};
+ghost use Rattle.column_core.specs.BoolForm.{bool_with};
 ghost use Rattle.column_core.specs.Leaf.{OfTruths};
 
 use crate::fill_items::fill_items;
@@ -37,6 +40,27 @@ fn bits_of<A: Allocator + Copy>(alloc: A, items: &[bool]) -> VortexResult<BitBuf
     Ok(bits.freeze())
 }
 
+// The column of these items and this validity.
+fn array_of<A: Allocator + Copy>(
+    alloc: A,
+    items: Vec<bool, A>,
+    validity: Validity<A>,
+) -> VortexResult<BoolArray<A>>
+    requires { HasLength (form_of validity) (length items.items) }
+    ensures only { IsOkUnless result VortexError.OutOfMemory }
+    ensures same { IfOk result (λ array. array ≡ bool_with items.items (form_of validity)) }
+{
+    let bits = bits_of(alloc, items.as_slice());
+    drop(items);
+    match bits {
+        Ok(bits) => Ok(BoolArray::new_unchecked(bits, validity)),
+        Err(error) => {
+            drop(validity);
+            Err(error)
+        }
+    }
+}
+
 impl<A: Allocator + Copy> ColumnOps<A> for BoolArray<A> {
     ghost leaf = { λ array. OfTruths array };
 
@@ -57,9 +81,11 @@ impl<A: Allocator + Copy> ColumnOps<A> for BoolArray<A> {
         prove_eq!(self.len(), self.values().len());
         let own = items_of(alloc, self.values())?;
         let items = own.as_slice();
-        let (taken, rows) = take_items(alloc, items, self.validity(), false, positions, validity)?;
-        let bits = bits_of(alloc, taken.as_slice())?;
-        Ok(BoolArray::new_unchecked(bits, rows))
+        let made = take_items(alloc, items, self.validity(), false, positions, validity);
+        drop(own);
+        let (taken, rows) = made?;
+        let array = array_of(alloc, taken, rows)?;
+        Ok(array)
     }
 
     fn filter(&self, alloc: A, mask: &Mask<A>) -> VortexResult<BoolArray<A>> {
@@ -71,9 +97,11 @@ impl<A: Allocator + Copy> ColumnOps<A> for BoolArray<A> {
         }
         prove_eq!(self.len(), self.values().len());
         let own = items_of(alloc, self.values())?;
-        let (kept, rows) = filter_items(alloc, own.as_slice(), self.validity(), false, mask)?;
-        let bits = bits_of(alloc, kept.as_slice())?;
-        Ok(BoolArray::new_unchecked(bits, rows))
+        let made = filter_items(alloc, own.as_slice(), self.validity(), false, mask);
+        drop(own);
+        let (kept, rows) = made?;
+        let array = array_of(alloc, kept, rows)?;
+        Ok(array)
     }
 
     fn fill_with(&self, alloc: A, value: &ScalarValue<A>) -> VortexResult<BoolArray<A>> {
@@ -82,17 +110,21 @@ impl<A: Allocator + Copy> ColumnOps<A> for BoolArray<A> {
         };
         prove_eq!(self.len(), self.values().len());
         let own = items_of(alloc, self.values())?;
-        let (filled, rows) = fill_items(alloc, own.as_slice(), self.validity(), false, *truth)?;
-        let bits = bits_of(alloc, filled.as_slice())?;
-        Ok(BoolArray::new_unchecked(bits, rows))
+        let made = fill_items(alloc, own.as_slice(), self.validity(), false, *truth);
+        drop(own);
+        let (filled, rows) = made?;
+        let array = array_of(alloc, filled, rows)?;
+        Ok(array)
     }
 
     fn cast_to(&self, alloc: A, dtype: DType) -> VortexResult<BoolArray<A>> {
         prove_eq!(self.len(), self.values().len());
         let own = items_of(alloc, self.values())?;
         let validity = self.validity();
-        let (kept, rows) = keep_items(alloc, own.as_slice(), validity, false, dtype.nullability())?;
-        let bits = bits_of(alloc, kept.as_slice())?;
-        Ok(BoolArray::new_unchecked(bits, rows))
+        let made = keep_items(alloc, own.as_slice(), validity, false, dtype.nullability());
+        drop(own);
+        let (kept, rows) = made?;
+        let array = array_of(alloc, kept, rows)?;
+        Ok(array)
     }
 }

@@ -23,16 +23,32 @@ fn bits_are_written_counted_and_copied(rt: HostRuntime) -> Result<(), Fail> {
 }
 
 #[test]
-fn masks_and_validities_are_copied(rt: HostRuntime) -> Result<(), Fail> {
+fn masks_are_copied(rt: HostRuntime) -> Result<(), Fail> {
     let mask = Mask::from_indices(rt.alloc(), 4, &[1, 3])?;
-    let selected = mask.try_clone(rt.alloc())?;
-    assert_eq!(rt; (selected.len(), selected.true_count()), (4, 2));
+    let copy = mask.try_clone(rt.alloc());
+    drop(mask);
+    let copy = copy?;
+    assert_eq!(rt; (copy.len(), copy.true_count()), (4, 2));
+    drop(copy);
+    Ok(())
+}
+
+#[test]
+fn validities_are_copied_and_sliced(rt: HostRuntime) -> Result<(), Fail> {
     let validity = Validity::from_bits(bits(rt.alloc(), &[false, true, true])?);
-    let copy = validity.try_clone(rt.alloc())?;
+    let copy = validity.try_clone(rt.alloc());
+    drop(validity);
+    let copy = copy?;
     assert_eq!(rt; copy.len(), Some(3));
-    let part = copy.slice(rt.alloc(), 0..1)?;
-    assert!(rt; matches!(part, Validity::AllInvalid));
-    assert!(rt; matches!(part.slice(rt.alloc(), 0..0)?, Validity::AllValid));
+    let part = copy.slice(rt.alloc(), 0..1);
+    drop(copy);
+    let part = part?;
+    assert!(rt; matches!(&part, Validity::AllInvalid));
+    let nothing = part.slice(rt.alloc(), 0..0);
+    drop(part);
+    let nothing = nothing?;
+    assert!(rt; matches!(&nothing, Validity::AllValid));
+    drop(nothing);
     Ok(())
 }
 

@@ -1,14 +1,16 @@
 //! Columns made of slices, and what they are compared with.
+ghost use Rattle.std.specs.Prelude.{IfOk};
+ghost use Rattle.column_core.specs.PrimitiveForm.{primitive_dtype};
+ghost use Rattle.runend_codec.specs.Ends.{IsEndsType};
+
+use runend_codec::validate_ends;
 use std::alloc::Allocator;
 use std::fmt::Debug;
-use std::ops::Range;
 use std::process::Abort;
 use vortex_runend::compress::runend_decode_primitive;
-use vortex_runend::compute::slice;
 use vortex_runend::{
-    ArrayRef, BitBufferMut, ExecutionCtx, NativePType, PrimitiveArray, RunEnd, RunEndArray,
-    RunEndArrayExt, RunEndArraySlotsExt, RunEndData, ScalarView, Validity, VortexError,
-    VortexResult, VortexSession,
+    ArrayRef, BitBufferMut, ExecutionCtx, NativePType, PrimitiveArray, RunEnd, ScalarView,
+    UnsignedPType, Validity, VortexResult, VortexSession,
 };
 
 /// A context in which no kernel is registered.
@@ -54,6 +56,17 @@ pub(crate) fn run_column<A: Allocator + Copy>(
     Ok(ArrayRef::RunEnd(Box::new(*ctx.allocator(), runs)?))
 }
 
+/// A column of ends.
+pub(crate) fn ends_column<T: UnsignedPType, A: Allocator + Copy>(
+    alloc: A,
+    items: &[T],
+) -> VortexResult<PrimitiveArray<A>>
+    ensures { IfOk result (λ ends. IsEndsType (primitive_dtype ends)) }
+{
+    let ends = T::wrap(Vec::from_slice(alloc, items)?);
+    Ok(PrimitiveArray::new_unchecked(ends, Validity::NonNullable))
+}
+
 /// What the decoder makes of parts that are valid; else their fault.
 pub(crate) fn decoded<A: Allocator + Copy>(
     ends: PrimitiveArray<A>,
@@ -61,30 +74,16 @@ pub(crate) fn decoded<A: Allocator + Copy>(
     offset: usize,
     length: usize,
     ctx: &mut ExecutionCtx<A>,
-) -> VortexResult<ArrayRef<A>> {
-    let ends = ArrayRef::Primitive(ends);
-    let values = ArrayRef::Primitive(values);
-    RunEndData::validate_parts(&ends, &values, offset, length, ctx)?;
-    match (ends, values) {
-        (ArrayRef::Primitive(ends), ArrayRef::Primitive(values)) => {
-            if ends.len() != values.len() {
-                return Err(VortexError::Unsupported);
-            }
-            runend_decode_primitive(ends, values, offset, length, ctx)
+) -> VortexResult<ArrayRef<A>>
+    requires { IsEndsType (primitive_dtype ends) }
+{
+    match validate_ends(&ends, values.len(), offset, length) {
+        Ok(()) => runend_decode_primitive(ends, values, offset, length, ctx),
+        Err(error) => {
+            drop(ends);
+            drop(values);
+            Err(error)
         }
-        _ => unreachable!(),
-    }
-}
-
-/// A slice of a run column.
-pub(crate) fn sliced<A: Allocator + Copy>(
-    array: &ArrayRef<A>,
-    range: Range<usize>,
-    ctx: &mut ExecutionCtx<A>,
-) -> VortexResult<ArrayRef<A>> {
-    match array {
-        ArrayRef::RunEnd(runs) => slice(runs, range, ctx),
-        _ => Err(VortexError::Unsupported),
     }
 }
 
@@ -115,28 +114,4 @@ pub(crate) fn assert_rows<A: Allocator + Copy>(
         };
         assert_eq!(rt; row, rows[index], "at {index}");
     }
-}
-
-/// Are the ends of the runs of this type, and these, and their values these?
-pub(crate) fn assert_runs<T: NativePType + Debug, A: Allocator + Copy>(
-    rt: &impl Abort,
-    runs: &RunEndArray<A>,
-    ends: &[T],
-    values: &[Option<i64>],
-) {
-    match runs.ends() {
-        ArrayRef::Primitive(plain) => assert_stored(rt, plain, ends),
-        _ => panic!(rt; "ends that are not flat"),
-    }
-    assert_rows(rt, runs.values(), values);
-}
-
-/// Has the run column this window?
-pub(crate) fn assert_window<A: Allocator + Copy>(
-    rt: &impl Abort,
-    runs: &RunEndArray<A>,
-    offset: usize,
-    length: usize,
-) {
-    assert_eq!(rt; (runs.offset(), runs.len()), (offset, length));
 }

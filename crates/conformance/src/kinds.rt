@@ -1,10 +1,13 @@
 //! Runs of truth values and of decimals.
 ghost use Rattle.std.specs.Prelude.{◌≡◌, length, IfOk};
+ghost use Rattle.column_core.specs.PrimitiveForm.{primitive_dtype};
+ghost use Rattle.runend_codec.specs.Ends.{IsEndsType};
 
-use crate::columns::{context, required, run_column};
-use crate::parts::{bits, nullable_truths, truths};
+use crate::columns::{context, ends_column};
+use crate::parts::{bits, nullable_truths};
 use crate::shown::{assert_bits, assert_shown};
-use refusing::Refusing;
+use crate::trials::{Trial, refused_in_turn};
+use runend_codec::validate_ends;
 use std::alloc::Allocator;
 use std::process::Abort;
 use std::test::Fail;
@@ -12,18 +15,8 @@ use vortex_runend::compress::runend_decode_decimal;
 use vortex_runend::decompress_bool::{runend_decode_bools, runend_decode_typed_bool};
 use vortex_runend::{
     ArrayRef, BitBuffer, BitBufferMut, BoolArray, DecimalArray, DecimalDType, ExecutionCtx, Mask,
-    Nullability, PrimitiveArray, RunEndData, Validity, VortexError, VortexResult,
-    trimmed_ends_iter,
+    Nullability, PrimitiveArray, Validity, VortexResult, trimmed_ends_iter,
 };
-
-const TRUTHS: [Option<bool>; 6] = [
-    Some(false),
-    Some(false),
-    Some(false),
-    Some(true),
-    Some(true),
-    Some(true),
-];
 
 // What the decoder makes of parts that are valid; else their fault.
 fn decoded_truths<A: Allocator + Copy>(
@@ -32,28 +25,17 @@ fn decoded_truths<A: Allocator + Copy>(
     offset: usize,
     length: usize,
     ctx: &mut ExecutionCtx<A>,
-) -> VortexResult<ArrayRef<A>> {
-    let ends = ArrayRef::Primitive(ends);
-    let values = ArrayRef::Bool(values);
-    RunEndData::validate_parts(&ends, &values, offset, length, ctx)?;
-    match (ends, values) {
-        (ArrayRef::Primitive(ends), ArrayRef::Bool(values)) => {
-            if ends.len() != values.len() {
-                return Err(VortexError::Unsupported);
-            }
-            runend_decode_bools(ends, values, offset, length, ctx)
+) -> VortexResult<ArrayRef<A>>
+    requires { IsEndsType (primitive_dtype ends) }
+{
+    match validate_ends(&ends, values.len(), offset, length) {
+        Ok(()) => runend_decode_bools(ends, values, offset, length, ctx),
+        Err(error) => {
+            drop(ends);
+            drop(values);
+            Err(error)
         }
-        _ => unreachable!(),
     }
-}
-
-#[test]
-fn truth_values_are_decoded(rt: HostRuntime) -> Result<(), Fail> {
-    let ends = required(rt.alloc(), &[2u32, 5, 10])?;
-    let values = truths(rt.alloc(), &[true, false, true])?;
-    let rows = decoded_truths(ends, values, 2, 6, &mut context(rt.alloc()))?;
-    assert_shown(&rt, &rows, &TRUTHS);
-    Ok(())
 }
 
 // Are the rows true twice, null three times and true five times, with false stored under null?
@@ -81,58 +63,28 @@ fn three_bits<A: Allocator + Copy>(alloc: A) -> VortexResult<BitBuffer<A>>
     Ok(bits.freeze())
 }
 
-#[test]
-fn a_run_without_rows_is_left_out(rt: HostRuntime) -> Result<(), Fail> {
-    let mut ctx = context(rt.alloc());
-    let values = three_bits(rt.alloc())?;
-    let ends = trimmed_ends_iter(&[0u8, 3, 6], 0, 6);
-    let mask = Mask::AllTrue(3);
-    let rows = runend_decode_typed_bool(
-        ends,
-        &values,
-        mask,
-        Nullability::NonNullable,
-        6,
-        &mut ctx,
-    )?;
-    assert_shown(&rt, &rows, &TRUTHS);
-    Ok(())
-}
+struct RunsOfTruths {}
 
-#[test]
-fn masked_truth_values_are_a_constant_null(rt: HostRuntime) -> Result<(), Fail> {
-    let mut ctx = context(rt.alloc());
-    let values = three_bits(rt.alloc())?;
-    let ends = trimmed_ends_iter(&[0u8, 3, 6], 0, 6);
-    let mask = Mask::AllFalse(3);
-    let rows = runend_decode_typed_bool(ends, &values, mask, Nullability::Nullable, 6, &mut ctx)?;
-    assert!(rt; matches!(&rows, ArrayRef::Constant(_)));
-    let null: Option<bool> = None;
-    assert_shown(&rt, &rows, &[null; 6]);
-    Ok(())
+impl Trial for RunsOfTruths {
+    fn run<A: Allocator + Copy>(alloc: A) -> VortexResult<ArrayRef<A>> {
+        let values = nullable_truths(alloc, &[true; 3], &[true, false, true])?;
+        match ends_column(alloc, &[2u32, 5, 10]) {
+            Ok(ends) => decoded_truths(ends, values, 0, 10, &mut context(alloc)),
+            Err(error) => {
+                drop(values);
+                Err(error)
+            }
+        }
+    }
+
+    fn assert_rows<A: Allocator + Copy>(rt: &impl Abort, rows: &ArrayRef<A>) {
+        assert_null_in_the_middle(rt, rows);
+    }
 }
 
 #[test]
 fn decode_of_truth_values_refused_at_each_request(rt: HostRuntime) -> Result<(), Fail> {
-    let ample = Refusing::never(rt.alloc());
-    let mut last = 0;
-    for first in 1..100u64 {
-        let heap = Refusing::from(rt.alloc(), first);
-        let ends = required(&ample, &[2u32, 5, 10])?;
-        let values = nullable_truths(&ample, &[true; 3], &[true, false, true])?;
-        match decoded_truths(ends, values, 0, 10, &mut context(&heap)) {
-            Ok(rows) => {
-                assert_eq!(rt; heap.refused(), 0);
-                assert_null_in_the_middle(&rt, &rows);
-                break;
-            }
-            Err(error) => {
-                assert_eq!(rt; error, VortexError::OutOfMemory);
-                last = first;
-            }
-        }
-    }
-    assert!(rt; last >= 1 && last < 99);
+    refused_in_turn::<RunsOfTruths>(&rt, rt.alloc());
     Ok(())
 }
 
@@ -153,18 +105,16 @@ fn decoded_decimals<A: Allocator + Copy>(
     values: DecimalArray<A>,
     length: usize,
     ctx: &mut ExecutionCtx<A>,
-) -> VortexResult<ArrayRef<A>> {
-    let ends = ArrayRef::Primitive(ends);
-    let values = ArrayRef::Decimal(values);
-    RunEndData::validate_parts(&ends, &values, 0, length, ctx)?;
-    match (ends, values) {
-        (ArrayRef::Primitive(ends), ArrayRef::Decimal(values)) => {
-            if ends.len() != values.len() {
-                return Err(VortexError::Unsupported);
-            }
-            runend_decode_decimal(ends, values, 0, length, ctx)
+) -> VortexResult<ArrayRef<A>>
+    requires { IsEndsType (primitive_dtype ends) }
+{
+    match validate_ends(&ends, values.len(), 0, length) {
+        Ok(()) => runend_decode_decimal(ends, values, 0, length, ctx),
+        Err(error) => {
+            drop(ends);
+            drop(values);
+            Err(error)
         }
-        _ => unreachable!(),
     }
 }
 
@@ -186,69 +136,51 @@ fn assert_decimals<A: Allocator + Copy>(rt: &impl Abort, array: &ArrayRef<A>) {
     }
 }
 
-#[test]
-fn decimals_are_decoded(rt: HostRuntime) -> Result<(), Fail> {
-    let ends = required(rt.alloc(), &[2u32, 5, 10])?;
-    let values = decimals(rt.alloc())?;
-    let rows = decoded_decimals(ends, values, 10, &mut context(rt.alloc()))?;
-    assert_decimals(&rt, &rows);
-    Ok(())
-}
+struct RunsOfDecimals {}
 
-// The decimals of the runs, decoded, all in this memory.
-fn decimals_in<A: Allocator + Copy>(alloc: A) -> VortexResult<ArrayRef<A>> {
-    let ends = required(alloc, &[2u32, 5, 10])?;
-    decoded_decimals(ends, decimals(alloc)?, 10, &mut context(alloc))
+impl Trial for RunsOfDecimals {
+    fn run<A: Allocator + Copy>(alloc: A) -> VortexResult<ArrayRef<A>> {
+        let values = decimals(alloc)?;
+        match ends_column(alloc, &[2u32, 5, 10]) {
+            Ok(ends) => decoded_decimals(ends, values, 10, &mut context(alloc)),
+            Err(error) => {
+                drop(values);
+                Err(error)
+            }
+        }
+    }
+
+    fn assert_rows<A: Allocator + Copy>(rt: &impl Abort, rows: &ArrayRef<A>) {
+        assert_decimals(rt, rows);
+    }
 }
 
 #[test]
 fn decode_of_decimals_refused_at_each_request(rt: HostRuntime) -> Result<(), Fail> {
-    let mut last = 0;
-    for first in 1..100u64 {
-        let heap = Refusing::from(rt.alloc(), first);
-        match decimals_in(&heap) {
-            Ok(rows) => {
-                assert_eq!(rt; heap.refused(), 0);
-                assert_decimals(&rt, &rows);
-                break;
-            }
-            Err(error) => {
-                assert_eq!(rt; error, VortexError::OutOfMemory);
-                last = first;
-            }
-        }
-    }
-    assert!(rt; last >= 1 && last < 99);
+    refused_in_turn::<RunsOfDecimals>(&rt, rt.alloc());
     Ok(())
 }
 
-// The truth values of runs that an iterator ends, all in this memory.
-fn typed_truths_in<A: Allocator + Copy>(alloc: A) -> VortexResult<ArrayRef<A>> {
-    let values = three_bits(alloc)?;
-    let ends = trimmed_ends_iter(&[0u8, 3, 6], 0, 6);
-    let mask = Mask::from_indices(alloc, 3, &[0, 2])?;
-    let mut ctx = context(alloc);
-    runend_decode_typed_bool(ends, &values, mask, Nullability::Nullable, 6, &mut ctx)
+// Truth values of runs that an iterator ends.
+struct EndedTruths {}
+
+impl Trial for EndedTruths {
+    fn run<A: Allocator + Copy>(alloc: A) -> VortexResult<ArrayRef<A>> {
+        let values = three_bits(alloc)?;
+        let ends = trimmed_ends_iter(&[0u8, 3, 6], 0, 6);
+        let mask = Mask::from_indices(alloc, 3, &[0, 2])?;
+        let mut ctx = context(alloc);
+        runend_decode_typed_bool(ends, &values, mask, Nullability::Nullable, 6, &mut ctx)
+    }
+
+    fn assert_rows<A: Allocator + Copy>(rt: &impl Abort, rows: &ArrayRef<A>) {
+        let (truth, null) = (Some(true), None);
+        assert_shown(rt, rows, &[null, null, null, truth, truth, truth]);
+    }
 }
 
 #[test]
 fn typed_decode_of_truth_values_refused_at_each_request(rt: HostRuntime) -> Result<(), Fail> {
-    let mut last = 0;
-    for first in 1..100u64 {
-        let heap = Refusing::from(rt.alloc(), first);
-        match typed_truths_in(&heap) {
-            Ok(rows) => {
-                assert_eq!(rt; heap.refused(), 0);
-                let (truth, null) = (Some(true), None);
-                assert_shown(&rt, &rows, &[null, null, null, truth, truth, truth]);
-                break;
-            }
-            Err(error) => {
-                assert_eq!(rt; error, VortexError::OutOfMemory);
-                last = first;
-            }
-        }
-    }
-    assert!(rt; last >= 1 && last < 99);
+    refused_in_turn::<EndedTruths>(&rt, rt.alloc());
     Ok(())
 }

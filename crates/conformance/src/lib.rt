@@ -7,8 +7,6 @@ mod bits;
 #[cfg(test)]
 mod columns;
 #[cfg(test)]
-mod decode;
-#[cfg(test)]
 mod errors;
 #[cfg(test)]
 mod flat;
@@ -42,5 +40,7 @@ mod slots;
 mod strategies;
 #[cfg(test)]
 mod texts;
+#[cfg(test)]
+mod trials;
 #[cfg(test)]
 mod typed;

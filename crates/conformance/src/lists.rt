@@ -1,35 +1,55 @@
 //! Runs of lists.
-use crate::columns::{context, required};
-use crate::parts::{bits, lists};
+ghost use Rattle.column_core.specs.PrimitiveForm.{primitive_dtype};
+ghost use Rattle.runend_codec.specs.Ends.{IsEndsType};
+
+use crate::columns::{context, ends_column, required};
+use crate::parts::bits;
 use crate::shown::assert_shown;
-use refusing::Refusing;
+use crate::trials::{Trial, refused_in_turn};
+use runend_codec::validate_ends;
 use std::alloc::Allocator;
 use std::process::Abort;
+use std::rc::Rc;
 use std::test::Fail;
 use vortex_runend::compress::runend_decode_listview;
 use vortex_runend::{
-    ArrayRef, ExecutionCtx, FlatColumn, ListViewArray, PrimitiveArray, RowValidity, RunEndData,
-    VortexError, VortexResult,
+    ArrayRef, ExecutionCtx, FlatColumn, ListViewArray, PrimitiveArray, RowValidity, VortexResult,
 };
 
 // The numbers from 1 to 6.
-fn six_numbers<A: Allocator + Copy>(alloc: A) -> VortexResult<FlatColumn<A>> {
-    Ok(FlatColumn::Primitive(required(alloc, &[1i64, 2, 3, 4, 5, 6])?))
+fn six_numbers<A: Allocator + Copy>(alloc: A) -> VortexResult<Rc<FlatColumn<A>, A>> {
+    let numbers = required(alloc, &[1i64, 2, 3, 4, 5, 6])?;
+    Ok(Rc::new(alloc, FlatColumn::Primitive(numbers))?)
+}
+
+// Where three lists begin, and of how many elements they are.
+fn places<A: Allocator + Copy>(alloc: A) -> VortexResult<(PrimitiveArray<A>, PrimitiveArray<A>)> {
+    let offsets = required(alloc, &[0u64, 2, 3])?;
+    match required(alloc, &[2u64, 1, 3]) {
+        Ok(sizes) => Ok((offsets, sizes)),
+        Err(error) => {
+            drop(offsets);
+            Err(error)
+        }
+    }
 }
 
 // The lists 1 2, null, and 4 5 6.
 fn three_lists<A: Allocator + Copy>(ctx: &mut ExecutionCtx<A>) -> VortexResult<ListViewArray<A>> {
     let alloc = *ctx.allocator();
+    let flags = bits(alloc, &[true, false, true])?;
     let elements = six_numbers(alloc)?;
-    let validity = RowValidity::Bits(bits(alloc, &[true, false, true])?);
-    lists(elements, &[0u64, 2, 3], &[2, 1, 3], validity, ctx)
-}
-
-// Are the rows 1 2 twice, null three times and 4 5 6 once?
-fn assert_six_rows<A: Allocator + Copy>(rt: &impl Abort, array: &ArrayRef<A>) {
-    let first = Some([1i64, 2].as_slice());
-    let last = Some([4i64, 5, 6].as_slice());
-    assert_shown(rt, array, &[first, first, None, None, None, last]);
+    match places(alloc) {
+        Ok((offsets, sizes)) => {
+            let offsets = ArrayRef::Primitive(offsets);
+            let sizes = ArrayRef::Primitive(sizes);
+            ListViewArray::try_new(elements, offsets, sizes, RowValidity::Bits(flags), ctx)
+        }
+        Err(error) => {
+            drop(elements);
+            Err(error)
+        }
+    }
 }
 
 // What the decoder makes of parts that are valid; else their fault.
@@ -38,58 +58,47 @@ fn decoded_lists<A: Allocator + Copy>(
     values: ListViewArray<A>,
     length: usize,
     ctx: &mut ExecutionCtx<A>,
-) -> VortexResult<ArrayRef<A>> {
-    let alloc = *ctx.allocator();
-    let ends = ArrayRef::Primitive(ends);
-    let values = ArrayRef::ListView(Box::new(alloc, values)?);
-    RunEndData::validate_parts(&ends, &values, 0, length, ctx)?;
-    match (ends, values) {
-        (ArrayRef::Primitive(ends), ArrayRef::ListView(values)) => {
-            if ends.len() != values.len() {
-                return Err(VortexError::Unsupported);
-            }
-            let shown = runend_decode_listview(ends, Box::into_inner(values), 0, length, ctx)?;
-            Ok(ArrayRef::ListView(Box::new(alloc, shown)?))
+) -> VortexResult<ArrayRef<A>>
+    requires { IsEndsType (primitive_dtype ends) }
+{
+    match validate_ends(&ends, values.len(), 0, length) {
+        Ok(()) => {
+            let lists = runend_decode_listview(ends, values, 0, length, ctx)?;
+            Ok(ArrayRef::ListView(Box::new(*ctx.allocator(), lists)?))
         }
-        _ => unreachable!(),
+        Err(error) => {
+            drop(ends);
+            drop(values);
+            Err(error)
+        }
     }
 }
 
-#[test]
-fn lists_are_decoded(rt: HostRuntime) -> Result<(), Fail> {
-    let mut ctx = context(rt.alloc());
-    let ends = required(rt.alloc(), &[2u32, 5, 6])?;
-    let values = three_lists(&mut ctx)?;
-    let rows = decoded_lists(ends, values, 6, &mut ctx)?;
-    assert_six_rows(&rt, &rows);
-    Ok(())
-}
+struct RunsOfLists {}
 
-// The three lists of the runs, decoded, all in this memory.
-fn lists_in<A: Allocator + Copy>(alloc: A) -> VortexResult<ArrayRef<A>> {
-    let mut ctx = context(alloc);
-    let ends = required(alloc, &[2u32, 5, 6])?;
-    let values = three_lists(&mut ctx)?;
-    decoded_lists(ends, values, 6, &mut ctx)
+impl Trial for RunsOfLists {
+    fn run<A: Allocator + Copy>(alloc: A) -> VortexResult<ArrayRef<A>> {
+        let mut ctx = context(alloc);
+        let values = three_lists(&mut ctx)?;
+        match ends_column(alloc, &[2u32, 5, 6]) {
+            Ok(ends) => decoded_lists(ends, values, 6, &mut ctx),
+            Err(error) => {
+                drop(values);
+                Err(error)
+            }
+        }
+    }
+
+    // The rows are 1 2 twice, null three times and 4 5 6 once.
+    fn assert_rows<A: Allocator + Copy>(rt: &impl Abort, rows: &ArrayRef<A>) {
+        let first = Some([1i64, 2].as_slice());
+        let last = Some([4i64, 5, 6].as_slice());
+        assert_shown(rt, rows, &[first, first, None, None, None, last]);
+    }
 }
 
 #[test]
 fn decode_of_lists_refused_at_each_request(rt: HostRuntime) -> Result<(), Fail> {
-    let mut last = 0;
-    for first in 1..100u64 {
-        let heap = Refusing::from(rt.alloc(), first);
-        match lists_in(&heap) {
-            Ok(rows) => {
-                assert_eq!(rt; heap.refused(), 0);
-                assert_six_rows(&rt, &rows);
-                break;
-            }
-            Err(error) => {
-                assert_eq!(rt; error, VortexError::OutOfMemory);
-                last = first;
-            }
-        }
-    }
-    assert!(rt; last >= 1 && last < 99);
+    refused_in_turn::<RunsOfLists>(&rt, rt.alloc());
     Ok(())
 }

@@ -1,15 +1,10 @@
-//! What is answered where memory is refused, at each request in turn.
-use crate::columns::{assert_rows, assert_stored, context, decoded, nullable, required};
-use refusing::Refusing;
+//! The decoder of numbers where memory is refused, at each request in turn, and where it is ample.
+use crate::columns::{assert_rows, assert_stored, context, decoded, ends_column, nullable};
+use crate::trials::{Trial, refused_in_turn};
+use std::alloc::Allocator;
+use std::process::Abort;
 use std::test::Fail;
-use vortex_runend::VortexError;
-use vortex_runend::compress::runend_encode;
-
-const NUMBERS: [i32; 10] = [1, 1, 2, 2, 2, 3, 3, 3, 3, 3];
-
-const FLAGS: [bool; 10] = [
-    true, true, false, false, true, true, true, true, false, false,
-];
+use vortex_runend::{ArrayRef, VortexResult};
 
 const DECODED: [Option<i64>; 8] = [
     None,
@@ -22,52 +17,33 @@ const DECODED: [Option<i64>; 8] = [
     None,
 ];
 
-#[test]
-fn encode_refused_at_each_request(rt: HostRuntime) -> Result<(), Fail> {
-    let ample = Refusing::never(rt.alloc());
-    let mut last = 0;
-    for first in 1..100u64 {
-        let heap = Refusing::from(rt.alloc(), first);
-        let array = nullable(&ample, &NUMBERS, &FLAGS)?;
-        let encoded = runend_encode(&array, &mut context(&heap));
-        assert_stored(&rt, &array, &NUMBERS);
-        match encoded {
-            Ok((ends, values)) => {
-                assert_eq!(rt; heap.refused(), 0);
-                assert_stored(&rt, &ends, &[2u8, 4, 5, 8, 10]);
-                assert_rows(&rt, &values, &[Some(1), None, Some(2), Some(3), None]);
-                break;
-            }
+struct RunsOfNumbers {}
+
+impl Trial for RunsOfNumbers {
+    fn run<A: Allocator + Copy>(alloc: A) -> VortexResult<ArrayRef<A>> {
+        let values = nullable(alloc, &[77i32, 1, 2, 77], &[false, true, true, false])?;
+        match ends_column(alloc, &[2u8, 5, 7, 10]) {
+            Ok(ends) => decoded(ends, values, 1, 8, &mut context(alloc)),
             Err(error) => {
-                assert_eq!(rt; error, VortexError::OutOfMemory);
-                last = first;
+                drop(values);
+                Err(error)
             }
         }
     }
-    assert!(rt; last >= 1 && last < 99);
-    Ok(())
+
+    fn assert_rows<A: Allocator + Copy>(rt: &impl Abort, rows: &ArrayRef<A>) {
+        assert_rows(rt, rows, &DECODED);
+        match rows {
+            ArrayRef::Primitive(flat) => {
+                assert_stored(rt, flat, &[0i32, 1, 1, 1, 2, 2, 0, 0]);
+            }
+            _ => panic!(rt; "not flat"),
+        }
+    }
 }
 
 #[test]
 fn decode_refused_at_each_request(rt: HostRuntime) -> Result<(), Fail> {
-    let ample = Refusing::never(rt.alloc());
-    let mut last = 0;
-    for first in 1..100u64 {
-        let heap = Refusing::from(rt.alloc(), first);
-        let ends = required(&ample, &[2u8, 5, 7, 10])?;
-        let values = nullable(&ample, &[77i32, 1, 2, 77], &[false, true, true, false])?;
-        match decoded(ends, values, 1, 8, &mut context(&heap)) {
-            Ok(rows) => {
-                assert_eq!(rt; heap.refused(), 0);
-                assert_rows(&rt, &rows, &DECODED);
-                break;
-            }
-            Err(error) => {
-                assert_eq!(rt; error, VortexError::OutOfMemory);
-                last = first;
-            }
-        }
-    }
-    assert!(rt; last >= 1 && last < 99);
+    refused_in_turn::<RunsOfNumbers>(&rt, rt.alloc());
     Ok(())
 }

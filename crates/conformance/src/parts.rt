@@ -1,11 +1,8 @@
-//! Columns of which run columns are made: truth values, texts and lists.
-use crate::columns::required;
+//! Columns of which run columns are made: truth values and texts.
 use bytes::Bytes;
 use std::alloc::Allocator;
-use std::rc::Rc;
 use vortex_runend::{
-    ArrayRef, BitBuffer, BitBufferMut, BoolArray, ExecutionCtx, FlatColumn, ListViewArray,
-    NativePType, RowValidity, Validity, VarBinKind, VarBinViewArray, View, VortexResult,
+    BitBuffer, BitBufferMut, BoolArray, Validity, VarBinKind, VarBinViewArray, View, VortexResult,
 };
 
 /// A bit for each flag.
@@ -15,11 +12,6 @@ pub(crate) fn bits<A: Allocator + Copy>(alloc: A, flags: &[bool]) -> VortexResul
         bits.append(*flag)?;
     }
     Ok(bits.freeze())
-}
-
-/// Truth values of a type without null.
-pub(crate) fn truths<A: Allocator + Copy>(alloc: A, items: &[bool]) -> VortexResult<BoolArray<A>> {
-    BoolArray::try_new(bits(alloc, items)?, Validity::NonNullable)
 }
 
 /// Truth values, null where the flag is false.
@@ -63,19 +55,4 @@ pub(crate) fn texts<A: Allocator + Copy>(
     let buffers = one_buffer(alloc, &bytes)?;
     let validity = Validity::Bits(flags.freeze());
     VarBinViewArray::try_new(views, buffers, VarBinKind::Utf8, validity)
-}
-
-/// Lists of so many elements each, from these offsets on.
-pub(crate) fn lists<T: NativePType, A: Allocator + Copy>(
-    elements: FlatColumn<A>,
-    offsets: &[T],
-    sizes: &[u64],
-    validity: RowValidity<A>,
-    ctx: &mut ExecutionCtx<A>,
-) -> VortexResult<ListViewArray<A>> {
-    let alloc = *ctx.allocator();
-    let elements = Rc::new(alloc, elements)?;
-    let offsets = ArrayRef::Primitive(required(alloc, offsets)?);
-    let sizes = ArrayRef::Primitive(required(alloc, sizes)?);
-    ListViewArray::try_new(elements, offsets, sizes, validity, ctx)
 }

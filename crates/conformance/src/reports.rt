@@ -30,14 +30,3 @@ fn a_wrong_expectation_is_told_with_its_line(rt: HostRuntime) -> Result<(), Fail
     assert_eq!(rt; report.status(), 1);
     Ok(())
 }
-
-#[test]
-fn lines_that_agree_are_counted_alone(rt: HostRuntime) -> Result<(), Fail> {
-    let mut report = Report::new(rt.alloc());
-    report.count(0, "ok", "ok")?;
-    report.count(7, "-", "-")?;
-    report.total()?;
-    assert_eq!(rt; report.text.as_str(), "2 agree, 0 differ\n");
-    assert_eq!(rt; report.status(), 0);
-    Ok(())
-}

@@ -1,15 +1,17 @@
 //! Runs of texts and of bytes.
-use crate::columns::{context, required, run_column};
+ghost use Rattle.column_core.specs.PrimitiveForm.{primitive_dtype};
+ghost use Rattle.runend_codec.specs.Ends.{IsEndsType};
+
+use crate::columns::{context, ends_column};
 use crate::parts::texts;
 use crate::shown::assert_shown;
-use refusing::Refusing;
+use crate::trials::{Trial, refused_in_turn};
+use runend_codec::validate_ends;
 use std::alloc::Allocator;
 use std::process::Abort;
 use std::test::Fail;
 use vortex_runend::compress::runend_decode_varbinview;
-use vortex_runend::{
-    ArrayRef, ExecutionCtx, PrimitiveArray, RunEndData, VarBinViewArray, VortexError, VortexResult,
-};
+use vortex_runend::{ArrayRef, ExecutionCtx, PrimitiveArray, VarBinViewArray, VortexResult};
 
 const LETTERS: [Option<&str>; 3] = [Some("a"), None, Some("c")];
 
@@ -29,75 +31,46 @@ fn assert_letters<A: Allocator + Copy>(rt: &impl Abort, array: &ArrayRef<A>) {
     }
 }
 
-// The run column that shows the letters.
-fn letter_runs<A: Allocator + Copy>(alloc: A) -> VortexResult<ArrayRef<A>> {
-    let ends = required(alloc, &[2u32, 5, 10])?;
-    let values = ArrayRef::VarBinView(texts(alloc, &LETTERS)?);
-    run_column(ends, values, 0, 10, &mut context(alloc))
-}
-
 // What the decoder makes of parts that are valid; else their fault.
 fn decoded_texts<A: Allocator + Copy>(
     ends: PrimitiveArray<A>,
     values: VarBinViewArray<A>,
     length: usize,
     ctx: &mut ExecutionCtx<A>,
-) -> VortexResult<ArrayRef<A>> {
-    let ends = ArrayRef::Primitive(ends);
-    let values = ArrayRef::VarBinView(values);
-    RunEndData::validate_parts(&ends, &values, 0, length, ctx)?;
-    match (ends, values) {
-        (ArrayRef::Primitive(ends), ArrayRef::VarBinView(values)) => {
-            if ends.len() != values.len() {
-                return Err(VortexError::Unsupported);
-            }
-            runend_decode_varbinview(ends, values, 0, length, ctx)
+) -> VortexResult<ArrayRef<A>>
+    requires { IsEndsType (primitive_dtype ends) }
+{
+    match validate_ends(&ends, values.len(), 0, length) {
+        Ok(()) => runend_decode_varbinview(ends, values, 0, length, ctx),
+        Err(error) => {
+            drop(ends);
+            drop(values);
+            Err(error)
         }
-        _ => unreachable!(),
     }
 }
 
-#[test]
-fn texts_are_decoded(rt: HostRuntime) -> Result<(), Fail> {
-    let ends = required(rt.alloc(), &[2u32, 5, 10])?;
-    let values = texts(rt.alloc(), &LETTERS)?;
-    let rows = decoded_texts(ends, values, 10, &mut context(rt.alloc()))?;
-    assert_letters(&rt, &rows);
-    Ok(())
-}
+struct RunsOfLetters {}
 
-// The letters of the runs, decoded, all in this memory.
-fn letters_in<A: Allocator + Copy>(alloc: A) -> VortexResult<ArrayRef<A>> {
-    let ends = required(alloc, &[2u32, 5, 10])?;
-    let values = texts(alloc, &LETTERS)?;
-    decoded_texts(ends, values, 10, &mut context(alloc))
+impl Trial for RunsOfLetters {
+    fn run<A: Allocator + Copy>(alloc: A) -> VortexResult<ArrayRef<A>> {
+        let values = texts(alloc, &LETTERS)?;
+        match ends_column(alloc, &[2u32, 5, 10]) {
+            Ok(ends) => decoded_texts(ends, values, 10, &mut context(alloc)),
+            Err(error) => {
+                drop(values);
+                Err(error)
+            }
+        }
+    }
+
+    fn assert_rows<A: Allocator + Copy>(rt: &impl Abort, rows: &ArrayRef<A>) {
+        assert_letters(rt, rows);
+    }
 }
 
 #[test]
 fn decode_of_texts_refused_at_each_request(rt: HostRuntime) -> Result<(), Fail> {
-    let mut last = 0;
-    for first in 1..100u64 {
-        let heap = Refusing::from(rt.alloc(), first);
-        match letters_in(&heap) {
-            Ok(rows) => {
-                assert_eq!(rt; heap.refused(), 0);
-                assert_letters(&rt, &rows);
-                break;
-            }
-            Err(error) => {
-                assert_eq!(rt; error, VortexError::OutOfMemory);
-                last = first;
-            }
-        }
-    }
-    assert!(rt; last >= 1 && last < 99);
-    Ok(())
-}
-
-#[test]
-fn texts_are_canonicalized(rt: HostRuntime) -> Result<(), Fail> {
-    let column = letter_runs(rt.alloc())?;
-    let flat = column.canonicalize(&mut context(rt.alloc()))?;
-    assert_letters(&rt, &flat);
+    refused_in_turn::<RunsOfLetters>(&rt, rt.alloc());
     Ok(())
 }

@@ -1,15 +1,13 @@
 //! Trimmed ends, the decoder that takes ends from an iterator, and what a run column holds beside its
 //! slots.
 use crate::columns::{assert_rows, assert_stored, context};
-use refusing::Refusing;
+use crate::trials::{Trial, refused_in_turn};
 use std::alloc::Allocator;
 use std::hash::{DefaultHasher, Hasher};
+use std::process::Abort;
 use std::test::Fail;
 use vortex_runend::compress::runend_decode_typed_primitive;
-use vortex_runend::{
-    ArrayRef, Mask, Nullability, PrimitiveArray, RunEndData, VortexError, VortexResult,
-    trimmed_ends_iter,
-};
+use vortex_runend::{ArrayRef, Mask, Nullability, RunEndData, VortexResult, trimmed_ends_iter};
 
 const ENDS: [u8; 4] = [2, 5, 7, 10];
 
@@ -35,52 +33,31 @@ fn ends_are_trimmed_to_the_window(rt: HostRuntime) -> Result<(), Fail> {
     Ok(())
 }
 
-// The rows that trimmed ends show, with the mask in memory from there too.
-fn decoded_typed<A: Allocator + Copy>(alloc: A) -> VortexResult<PrimitiveArray<A>> {
-    let ends = trimmed_ends_iter(&ENDS, 1, 8);
-    let mask = Mask::from_indices(alloc, 4, &[1, 2])?;
-    let mut ctx = context(alloc);
-    runend_decode_typed_primitive(ends, &VALUES, mask, Nullability::Nullable, 8, &mut ctx)
-}
+// Numbers of runs that an iterator ends, with the mask in memory from there too.
+struct EndedNumbers {}
 
-#[test]
-fn trimmed_ends_are_decoded(rt: HostRuntime) -> Result<(), Fail> {
-    let rows = decoded_typed(rt.alloc())?;
-    assert_stored(&rt, &rows, &STORED);
-    assert_rows(&rt, &ArrayRef::Primitive(rows), &ROWS);
-    Ok(())
+impl Trial for EndedNumbers {
+    fn run<A: Allocator + Copy>(alloc: A) -> VortexResult<ArrayRef<A>> {
+        let ends = trimmed_ends_iter(&ENDS, 1, 8);
+        let mask = Mask::from_indices(alloc, 4, &[1, 2])?;
+        let mut ctx = context(alloc);
+        let nullable = Nullability::Nullable;
+        let rows = runend_decode_typed_primitive(ends, &VALUES, mask, nullable, 8, &mut ctx)?;
+        Ok(ArrayRef::Primitive(rows))
+    }
+
+    fn assert_rows<A: Allocator + Copy>(rt: &impl Abort, rows: &ArrayRef<A>) {
+        assert_rows(rt, rows, &ROWS);
+        match rows {
+            ArrayRef::Primitive(flat) => assert_stored(rt, flat, &STORED),
+            _ => panic!(rt; "not flat"),
+        }
+    }
 }
 
 #[test]
 fn typed_decode_refused_at_each_request(rt: HostRuntime) -> Result<(), Fail> {
-    let mut last = 0;
-    for first in 1..100u64 {
-        let heap = Refusing::from(rt.alloc(), first);
-        match decoded_typed(&heap) {
-            Ok(rows) => {
-                assert_eq!(rt; heap.refused(), 0);
-                assert_stored(&rt, &rows, &STORED);
-                break;
-            }
-            Err(error) => {
-                assert_eq!(rt; error, VortexError::OutOfMemory);
-                last = first;
-            }
-        }
-    }
-    assert!(rt; last >= 1 && last < 99);
-    Ok(())
-}
-
-#[test]
-fn nulls_alone_are_decoded_as_zeros(rt: HostRuntime) -> Result<(), Fail> {
-    let ends = trimmed_ends_iter(&[3u32], 0, 3);
-    let mask = Mask::AllFalse(1);
-    let mut ctx = context(rt.alloc());
-    let nullable = Nullability::Nullable;
-    let rows = runend_decode_typed_primitive(ends, &[77u8], mask, nullable, 3, &mut ctx)?;
-    assert_stored(&rt, &rows, &[0u8, 0, 0]);
-    assert_rows(&rt, &ArrayRef::Primitive(rows), &[None, None, None]);
+    refused_in_turn::<EndedNumbers>(&rt, rt.alloc());
     Ok(())
 }
 

@@ -124,6 +124,8 @@ impl RunEnd {
         ensures session { ctx.new ≡ ctx.old }
     {
         let Some(length) = last_of(&ends) else {
+            drop(values);
+            drop(ends);
             return Err(VortexError::EndsNotUnsigned);
         };
         RunEnd::try_new_offset_length(ends, values, 0, length, ctx)
@@ -144,8 +146,14 @@ impl RunEnd {
             (λ error. PartsFault (column_of ends) (column_of values) offset length error) }
         ensures session { ctx.new ≡ ctx.old }
     {
-        RunEndData::validate_parts(&ends, &values, offset, length, ctx)?;
-        Ok(RunEnd::new_unchecked(ends, values, offset, length))
+        match RunEndData::validate_parts(&ends, &values, offset, length, ctx) {
+            Ok(()) => Ok(RunEnd::new_unchecked(ends, values, offset, length)),
+            Err(error) => {
+                drop(values);
+                drop(ends);
+                Err(error)
+            }
+        }
     }
 
     /// The run column of ends and values that `try_new` accepts. Takes no memory.
@@ -194,11 +202,15 @@ impl RunEnd {
         ensures session { ctx.new ≡ ctx.old }
     {
         let ArrayRef::Primitive(plain) = &array else {
+            drop(array);
             return Err(VortexError::OnlyPrimitive);
         };
-        let (ends, values) = runend_encode(plain, ctx)?;
+        let count = plain.len();
+        let encoded = runend_encode(plain, ctx);
+        drop(array);
+        let (ends, values) = encoded?;
         let ends = ArrayRef::Primitive(ends);
-        Ok(RunEnd::new_unchecked(ends, values, 0, plain.len()))
+        Ok(RunEnd::new_unchecked(ends, values, 0, count))
     }
 
     /// The name of the encoding, `vortex.runend`.
@@ -419,7 +431,13 @@ impl<A: Allocator + Copy> RunEndArray<A> {
         ensures form { IfOk result (λ array. array ≡ self.now) }
     {
         let ends = self.ends.clone_in(alloc)?;
-        let values = self.values.clone_in(alloc)?;
+        let values = match self.values.clone_in(alloc) {
+            Ok(values) => values,
+            Err(error) => {
+                drop(ends);
+                return Err(error);
+            }
+        };
         Ok(RunEndArray {
             ends,
             values,
@@ -495,9 +513,17 @@ impl<A: Allocator + Copy> RunEndArray<A> {
     {
         let runs = self.runs_of_rows(start, stop);
         let ends = self.ends_between(alloc, runs.start, runs.end)?;
-        let values = self.values.rows_between(alloc, runs.start, runs.end)?;
+        let values = match self.values.rows_between(alloc, runs.start, runs.end) {
+            Ok(values) => values,
+            Err(error) => {
+                drop(ends);
+                return Err(error);
+            }
+        };
         // No session is at hand, and by default truth values are prefilled from 0 runs on.
-        let rows = values.shown_by(alloc, &ends, self.offset + start, stop - start, 0)?;
+        let made = values.shown_by(alloc, &ends, self.offset + start, stop - start, 0);
+        drop(ends);
+        let rows = made?;
         Ok(rows)
     }
 

@@ -322,7 +322,9 @@ impl<A: Allocator + Copy> ArrayRef<A> {
             }
             ArrayRef::Constant(array) => {
                 let part = array.repeated(alloc, stop - start)?;
-                let rows = write_constant(alloc, &part)?;
+                let made = write_constant(alloc, &part);
+                drop(part);
+                let rows = made?;
                 Ok(rows)
             }
             ArrayRef::RunEnd(array) => array.rows_between(alloc, start, stop),

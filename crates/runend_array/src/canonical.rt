@@ -79,7 +79,9 @@ impl<A: Allocator + Copy> Canonical<A> {
                 Ok(Canonical::Flat(array))
             }
             Canonical::List(lists) => {
-                let shown = lists.shown_by(alloc, ends, offset, count)?;
+                let made = lists.shown_by(alloc, ends, offset, count);
+                drop(lists);
+                let shown = made?;
                 Ok(Canonical::List(shown))
             }
         }

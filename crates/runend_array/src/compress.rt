@@ -84,7 +84,9 @@ pub(crate) fn decode_column<A: Allocator + Copy>(
     ensures form { IfOk result (λ array. IsDecodedForm (single_rows (leaf_of values)) (column_of array)) }
 {
     if has_nulls_alone(&values) {
-        return Ok(ArrayRef::Constant(null_constant(values.dtype(), count)));
+        let nulls = null_constant(values.dtype(), count);
+        drop(values);
+        return Ok(ArrayRef::Constant(nulls));
     }
     let array = decode_flat(alloc, ends, values, offset, count, prefill_runs)?;
     Ok(array_of(array))
@@ -110,14 +112,16 @@ pub fn runend_decode_primitive<A: Allocator + Copy>(
     ensures session { ctx.new ≡ ctx.old }
 {
     prove_eq!(values.len(), ends.len());
-    decode_column(
+    let decoded = decode_column(
         *ctx.allocator(),
         &ends,
         FlatColumn::Primitive(values),
         offset,
         length,
         0,
-    )
+    );
+    drop(ends);
+    decoded
 }
 
 /// The rows that runs of decimals show, from row `offset` on, `length` many. A constant null where there is a
@@ -140,14 +144,16 @@ pub fn runend_decode_decimal<A: Allocator + Copy>(
     ensures session { ctx.new ≡ ctx.old }
 {
     prove_eq!(values.len(), ends.len());
-    decode_column(
+    let decoded = decode_column(
         *ctx.allocator(),
         &ends,
         FlatColumn::Decimal(values),
         offset,
         length,
         0,
-    )
+    );
+    drop(ends);
+    decoded
 }
 
 /// The rows that runs of texts or bytes show, from row `offset` on, `length` many. A constant null where there is a
@@ -170,14 +176,16 @@ pub fn runend_decode_varbinview<A: Allocator + Copy>(
     ensures session { ctx.new ≡ ctx.old }
 {
     prove_eq!(values.len(), ends.len());
-    decode_column(
+    let decoded = decode_column(
         *ctx.allocator(),
         &ends,
         FlatColumn::VarBinView(values),
         offset,
         length,
         0,
-    )
+    );
+    drop(ends);
+    decoded
 }
 
 /// The rows that runs of lists show, from row `offset` on, `length` many: lists over the same elements,
@@ -200,7 +208,10 @@ pub fn runend_decode_listview<A: Allocator + Copy>(
     ensures form { IfOk result (λ lists. AreListsInRuns ends.ptype (ends_of ends) values offset length lists) }
     ensures session { ctx.new ≡ ctx.old }
 {
-    values.shown_by(*ctx.allocator(), &ends, offset, length)
+    let shown = values.shown_by(*ctx.allocator(), &ends, offset, length);
+    drop(values);
+    drop(ends);
+    shown
 }
 
 /// The rows of runs whose ends come from an iterator, as a flat column of `T` with 0 under null: row i

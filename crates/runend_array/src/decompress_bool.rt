@@ -42,14 +42,16 @@ pub fn runend_decode_bools<A: Allocator + Copy>(
 {
     prove_eq!(values.len(), ends.len());
     let prefill_runs = ctx.session().thresholds().prefill_runs;
-    decode_column(
+    let decoded = decode_column(
         *ctx.allocator(),
         &ends,
         FlatColumn::Bool(values),
         offset,
         length,
         prefill_runs,
-    )
+    );
+    drop(ends);
+    decoded
 }
 
 /// The rows of runs whose ends come from an iterator: a constant null where there is a run and the mask

@@ -316,7 +316,13 @@ fn no_lists<A: Allocator + Copy>(
 {
     let elements = Rc::new(alloc, no_elements(alloc, element)?)?;
     let offsets = zeros_of(alloc, 0)?;
-    let sizes = zeros_of(alloc, 0)?;
+    let sizes = match zeros_of(alloc, 0) {
+        Ok(sizes) => sizes,
+        Err(error) => {
+            drop(offsets);
+            return Err(error);
+        }
+    };
     let rows = no_null(nullability);
     let validity = told_by_rows(rows);
     Ok(ListViewArray::new_unchecked(elements, offsets, sizes, validity))
@@ -396,6 +402,14 @@ fn null_lists<A: Allocator + Copy>(
 {
     let elements = Rc::new(alloc, no_elements(alloc, element)?)?;
     let offsets = zeros_of(alloc, count)?;
-    let sizes = zeros_of(alloc, count)?;
-    Ok(ListViewArray::new_unchecked(elements, offsets, sizes, RowValidity::AllInvalid))
+    match zeros_of(alloc, count) {
+        Ok(sizes) => {
+            let validity = RowValidity::AllInvalid;
+            Ok(ListViewArray::new_unchecked(elements, offsets, sizes, validity))
+        }
+        Err(error) => {
+            drop(offsets);
+            Err(error)
+        }
+    }
 }

@@ -89,18 +89,21 @@ pub fn decode_flat<A: Allocator + Copy>(
     match values {
         FlatColumn::Primitive(values) => {
             prove_eq!(values.len(), ends.len());
-            let array = decode_numbers(alloc, ends, &values, offset, count)?;
-            Ok(FlatColumn::Primitive(array))
+            let array = decode_numbers(alloc, ends, &values, offset, count);
+            drop(values);
+            Ok(FlatColumn::Primitive(array?))
         }
         FlatColumn::Bool(values) => {
             prove_eq!(values.len(), ends.len());
-            let array = decode_truths(alloc, ends, &values, offset, count, prefill_runs)?;
-            Ok(FlatColumn::Bool(array))
+            let array = decode_truths(alloc, ends, &values, offset, count, prefill_runs);
+            drop(values);
+            Ok(FlatColumn::Bool(array?))
         }
         FlatColumn::Decimal(values) => {
             prove_eq!(values.len(), ends.len());
-            let array = decode_decimals(alloc, ends, &values, offset, count)?;
-            Ok(FlatColumn::Decimal(array))
+            let array = decode_decimals(alloc, ends, &values, offset, count);
+            drop(values);
+            Ok(FlatColumn::Decimal(array?))
         }
         FlatColumn::VarBinView(values) => {
             prove_eq!(values.len(), ends.len());

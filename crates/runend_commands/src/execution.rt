@@ -8,6 +8,7 @@ use crate::steps::{Outcome, outcome_of};
 use column_core::{VortexError, VortexResult};
 use runend_array::{ArrayRef, ExecutionCtx};
 use std::alloc::Allocator;
+use std::mem::replace;
 
 /// Does the commands one after another, each on the column that the one before it left, and answers
 /// each. A refused command leaves the column as it is, form included, and the next one is done.
@@ -48,7 +49,7 @@ pub fn execute_one<A: Allocator + Copy>(
 {
     match outcome_of(command, column, ctx) {
         Ok(Outcome::Becomes(array)) => {
-            *column = array;
+            drop(replace(column, array));
             Answer::Done
         }
         Ok(Outcome::Answers(answer)) => answer,

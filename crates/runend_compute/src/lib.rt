@@ -1,7 +1,9 @@
-//! The kernels of run columns, one file for each: what they answer over runs is what their definitions
-//! answer over rows.
+//! The slice of a run column, and what a session needs of every kernel: that it is registered, and the thresholds by
+//! which kernels choose.
 #![tactic(auto)]
 
+mod kernel;
 mod slices;
 
+pub use kernel::initialize;
 pub use slices::slice;

@@ -1,9 +1,12 @@
 -- Rows of a run column compared, from its visible values compared.
 use Rattle.std.proofs.Common.{◌≡◌, ◌↔◌, ℕ, ◌<◌, zero, suc, List, [], ◌∷◌, Option, Some, None, length, map, replicate, refl, sym, ap, subst, ◌∙◌, arith}
-use Rattle.std.specs.Prelude.{All, option_map}
+use Rattle.std.specs.Prelude.{Result, Ok, Err, All, IsOkUnless, option_map}
 use Rattle.std.proofs.lemmas.List.{length-map, length-replicate}
 use Rattle.std.proofs.lemmas.List.Elements.{All-nil, All-cons, All-head, All-tail, All-map, All-replicate}
 use Rattle.column_base.specs.declared.dtype.DType.{DType}
+use Rattle.column_base.specs.declared.error.VortexError.{VortexError}
+use Rattle.column_base.specs.declared.error.VortexError.TheVariants.{OutOfMemory}
+use Rattle.column_core.specs.Refusal.{IsRefusedBy}
 use Rattle.column_core.specs.Leaf.{Leaf, leaf_dtype, leaf_rows, single_rows}
 use Rattle.column_core.specs.Value.{FlatValue, Single, Value}
 use Rattle.column_order.specs.CompareFault.{compare_column_fault}
@@ -21,6 +24,7 @@ use Rattle.runend_array.specs.Column.{AreRuns, Column, Constant, OfConstant, OfL
 use Rattle.runend_array.specs.Encoding.{IsDecodedForm}
 use Rattle.runend_map.specs.VisibleForm.{visible_ends, visible_values, window_start}
 use Rattle.runend_map.proofs.KeptRows.{visible_rows}
+use Rattle.runend_map.proofs.OneKind.{only_memory}
 
 -- null compared is null
 with_null : (operator : CompareOperator) (row : Option Value) → compared operator row None ≡ None
@@ -100,17 +104,26 @@ pub compared_count : (operator : CompareOperator) (right : Option Value) (truths
 compared_count operator right truths values shown made same =
     sym (length-map truths (option_map (λ (v : FlatValue). Single v))) ∙ ap length made ∙ length-map values (λ (row : Option Value). compared operator row right) ∙ ap length same
 
--- columns written row by row have the fault of the columns
-pub beside_fault : (r : Runs) (left right : Leaf) (right_dtype : DType) (rights : List (Option Value)) → leaf_dtype left ≡ column_dtype r.values → leaf_dtype right ≡ right_dtype
-    → single_rows left ≡ column_rows (column_of_runs r) → single_rows right ≡ rights → compare_column_fault (column_dtype r.values) right_dtype r.count (length rights) ≡ None
+-- a column written row by row has the fault of the column
+pub beside_fault : (left right : Leaf) (right_dtype : DType) (rights : List (Option Value)) → leaf_dtype right ≡ right_dtype → single_rows right ≡ rights
+    → compare_column_fault (leaf_dtype left) right_dtype (length (leaf_rows left)) (length rights) ≡ None
     → compare_column_fault (leaf_dtype left) (leaf_dtype right) (length (leaf_rows left)) (length (leaf_rows right)) ≡ None
-beside_fault r left right right_dtype rights left_type right_type left_rows right_rows none =
-    let left_count : length (leaf_rows left) ≡ r.count = sym (length-single_rows left) ∙ ap length left_rows ∙ length-run_rows r.ends (column_rows r.values) r.offset r.count in
+beside_fault left right right_dtype rights right_type right_rows none =
     let right_count : length (leaf_rows right) ≡ length rights = sym (length-single_rows right) ∙ ap length right_rows in
-    ap (λ (t : DType). compare_column_fault t (leaf_dtype right) (length (leaf_rows left)) (length (leaf_rows right))) left_type
-    ∙ ap (λ (t : DType). compare_column_fault (column_dtype r.values) t (length (leaf_rows left)) (length (leaf_rows right))) right_type
-    ∙ ap (λ (n : ℕ). compare_column_fault (column_dtype r.values) right_dtype n (length (leaf_rows right))) left_count
-    ∙ ap (λ (n : ℕ). compare_column_fault (column_dtype r.values) right_dtype r.count n) right_count ∙ none
+    ap (λ (t : DType). compare_column_fault (leaf_dtype left) t (length (leaf_rows left)) (length (leaf_rows right))) right_type
+    ∙ ap (λ (n : ℕ). compare_column_fault (leaf_dtype left) right_dtype (length (leaf_rows left)) n) right_count ∙ none
+
+-- nor have the shown rows one beside what the runs have none beside
+pub shown_fault : (r : Runs) (left : Leaf) (right_dtype : DType) (count : ℕ) → leaf_dtype left ≡ column_dtype r.values → single_rows left ≡ column_rows (column_of_runs r)
+    → compare_column_fault (column_dtype r.values) right_dtype r.count count ≡ None → compare_column_fault (leaf_dtype left) right_dtype (length (leaf_rows left)) count ≡ None
+shown_fault r left right_dtype count left_type left_rows none =
+    let left_count : length (leaf_rows left) ≡ r.count = sym (length-single_rows left) ∙ ap length left_rows ∙ length-run_rows r.ends (column_rows r.values) r.offset r.count in
+    ap (λ (t : DType). compare_column_fault t right_dtype (length (leaf_rows left)) count) left_type ∙ ap (λ (n : ℕ). compare_column_fault (column_dtype r.values) right_dtype n count) left_count ∙ none
+
+-- what has no fault is refused for want of memory alone
+pub memory_alone : {T : Type 0} (fault : Option VortexError) (result : Result T VortexError) → fault ≡ None → IsRefusedBy fault result → IsOkUnless result OutOfMemory
+memory_alone fault (Ok value) none refused = tt
+memory_alone fault (Err error) none refused = only_memory fault error none refused
 
 -- the rows that the visible runs show over their own values
 pub own_rows : (r : Runs) (values rows : List (Option Value)) → AreRuns r → values ≡ visible_values r

@@ -6,3 +6,4 @@ pub mod FirstFaults
 pub mod KeptRows
 pub mod OneKind
 pub mod OwedRows
+pub mod PassedOn

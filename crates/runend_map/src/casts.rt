@@ -34,6 +34,8 @@ pub fn cast<A: Allocator + Copy>(
     }
     let alloc = *ctx.allocator();
     let values = visible_values(array, alloc)?;
-    let cast = values.cast(alloc, dtype)?;
+    let made = values.cast(alloc, dtype);
+    drop(values);
+    let cast = made?;
     over_visible_runs(array, cast, alloc)
 }

@@ -94,6 +94,8 @@ pub(crate) fn take_from_flat<A: Allocator + Copy>(
     }
     let alloc = *ctx.allocator();
     let indices = visible_codes(codes, alloc)?;
-    let taken = dictionary.take(alloc, &indices)?;
+    let made = dictionary.take(alloc, &indices);
+    drop(indices);
+    let taken = made?;
     placed(codes, taken, is_kept_type(dictionary.dtype()), alloc)
 }

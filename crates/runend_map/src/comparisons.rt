@@ -3,6 +3,9 @@ ghost use Rattle.std.specs.Prelude.{◌≡◌, ◌≢◌, ◌<◌, ◌↔◌, Er
 ghost use Rattle.column_base.specs.declared.dtype.DType.TheVariants as column;
 ghost use Rattle.column_base.specs.declared.dtype.Nullability.TheVariants.{Nullable};
 ghost use Rattle.column_base.specs.Types.{nullability_of};
+ghost use Rattle.column_core.specs.BoolForm.{bool_dtype};
+ghost use Rattle.column_core.specs.FlatColumn.{leaf_of};
+ghost use Rattle.column_core.specs.Leaf.{OfTruths, leaf_dtype, leaf_rows, single_rows};
 ghost use Rattle.column_core.specs.Refusal.{IsRefusedBy};
 ghost use Rattle.column_core.specs.Value.{IsLists, MayBeNull, Single};
 ghost use Rattle.column_order.specs.CompareFault.{compare_column_fault, compare_scalar_fault};
@@ -14,7 +17,9 @@ ghost use Rattle.runend_map.specs.ComparisonForm.{IsComparisonForm, IsNullConsta
 
 use crate::decoded::flat_rows;
 use crate::visible::{shown_rows, shown_truths, visible_values};
-use column_core::{DType, Nullability, Scalar, ScalarView, VortexError, VortexResult};
+use column_core::{
+    BoolArray, DType, FlatColumn, Nullability, Scalar, ScalarView, VortexError, VortexResult,
+};
 use column_order::{CompareOperator, FlatOrder, column_fault};
 use runend_array::{ArrayRef, ConstantArray, ExecutionCtx, RunEndArray, RunEndArrayExt};
 use std::alloc::Allocator;
@@ -69,8 +74,28 @@ fn compare_to_scalar<A: Allocator + Copy>(
     }
     let alloc = *ctx.allocator();
     let values = visible_values(array, alloc)?;
-    let truths = values.compare_scalar(alloc, operator, right)?;
+    let made = values.compare_scalar(alloc, operator, right);
+    drop(values);
+    let truths = made?;
     shown_truths(array, truths, ctx)
+}
+
+// Each row of a flat column compared with the one beside it. Refused as `OutOfMemory` alone.
+fn compare_flat<A: Allocator + Copy>(
+    left: &FlatColumn<A>,
+    operator: CompareOperator,
+    right: &ArrayRef<A>,
+    alloc: A,
+) -> VortexResult<BoolArray<A>>
+    requires kind { compare_column_fault (leaf_dtype (leaf_of left.now)) (dtype_of right.now) (length (leaf_rows (leaf_of left.now))) (length (rows right.now)) ≡ None }
+    ensures only { IsOkUnless result VortexError.OutOfMemory }
+    ensures rows { IfOk result (λ truths. single_rows (OfTruths truths) ≡ compare_rows operator (single_rows (leaf_of left.now)) (rows right.now)) }
+    ensures dtype { IfOk result (λ truths. bool_dtype truths ≡ compare_dtype (leaf_dtype (leaf_of left.now)) (dtype_of right.now)) }
+{
+    let right = flat_rows(right, alloc)?;
+    let truths = left.compare_column(alloc, operator, &right);
+    drop(right);
+    truths
 }
 
 // Each row compared with the one beside it. The answer has a truth value for each row, so that to write
@@ -91,8 +116,9 @@ fn compare_beside<A: Allocator + Copy>(
     let alloc = *ctx.allocator();
     let values = visible_values(array, alloc)?;
     let left = shown_rows(array, values, alloc)?;
-    let right = flat_rows(right, alloc)?;
-    let truths = left.compare_column(alloc, operator, &right)?;
+    let made = compare_flat(&left, operator, right, alloc);
+    drop(left);
+    let truths = made?;
     Ok(ArrayRef::Bool(truths))
 }
 

@@ -62,8 +62,9 @@ fn take_each<A: Allocator + Copy>(
 {
     let alloc = *ctx.allocator();
     let indices = codes_of_runs(codes, alloc)?;
-    let taken = take_rows(dictionary, &indices, ctx)?;
-    Ok(taken)
+    let taken = take_rows(dictionary, &indices, ctx);
+    drop(indices);
+    taken
 }
 
 /// The dictionary's row for each code, null for null, in a type with null where the dictionary's or the codes'
@@ -93,8 +94,9 @@ pub fn take_from<A: Allocator + Copy>(
     }
     let alloc = *ctx.allocator();
     let flat = flat_rows(dictionary, alloc)?;
-    let taken = take_from_flat(codes, &flat, ctx)?;
-    Ok(taken)
+    let taken = take_from_flat(codes, &flat, ctx);
+    drop(flat);
+    taken
 }
 
 /// The dictionary's row for each code, null for null, flat, in a type with null where the dictionary's or the
@@ -120,6 +122,7 @@ pub fn take_from_rows<A: Allocator + Copy>(
     let alloc = *ctx.allocator();
     let flat = flat_rows(codes, alloc)?;
     let indices = numbers_of(flat);
-    let taken = take_rows(dictionary, &indices, ctx)?;
-    Ok(taken)
+    let taken = take_rows(dictionary, &indices, ctx);
+    drop(indices);
+    taken
 }

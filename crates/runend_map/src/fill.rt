@@ -34,6 +34,8 @@ pub fn fill_null<A: Allocator + Copy>(
     }
     let alloc = *ctx.allocator();
     let values = visible_values(array, alloc)?;
-    let filled = values.fill_null(alloc, value)?;
+    let made = values.fill_null(alloc, value);
+    drop(values);
+    let filled = made?;
     over_visible_runs(array, filled, alloc)
 }

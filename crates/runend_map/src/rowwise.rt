@@ -34,7 +34,9 @@ pub fn fill_rows<A: Allocator + Copy>(
     }
     let alloc = *ctx.allocator();
     let flat = flat_rows(array, alloc)?;
-    let filled = flat.fill_null(alloc, value)?;
+    let made = flat.fill_null(alloc, value);
+    drop(flat);
+    let filled = made?;
     Ok(array_of(filled))
 }
 
@@ -57,6 +59,8 @@ pub fn cast_rows<A: Allocator + Copy>(
     }
     let alloc = *ctx.allocator();
     let flat = flat_rows(array, alloc)?;
-    let cast = flat.cast(alloc, dtype)?;
+    let made = flat.cast(alloc, dtype);
+    drop(flat);
+    let cast = made?;
     Ok(array_of(cast))
 }

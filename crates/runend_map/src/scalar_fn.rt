@@ -62,6 +62,24 @@ fn answers_to<S: NativePType, R: Drop, F: Fn(Option<S>) -> R, A: Allocator + Cop
     answers(alloc, items, array.validity(), function)
 }
 
+// What the function answers to each row that it is asked for. Refused as `OutOfMemory` alone.
+fn asked_answers<S: NativePType, R: Drop, F: Fn(Option<S>) -> R, A: Allocator + Copy>(
+    column: &ArrayRef<A>,
+    function: &F,
+    alloc: A,
+) -> VortexResult<Vec<R, A>>
+    requires native { is_native S.PTYPE (dtype_of column.now) ≡ true }
+    requires callable { MayAsk (number_row S.number) (λ row. F.pre function.now row) (rows column.now) }
+    ensures only { IsOkUnless result VortexError.OutOfMemory }
+    ensures each { IfOk result (λ answers. AllZip (IsAsked (number_row S.number) (λ row answer. F.post function.now row answer)) (asked_rows (column_of column.now)) answers.items) }
+    ensures valid { HasValidRuns (column_of column.now) }
+{
+    let values = asked_values(column, alloc)?;
+    let answers = answers_to(&values, function, alloc);
+    drop(values);
+    answers
+}
+
 // The column of the answers. Refused as `OutOfMemory` alone.
 fn answered<A: Allocator + Copy>(
     column: &ArrayRef<A>,
@@ -80,8 +98,7 @@ fn answered<A: Allocator + Copy>(
         return Ok(array_of(answers));
     };
     if ctx.session().is_registered(Kernel::ScalarFn) {
-        let mapped = over_visible_runs(runs, answers, alloc)?;
-        Ok(mapped)
+        over_visible_runs(runs, answers, alloc)
     } else {
         let flat = shown_rows(runs, answers, alloc)?;
         Ok(array_of(flat))
@@ -109,9 +126,10 @@ pub fn map_rows<S: NativePType, T: NativePType, F: Fn(Option<S>) -> Option<T>, A
         return Err(VortexError::TypeMismatch);
     }
     let alloc = *ctx.allocator();
-    let values = asked_values(column, alloc)?;
-    let answers = answers_to(&values, function, alloc)?;
-    let mapped = column_of_numbers(alloc, answers.as_slice())?;
+    let answers = asked_answers(column, function, alloc)?;
+    let made = column_of_numbers(alloc, answers.as_slice());
+    drop(answers);
+    let mapped = made?;
     answered(column, FlatColumn::Primitive(mapped), ctx)
 }
 
@@ -132,8 +150,9 @@ pub fn map_rows_bool<S: NativePType, F: Fn(Option<S>) -> Option<bool>, A: Alloca
         return Err(VortexError::TypeMismatch);
     }
     let alloc = *ctx.allocator();
-    let values = asked_values(column, alloc)?;
-    let answers = answers_to(&values, function, alloc)?;
-    let mapped = column_of_truths(alloc, answers.as_slice())?;
+    let answers = asked_answers(column, function, alloc)?;
+    let made = column_of_truths(alloc, answers.as_slice());
+    drop(answers);
+    let mapped = made?;
     answered(column, FlatColumn::Bool(mapped), ctx)
 }

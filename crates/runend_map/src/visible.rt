@@ -104,8 +104,13 @@ pub(crate) fn over_visible_runs<A: Allocator + Copy>(
     ensures dtype { IfOk result (λ part. dtype_of part ≡ leaf_dtype (leaf_of values)) }
     ensures form { IfOk result (λ part. IsOverVisibleRuns array.now (column_of part)) }
 {
-    let ends = ends_of_visible(array, alloc)?;
-    let ends = ArrayRef::Primitive(ends);
+    let ends = match ends_of_visible(array, alloc) {
+        Ok(ends) => ArrayRef::Primitive(ends),
+        Err(error) => {
+            drop(values);
+            return Err(error);
+        }
+    };
     let part = RunEnd::new_unchecked(ends, array_of(values), visible_offset(array), array.len());
     let boxed = Box::new(alloc, part)?;
     Ok(ArrayRef::RunEnd(boxed))
@@ -124,9 +129,17 @@ pub(crate) fn shown_rows<A: Allocator + Copy>(
     ensures dtype { IfOk result (λ flat. leaf_dtype (leaf_of flat) ≡ leaf_dtype (leaf_of values)) }
     ensures computed { IfOk result (λ flat. IsComputedLeaf (leaf_of flat)) }
 {
-    let ends = ends_of_visible(array, alloc)?;
+    let ends = match ends_of_visible(array, alloc) {
+        Ok(ends) => ends,
+        Err(error) => {
+            drop(values);
+            return Err(error);
+        }
+    };
     // No session is at hand, and by default truth values are prefilled from 0 runs on.
-    decode_flat(alloc, &ends, values, visible_offset(array), array.len(), 0)
+    let flat = decode_flat(alloc, &ends, values, visible_offset(array), array.len(), 0);
+    drop(ends);
+    flat
 }
 
 /// The truth values that the visible runs show, one for each run: a constant null where there is a run and
@@ -144,7 +157,13 @@ pub(crate) fn shown_truths<A: Allocator + Copy>(
     ensures session { ctx.new ≡ ctx.old }
 {
     let alloc = *ctx.allocator();
-    let ends = ends_of_visible(array, alloc)?;
+    let ends = match ends_of_visible(array, alloc) {
+        Ok(ends) => ends,
+        Err(error) => {
+            drop(truths);
+            return Err(error);
+        }
+    };
     prove_eq!(truths.len(), ends.len());
     runend_decode_bools(ends, truths, visible_offset(array), array.len(), ctx)
 }

@@ -49,8 +49,17 @@ pub fn deserialize<A: Allocator + Copy>(
     ensures memory { result ≢ Err VortexError.OutOfMemory }
     ensures session { ctx.new ≡ ctx.old }
 {
-    let metadata = read_record(bytes, dtype, length, &ends, &values, ctx)?;
-    Ok(RunEnd::new_unchecked(ends, values, metadata.offset as usize, length))
+    match read_record(bytes, dtype, length, &ends, &values, ctx) {
+        Ok(metadata) => {
+            let offset = metadata.offset as usize;
+            Ok(RunEnd::new_unchecked(ends, values, offset, length))
+        }
+        Err(error) => {
+            drop(ends);
+            drop(values);
+            Err(error)
+        }
+    }
 }
 
 // The record that the bytes mean, where the ends and the values are what it says and make a run column
@@ -100,7 +109,7 @@ fn count_stated<A: Allocator + Copy>(metadata: &RunEndMetadata, ends: &ArrayRef<
 {
     let stated = DType::Primitive(metadata.ends_ptype(), Nullability::NonNullable);
     match ends {
-        ArrayRef::Primitive(plain) if plain.dtype() == stated => Some(plain.len()),
+        ArrayRef::Primitive(plain) if is_same_type(plain.dtype(), stated) => Some(plain.len()),
         _ => None,
     }
 }

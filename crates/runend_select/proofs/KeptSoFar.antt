@@ -110,6 +110,14 @@ module _ (ends : List ℕ) (offset count : ℕ) (bits : List Bool) (k passed sel
       let short = length-take reach bits in
       omega arith
 
+  -- nor than there are rows
+  pub selected_counted : selected + more ≤ count
+  selected_counted =
+      let next = selected_next in
+      let few = count_by-le-length (λ (b : Bool). b) (take reach bits) in
+      let short = length-take reach bits in
+      omega arith
+
   each_next : (b : Bool) → ((b ≡ true) ↔ (0 < more)) → (run : ℕ) → run < k + 1 → (slice_get (kept ++ b ∷ []) run ≡ Some true) ↔ HasSelectedRow ends offset bits run
   each_next b says run h =
       let paired = old.paired in

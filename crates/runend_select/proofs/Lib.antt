@@ -14,3 +14,5 @@ pub mod AllNull
 pub mod CheckedIndices
 pub mod SelectLaws
 pub mod RowPositions
+pub mod Forms
+pub mod WholeRows

@@ -1,10 +1,10 @@
 //! Filters of run columns.
-ghost use Rattle.std.specs.Prelude.{◌≡◌, ◌↔◌, IfOk, IsOkUnless, IsTrue, count_by, length};
+ghost use Rattle.std.specs.Prelude.{[], ◌≡◌, ◌↔◌, IfOk, IsOkUnless, IsTrue, count_by, length};
 ghost use Rattle.column_base.specs.Mask.{mask_bits};
 ghost use Rattle.column_core.specs.Refusal.{IsRefusedBy};
 ghost use Rattle.column_ops.specs.Filter.{filter_fault, filter_rows};
 ghost use Rattle.runend_array.specs.Array.{column_of, dtype_of, rows};
-ghost use Rattle.runend_array.specs.Canonical.{canonical_column};
+ghost use Rattle.runend_array.specs.Canonical.{IsNormalFlat, canonical_column};
 ghost use Rattle.runend_array.specs.Column.{column_dtype, column_of_runs, column_rows};
 ghost use Rattle.runend_select.specs.Computed.{IsComputedAs};
 ghost use Rattle.runend_select.specs.FilterForm.{AreSelectedRuns, HasNoRuns, IsFilterForm, IsSelectedForm, TakesDirectly};
@@ -53,6 +53,21 @@ fn taken_directly<A: Allocator + Copy>(
     Ok(taken)
 }
 
+// The values at which the mask is true, as a column.
+fn kept_values<A: Allocator + Copy>(
+    alloc: A,
+    values: &ArrayRef<A>,
+    mask: &Mask<A>,
+) -> VortexResult<ArrayRef<A>>
+    requires masked { length (mask_bits mask.now) ≡ length (rows values.now) }
+    ensures only { IsOkUnless result VortexError.OutOfMemory }
+    ensures made { IfOk result (λ kept. IsComputedAs (filter_rows (mask_bits mask.now) (rows values.now)) (dtype_of values.now) (column_of kept)) }
+{
+    let kept = select_values(alloc, values, mask)?;
+    let kept = kept.into_array(alloc)?;
+    Ok(kept)
+}
+
 // The runs with a selected row.
 fn kept_column<A: Allocator + Copy>(
     alloc: A,
@@ -70,8 +85,15 @@ fn kept_column<A: Allocator + Copy>(
         _ => unreachable!(),
     };
     let (kept_ends, kept) = filter_ends(alloc, ends, array.offset(), array.len(), bits)?;
-    let values = select_values(alloc, array.values(), &kept)?;
-    let values = values.into_array(alloc)?;
+    let values = kept_values(alloc, array.values(), &kept);
+    drop(kept);
+    let values = match values {
+        Ok(values) => values,
+        Err(error) => {
+            drop(kept_ends);
+            return Err(error);
+        }
+    };
     let kept_ends = ArrayRef::Primitive(kept_ends);
     Ok(RunEnd::new_unchecked(kept_ends, values, 0, bits.true_count()))
 }
@@ -112,10 +134,28 @@ fn unchanged<A: Allocator + Copy>(
     ensures session { ctx.new ≡ ctx.old }
 {
     let ends = array.ends().try_clone(ctx)?;
-    let values = array.values().try_clone(ctx)?;
+    let values = match array.values().try_clone(ctx) {
+        Ok(values) => values,
+        Err(error) => {
+            drop(ends);
+            return Err(error);
+        }
+    };
     let copy = RunEnd::new_unchecked(ends, values, array.offset(), array.len());
     let boxed = Box::new(*ctx.allocator(), copy)?;
     Ok(ArrayRef::RunEnd(boxed))
+}
+
+// No rows of a column, flat.
+fn no_values<A: Allocator + Copy>(alloc: A, values: &ArrayRef<A>) -> VortexResult<ArrayRef<A>>
+    ensures only { IsOkUnless result VortexError.OutOfMemory }
+    ensures rows { IfOk result (λ none. column_rows (column_of none) ≡ []) }
+    ensures dtype { IfOk result (λ none. column_dtype (column_of none) ≡ dtype_of values.now) }
+    ensures flat { IfOk result (λ none. IsNormalFlat (column_of none)) }
+{
+    let none = values.rows_between(alloc, 0, 0)?;
+    let none = none.into_array(alloc)?;
+    Ok(none)
 }
 
 // No rows of the column.
@@ -130,8 +170,13 @@ fn without_rows<A: Allocator + Copy>(
 {
     let alloc = *ctx.allocator();
     let ends = array.ends_between(alloc, 0, 0)?;
-    let values = array.values().rows_between(alloc, 0, 0)?;
-    let values = values.into_array(alloc)?;
+    let values = match no_values(alloc, array.values()) {
+        Ok(values) => values,
+        Err(error) => {
+            drop(ends);
+            return Err(error);
+        }
+    };
     let ends = ArrayRef::Primitive(ends);
     let none = RunEnd::new_unchecked(ends, values, 0, 0);
     let boxed = Box::new(alloc, none)?;

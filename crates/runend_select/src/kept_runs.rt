@@ -41,7 +41,9 @@ pub fn filter_run_end_primitive<E: UnsignedPType, A: Allocator + Copy>(
     let alloc = *ctx.allocator();
     // A buffer's numbers are known to be of its type, so counts that are no greater are as well.
     let stored = E::wrap(Vec::from_slice(alloc, ends)?);
-    filter_ends(alloc, &stored, offset as usize, length as usize, mask)
+    let parts = filter_ends(alloc, &stored, offset as usize, length as usize, mask);
+    drop(stored);
+    parts
 }
 
 /// The same for the ends of a buffer.

@@ -109,6 +109,43 @@ fn select_flat<A: Allocator + Copy>(
     }
 }
 
+// The values at these positions, once their rows are all made flat.
+fn take_flattened<A: Allocator + Copy>(
+    alloc: A,
+    values: &ArrayRef<A>,
+    positions: &[u64],
+    places: &Validity<A>,
+) -> VortexResult<Canonical<A>>
+    requires counted { HasLength (form_of places.now) (length positions.now) }
+    requires within { ArePositions (optionals positions.now (flags (form_of places.now) (length positions.now))) (length (rows values.now)) }
+    ensures only { IsOkUnless result VortexError.OutOfMemory }
+    ensures made { IfOk result (λ taken. IsComputedAs
+        (take_rows (rows values.now) (position_numbers (optionals positions.now (flags (form_of places.now) (length positions.now)))))
+        (dtype_with (dtype_of values.now) (either_nullable (nullability_of (dtype_of values.now)) (nullability_in (form_of places.now))))
+        (canonical_column taken)) }
+{
+    let flat = flat_rows(alloc, values)?;
+    let taken = take_flat(alloc, &flat, positions, places);
+    drop(flat);
+    taken
+}
+
+// The values at which the mask is true, once their rows are all made flat.
+fn select_flattened<A: Allocator + Copy>(
+    alloc: A,
+    values: &ArrayRef<A>,
+    mask: &Mask<A>,
+) -> VortexResult<Canonical<A>>
+    requires masked { length (mask_bits mask.now) ≡ length (rows values.now) }
+    ensures only { IsOkUnless result VortexError.OutOfMemory }
+    ensures made { IfOk result (λ kept. IsComputedAs (filter_rows (mask_bits mask.now) (rows values.now)) (dtype_of values.now) (canonical_column kept)) }
+{
+    let flat = flat_rows(alloc, values)?;
+    let kept = select_flat(alloc, &flat, mask);
+    drop(flat);
+    kept
+}
+
 /// The values at these positions, null for null, in a flat form. The type has null where that of the
 /// values or the positions have. Refused as `OutOfMemory` alone.
 pub(crate) fn take_values<A: Allocator + Copy>(
@@ -146,11 +183,7 @@ pub(crate) fn take_values<A: Allocator + Copy>(
             let taken = take_lists(alloc, lists, positions, places)?;
             Ok(Canonical::List(taken))
         }
-        _ => {
-            let flat = flat_rows(alloc, values)?;
-            let taken = take_flat(alloc, &flat, positions, places)?;
-            Ok(taken)
-        }
+        _ => take_flattened(alloc, values, positions, places),
     }
 }
 
@@ -185,10 +218,6 @@ pub(crate) fn select_values<A: Allocator + Copy>(
             let kept = select_lists(alloc, lists, mask)?;
             Ok(Canonical::List(kept))
         }
-        _ => {
-            let flat = flat_rows(alloc, values)?;
-            let kept = select_flat(alloc, &flat, mask)?;
-            Ok(kept)
-        }
+        _ => select_flattened(alloc, values, mask),
     }
 }

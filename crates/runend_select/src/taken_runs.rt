@@ -137,7 +137,7 @@ fn runs_of_indices<T: NativePType, A: Allocator + Copy>(
         _ => unreachable!(),
     };
     let picks = take_thresholds(thresholds);
-    runs_among(
+    let runs = runs_among(
         alloc,
         ends,
         array.offset(),
@@ -145,7 +145,9 @@ fn runs_of_indices<T: NativePType, A: Allocator + Copy>(
         indices,
         &mask,
         picks,
-    )
+    );
+    drop(mask);
+    runs
 }
 
 /// The rows at the indices, null for null, in a flat form. Refused as `OutOfMemory` alone.

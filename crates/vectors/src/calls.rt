@@ -87,11 +87,16 @@ impl<A: Allocator + Copy> Call<A> {
                 }),
             },
             Call::On(mut column, task) => {
-                let reply = task.done(&mut column, ctx, ample)?;
-                Ok(Outcome {
-                    reply,
-                    column: Some(column),
-                })
+                match task.done(&mut column, ctx, ample) {
+                    Ok(reply) => Ok(Outcome {
+                        reply,
+                        column: Some(column),
+                    }),
+                    Err(error) => {
+                        drop(column);
+                        Err(error)
+                    }
+                }
             }
             Call::Read(bytes) => Ok(Outcome {
                 reply: read_of(&bytes, ample)?,
@@ -105,7 +110,11 @@ impl<A: Allocator + Copy> Maker<A> {
     // The column, with memory for the call from `ctx`, and for its box from `ample`.
     fn made(self, ctx: &mut ExecutionCtx<A>, ample: A) -> VortexResult<ArrayRef<A>> {
         let runs = match self {
-            Maker::Copy(array) => return array.try_clone(ctx),
+            Maker::Copy(array) => {
+                let copy = array.try_clone(ctx);
+                drop(array);
+                return copy;
+            }
             Maker::Lists(elements, offsets, sizes, validity) => {
                 let lists = ListViewArray::try_new(elements, offsets, sizes, validity, ctx)?;
                 return Ok(ArrayRef::ListView(Box::new(ample, lists)?));
@@ -158,25 +167,29 @@ fn run_command<A: Allocator + Copy>(
         return Ok(Reply::NoRoom);
     };
     match answers.pop() {
-        Some(answer) => reply_to(answer, ample),
+        Some(answer) => {
+            let reply = reply_to(&answer, ample);
+            drop(answer);
+            reply
+        }
         None => Ok(Reply::Bad),
     }
 }
 
 // What is said of the answer to a command.
-fn reply_to<A: Allocator + Copy>(answer: Answer<A>, ample: A) -> VortexResult<Reply<A>> {
+fn reply_to<A: Allocator + Copy>(answer: &Answer<A>, ample: A) -> VortexResult<Reply<A>> {
     let mut text = String::new(ample);
     match answer {
         Answer::Done => return Ok(Reply::Done),
-        Answer::Refused(error) => return Ok(Reply::Refused(error)),
+        Answer::Refused(error) => return Ok(Reply::Refused(*error)),
         Answer::Value(scalar) => push_row(&mut text, scalar.view())?,
-        Answer::Sum(total) => push_sum(&mut text, total)?,
+        Answer::Sum(total) => push_sum(&mut text, *total)?,
         Answer::MinMax(Some((least, greatest))) => {
             push_row(&mut text, least.view())?;
             push_row(&mut text, greatest.view())?;
         }
         Answer::MinMax(None) => push_word(&mut text, "none")?,
-        Answer::Bool(truth) => push_truth(&mut text, truth)?,
+        Answer::Bool(truth) => push_truth(&mut text, *truth)?,
     }
     Ok(Reply::Says(text))
 }

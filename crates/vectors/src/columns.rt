@@ -3,6 +3,7 @@ ghost use Rattle.std.specs.Prelude.{◌≡◌, ◌<◌, IfSome, OnErr, IsOkUnles
 
 use column_base::{VortexError, VortexResult};
 use std::alloc::Allocator;
+use std::mem::replace;
 use vortex_runend::ArrayRef;
 
 #[derive(Drop)]
@@ -49,12 +50,20 @@ impl<A: Allocator + Copy> Columns<A> {
         ensures kept { OnErr result (self.new.named.items ≡ self.old.named.items) }
     {
         match self.place_of(name) {
-            Some(place) => self.named[place].column = column,
-            None => {
-                let name = String::from_str(*self.named.allocator(), name)?;
-                self.named.push(Named { name, column })?;
+            Some(place) => {
+                drop(replace(&mut self.named[place].column, column));
+                Ok(())
             }
+            None => match String::from_str(*self.named.allocator(), name) {
+                Ok(name) => {
+                    self.named.push(Named { name, column })?;
+                    Ok(())
+                }
+                Err(error) => {
+                    drop(column);
+                    Err(error.into())
+                }
+            },
         }
-        Ok(())
     }
 }

@@ -201,6 +201,33 @@ fn column_of_rows<A: Allocator + Copy>(
     }
 }
 
+// What rows store, beside their validity.
+#[derive(Drop)]
+enum Stored<A: Allocator> {
+    Truths(BitBuffer<A>),
+    Numbers(PrimitiveValues<A>),
+    Decimals(Vec<i128, A>, DecimalDType),
+    Views(Vec<View, A>, Vec<Bytes<A>, A>, VarBinKind),
+}
+
+impl<A: Allocator + Copy> Stored<A> {
+    // The flat column with this validity.
+    fn with(self, validity: Validity<A>) -> VortexResult<FlatColumn<A>> {
+        Ok(match self {
+            Stored::Truths(bits) => FlatColumn::Bool(BoolArray::try_new(bits, validity)?),
+            Stored::Numbers(values) => {
+                FlatColumn::Primitive(PrimitiveArray::try_new(values, validity)?)
+            }
+            Stored::Decimals(numbers, decimal) => {
+                FlatColumn::Decimal(DecimalArray::try_new(numbers, decimal, validity)?)
+            }
+            Stored::Views(views, buffers, kind) => {
+                FlatColumn::VarBinView(VarBinViewArray::try_new(views, buffers, kind, validity)?)
+            }
+        })
+    }
+}
+
 // The flat column of what the rows store, with this validity.
 fn stored_column<A: Allocator + Copy>(
     alloc: A,
@@ -208,20 +235,34 @@ fn stored_column<A: Allocator + Copy>(
     rows: &[Row<'_>],
     validity: Validity<A>,
 ) -> VortexResult<Option<FlatColumn<A>>> {
-    match element {
-        ElementDType::Bool(_) => truths_of(alloc, rows, validity),
-        ElementDType::Primitive(ptype, _) => numbers_of(alloc, ptype, rows, validity),
-        ElementDType::Decimal(decimal, _) => decimals_of(alloc, decimal, rows, validity),
-        ElementDType::Utf8(_) => views_of(alloc, VarBinKind::Utf8, rows, validity),
-        ElementDType::Binary(_) => views_of(alloc, VarBinKind::Binary, rows, validity),
+    match stored_of(alloc, element, rows) {
+        Ok(Some(stored)) => Ok(Some(stored.with(validity)?)),
+        Ok(None) => {
+            drop(validity);
+            Ok(None)
+        }
+        Err(error) => {
+            drop(validity);
+            Err(error)
+        }
     }
 }
 
-fn truths_of<A: Allocator + Copy>(
+fn stored_of<A: Allocator + Copy>(
     alloc: A,
+    element: ElementDType,
     rows: &[Row<'_>],
-    validity: Validity<A>,
-) -> VortexResult<Option<FlatColumn<A>>> {
+) -> VortexResult<Option<Stored<A>>> {
+    match element {
+        ElementDType::Bool(_) => truths_of(alloc, rows),
+        ElementDType::Primitive(ptype, _) => numbers_of(alloc, ptype, rows),
+        ElementDType::Decimal(decimal, _) => decimals_of(alloc, decimal, rows),
+        ElementDType::Utf8(_) => views_of(alloc, VarBinKind::Utf8, rows),
+        ElementDType::Binary(_) => views_of(alloc, VarBinKind::Binary, rows),
+    }
+}
+
+fn truths_of<A: Allocator + Copy>(alloc: A, rows: &[Row<'_>]) -> VortexResult<Option<Stored<A>>> {
     let mut bits = BitBufferMut::with_capacity(alloc, rows.len())?;
     for row in rows {
         match (row.valid, row.value) {
@@ -230,37 +271,30 @@ fn truths_of<A: Allocator + Copy>(
             _ => return Ok(None),
         }
     }
-    let array = BoolArray::try_new(bits.freeze(), validity)?;
-    Ok(Some(FlatColumn::Bool(array)))
+    Ok(Some(Stored::Truths(bits.freeze())))
 }
 
 fn numbers_of<A: Allocator + Copy>(
     alloc: A,
     ptype: PType,
     rows: &[Row<'_>],
-    validity: Validity<A>,
-) -> VortexResult<Option<FlatColumn<A>>> {
-    let values = match ptype {
-        PType::U8 => natives_of::<u8, A>(alloc, rows)?,
-        PType::U16 => natives_of::<u16, A>(alloc, rows)?,
-        PType::U32 => natives_of::<u32, A>(alloc, rows)?,
-        PType::U64 => natives_of::<u64, A>(alloc, rows)?,
-        PType::I8 => natives_of::<i8, A>(alloc, rows)?,
-        PType::I16 => natives_of::<i16, A>(alloc, rows)?,
-        PType::I32 => natives_of::<i32, A>(alloc, rows)?,
-        PType::I64 => natives_of::<i64, A>(alloc, rows)?,
-    };
-    let Some(values) = values else {
-        return Ok(None);
-    };
-    let array = PrimitiveArray::try_new(values, validity)?;
-    Ok(Some(FlatColumn::Primitive(array)))
+) -> VortexResult<Option<Stored<A>>> {
+    match ptype {
+        PType::U8 => natives_of::<u8, A>(alloc, rows),
+        PType::U16 => natives_of::<u16, A>(alloc, rows),
+        PType::U32 => natives_of::<u32, A>(alloc, rows),
+        PType::U64 => natives_of::<u64, A>(alloc, rows),
+        PType::I8 => natives_of::<i8, A>(alloc, rows),
+        PType::I16 => natives_of::<i16, A>(alloc, rows),
+        PType::I32 => natives_of::<i32, A>(alloc, rows),
+        PType::I64 => natives_of::<i64, A>(alloc, rows),
+    }
 }
 
 fn natives_of<T: NativePType, A: Allocator + Copy>(
     alloc: A,
     rows: &[Row<'_>],
-) -> VortexResult<Option<PrimitiveValues<A>>> {
+) -> VortexResult<Option<Stored<A>>> {
     let mut items = Vec::new(alloc);
     for row in rows {
         let Some(number) = stored_number(*row) else {
@@ -271,15 +305,14 @@ fn natives_of<T: NativePType, A: Allocator + Copy>(
             None => return Ok(None),
         }
     }
-    Ok(Some(T::wrap(items)))
+    Ok(Some(Stored::Numbers(T::wrap(items))))
 }
 
 fn decimals_of<A: Allocator + Copy>(
     alloc: A,
     decimal: DecimalDType,
     rows: &[Row<'_>],
-    validity: Validity<A>,
-) -> VortexResult<Option<FlatColumn<A>>> {
+) -> VortexResult<Option<Stored<A>>> {
     let mut numbers = Vec::new(alloc);
     for row in rows {
         match stored_number(*row) {
@@ -287,8 +320,7 @@ fn decimals_of<A: Allocator + Copy>(
             None => return Ok(None),
         }
     }
-    let array = DecimalArray::try_new(numbers, decimal, validity)?;
-    Ok(Some(FlatColumn::Decimal(array)))
+    Ok(Some(Stored::Decimals(numbers, decimal)))
 }
 
 // The number that a row of numbers stores.
@@ -305,8 +337,7 @@ fn views_of<A: Allocator + Copy>(
     alloc: A,
     kind: VarBinKind,
     rows: &[Row<'_>],
-    validity: Validity<A>,
-) -> VortexResult<Option<FlatColumn<A>>> {
+) -> VortexResult<Option<Stored<A>>> {
     let mut views = Vec::new(alloc);
     let mut bytes = Vec::new(alloc);
     for row in rows {
@@ -317,8 +348,7 @@ fn views_of<A: Allocator + Copy>(
     }
     let mut buffers = Vec::new(alloc);
     buffers.push(Bytes::copy_from_slice(alloc, &bytes)?)?;
-    let array = VarBinViewArray::try_new(views, buffers, kind, validity)?;
-    Ok(Some(FlatColumn::VarBinView(array)))
+    Ok(Some(Stored::Views(views, buffers, kind)))
 }
 
 // Puts the text or the bytes of the row behind the buffer, and answers their view.
@@ -364,9 +394,6 @@ fn lists_of_rows<A: Allocator + Copy>(
     ctx: &mut ExecutionCtx<A>,
 ) -> VortexResult<Option<ArrayRef<A>>> {
     let alloc = *ctx.allocator();
-    let Some(validity) = validity_of(alloc, nullability, rows)? else {
-        return Ok(None);
-    };
     let Some(listed) = listed_rows(alloc, rows)? else {
         return Ok(None);
     };
@@ -374,14 +401,23 @@ fn lists_of_rows<A: Allocator + Copy>(
     let Some(elements) = column_of_rows(alloc, element, flags, listed.elements.as_slice())? else {
         return Ok(None);
     };
-    let lists = ListViewArray::try_new(
-        Rc::new(alloc, elements)?,
-        indices_of(listed.offsets)?,
-        indices_of(listed.sizes)?,
-        row_validity(validity),
-        ctx,
-    )?;
-    Ok(Some(ArrayRef::ListView(Box::new(alloc, lists)?)))
+    let elements = Rc::new(alloc, elements)?;
+    match validity_of(alloc, nullability, rows) {
+        Ok(Some(validity)) => {
+            let (offsets, sizes) = (indices_of(listed.offsets), indices_of(listed.sizes));
+            let validity = row_validity(validity);
+            let lists = ListViewArray::try_new(elements, offsets, sizes, validity, ctx)?;
+            Ok(Some(ArrayRef::ListView(Box::new(alloc, lists)?)))
+        }
+        Ok(None) => {
+            drop(elements);
+            Ok(None)
+        }
+        Err(error) => {
+            drop(elements);
+            Err(error)
+        }
+    }
 }
 
 // The elements of all rows, and where those of each row lie.
@@ -414,9 +450,9 @@ fn listed_rows<'a, A: Allocator + Copy>(
 }
 
 // A flat column of these numbers, for offsets and sizes.
-fn indices_of<A: Allocator + Copy>(numbers: Vec<u64, A>) -> VortexResult<ArrayRef<A>> {
-    let array = PrimitiveArray::try_new(PrimitiveValues::U64(numbers), Validity::NonNullable)?;
-    Ok(ArrayRef::Primitive(array))
+fn indices_of<A: Allocator + Copy>(numbers: Vec<u64, A>) -> ArrayRef<A> {
+    let numbers = PrimitiveValues::U64(numbers);
+    ArrayRef::Primitive(PrimitiveArray::new_unchecked(numbers, Validity::NonNullable))
 }
 
 /// A validity as one that may also be told by runs.

@@ -9,7 +9,7 @@ use column_base::VortexResult;
 use runend_commands::Command;
 use std::alloc::Allocator;
 use std::rc::Rc;
-use vortex_runend::{ArrayRef, DType, ExecutionCtx, Mask, RowValidity, Validity, View};
+use vortex_runend::{ArrayRef, DType, ExecutionCtx, FlatColumn, Mask, RowValidity, Validity, View};
 
 /// The call on copies of the columns that it names, or `None` where one does not stand, or a word
 /// is none that the call can be given.
@@ -37,9 +37,16 @@ pub fn prepare<A: Allocator + Copy>(
             return Ok(maker.map(|maker| Call::Make(maker)));
         }
     };
-    match columns.get(name) {
-        Some(column) => Ok(Some(Call::On(column.try_clone(ctx)?, task))),
-        None => Ok(None),
+    match copy_of(name, columns, ctx) {
+        Ok(Some(column)) => Ok(Some(Call::On(column, task))),
+        Ok(None) => {
+            drop(task);
+            Ok(None)
+        }
+        Err(error) => {
+            drop(task);
+            Err(error)
+        }
     }
 }
 
@@ -80,8 +87,19 @@ fn prepared_take<A: Allocator + Copy>(
     ctx: &mut ExecutionCtx<A>,
 ) -> VortexResult<Option<Command<A>>> {
     match flat_column(dtype, words, ctx)? {
-        Some(ArrayRef::Primitive(indices)) => Ok(Some(Command::Take(indices))),
-        _ => Ok(None),
+        Some(array) => Ok(take_by(array)),
+        None => Ok(None),
+    }
+}
+
+// The command that takes the rows of these indices, where they are whole numbers.
+fn take_by<A: Allocator>(indices: ArrayRef<A>) -> Option<Command<A>> {
+    match indices {
+        ArrayRef::Primitive(indices) => Some(Command::Take(indices)),
+        other => {
+            drop(other);
+            None
+        }
     }
 }
 
@@ -141,17 +159,47 @@ fn prepared_maker<A: Allocator + Copy>(
     }
 }
 
+// Copies of the columns of two names.
+fn copies_of<A: Allocator + Copy>(
+    first: &str,
+    second: &str,
+    columns: &Columns<A>,
+    ctx: &mut ExecutionCtx<A>,
+) -> VortexResult<Option<(ArrayRef<A>, ArrayRef<A>)>> {
+    match copy_of(first, columns, ctx)? {
+        Some(first) => beside_copy(first, second, columns, ctx),
+        None => Ok(None),
+    }
+}
+
+// The column, and a copy of the one of this name.
+fn beside_copy<A: Allocator + Copy>(
+    first: ArrayRef<A>,
+    second: &str,
+    columns: &Columns<A>,
+    ctx: &mut ExecutionCtx<A>,
+) -> VortexResult<Option<(ArrayRef<A>, ArrayRef<A>)>> {
+    match copy_of(second, columns, ctx) {
+        Ok(Some(second)) => Ok(Some((first, second))),
+        Ok(None) => {
+            drop(first);
+            Ok(None)
+        }
+        Err(error) => {
+            drop(first);
+            Err(error)
+        }
+    }
+}
+
 // The ends, and a copy of the values.
 fn prepared_runs<A: Allocator + Copy>(
     runs: Runs<'_>,
     columns: &Columns<A>,
     ctx: &mut ExecutionCtx<A>,
 ) -> VortexResult<Option<(ArrayRef<A>, ArrayRef<A>)>> {
-    let Some(ends) = flat_column(runs.ends_type, runs.ends, ctx)? else {
-        return Ok(None);
-    };
-    match copy_of(runs.values, columns, ctx)? {
-        Some(values) => Ok(Some((ends, values))),
+    match flat_column(runs.ends_type, runs.ends, ctx)? {
+        Some(ends) => beside_copy(ends, runs.values, columns, ctx),
         None => Ok(None),
     }
 }
@@ -161,14 +209,16 @@ fn prepared_record<A: Allocator + Copy>(
     columns: &Columns<A>,
     ctx: &mut ExecutionCtx<A>,
 ) -> VortexResult<Option<Maker<A>>> {
-    let (Some(bytes), Some(ends), Some(values)) = (
-        bytes_of_words(*ctx.allocator(), record.bytes)?,
-        copy_of(record.ends, columns, ctx)?,
-        copy_of(record.values, columns, ctx)?,
-    ) else {
+    let Some(bytes) = bytes_of_words(*ctx.allocator(), record.bytes)? else {
         return Ok(None);
     };
-    Ok(Some(Maker::Deserialize(record.dtype, record.length, bytes, ends, values)))
+    match copies_of(record.ends, record.values, columns, ctx)? {
+        Some((ends, values)) => {
+            let (dtype, length) = (record.dtype, record.length);
+            Ok(Some(Maker::Deserialize(dtype, length, bytes, ends, values)))
+        }
+        None => Ok(None),
+    }
 }
 
 fn prepared_lists<A: Allocator + Copy>(
@@ -176,17 +226,42 @@ fn prepared_lists<A: Allocator + Copy>(
     columns: &Columns<A>,
     ctx: &mut ExecutionCtx<A>,
 ) -> VortexResult<Option<Maker<A>>> {
-    let alloc = *ctx.allocator();
-    let (Some(elements), Some(offsets), Some(sizes), Some(validity)) = (
-        copy_of(lists.elements, columns, ctx)?.and_then(flat_of),
-        copy_of(lists.offsets, columns, ctx)?,
-        copy_of(lists.sizes, columns, ctx)?,
-        list_validity(lists.validity, columns, ctx)?,
-    ) else {
+    let Some((elements, validity)) = elements_and_validity(lists, columns, ctx)? else {
         return Ok(None);
     };
-    let elements = Rc::new(alloc, elements)?;
-    Ok(Some(Maker::Lists(elements, offsets, sizes, validity)))
+    match copies_of(lists.offsets, lists.sizes, columns, ctx) {
+        Ok(Some((offsets, sizes))) => Ok(Some(Maker::Lists(elements, offsets, sizes, validity))),
+        Ok(None) => {
+            drop((elements, validity));
+            Ok(None)
+        }
+        Err(error) => {
+            drop((elements, validity));
+            Err(error)
+        }
+    }
+}
+
+fn elements_and_validity<A: Allocator + Copy>(
+    lists: Lists<'_>,
+    columns: &Columns<A>,
+    ctx: &mut ExecutionCtx<A>,
+) -> VortexResult<Option<(Rc<FlatColumn<A>, A>, RowValidity<A>)>> {
+    let Some(elements) = copy_of(lists.elements, columns, ctx)?.and_then(flat_of) else {
+        return Ok(None);
+    };
+    let elements = Rc::new(*ctx.allocator(), elements)?;
+    match list_validity(lists.validity, columns, ctx) {
+        Ok(Some(validity)) => Ok(Some((elements, validity))),
+        Ok(None) => {
+            drop(elements);
+            Ok(None)
+        }
+        Err(error) => {
+            drop(elements);
+            Err(error)
+        }
+    }
 }
 
 /// The validity of the word `nonnull`, `valid`, `invalid`, or of bits.
@@ -212,8 +287,19 @@ fn list_validity<A: Allocator + Copy>(
         return Ok(Some(row_validity(validity)));
     }
     match copy_of(word, columns, ctx)? {
-        Some(ArrayRef::RunEnd(runs)) => Ok(Some(RowValidity::Runs(runs))),
-        _ => Ok(None),
+        Some(array) => Ok(validity_in(array)),
+        None => Ok(None),
+    }
+}
+
+// The validity that a run column tells.
+fn validity_in<A: Allocator>(array: ArrayRef<A>) -> Option<RowValidity<A>> {
+    match array {
+        ArrayRef::RunEnd(runs) => Some(RowValidity::Runs(runs)),
+        other => {
+            drop(other);
+            None
+        }
     }
 }
 

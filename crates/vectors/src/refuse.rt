@@ -12,7 +12,7 @@ use crate::reader;
 use crate::session::copy_of;
 use column_base::VortexResult;
 use std::alloc::Allocator;
-use vortex_runend::{ExecutionCtx, VortexError};
+use vortex_runend::{ArrayRef, ExecutionCtx, VortexError};
 
 /// What came of a call with requests for memory refused.
 #[derive(Clone, Copy, PartialEq, Eq)]
@@ -121,6 +121,7 @@ fn shown_behind<A: Allocator + Copy>(
     outcome: Outcome<A>,
 ) -> VortexResult<Option<Shown<A>>> {
     if let Reply::Bad = &outcome.reply {
+        drop(outcome);
         return Ok(None);
     }
     let shown = shown_of(ample, outcome)?;
@@ -129,14 +130,23 @@ fn shown_behind<A: Allocator + Copy>(
 
 // What an outcome shows.
 fn shown_of<A: Allocator + Copy>(ample: A, outcome: Outcome<A>) -> VortexResult<Shown<A>> {
-    let mut form = String::new(ample);
-    if let Some(column) = &outcome.column {
-        push_form(&mut form, column)?;
-    }
+    let Outcome { reply, column } = outcome;
+    let form = form_of(ample, &column);
+    drop(column);
+    let form = form?;
     Ok(Shown {
-        answer: reply_text(ample, outcome.reply)?,
+        answer: reply_text(ample, reply)?,
         form,
     })
+}
+
+// The form of a column, nothing where there is none.
+fn form_of<A: Allocator + Copy>(ample: A, column: &Option<ArrayRef<A>>) -> VortexResult<String<A>> {
+    let mut form = String::new(ample);
+    if let Some(column) = column {
+        push_form(&mut form, column)?;
+    }
+    Ok(form)
 }
 
 // What comes of the call with each request refused in turn by the plan.

@@ -1,12 +1,9 @@
-//! Run-end encoded columns, after the Rust crate `vortex-runend`: the session that registers kernels,
-//! lists of commands, the laws, and the names of the crates below.
+//! Run-end encoded columns, after the Rust crate `vortex-runend`: the laws, and the names of the crates below.
 #![tactic(auto)]
 
 pub mod compute;
-mod kernel;
 pub mod laws;
 
-pub use kernel::initialize;
 pub use runend_aggregate::{SignedSum, SumAnswer, SumValue, UnsignedSum};
 pub use runend_array::{
     ArrayRef, BitBuffer, BitBufferMut, BoolArray, Canonical, ConstantArray, CountedEnds, DType,
@@ -18,5 +15,6 @@ pub use runend_array::{
     VortexSession, compress, decompress_bool, ops, trimmed_ends_iter, validity,
 };
 pub use runend_commands::{Answer, Command, execute, execute_one};
+pub use runend_compute::initialize;
 pub use runend_metadata::RunEndMetadata;
 pub use runend_record::{deserialize, serialize};

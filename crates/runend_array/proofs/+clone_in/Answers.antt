@@ -6,19 +6,19 @@ use Rattle.runend_array.proofs.+clone_in.Goals as goal
 
 pub array::RunEndArray::clone_in-returns-clause-form : goal.array::RunEndArray::clone_in-returns-clause-form
 array::RunEndArray::clone_in-returns-clause-form g t c =
-    ap (λ e. runs_of e (column_of c.in_ok-values.values) c.self.inside.offset c.self.inside.length) c.in_ok-ends.ensures.form
-    ∙ ap (λ v. runs_of (column_of c.self.inside.ends) v c.self.inside.offset c.self.inside.length) c.in_ok-values.ensures.form
+    ap (λ e. runs_of e (column_of c.in-Ok.values) c.self.inside.offset c.self.inside.length) c.in_ok-ends.ensures.form
+    ∙ ap (λ v. runs_of (column_of c.self.inside.ends) v c.self.inside.offset c.self.inside.length) c.in-Ok.ensures.form
     ∙ c.self.view_is
 
 pub lists::listview::ListViewArray::clone_in-invariant_of-result : goal.lists::listview::ListViewArray::clone_in-invariant_of-result
 lists::listview::ListViewArray::clone_in-invariant_of-result g t c =
     let old = c.self.inside in
-    AreListParts-same old.elements.value c.in_ok-elements.elements.value old.offsets c.in_ok-offsets.offsets old.sizes c.in_ok-sizes.sizes old.validity c.in_ok-validity.validity
-    c.in_ok-elements.ensures.cases c.in_ok-offsets.ensures.form c.in_ok-sizes.ensures.form c.in_ok-validity.ensures.form (c.in_ok-validity.ensures.plain c.self.invariant.types.flags) c.self.invariant
+    AreListParts-same old.elements.value c.in_ok-elements.elements.value old.offsets c.in_ok-offsets.offsets old.sizes c.in-Ok.sizes old.validity c.in-Ok-clone_in.validity
+    c.in_ok-elements.ensures.cases c.in_ok-offsets.ensures.form c.in-Ok.ensures.form c.in-Ok-clone_in.ensures.form (c.in-Ok-clone_in.ensures.plain c.self.invariant.types.flags) c.self.invariant
 
 pub lists::listview::ListViewArray::clone_in-returns-clause-form : goal.lists::listview::ListViewArray::clone_in-returns-clause-form
 lists::listview::ListViewArray::clone_in-returns-clause-form g t c =
     let old = c.self.inside in
-    lists_of-same old.elements.value c.in_ok-elements.elements.value old.offsets c.in_ok-offsets.offsets old.sizes c.in_ok-sizes.sizes old.validity c.in_ok-validity.validity
-    c.in_ok-elements.ensures.cases c.in_ok-offsets.ensures.form c.in_ok-sizes.ensures.form c.in_ok-validity.ensures.form
+    lists_of-same old.elements.value c.in_ok-elements.elements.value old.offsets c.in_ok-offsets.offsets old.sizes c.in-Ok.sizes old.validity c.in-Ok-clone_in.validity
+    c.in_ok-elements.ensures.cases c.in_ok-offsets.ensures.form c.in-Ok.ensures.form c.in-Ok-clone_in.ensures.form
     ∙ c.self.view_is

@@ -94,17 +94,17 @@ array::RunEndArray::rows_between-overflow_add-self-inside g t c =
 pub array::RunEndArray::rows_between-overflow_sub-stop : goal.array::RunEndArray::rows_between-overflow_sub-stop
 array::RunEndArray::rows_between-overflow_sub-stop g t c = omega (arith, c.requires.some)
 
-pub array::RunEndArray::rows_between-shown_by-requires-clause-plain : goal.array::RunEndArray::rows_between-shown_by-requires-clause-plain
-array::RunEndArray::rows_between-shown_by-requires-clause-plain g t c = c.in_ok-ends.ensures.plain
+pub array::RunEndArray::rows_between-shown_by-made-requires-clause-plain : goal.array::RunEndArray::rows_between-shown_by-made-requires-clause-plain
+array::RunEndArray::rows_between-shown_by-made-requires-clause-plain g t c = c.in_ok-ends.ensures.plain
 
-pub array::RunEndArray::rows_between-shown_by-requires-clause-window : goal.array::RunEndArray::rows_between-shown_by-requires-clause-window
-array::RunEndArray::rows_between-shown_by-requires-clause-window g t c =
+pub array::RunEndArray::rows_between-shown_by-made-requires-clause-window : goal.array::RunEndArray::rows_between-shown_by-made-requires-clause-window
+array::RunEndArray::rows_between-shown_by-made-requires-clause-window g t c =
     let window = rw (← c.self.view_is) at c.runs_of_rows-runs.ensures.window in
     let ends_are = rw (← c.self.view_is) at c.in_ok-ends.ensures.ends in
     rw ends_are window
 
-pub array::RunEndArray::rows_between-shown_by-requires-clause-paired : goal.array::RunEndArray::rows_between-shown_by-requires-clause-paired
-array::RunEndArray::rows_between-shown_by-requires-clause-paired g t c =
+pub array::RunEndArray::rows_between-shown_by-made-requires-clause-paired : goal.array::RunEndArray::rows_between-shown_by-made-requires-clause-paired
+array::RunEndArray::rows_between-shown_by-made-requires-clause-paired g t c =
     let whole = runs_of (column_of c.self.inside.ends) (column_of c.self.inside.values) c.self.inside.offset c.self.inside.length in
     let runs = c.runs_of_rows-runs in
     let ordered : runs.result.start ≤ runs.result.end = omega (arith, runs.ensures.ordered) in
@@ -112,7 +112,7 @@ array::RunEndArray::rows_between-shown_by-requires-clause-paired g t c =
     let paired = c.self.invariant.runs.paired in
     let inside : runs.result.end ≤ length (rows c.self.inside.values) = omega (arith, in_bounds, paired) in
     let ends_are = rw (← c.self.view_is) at c.in_ok-ends.ensures.ends in
-    ap length c.in_ok-values.ensures.part.rows
+    ap length c.in-Ok.ensures.part.rows
     ∙ length-slice_range (rows c.self.inside.values) runs.result.start runs.result.end ordered inside
     ∙ sym (length-slice_range whole.ends runs.result.start runs.result.end ordered in_bounds)
     ∙ sym (ap length ends_are)
@@ -128,8 +128,8 @@ array::RunEndArray::rows_between-returns-clause-part g t c =
     let last = rw (← c.self.view_is) at runs.ensures.last in
     let ends_are = rw (← c.self.view_is) at c.in_ok-ends.ensures.ends in
     rw (← c.self.view_is)
-    (part-of_runs whole c.args.start c.args.stop runs.result.start runs.result.end (ends_of c.in_ok-ends.ends) (canonical_column c.in_ok-values.values) (canonical_column made.rows)
-    c.self.invariant.runs c.requires.some within first last ends_are c.in_ok-values.ensures.part made.ensures.rows made.ensures.dtype made.ensures.form)
+    (part-of_runs whole c.args.start c.args.stop runs.result.start runs.result.end (ends_of c.in_ok-ends.ends) (canonical_column c.in-Ok.values) (canonical_column made.rows)
+    c.self.invariant.runs c.requires.some within first last ends_are c.in-Ok.ensures.part made.ensures.rows made.ensures.dtype made.ensures.form)
 
 pub array_ref::ArrayRef::rows_between-returns-in_ok-part-in-ListView-clause-part : goal.array_ref::ArrayRef::rows_between-returns-in_ok-part-in-ListView-clause-part
 array_ref::ArrayRef::rows_between-returns-in_ok-part-in-ListView-clause-part g t c =

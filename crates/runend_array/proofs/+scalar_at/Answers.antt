@@ -1,13 +1,17 @@
 use Rattle.std.proofs.Common.{◌≡◌, ◌<◌, ◌≤◌, Some, length, arith, ap, ◌∙◌, sym}
 use Rattle.std.specs.Prelude.{slice_get}
+use Rattle.column_core.specs.PrimitiveForm.{primitive_rows}
+use Rattle.column_core.specs.BoolForm.{bool_rows}
+use Rattle.column_core.specs.DecimalForm.{decimal_rows}
+use Rattle.column_core.specs.VarBinForm.{varbin_rows}
 use Rattle.runend_array.specs.Array.{column_of, rows}
 use Rattle.runend_array.specs.Column.{column_rows, end_numbers, runs_of}
-use Rattle.runend_array.specs.Lists.{list_at, list_count}
+use Rattle.runend_array.specs.Lists.{list_at, list_count, list_rows}
 use Rattle.runend_codec.proofs.Lists.{slice_get-replicate}
-use Rattle.runend_array.proofs.ListRows.{slice_get-made}
+use Rattle.runend_array.proofs.ListRows.{slice_get-made, length-list_rows}
 use Rattle.runend_codec.proofs.RunAt.{run_of_row_within}
 use Rattle.runend_codec.proofs.RunRows.{length-run_rows, slice_get-run_rows_of_window}
-use Rattle.runend_array.proofs.Refusals.{reason_of_refusal, value_is_no_refusal}
+use Rattle.runend_array.proofs.Refusals.{reason_of_refusal, value_is_no_refusal, within_is_no_refusal, within_is_no_refusal-flat}
 use Rattle.runend_array.proofs.+scalar_at.Goals as goal
 
 pub array::RunEndArray::row_at-unreachable-requires : goal.array::RunEndArray::row_at-unreachable-requires
@@ -52,3 +56,26 @@ array::RunEndArray::row_at-returns-clause-of_type g t c = rw (← c.self.view_is
 
 pub array::RunEndArray::row_at-returns-clause-refused : goal.array::RunEndArray::row_at-returns-clause-refused
 array::RunEndArray::row_at-returns-clause-refused g t c = rw (← c.self.view_is) ((λ is_err. absurd (value_is_no_refusal _ _ is_err)), (λ past. absurd (omega (arith, past, c.if-index-self.false))))
+
+pub array_ref::ArrayRef::scalar_at-returns-else-index-len-clause-refused : goal.array_ref::ArrayRef::scalar_at-returns-else-index-len-clause-refused
+array_ref::ArrayRef::scalar_at-returns-else-index-len-clause-refused g t c =
+    rw c.in-Primitive.is (within_is_no_refusal-flat c.get.result _ c.args.index c.len.result (primitive_rows c.in-Primitive.array) c.len.ensures.rows c.if-index-len.false)
+
+pub array_ref::ArrayRef::scalar_at-returns-else-index-len-2-clause-refused : goal.array_ref::ArrayRef::scalar_at-returns-else-index-len-2-clause-refused
+array_ref::ArrayRef::scalar_at-returns-else-index-len-2-clause-refused g t c =
+    rw c.in-Bool.is (within_is_no_refusal-flat c.get-in-Bool.result _ c.args.index c.len-in-Bool.result (bool_rows c.in-Bool.array) c.len-in-Bool.ensures.rows c.if-index-len-2.false)
+
+pub array_ref::ArrayRef::scalar_at-returns-else-index-len-3-clause-refused : goal.array_ref::ArrayRef::scalar_at-returns-else-index-len-3-clause-refused
+array_ref::ArrayRef::scalar_at-returns-else-index-len-3-clause-refused g t c =
+    rw c.in-Decimal.is (within_is_no_refusal-flat c.get-in-Decimal.result _ c.args.index c.len-in-Decimal.result (decimal_rows c.in-Decimal.array) c.len-in-Decimal.ensures.rows c.if-index-len-3.false)
+
+pub array_ref::ArrayRef::scalar_at-returns-else-index-len-4-clause-refused : goal.array_ref::ArrayRef::scalar_at-returns-else-index-len-4-clause-refused
+array_ref::ArrayRef::scalar_at-returns-else-index-len-4-clause-refused g t c =
+    rw c.in-VarBinView.is (within_is_no_refusal-flat c.get-in-VarBinView.result _ c.args.index c.len-in-VarBinView.result (varbin_rows c.in-VarBinView.array) c.len-in-VarBinView.ensures.rows c.if-index-len-4.false)
+
+pub array_ref::ArrayRef::scalar_at-returns-else-index-len-5-clause-refused : goal.array_ref::ArrayRef::scalar_at-returns-else-index-len-5-clause-refused
+array_ref::ArrayRef::scalar_at-returns-else-index-len-5-clause-refused g t c =
+    let lists = c.in-ListView.lists.value in
+    let counted : c.len-in-ListView.result ≡ list_count lists = c.len-in-ListView.ensures.offsets ∙ ap list_count c.deref.ensures in
+    rw c.in-ListView.is
+    (within_is_no_refusal c.get-in-ListView.result _ c.args.index (length (list_rows lists)) (omega (arith, counted, length-list_rows lists, c.if-index-len-5.false)))

@@ -197,8 +197,15 @@ impl<A: Allocator + Copy> ListViewArray<A> {
         ensures session { ctx.new ≡ ctx.old }
     {
         let _ = &ctx;
-        validate_list_parts(&elements, &offsets, &sizes, &validity)?;
-        Ok(ListViewArray::new_unchecked(elements, offsets, sizes, validity))
+        match validate_list_parts(&elements, &offsets, &sizes, &validity) {
+            Ok(()) => Ok(ListViewArray::new_unchecked(elements, offsets, sizes, validity)),
+            Err(error) => {
+                drop(validity);
+                drop(sizes);
+                drop(offsets);
+                Err(error)
+            }
+        }
     }
 
     /// The elements of all rows.
@@ -315,9 +322,21 @@ impl<A: Allocator + Copy> ListViewArray<A> {
     {
         let elements = self.elements.clone()?;
         let offsets = index_in_runs(alloc, ends, &self.offsets, offset, count)?;
-        let sizes = index_in_runs(alloc, ends, &self.sizes, offset, count)?;
-        let validity = validity_in_runs(alloc, ends, &self.validity, offset, count)?;
-        Ok(ListViewArray::new_unchecked(elements, offsets, sizes, validity))
+        let sizes = match index_in_runs(alloc, ends, &self.sizes, offset, count) {
+            Ok(sizes) => sizes,
+            Err(error) => {
+                drop(offsets);
+                return Err(error);
+            }
+        };
+        match validity_in_runs(alloc, ends, &self.validity, offset, count) {
+            Ok(validity) => Ok(ListViewArray::new_unchecked(elements, offsets, sizes, validity)),
+            Err(error) => {
+                drop(sizes);
+                drop(offsets);
+                Err(error)
+            }
+        }
     }
 
     /// The rows from `range.start` to `range.end - 1`: lists over the same elements, with flat offsets
@@ -356,9 +375,21 @@ impl<A: Allocator + Copy> ListViewArray<A> {
     {
         let elements = self.elements.clone()?;
         let offsets = index_between(alloc, &self.offsets, start, stop)?;
-        let sizes = index_between(alloc, &self.sizes, start, stop)?;
-        let validity = validity_between(alloc, &self.validity, self.len(), start, stop)?;
-        Ok(ListViewArray::new_unchecked(elements, offsets, sizes, validity))
+        let sizes = match index_between(alloc, &self.sizes, start, stop) {
+            Ok(sizes) => sizes,
+            Err(error) => {
+                drop(offsets);
+                return Err(error);
+            }
+        };
+        match validity_between(alloc, &self.validity, self.len(), start, stop) {
+            Ok(validity) => Ok(ListViewArray::new_unchecked(elements, offsets, sizes, validity)),
+            Err(error) => {
+                drop(sizes);
+                drop(offsets);
+                Err(error)
+            }
+        }
     }
 
     /// The rows at these positions, null for null, where the valid positions are below the number of
@@ -381,9 +412,21 @@ impl<A: Allocator + Copy> ListViewArray<A> {
     {
         let elements = self.elements.clone()?;
         let offsets = index_taken(alloc, &self.offsets, positions, places)?;
-        let sizes = index_taken(alloc, &self.sizes, positions, places)?;
-        let validity = validity_taken(alloc, &self.validity, self.len(), positions, places)?;
-        Ok(ListViewArray::new_unchecked(elements, offsets, sizes, validity))
+        let sizes = match index_taken(alloc, &self.sizes, positions, places) {
+            Ok(sizes) => sizes,
+            Err(error) => {
+                drop(offsets);
+                return Err(error);
+            }
+        };
+        match validity_taken(alloc, &self.validity, self.len(), positions, places) {
+            Ok(validity) => Ok(ListViewArray::new_unchecked(elements, offsets, sizes, validity)),
+            Err(error) => {
+                drop(sizes);
+                drop(offsets);
+                Err(error)
+            }
+        }
     }
 
     /// The lists in the same form; the elements are shared. Refused as `OutOfMemory` alone.
@@ -394,8 +437,21 @@ impl<A: Allocator + Copy> ListViewArray<A> {
     {
         let elements = self.elements.clone()?;
         let offsets = self.offsets.clone_in(alloc)?;
-        let sizes = self.sizes.clone_in(alloc)?;
-        let validity = self.validity.clone_in(alloc)?;
+        let sizes = match self.sizes.clone_in(alloc) {
+            Ok(sizes) => sizes,
+            Err(error) => {
+                drop(offsets);
+                return Err(error);
+            }
+        };
+        let validity = match self.validity.clone_in(alloc) {
+            Ok(validity) => validity,
+            Err(error) => {
+                drop(sizes);
+                drop(offsets);
+                return Err(error);
+            }
+        };
         Ok(ListViewArray {
             elements,
             offsets,

@@ -68,7 +68,13 @@ pub(crate) fn index_in_runs<A: Allocator + Copy>(
 {
     let numbers = PrimitiveValues::U64(numbers_of(alloc, index)?);
     let numbers = PrimitiveArray::new_unchecked(numbers, Validity::NonNullable);
-    let ends = ends.try_clone(alloc)?;
+    let ends = match ends.try_clone(alloc) {
+        Ok(ends) => ends,
+        Err(error) => {
+            drop(numbers);
+            return Err(error);
+        }
+    };
     let runs = RunEnd::new_unchecked(
         ArrayRef::Primitive(ends),
         ArrayRef::Primitive(numbers),
@@ -95,7 +101,13 @@ fn flags_in_runs<A: Allocator + Copy>(
     ensures form { IfOk result (λ rows. validity_of rows ≡ ByRuns ends.now.ptype (ends_of ends.now) flags offset count) }
 {
     let values = BoolArray::new_unchecked(flags, Validity::NonNullable);
-    let ends = ends.try_clone(alloc)?;
+    let ends = match ends.try_clone(alloc) {
+        Ok(ends) => ends,
+        Err(error) => {
+            drop(values);
+            return Err(error);
+        }
+    };
     let runs = RunEnd::new_unchecked(
         ArrayRef::Primitive(ends),
         ArrayRef::Bool(values),

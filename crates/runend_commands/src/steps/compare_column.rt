@@ -1,5 +1,7 @@
 //! The command CompareColumn.
 ghost use Rattle.std.specs.Prelude.{◌≡◌, None, length, IfOk, IsOkUnless};
+ghost use Rattle.column_core.specs.FlatColumn.{leaf_of};
+ghost use Rattle.column_core.specs.Leaf.{leaf_dtype, single_rows};
 ghost use Rattle.column_core.specs.Refusal.{IsRefusedBy};
 ghost use Rattle.column_order.specs.CompareFault.{compare_column_fault};
 ghost use Rattle.column_order.specs.Comparing.{compare_dtype, compare_rows};
@@ -14,7 +16,7 @@ ghost use Rattle.runend_commands.specs.declared.command.Command.TheVariants.{Com
 use crate::steps::Outcome;
 use crate::steps::flat_rows::flat_rows;
 use crate::steps::kernel_runs::runs_for;
-use column_core::{VortexError, VortexResult};
+use column_core::{FlatColumn, VortexError, VortexResult};
 use column_order::{CompareOperator, FlatOrder, column_fault};
 use runend_array::{ArrayRef, ExecutionCtx, Kernel};
 use runend_map::compare;
@@ -98,7 +100,27 @@ fn truths_of_rows<A: Allocator + Copy>(
     ensures session { ctx.new ≡ ctx.old }
 {
     let left = flat_rows(column, ctx)?;
+    let truths = truths_of_flat(&left, operator, right, ctx);
+    drop(left);
+    truths
+}
+
+// The same, where the rows of one column are written.
+fn truths_of_flat<A: Allocator + Copy>(
+    left: &FlatColumn<A>,
+    operator: CompareOperator,
+    right: &ArrayRef<A>,
+    ctx: &mut ExecutionCtx<A>,
+) -> VortexResult<ArrayRef<A>>
+    requires comparable { compare_column_fault (leaf_dtype (leaf_of left.now)) (dtype_of right.now) (length (single_rows (leaf_of left.now))) (length (rows right.now)) ≡ None }
+    ensures only { IsOkUnless result VortexError.OutOfMemory }
+    ensures rows { IfOk result (λ truths. rows truths ≡ compare_rows operator (single_rows (leaf_of left.now)) (rows right.now)) }
+    ensures dtype { IfOk result (λ truths. dtype_of truths ≡ compare_dtype (leaf_dtype (leaf_of left.now)) (dtype_of right.now)) }
+    ensures form { IfOk result (λ truths. IsFlat (column_of truths)) }
+    ensures session { ctx.new ≡ ctx.old }
+{
     let right = flat_rows(right, ctx)?;
-    let truths = left.compare_column(*ctx.allocator(), operator, &right)?;
-    Ok(ArrayRef::Bool(truths))
+    let truths = left.compare_column(*ctx.allocator(), operator, &right);
+    drop(right);
+    Ok(ArrayRef::Bool(truths?))
 }

@@ -70,7 +70,9 @@ fn truths_of_runs<A: Allocator + Copy>(
 {
     let value = value.try_clone(*ctx.allocator())?;
     let right = ArrayRef::Constant(ConstantArray::new(value, runs.len()));
-    compare(runs, operator, &right, ctx)
+    let truths = compare(runs, operator, &right, ctx);
+    drop(right);
+    truths
 }
 
 // The same of any column, row by row.
@@ -87,6 +89,7 @@ fn truths_row_by_row<A: Allocator + Copy>(
     ensures session { ctx.new ≡ ctx.old }
 {
     let flat = flat_rows(column, ctx)?;
-    let truths = flat.compare_scalar(*ctx.allocator(), operator, value)?;
-    Ok(ArrayRef::Bool(truths))
+    let truths = flat.compare_scalar(*ctx.allocator(), operator, value);
+    drop(flat);
+    Ok(ArrayRef::Bool(truths?))
 }

@@ -47,7 +47,9 @@ fn are_rows_equal<A: Allocator + Copy>(
         Some(runs) => is_constant(runs, ctx),
         None => {
             let flat = flat_rows(column, ctx)?;
-            Ok(is_flat_constant(&flat))
+            let constant = is_flat_constant(&flat);
+            drop(flat);
+            Ok(constant)
         }
     }
 }

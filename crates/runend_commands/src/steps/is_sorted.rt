@@ -49,7 +49,9 @@ fn are_rows_sorted<A: Allocator + Copy>(
         Some(runs) => is_sorted(runs, strict, ctx),
         None => {
             let flat = flat_rows(column, ctx)?;
-            Ok(is_flat_sorted(&flat, strict))
+            let sorted = is_flat_sorted(&flat, strict);
+            drop(flat);
+            Ok(sorted)
         }
     }
 }

@@ -73,7 +73,9 @@ fn extremes_row_by_row<A: Allocator + Copy>(
     ensures session { ctx.new ≡ ctx.old }
 {
     let flat = flat_rows(column, ctx)?;
-    copies_of(*ctx.allocator(), flat.dtype(), flat.min_max(0..flat.len()))
+    let copies = copies_of(*ctx.allocator(), flat.dtype(), flat.min_max(0..flat.len()));
+    drop(flat);
+    copies
 }
 
 // What two rows of this type show, as scalars of it.
@@ -92,6 +94,11 @@ fn copies_of<A: Allocator + Copy>(
         return Ok(None);
     };
     let least = Scalar::of_view(alloc, dtype, least)?;
-    let greatest = Scalar::of_view(alloc, dtype, greatest)?;
-    Ok(Some((least, greatest)))
+    match Scalar::of_view(alloc, dtype, greatest) {
+        Ok(greatest) => Ok(Some((least, greatest))),
+        Err(error) => {
+            drop(least);
+            Err(error)
+        }
+    }
 }

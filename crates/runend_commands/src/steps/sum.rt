@@ -59,5 +59,7 @@ fn sum_row_by_row<A: Allocator + Copy>(
         return Err(VortexError::Unsupported);
     };
     let flat = flat_rows(column, ctx)?;
-    sum_flat(&flat)
+    let total = sum_flat(&flat);
+    drop(flat);
+    total
 }

@@ -6,10 +6,9 @@ use Rattle.column_base.specs.Validity.{form_of}
 use Rattle.column_core.specs.Leaf.{OfNumbers, single_rows}
 use Rattle.column_core.specs.PrimitiveForm.{optional_numbers, primitive_with}
 use Rattle.column_ops.specs.Cast.{cast_row_fault}
-use Rattle.column_ops.specs.Fault.{first_fault}
 use Rattle.column_ops.specs.Written.{RowWriterForm}
 use Rattle.column_ops.proofs.CastRows.{single_number-at, single_numbers_all}
-use Rattle.column_ops.proofs.IndexPositions.{first_error-here, first_fault-next, indices_all, number-of_row, refused-passed_on}
+use Rattle.column_ops.proofs.IndexPositions.{first_error-here, first_fault-next, indices_all, number-of_row}
 use Rattle.column_ops.proofs.Made.{AreWritten-map}
 use Rattle.column_ops.proofs.Passed.{mapped-push}
 use Rattle.column_ops.proofs.cast_numbers.cast_items.Goals as goal
@@ -26,16 +25,15 @@ loop-row-init g c =
       nullability = ap (λ (f : RowWriterForm _). f.nullability) empty;
     }
 
-pub returns-in_err-number-clause-refused : goal.returns-in_err-number-clause-refused
-returns-in_err-number-clause-refused g c =
+pub returns-in-Err-clause-refused : goal.returns-in-Err-clause-refused
+returns-in-Err-clause-refused g c =
     let number = g.S.NativePType.number in
     let own = primitive_with g.S.NativePType.PTYPE (map number c.args.items.now) (form_of c.args.validity.now) in
     let fault = cast_row_fault (column.Primitive g.T.NativePType.PTYPE c.args.nullability) in
     let row = c.loop-row.row in
     let shown = number-of_row g.S.NativePType.PTYPE number c.args.items.now (form_of c.args.validity.now) row c.row_at-item.result c.row_at-item.ensures.row in
     let here = single_number-at own row (option_map number c.row_at-item.result) shown in
-    let refused = first_error-here fault (single_rows (OfNumbers own)) row _ c.in_err-number.field-0.0 c.loop-row.invariant.sound here c.in_err-number.ensures.refused in
-    refused-passed_on (first_fault fault (single_rows (OfNumbers own))) c.in_err-number.field-0.0 c.from_residual-in_err-number.result c.from_residual-in_err-number.ensures.1 refused
+    first_error-here fault (single_rows (OfNumbers own)) row _ c.in-Err.error c.loop-row.invariant.sound here c.in-Err.ensures.refused
 
 pub loop-row-preserved : goal.loop-row-preserved
 loop-row-preserved g c =
@@ -45,12 +43,12 @@ loop-row-preserved g c =
     let row = c.loop-row.row in
     let shown = number-of_row g.S.NativePType.PTYPE number c.args.items.now (form_of c.args.validity.now) row c.row_at-item.result c.row_at-item.ensures.row in
     let here = single_number-at own row (option_map number c.row_at-item.result) shown in
-    let pushed = c.in_ok-push.ensures.ok in
+    let pushed = c.in-Ok-push.ensures.ok in
     let old = c.loop-row.invariant in
     record {
       rows = ap (λ (f : RowWriterForm _). map (option_map g.T.NativePType.number) f.rows) pushed
-          ∙ (mapped-push g.T.NativePType.number c.loop-row.rows.rows (optional_numbers own) row c.in_ok-number.number (option_map number c.row_at-item.result) old.rows shown c.in_ok-number.ensures.same);
-      sound = first_fault-next fault (single_rows (OfNumbers own)) row _ old.sound here c.in_ok-number.ensures.refused;
+          ∙ (mapped-push g.T.NativePType.number c.loop-row.rows.rows (optional_numbers own) row c.in-Ok.number (option_map number c.row_at-item.result) old.rows shown c.in-Ok.ensures.same);
+      sound = first_fault-next fault (single_rows (OfNumbers own)) row _ old.sound here c.in-Ok.ensures.refused;
       blank = ap (λ (f : RowWriterForm _). g.T.NativePType.number f.blank) pushed ∙ old.blank;
       nullability = ap (λ (f : RowWriterForm _). f.nullability) pushed ∙ old.nullability;
     }

@@ -11,7 +11,7 @@ pub loop-row-preserved : goal.loop-row-preserved
 loop-row-preserved g c =
     let rows = optionals c.args.items.now (flags (form_of c.args.validity.now) (length c.args.items.now)) in
     let before = fill_rows (take c.loop-row.row rows) c.args.value in
-    let pushed = c.in_ok-push.ensures.ok in
+    let pushed = c.in-Ok.ensures.ok in
     let more = fill_rows-more rows c.args.value c.loop-row.row c.row_at.result c.row_at.ensures.row in
     record {
       rows = ap (λ (f : RowWriterForm _). f.rows) pushed ∙ ap (λ old. old ++ Some c.unwrap_or-item.result ∷ []) c.loop-row.invariant.rows

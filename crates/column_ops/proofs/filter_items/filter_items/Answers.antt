@@ -7,15 +7,15 @@ use Rattle.column_core.specs.Optionals.{optionals}
 use Rattle.column_ops.specs.Written.{RowWriterForm}
 use Rattle.column_ops.proofs.Passed.{passed_all, filter_rows-selected, filter_rows-passed}
 use Rattle.column_ops.proofs.filter_items.filter_items.Goals as goal
-use Rattle.column_ops.proofs.filter_items.filter_items.Goals.{then-value+in_ok-push, else-value}
+use Rattle.column_ops.proofs.filter_items.filter_items.Goals.{then-value+in-Ok, else-value}
 
 pub loop-row-preserved : goal.loop-row-preserved
 loop-row-preserved g c =
     let rows = optionals c.args.items.now (flags (form_of c.args.validity.now) (length c.args.items.now)) in
     let mask = mask_bits c.args.mask.now in
     elim c.if-value.branch [
-      | then-value+in_ok-push w ↦
-          let pushed = w.rows-is ∙ w.in_ok-push.ensures.ok in
+      | then-value+in-Ok w ↦
+          let pushed = w.rows-is ∙ w.in-Ok.ensures.ok in
           let more = filter_rows-selected mask rows c.loop-row.row c.value.result w.row_at.result c.value.ensures w.if-value.true w.row_at.ensures.row in
           record {
             rows = ap (λ (f : RowWriterForm _). f.rows) pushed ∙ ap (λ old. old ++ w.row_at.result ∷ []) c.loop-row.invariant.rows ∙ sym more;

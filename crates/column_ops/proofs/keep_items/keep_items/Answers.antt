@@ -3,29 +3,27 @@ use Rattle.column_base.specs.ValidityForm.{flags}
 use Rattle.column_base.specs.Validity.{form_of}
 use Rattle.column_core.specs.Optionals.{optionals}
 use Rattle.column_ops.specs.Cast.{null_row_fault}
-use Rattle.column_ops.specs.Fault.{first_fault}
 use Rattle.column_ops.specs.Written.{RowWriterForm}
-use Rattle.column_ops.proofs.IndexPositions.{first_error-here, first_fault-next, refused-passed_on}
+use Rattle.column_ops.proofs.IndexPositions.{first_error-here, first_fault-next}
 use Rattle.column_ops.proofs.Passed.{passed_all, take_more}
 use Rattle.column_ops.proofs.keep_items.keep_items.Goals as goal
 
-pub returns-in_err-kept-clause-refused : goal.returns-in_err-kept-clause-refused
-returns-in_err-kept-clause-refused g c =
+pub returns-in-Err-clause-refused : goal.returns-in-Err-clause-refused
+returns-in-Err-clause-refused g c =
     let own = optionals c.args.items.now (flags (form_of c.args.validity.now) (length c.args.items.now)) in
     let fault = null_row_fault c.args.nullability in
-    let refused = first_error-here fault own c.loop-row.row c.row_at-item.result c.in_err-kept.field-0.0 c.loop-row.invariant.sound c.row_at-item.ensures.row c.in_err-kept.ensures.refused in
-    refused-passed_on (first_fault fault own) c.in_err-kept.field-0.0 c.from_residual-in_err-kept.result c.from_residual-in_err-kept.ensures.1 refused
+    first_error-here fault own c.loop-row.row c.row_at-item.result c.in-Err.error c.loop-row.invariant.sound c.row_at-item.ensures.row c.in-Err.ensures.refused
 
 pub loop-row-preserved : goal.loop-row-preserved
 loop-row-preserved g c =
     let own = optionals c.args.items.now (flags (form_of c.args.validity.now) (length c.args.items.now)) in
     let row = c.loop-row.row in
-    let pushed = c.in_ok-push.ensures.ok in
+    let pushed = c.in-Ok-push.ensures.ok in
     let old = c.loop-row.invariant in
     record {
-      rows = ap (λ (f : RowWriterForm _). f.rows) pushed ∙ ap (λ xs. xs ++ c.in_ok-kept.kept ∷ []) old.rows
-          ∙ ap (λ x. take row own ++ x ∷ []) c.in_ok-kept.ensures.same ∙ sym (take_more own row c.row_at-item.result c.row_at-item.ensures.row);
-      sound = first_fault-next (null_row_fault c.args.nullability) own row c.row_at-item.result old.sound c.row_at-item.ensures.row c.in_ok-kept.ensures.refused;
+      rows = ap (λ (f : RowWriterForm _). f.rows) pushed ∙ ap (λ xs. xs ++ c.in-Ok.kept ∷ []) old.rows
+          ∙ ap (λ x. take row own ++ x ∷ []) c.in-Ok.ensures.same ∙ sym (take_more own row c.row_at-item.result c.row_at-item.ensures.row);
+      sound = first_fault-next (null_row_fault c.args.nullability) own row c.row_at-item.result old.sound c.row_at-item.ensures.row c.in-Ok.ensures.refused;
       blank = ap (λ (f : RowWriterForm _). f.blank) pushed ∙ old.blank;
       nullability = ap (λ (f : RowWriterForm _). f.nullability) pushed ∙ old.nullability;
     }

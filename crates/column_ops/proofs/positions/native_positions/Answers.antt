@@ -2,28 +2,27 @@ use Rattle.std.proofs.Common.{◌∙◌, map, ap, arith}
 use Rattle.column_base.specs.Validity.{form_of}
 use Rattle.column_core.specs.PrimitiveForm.{optional_numbers, primitive_with}
 use Rattle.column_ops.specs.Written.{RowWriterForm}
-use Rattle.column_ops.specs.Take.{index_fault, position_numbers, take_fault}
-use Rattle.column_ops.proofs.IndexPositions.{ArePositions-push, first_error-here, first_fault-next, indices_all, position_numbers-push, refused-passed_on}
+use Rattle.column_ops.specs.Take.{index_fault, position_numbers}
+use Rattle.column_ops.proofs.IndexPositions.{ArePositions-push, first_error-here, first_fault-next, indices_all, position_numbers-push}
 use Rattle.column_ops.proofs.positions.native_positions.Goals as goal
 
-pub returns-in_err-position-clause-refused : goal.returns-in_err-position-clause-refused
-returns-in_err-position-clause-refused g c =
+pub returns-in-Err-clause-refused : goal.returns-in-Err-clause-refused
+returns-in-Err-clause-refused g c =
     let indices = optional_numbers (primitive_with g.T.NativePType.PTYPE (map g.T.NativePType.number c.args.indices.now) (form_of c.args.validity.now)) in
-    let refused = first_error-here (index_fault c.args.count) indices c.loop-place.place c.number_at-index.result c.in_err-position.field-0.0 c.loop-place.invariant.sound c.number_at-index.ensures.row c.in_err-position.ensures.refused in
-    refused-passed_on (take_fault indices c.args.count) c.in_err-position.field-0.0 c.from_residual-in_err-position.result c.from_residual-in_err-position.ensures.1 refused
+    first_error-here (index_fault c.args.count) indices c.loop-place.place c.number_at-index.result c.in-Err.error c.loop-place.invariant.sound c.number_at-index.ensures.row c.in-Err.ensures.refused
 
 pub loop-place-preserved : goal.loop-place-preserved
 loop-place-preserved g c =
     let indices = optional_numbers (primitive_with g.T.NativePType.PTYPE (map g.T.NativePType.number c.args.indices.now) (form_of c.args.validity.now)) in
-    let pushed = ap (λ (f : RowWriterForm _). f.rows) c.in_ok-push.ensures.ok in
+    let pushed = ap (λ (f : RowWriterForm _). f.rows) c.in-Ok-push.ensures.ok in
     let old = c.loop-place.invariant in
     let place = c.loop-place.place in
-    let position = c.in_ok-position.position in
+    let position = c.in-Ok.position in
     record {
-      rows = rw pushed (position_numbers-push c.loop-place.positions.rows indices place position c.number_at-index.result old.rows c.number_at-index.ensures.row c.in_ok-position.ensures.same);
-      within = rw pushed (ArePositions-push c.loop-place.positions.rows position c.args.count old.within c.in_ok-position.ensures.within);
-      sound = first_fault-next (index_fault c.args.count) indices place c.number_at-index.result old.sound c.number_at-index.ensures.row c.in_ok-position.ensures.refused;
-      nullability = ap (λ (f : RowWriterForm _). f.nullability) c.in_ok-push.ensures.ok ∙ old.nullability;
+      rows = rw pushed (position_numbers-push c.loop-place.positions.rows indices place position c.number_at-index.result old.rows c.number_at-index.ensures.row c.in-Ok.ensures.same);
+      within = rw pushed (ArePositions-push c.loop-place.positions.rows position c.args.count old.within c.in-Ok.ensures.within);
+      sound = first_fault-next (index_fault c.args.count) indices place c.number_at-index.result old.sound c.number_at-index.ensures.row c.in-Ok.ensures.refused;
+      nullability = ap (λ (f : RowWriterForm _). f.nullability) c.in-Ok-push.ensures.ok ∙ old.nullability;
     }
 
 pub returns-clause-refused : goal.returns-clause-refused

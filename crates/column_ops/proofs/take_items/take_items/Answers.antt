@@ -12,7 +12,7 @@ loop-place-preserved g c =
     let rows = optionals c.args.items.now (flags (form_of c.args.validity.now) (length c.args.items.now)) in
     let positions = optionals c.args.positions.now (flags (form_of c.args.places.now) (length c.args.positions.now)) in
     let before = take_rows rows (position_numbers (take c.loop-place.place positions)) in
-    let pushed = c.in_ok-push.ensures.ok in
+    let pushed = c.in-Ok.ensures.ok in
     let more = take_rows-more rows positions c.loop-place.place c.row_at-position.result c.row_at-position.ensures.row in
     record {
       rows = ap (λ (f : RowWriterForm _). f.rows) pushed ∙ ap (λ old. old ++ c.taken_at.result ∷ []) c.loop-place.invariant.rows

@@ -10,8 +10,8 @@ use Rattle.runend_codec.proofs.FlatColumns.{run_rows-of_nulls}
 use Rattle.runend_codec.proofs.NullRows.{may_be_null-of_nulls}
 use Rattle.runend_array.proofs.compress.decode_column.Goals as goal
 
-pub null_constant-requires : goal.null_constant-requires
-null_constant-requires g c =
+pub null_constant-nulls-requires : goal.null_constant-nulls-requires
+null_constant-nulls-requires g c =
     let nulls = c.has_nulls_alone.ensures.nulls.0 c.if-has_nulls_alone.true in
     rw c.dtype.ensures (may_be_null-of_nulls (leaf_of c.args.values) c.has_nulls_alone.ensures.fits nulls)
 
@@ -20,5 +20,5 @@ returns-then-has_nulls_alone-clause-rows g c =
     let nulls = c.has_nulls_alone.ensures.nulls.0 c.if-has_nulls_alone.true in
     let values = leaf_of c.args.values in
     let paired = length-map (leaf_rows values) (option_map Single) ∙ c.requires.paired ∙ sym (length-map c.args.ends.now.numbers unsigned_abs) in
-    rw c.null_constant.ensures
+    rw c.null_constant-nulls.ensures
     (run_rows-of_nulls (ends_of c.args.ends.now) (single_rows values) c.args.offset c.args.count c.requires.window paired nulls)

@@ -15,7 +15,7 @@ pub returns-clause-dtype : goal.returns-clause-dtype
 returns-clause-dtype g c =
     let elements = leaf_of c.in_ok-elements.elements.value in
     let offsets = index_of (column_of c.in_ok-offsets.offsets) in
-    let sizes = index_of (column_of c.in_ok-sizes.sizes) in
+    let sizes = index_of (column_of c.in-Ok.sizes) in
     dtype-of_no_lists c.new_unchecked.result elements offsets sizes (form_of c.no_null-rows.result) c.args.element c.args.nullability
     (c.new_unchecked.ensures ∙ ap (lists_with elements offsets sizes) c.told_by_rows-validity.ensures.form)
     (ap (λ e. element_of (leaf_dtype (leaf_of e))) c.in_ok-elements.ensures.ok ∙ c.in_ok-no_elements.ensures.dtype)

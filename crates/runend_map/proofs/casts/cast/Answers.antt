@@ -1,14 +1,16 @@
-use Rattle.std.proofs.Common.{◌∙◌, Option, sym, subst}
+use Rattle.std.proofs.Common.{◌∙◌, Option, inl, inr, sym, subst}
 use Rattle.column_base.specs.declared.error.VortexError.{VortexError}
 use Rattle.column_core.specs.Refusal.{IsErrorFor}
 use Rattle.column_ops.specs.Cast.{cast_fault}
 use Rattle.column_ops.proofs.IndexPositions.{refused-passed_on}
 use Rattle.column_core.specs.FlatColumn.{leaf_of}
+use Rattle.column_core.specs.Value.{IsLists}
 use Rattle.runend_array.specs.Array.{rows}
-use Rattle.runend_array.specs.Column.{column_of_runs, plain_of}
-use Rattle.runend_map.proofs.CastRows.{cast_count, cast_rows, same_fault}
+use Rattle.runend_array.specs.Column.{column_dtype, column_of_runs, column_rows, plain_of}
+use Rattle.runend_map.proofs.CastRows.{cast_count, cast_rows, lists_fault, same_fault}
 use Rattle.runend_map.proofs.KeptRows.{if_ok}
 use Rattle.runend_map.proofs.OneKind.{no_fault}
+use Rattle.runend_map.proofs.PassedOn.{no_value}
 use Rattle.runend_map.proofs.casts.cast.Goals as goal
 
 pub over_visible_runs-requires : goal.over_visible_runs-requires
@@ -33,3 +35,46 @@ returns-in_err-cast-clause-refused g c =
     refused-passed_on (cast_fault (plain_of (column_of_runs c.args.array.now)) c.args.dtype) c.in_err-cast.field-0.0 c.from_residual-in_err-cast.result c.from_residual-in_err-cast.ensures.1
     (subst (λ (o : Option VortexError). IsErrorFor o c.in_err-cast.field-0.0)
     (same_fault c.args.array.now (leaf_of c.in_ok-values.values) c.in_ok-values.ensures.valid c.in_ok-values.ensures.rows c.args.dtype c.in_ok-values.ensures.dtype) c.in_err-cast.ensures.refused)
+
+pub returns-then-is_lists : goal.returns-then-is_lists
+returns-then-is_lists g c =
+    let r = c.args.array.now in
+    let lists = subst IsLists c.dtype.ensures (c.is_lists.ensures.0 c.if-is_lists.true) in
+    record {
+      refused = inr (lists_fault (column_dtype r.values) c.args.dtype (column_rows (column_of_runs r)) lists);
+      rows = tt;
+      dtype = tt;
+      form = tt;
+      session = λ i. c.args.ctx.now;
+    }
+
+pub visible_values-requires : goal.visible_values-requires
+visible_values-requires g c = record { single = λ lists. let yes = c.is_lists.ensures.1 (subst IsLists (sym c.dtype.ensures) lists) in let no = c.if-is_lists.false in cc }
+
+pub returns-clause-dtype : goal.returns-clause-dtype
+returns-clause-dtype g c = if_ok c.over_visible_runs.result (λ cast same. same ∙ c.in_ok-cast.ensures.made.dtype) c.over_visible_runs.ensures.dtype
+
+pub returns-clause-form : goal.returns-clause-form
+returns-clause-form g c = c.over_visible_runs.ensures.form
+
+pub returns-in_err-values-clause-refused : goal.returns-in_err-values-clause-refused
+returns-in_err-values-clause-refused g c =
+    refused-passed_on (cast_fault (plain_of (column_of_runs c.args.array.now)) c.args.dtype) c.in_err-values.field-0.0 c.from_residual.result c.from_residual.ensures.1 (inl c.in_err-values.ensures.only)
+
+pub returns-in_err-values-clause-rows : goal.returns-in_err-values-clause-rows
+returns-in_err-values-clause-rows g c = no_value _ c.from_residual.result c.from_residual.ensures.0
+
+pub returns-in_err-values-clause-dtype : goal.returns-in_err-values-clause-dtype
+returns-in_err-values-clause-dtype g c = no_value _ c.from_residual.result c.from_residual.ensures.0
+
+pub returns-in_err-values-clause-form : goal.returns-in_err-values-clause-form
+returns-in_err-values-clause-form g c = no_value _ c.from_residual.result c.from_residual.ensures.0
+
+pub returns-in_err-cast-clause-rows : goal.returns-in_err-cast-clause-rows
+returns-in_err-cast-clause-rows g c = no_value _ c.from_residual-in_err-cast.result c.from_residual-in_err-cast.ensures.0
+
+pub returns-in_err-cast-clause-dtype : goal.returns-in_err-cast-clause-dtype
+returns-in_err-cast-clause-dtype g c = no_value _ c.from_residual-in_err-cast.result c.from_residual-in_err-cast.ensures.0
+
+pub returns-in_err-cast-clause-form : goal.returns-in_err-cast-clause-form
+returns-in_err-cast-clause-form g c = no_value _ c.from_residual-in_err-cast.result c.from_residual-in_err-cast.ensures.0

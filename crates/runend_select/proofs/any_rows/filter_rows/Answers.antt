@@ -1,6 +1,8 @@
-use Rattle.std.proofs.Common.{◌∙◌, length, sym}
+use Rattle.std.proofs.Common.{◌∙◌, length, subst, sym, ap}
 use Rattle.column_base.specs.Mask.{mask_bits}
 use Rattle.runend_array.specs.Array.{rows}
+use Rattle.runend_array.specs.Column.{column_dtype, column_rows}
+use Rattle.runend_array.specs.Encoding.{IsComputedFlat}
 use Rattle.runend_select.proofs.FilterFaults.{fault_here, no_fault}
 use Rattle.runend_select.proofs.any_rows.filter_rows.Goals as goal
 
@@ -12,3 +14,12 @@ returns-then-len-clause-refused g c =
 pub returns-clause-refused : goal.returns-clause-refused
 returns-clause-refused g c =
     no_fault (length (mask_bits c.args.mask.now)) (length (rows c.args.array.now)) (sym c.len.ensures ∙ c.if-len.false ∙ c.len-2.ensures)
+
+pub returns-clause-rows : goal.returns-clause-rows
+returns-clause-rows g c = ap column_rows c.in_ok-kept-2.ensures.form ∙ c.in_ok-kept.ensures.made.rows
+
+pub returns-clause-dtype : goal.returns-clause-dtype
+returns-clause-dtype g c = ap column_dtype c.in_ok-kept-2.ensures.form ∙ c.in_ok-kept.ensures.made.dtype
+
+pub returns-clause-flat : goal.returns-clause-flat
+returns-clause-flat g c = subst IsComputedFlat (sym c.in_ok-kept-2.ensures.form) c.in_ok-kept.ensures.made.form

@@ -2,7 +2,7 @@ use Rattle.std.proofs.Common.{◌≡◌, ◌+◌, ◌<◌, List, map, length, ar
 use Rattle.std.specs.Prelude.{unsigned_abs, nat_lt}
 use Rattle.runend_codec.proofs.StoredNumbers.{length-naturals}
 use Rattle.runend_select.proofs.Fitting.{fits_below, naturals-push}
-use Rattle.runend_select.proofs.KeptSoFar.{AreKept-all, KeptSoFar-kept, KeptSoFar-skipped, passed-le, selected_within}
+use Rattle.runend_select.proofs.KeptSoFar.{AreKept-all, KeptSoFar-kept, KeptSoFar-none, KeptSoFar-skipped, passed-le, selected_counted, selected_within}
 use Rattle.runend_select.proofs.kept_runs.kept_runs.Goals as goal
 use Rattle.runend_select.proofs.kept_runs.kept_runs.Goals.{then-more-gt0+in_ok-push, else-more-gt0}
 
@@ -49,3 +49,18 @@ returns-clause-kept g c =
     let ends = map unsigned_abs (map number c.args.ends.now) in
     let all : c.loop-run.run ≡ length ends = omega (arith, length-naturals number c.args.ends.now) in
     AreKept-all ends c.args.offset c.args.count c.args.mask.now c.loop-run.run c.loop-run.passed c.loop-run.selected c.loop-run.kept (map unsigned_abs (map number c.loop-run.kept_ends.items)) all c.loop-run.invariant
+
+pub loop-run-init : goal.loop-run-init
+loop-run-init g c =
+    rw (c.in_ok-kept.ensures.empty, c.in_ok-kept_ends.ensures.items)
+    (KeptSoFar-none (map unsigned_abs (map g.E.NativePType.number c.args.ends.now)) c.args.offset c.args.count c.args.mask.now)
+
+pub overflow_add-selected : goal.overflow_add-selected
+overflow_add-selected g c =
+    let number = g.E.NativePType.number in
+    let ends = map unsigned_abs (map number c.args.ends.now) in
+    let within : c.loop-run.run < length ends = omega (arith, length-naturals number c.args.ends.now) in
+    let few = selected_counted ends c.args.offset c.args.count c.args.mask.now c.loop-run.run c.loop-run.passed c.loop-run.selected c.loop-run.kept (map unsigned_abs (map number c.loop-run.kept_ends.items))
+    c.reach_of-reach.result c.count_range-more.result c.requires.increasing c.requires.masked within c.loop-run.invariant c.reach_of-reach.ensures c.count_range-more.ensures in
+    let fits = c.ranges.count in
+    omega (arith, few, fits)

@@ -1,12 +1,10 @@
-use Rattle.std.proofs.Common.{◌∙◌, length}
-use Rattle.std.specs.Prelude.{option_map}
-use Rattle.std.proofs.lemmas.List.{length-map}
+use Rattle.std.proofs.Common.{length}
 use Rattle.column_base.specs.Mask.{mask_bits}
 use Rattle.column_core.specs.Leaf.{leaf_dtype, leaf_rows}
-use Rattle.column_core.specs.Value.{FlatValue, Single}
 use Rattle.column_ops.specs.Filter.{filter_fault}
 use Rattle.runend_select.proofs.ComputedRows.{IsComputedAs-selected, ok_then}
-use Rattle.runend_select.proofs.FilterFaults.{no_fault, only_memory}
+use Rattle.runend_select.proofs.FilterFaults.{only_memory}
+use Rattle.runend_select.proofs.Forms.{no_fault-single}
 use Rattle.runend_select.proofs.run_values.selected_by.Goals as goal
 
 pub returns-clause-made : goal.returns-clause-made
@@ -17,5 +15,5 @@ returns-clause-made g c =
 pub returns-clause-only : goal.returns-clause-only
 returns-clause-only g c =
     let leaf = g.C.ColumnOps.leaf in
-    only_memory (filter_fault (length (mask_bits c.args.mask.now)) (length (leaf_rows (leaf c.args.column.now)))) c.filter.result
-    (no_fault (length (mask_bits c.args.mask.now)) (length (leaf_rows (leaf c.args.column.now))) (c.requires.masked ∙ length-map (leaf_rows (leaf c.args.column.now)) (option_map (λ (v : FlatValue). Single v)))) c.filter.ensures.refused
+    let mask = length (mask_bits c.args.mask.now) in
+    only_memory (filter_fault mask (length (leaf_rows (leaf c.args.column.now)))) c.filter.result (no_fault-single mask (leaf c.args.column.now) c.requires.masked) c.filter.ensures.refused

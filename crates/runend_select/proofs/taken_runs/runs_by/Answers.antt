@@ -1,9 +1,11 @@
-use Rattle.std.proofs.Common.{ℕ, List, ap, ◌∙◌, sym, subst}
+use Rattle.std.proofs.Common.{◌≡◌, ℕ, List, map, ap, ◌∙◌, sym, subst}
+use Rattle.std.specs.Prelude.{unsigned_abs}
 use Rattle.column_base.specs.Mask.{mask_bits}
 use Rattle.column_core.specs.Counted.{Counted}
 use Rattle.runend_codec.specs.Window.{IsWindow}
 use Rattle.runend_positions.specs.Indices.{optional_indices, runs_of}
-use Rattle.runend_positions.specs.Pick.{run_of_null}
+use Rattle.runend_positions.specs.Pick.{answer_of, run_of_null}
+use Rattle.runend_select.specs.RunsOf.{AreRunsOf}
 use Rattle.runend_select.proofs.ComputedRows.{ok_then}
 use Rattle.runend_select.proofs.Fitting.{naturals-of}
 use Rattle.runend_select.proofs.taken_runs.runs_by.Goals as goal
@@ -21,4 +23,6 @@ returns-clause-runs g c =
     let picked = c.physical_indices.ensures.picked in
     let null = run_of_null picked.0 c.new-counted.result.ends c.args.offset in
     let places = optional_indices g.T.NativePType.number c.args.indices.now (mask_bits c.args.mask.now) in
-    ok_then c.physical_indices.result _ _ (λ runs is. record { null = null; answer = is ∙ ap (λ (ends : List ℕ). runs_of ends c.args.offset null places) (here ∙ sym same) }) picked.2
+    ok_then c.physical_indices.result (λ runs. runs.items ≡ answer_of picked.0 c.new-counted.result.ends c.args.offset places)
+    (λ runs. AreRunsOf (map unsigned_abs (map g.E.NativePType.number c.args.ends.now)) c.args.offset places runs.items)
+    (λ runs is. record { null = null; answer = is ∙ ap (λ (ends : List ℕ). runs_of ends c.args.offset null places) (here ∙ sym same) }) picked.2

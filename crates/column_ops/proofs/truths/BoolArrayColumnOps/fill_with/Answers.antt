@@ -13,5 +13,5 @@ returns-clause-made g c =
     let own = c.args.self.now in
     let truth = c.in-Bool.truth in
     let written = rw (c.as_slice.ensures.value, c.in_ok-own.ensures.same, c.values-2.ensures, c.validity.ensures.form) at c.in_ok-filled.ensures.filled in
-    rw (c.in-Bool.is, c.new_unchecked.ensures, c.in_ok-bits.ensures.same, c.as_slice-2.ensures.value, fill_rows-map (λ (b : Bool). Truth b) (optional_truths own) truth)
+    rw (c.in-Bool.is, c.in_ok-array.ensures.same, fill_rows-map (λ (b : Bool). Truth b) (optional_truths own) truth)
     (IsMade-truths (fill_rows (optional_truths own) truth) NonNullable c.in_ok-filled.filled.items (form_of c.in_ok-filled.rows) written)

@@ -15,5 +15,5 @@ returns-clause-made g c =
     let own = c.args.self.now in
     let mask = mask_bits c.args.mask.now in
     let written = rw (c.as_slice.ensures.value, c.in_ok-own.ensures.same, c.values-2.ensures, c.validity.ensures.form) at c.in_ok-kept.ensures.filtered in
-    rw (c.new_unchecked.ensures, c.in_ok-bits.ensures.same, c.as_slice-2.ensures.value, filter_rows-map (option_map (λ (b : Bool). Truth b)) mask (optional_truths own))
+    rw (c.in_ok-array.ensures.same, filter_rows-map (option_map (λ (b : Bool). Truth b)) mask (optional_truths own))
     (IsMade-truths (filter_rows mask (optional_truths own)) (nullability_in own.validity) c.in_ok-kept.kept.items (form_of c.in_ok-kept.rows) written)

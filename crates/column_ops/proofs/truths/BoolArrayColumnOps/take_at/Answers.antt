@@ -16,5 +16,5 @@ returns-clause-made g c =
     let indices = position_numbers (optionals c.args.positions.now (flags (form_of c.args.validity.now) (length c.args.positions.now))) in
     let wanted = either_nullable (nullability_in own.validity) (nullability_in (form_of c.args.validity.now)) in
     let written = rw (c.as_slice-items.ensures.value, c.in_ok-own.ensures.same, c.values-2.ensures, c.validity.ensures.form) at c.in_ok-taken.ensures.taken in
-    rw (c.new_unchecked.ensures, c.in_ok-bits.ensures.same, c.as_slice.ensures.value, take_rows-map (λ (b : Bool). Truth b) (optional_truths own) indices)
+    rw (c.in_ok-array.ensures.same, take_rows-map (λ (b : Bool). Truth b) (optional_truths own) indices)
     (IsMade-truths (take_rows (optional_truths own) indices) wanted c.in_ok-taken.taken.items (form_of c.in_ok-taken.rows) written)

@@ -14,11 +14,11 @@ counted form n e = e ∙ sym (length-map (primitive_rows form) (option_map Singl
 
 pub new_unchecked-requires : goal.new_unchecked-requires
 new_unchecked-requires g c =
-    encoding_parts c.in-Primitive.plain c.in_ok-ends.ends (column_of c.in_ok-ends.values) c.len.result c.in_ok-ends.ensures.encoding
-    (counted c.in-Primitive.plain c.len.result c.len.ensures.rows)
+    encoding_parts c.in-Primitive.plain c.in_ok-ends.ends (column_of c.in_ok-ends.values) c.len-count.result c.in_ok-ends.ensures.encoding
+    (counted c.in-Primitive.plain c.len-count.result c.len-count.ensures.rows)
 
 pub returns-clause-encoded : goal.returns-clause-encoded
 returns-clause-encoded g c =
     rw (c.in-Primitive.is, c.new_unchecked.ensures)
-    (encoded_of_parts c.in-Primitive.plain c.in_ok-ends.ends (column_of c.in_ok-ends.values) c.len.result c.in_ok-ends.ensures.encoding
-    (counted c.in-Primitive.plain c.len.result c.len.ensures.rows))
+    (encoded_of_parts c.in-Primitive.plain c.in_ok-ends.ends (column_of c.in_ok-ends.values) c.len-count.result c.in_ok-ends.ensures.encoding
+    (counted c.in-Primitive.plain c.len-count.result c.len-count.ensures.rows))

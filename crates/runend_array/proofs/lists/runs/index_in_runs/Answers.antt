@@ -9,11 +9,11 @@ use Rattle.runend_array.proofs.lists.runs.index_in_runs.Goals as goal
 pub new_unchecked-runs-requires : goal.new_unchecked-runs-requires
 new_unchecked-runs-requires g c =
     let index = index_of (column_of c.args.index.now) in
-    AreParts-numbers c.args.ends.now c.in_ok-ends.ends c.new_unchecked-numbers.result c.in_ok-numbers_of.field-0.items c.args.offset c.args.count c.requires.plain c.requires.window
-    c.in_ok-ends.ensures.form c.new_unchecked-numbers.ensures
+    AreParts-numbers c.args.ends.now c.in-Ok.ends c.new_unchecked-numbers.result c.in_ok-numbers_of.field-0.items c.args.offset c.args.count c.requires.plain c.requires.window
+    c.in-Ok.ensures.form c.new_unchecked-numbers.ensures
     (ap length c.in_ok-numbers_of.ensures.numbers ∙ length-map-range_with_len (index_at index) 0 (index_count index) ∙ c.requires.paired)
 
 pub returns-clause-form : goal.returns-clause-form
 returns-clause-form g c =
-    RunIndex-numbers c.in_ok-boxed.boxed.value c.args.ends.now c.in_ok-ends.ends c.new_unchecked-numbers.result c.in_ok-numbers_of.field-0.items (index_numbers (index_of (column_of c.args.index.now))) c.args.offset c.args.count
-    (c.in_ok-boxed.ensures.ok ∙ c.new_unchecked-runs.ensures) c.in_ok-ends.ensures.form c.new_unchecked-numbers.ensures c.in_ok-numbers_of.ensures.numbers
+    RunIndex-numbers c.in_ok-boxed.boxed.value c.args.ends.now c.in-Ok.ends c.new_unchecked-numbers.result c.in_ok-numbers_of.field-0.items (index_numbers (index_of (column_of c.args.index.now))) c.args.offset c.args.count
+    (c.in_ok-boxed.ensures.ok ∙ c.new_unchecked-runs.ensures) c.in-Ok.ensures.form c.new_unchecked-numbers.ensures c.in_ok-numbers_of.ensures.numbers

@@ -8,11 +8,11 @@ use Rattle.runend_commands.proofs.steps.compare_scalar.truths_of_runs.Goals as g
 pub returns-clause-refused : goal.returns-clause-refused
 returns-clause-refused g c =
     let copy = c.in_ok-value in
-    subst (λ (fault : Option VortexError). IsRefusedBy fault c.compare.result)
-    (constant_fault c.args.runs.now c.new.result copy.value c.args.value.now c.len.result c.new.ensures copy.ensures.same c.len.ensures) c.compare.ensures.refused
+    subst (λ (fault : Option VortexError). IsRefusedBy fault c.compare-truths.result)
+    (constant_fault c.args.runs.now c.new.result copy.value c.args.value.now c.len.result c.new.ensures copy.ensures.same c.len.ensures) c.compare-truths.ensures.refused
 
 pub returns-clause-rows : goal.returns-clause-rows
 returns-clause-rows g c =
     let copy = c.in_ok-value in
-    if_ok c.compare.result (λ truths same.
-    same ∙ constant_compared c.args.runs.now c.new.result copy.value c.args.value.now c.len.result c.new.ensures copy.ensures.same c.len.ensures c.args.operator) c.compare.ensures.rows
+    if_ok c.compare-truths.result (λ truths same.
+    same ∙ constant_compared c.args.runs.now c.new.result copy.value c.args.value.now c.len.result c.new.ensures copy.ensures.same c.len.ensures c.args.operator) c.compare-truths.ensures.rows

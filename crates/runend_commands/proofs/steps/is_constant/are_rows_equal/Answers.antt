@@ -4,4 +4,4 @@ pub returns-in-Some-clause-answer : goal.returns-in-Some-clause-answer
 returns-in-Some-clause-answer g c = rw c.in-Some.ensures.1 c.is_constant.ensures.answer
 
 pub returns-in_ok-flat-in-None-clause-answer : goal.returns-in_ok-flat-in-None-clause-answer
-returns-in_ok-flat-in-None-clause-answer g c = rw c.in_ok-flat-in-None.ensures.rows at c.is_flat_constant.ensures
+returns-in_ok-flat-in-None-clause-answer g c = rw c.in_ok-flat-in-None.ensures.rows at c.is_flat_constant-constant.ensures

@@ -12,5 +12,5 @@ returns-clause-extremes g c =
     let flat = leaf_of c.in_ok-flat.flat in
     let whole : slice_range (single_rows flat) 0 c.len.result ≡ rows c.args.column.now = rw c.len.ensures (all_rows flat ∙ c.in_ok-flat.ensures.rows) in
     let same_dtype = c.dtype.ensures ∙ c.in_ok-flat.ensures.dtype in
-    extremes_answered (plain c.args.column.now) c.min_max.result c.copies_of.result (rw whole at c.min_max.ensures.none) (rw whole at c.min_max.ensures.least) (rw whole at c.min_max.ensures.greatest)
-    (rw same_dtype at c.copies_of.ensures.copies)
+    extremes_answered (plain c.args.column.now) c.min_max.result c.copies_of-copies.result (rw whole at c.min_max.ensures.none) (rw whole at c.min_max.ensures.least) (rw whole at c.min_max.ensures.greatest)
+    (rw same_dtype at c.copies_of-copies.ensures.copies)

@@ -13,35 +13,35 @@ pub new_unchecked-requires : goal.new_unchecked-requires
 new_unchecked-requires g c =
     let whole = c.args.self.now in
     let same = lists_of c.self.inside.elements.value c.self.inside.offsets c.self.inside.sizes c.self.inside.validity in
-    let part = lists_of c.in_ok-elements.elements.value c.in_ok-offsets.offsets c.in_ok-sizes.sizes c.in_ok-validity.validity in
-    let cut = AreListsInRange-of_parts whole same part c.args.start c.args.stop c.self.view_is (ap leaf_of c.in_ok-elements.ensures.cases) c.in_ok-offsets.ensures.form c.in_ok-sizes.ensures.form c.in_ok-validity.ensures.form in
+    let part = lists_of c.in_ok-elements.elements.value c.in_ok-offsets.offsets c.in-Ok.sizes c.in-Ok-validity_between.validity in
+    let cut = AreListsInRange-of_parts whole same part c.args.start c.args.stop c.self.view_is (ap leaf_of c.in_ok-elements.ensures.cases) c.in_ok-offsets.ensures.form c.in-Ok.ensures.form c.in-Ok-validity_between.ensures.form in
     record {
-      types = record { first_elements = c.in_ok-offsets.ensures.index; counts = c.in_ok-sizes.ensures.index; flags = c.in_ok-validity.ensures.plain };
+      types = record { first_elements = c.in_ok-offsets.ensures.index; counts = c.in-Ok.ensures.index; flags = c.in-Ok-validity_between.ensures.plain };
       lists = AreLists-in_range whole part c.args.start c.args.stop c.requires.ordered c.requires.in_bounds (subst AreLists c.self.view_is c.self.invariant.lists) cut;
     }
 
-pub returns-clause-rows : goal.returns-clause-rows
-returns-clause-rows g c =
+pub returns-in-Ok-validity_between-clause-rows : goal.returns-in-Ok-validity_between-clause-rows
+returns-in-Ok-validity_between-clause-rows g c =
     let whole = c.args.self.now in
     let same = lists_of c.self.inside.elements.value c.self.inside.offsets c.self.inside.sizes c.self.inside.validity in
-    let part = lists_of c.in_ok-elements.elements.value c.in_ok-offsets.offsets c.in_ok-sizes.sizes c.in_ok-validity.validity in
-    let cut = AreListsInRange-of_parts whole same part c.args.start c.args.stop c.self.view_is (ap leaf_of c.in_ok-elements.ensures.cases) c.in_ok-offsets.ensures.form c.in_ok-sizes.ensures.form c.in_ok-validity.ensures.form in
+    let part = lists_of c.in_ok-elements.elements.value c.in_ok-offsets.offsets c.in-Ok.sizes c.in-Ok-validity_between.validity in
+    let cut = AreListsInRange-of_parts whole same part c.args.start c.args.stop c.self.view_is (ap leaf_of c.in_ok-elements.ensures.cases) c.in_ok-offsets.ensures.form c.in-Ok.ensures.form c.in-Ok-validity_between.ensures.form in
     ap list_rows c.new_unchecked.ensures
     ∙ list_rows-in_range whole part c.args.start c.args.stop c.requires.ordered c.requires.in_bounds (subst AreLists c.self.view_is c.self.invariant.lists) cut
 
-pub returns-clause-dtype : goal.returns-clause-dtype
-returns-clause-dtype g c =
+pub returns-in-Ok-validity_between-clause-dtype : goal.returns-in-Ok-validity_between-clause-dtype
+returns-in-Ok-validity_between-clause-dtype g c =
     let whole = c.args.self.now in
     let same = lists_of c.self.inside.elements.value c.self.inside.offsets c.self.inside.sizes c.self.inside.validity in
-    let part = lists_of c.in_ok-elements.elements.value c.in_ok-offsets.offsets c.in_ok-sizes.sizes c.in_ok-validity.validity in
-    let cut = AreListsInRange-of_parts whole same part c.args.start c.args.stop c.self.view_is (ap leaf_of c.in_ok-elements.ensures.cases) c.in_ok-offsets.ensures.form c.in_ok-sizes.ensures.form c.in_ok-validity.ensures.form in
+    let part = lists_of c.in_ok-elements.elements.value c.in_ok-offsets.offsets c.in-Ok.sizes c.in-Ok-validity_between.validity in
+    let cut = AreListsInRange-of_parts whole same part c.args.start c.args.stop c.self.view_is (ap leaf_of c.in_ok-elements.ensures.cases) c.in_ok-offsets.ensures.form c.in-Ok.ensures.form c.in-Ok-validity_between.ensures.form in
     ap list_dtype c.new_unchecked.ensures
     ∙ list_dtype-in_range whole part c.args.start c.args.stop c.requires.ordered c.requires.in_bounds (subst AreLists c.self.view_is c.self.invariant.lists) cut
 
-pub returns-clause-form : goal.returns-clause-form
-returns-clause-form g c =
+pub returns-in-Ok-validity_between-clause-form : goal.returns-in-Ok-validity_between-clause-form
+returns-in-Ok-validity_between-clause-form g c =
     let whole = c.args.self.now in
     let same = lists_of c.self.inside.elements.value c.self.inside.offsets c.self.inside.sizes c.self.inside.validity in
-    let part = lists_of c.in_ok-elements.elements.value c.in_ok-offsets.offsets c.in_ok-sizes.sizes c.in_ok-validity.validity in
-    let cut = AreListsInRange-of_parts whole same part c.args.start c.args.stop c.self.view_is (ap leaf_of c.in_ok-elements.ensures.cases) c.in_ok-offsets.ensures.form c.in_ok-sizes.ensures.form c.in_ok-validity.ensures.form in
+    let part = lists_of c.in_ok-elements.elements.value c.in_ok-offsets.offsets c.in-Ok.sizes c.in-Ok-validity_between.validity in
+    let cut = AreListsInRange-of_parts whole same part c.args.start c.args.stop c.self.view_is (ap leaf_of c.in_ok-elements.ensures.cases) c.in_ok-offsets.ensures.form c.in-Ok.ensures.form c.in-Ok-validity_between.ensures.form in
     rw c.new_unchecked.ensures cut

@@ -15,38 +15,38 @@ validity_in_runs-requires-clause-counted g c =
 pub new_unchecked-requires : goal.new_unchecked-requires
 new_unchecked-requires g c =
     let old = lists_of c.self.inside.elements.value c.self.inside.offsets c.self.inside.sizes c.self.inside.validity in
-    let new = lists_of c.in_ok-elements.elements.value c.in_ok-offsets.offsets c.in_ok-sizes.sizes c.in_ok-validity.validity in
+    let new = lists_of c.in_ok-elements.elements.value c.in_ok-offsets.offsets c.in-Ok.sizes c.in-Ok-validity_in_runs.validity in
     let paired : list_count old ≡ length c.args.ends.now.numbers = ap list_count c.self.view_is ∙ c.requires.paired in
-    let shown = AreListsInRuns-of_parts c.args.ends.now c.args.offset c.args.count old new paired (ap leaf_of c.in_ok-elements.ensures.cases) c.in_ok-offsets.ensures.form c.in_ok-sizes.ensures.form c.in_ok-validity.ensures.form in
+    let shown = AreListsInRuns-of_parts c.args.ends.now c.args.offset c.args.count old new paired (ap leaf_of c.in_ok-elements.ensures.cases) c.in_ok-offsets.ensures.form c.in-Ok.ensures.form c.in-Ok-validity_in_runs.ensures.form in
     record {
-      types = record { first_elements = c.in_ok-offsets.ensures.index; counts = c.in_ok-sizes.ensures.index; flags = c.in_ok-validity.ensures.plain };
+      types = record { first_elements = c.in_ok-offsets.ensures.index; counts = c.in-Ok.ensures.index; flags = c.in-Ok-validity_in_runs.ensures.plain };
       lists = AreLists-in_runs c.args.ends.now.ptype (ends_of c.args.ends.now) c.args.offset c.args.count old new c.requires.window (paired ∙ sym (length_ends_of c.args.ends.now)) c.self.invariant.lists shown;
     }
 
-pub returns-clause-rows : goal.returns-clause-rows
-returns-clause-rows g c =
+pub returns-in-Ok-validity_in_runs-clause-rows : goal.returns-in-Ok-validity_in_runs-clause-rows
+returns-in-Ok-validity_in_runs-clause-rows g c =
     let old = lists_of c.self.inside.elements.value c.self.inside.offsets c.self.inside.sizes c.self.inside.validity in
-    let new = lists_of c.in_ok-elements.elements.value c.in_ok-offsets.offsets c.in_ok-sizes.sizes c.in_ok-validity.validity in
+    let new = lists_of c.in_ok-elements.elements.value c.in_ok-offsets.offsets c.in-Ok.sizes c.in-Ok-validity_in_runs.validity in
     let paired : list_count old ≡ length c.args.ends.now.numbers = ap list_count c.self.view_is ∙ c.requires.paired in
-    let shown = AreListsInRuns-of_parts c.args.ends.now c.args.offset c.args.count old new paired (ap leaf_of c.in_ok-elements.ensures.cases) c.in_ok-offsets.ensures.form c.in_ok-sizes.ensures.form c.in_ok-validity.ensures.form in
+    let shown = AreListsInRuns-of_parts c.args.ends.now c.args.offset c.args.count old new paired (ap leaf_of c.in_ok-elements.ensures.cases) c.in_ok-offsets.ensures.form c.in-Ok.ensures.form c.in-Ok-validity_in_runs.ensures.form in
     ap list_rows c.new_unchecked.ensures
     ∙ list_rows-in_runs c.args.ends.now.ptype (ends_of c.args.ends.now) c.args.offset c.args.count old new c.requires.window (paired ∙ sym (length_ends_of c.args.ends.now)) c.self.invariant.lists shown
     ∙ ap (λ l. run_rows (ends_of c.args.ends.now) (list_rows l) c.args.offset c.args.count) c.self.view_is
 
-pub returns-clause-dtype : goal.returns-clause-dtype
-returns-clause-dtype g c =
+pub returns-in-Ok-validity_in_runs-clause-dtype : goal.returns-in-Ok-validity_in_runs-clause-dtype
+returns-in-Ok-validity_in_runs-clause-dtype g c =
     let old = lists_of c.self.inside.elements.value c.self.inside.offsets c.self.inside.sizes c.self.inside.validity in
-    let new = lists_of c.in_ok-elements.elements.value c.in_ok-offsets.offsets c.in_ok-sizes.sizes c.in_ok-validity.validity in
+    let new = lists_of c.in_ok-elements.elements.value c.in_ok-offsets.offsets c.in-Ok.sizes c.in-Ok-validity_in_runs.validity in
     let paired : list_count old ≡ length c.args.ends.now.numbers = ap list_count c.self.view_is ∙ c.requires.paired in
-    let shown = AreListsInRuns-of_parts c.args.ends.now c.args.offset c.args.count old new paired (ap leaf_of c.in_ok-elements.ensures.cases) c.in_ok-offsets.ensures.form c.in_ok-sizes.ensures.form c.in_ok-validity.ensures.form in
+    let shown = AreListsInRuns-of_parts c.args.ends.now c.args.offset c.args.count old new paired (ap leaf_of c.in_ok-elements.ensures.cases) c.in_ok-offsets.ensures.form c.in-Ok.ensures.form c.in-Ok-validity_in_runs.ensures.form in
     ap list_dtype c.new_unchecked.ensures
     ∙ list_dtype-in_runs c.args.ends.now.ptype (ends_of c.args.ends.now) c.args.offset c.args.count old new c.requires.window (paired ∙ sym (length_ends_of c.args.ends.now)) c.self.invariant.lists shown
     ∙ ap list_dtype c.self.view_is
 
-pub returns-clause-form : goal.returns-clause-form
-returns-clause-form g c =
+pub returns-in-Ok-validity_in_runs-clause-form : goal.returns-in-Ok-validity_in_runs-clause-form
+returns-in-Ok-validity_in_runs-clause-form g c =
     let old = lists_of c.self.inside.elements.value c.self.inside.offsets c.self.inside.sizes c.self.inside.validity in
-    let new = lists_of c.in_ok-elements.elements.value c.in_ok-offsets.offsets c.in_ok-sizes.sizes c.in_ok-validity.validity in
+    let new = lists_of c.in_ok-elements.elements.value c.in_ok-offsets.offsets c.in-Ok.sizes c.in-Ok-validity_in_runs.validity in
     let paired : list_count old ≡ length c.args.ends.now.numbers = ap list_count c.self.view_is ∙ c.requires.paired in
-    let shown = AreListsInRuns-of_parts c.args.ends.now c.args.offset c.args.count old new paired (ap leaf_of c.in_ok-elements.ensures.cases) c.in_ok-offsets.ensures.form c.in_ok-sizes.ensures.form c.in_ok-validity.ensures.form in
+    let shown = AreListsInRuns-of_parts c.args.ends.now c.args.offset c.args.count old new paired (ap leaf_of c.in_ok-elements.ensures.cases) c.in_ok-offsets.ensures.form c.in-Ok.ensures.form c.in-Ok-validity_in_runs.ensures.form in
     rw (c.new_unchecked.ensures, ← c.self.view_is) shown

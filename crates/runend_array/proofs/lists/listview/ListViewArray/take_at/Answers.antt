@@ -14,35 +14,35 @@ pub new_unchecked-requires : goal.new_unchecked-requires
 new_unchecked-requires g c =
     let whole = c.args.self.now in
     let same = lists_of c.self.inside.elements.value c.self.inside.offsets c.self.inside.sizes c.self.inside.validity in
-    let part = lists_of c.in_ok-elements.elements.value c.in_ok-offsets.offsets c.in_ok-sizes.sizes c.in_ok-validity.validity in
-    let cut = AreListsAt-of_parts whole same part c.args.positions.now (form_of c.args.places.now) c.self.view_is (ap leaf_of c.in_ok-elements.ensures.cases) c.in_ok-offsets.ensures.form c.in_ok-sizes.ensures.form c.in_ok-validity.ensures.form in
+    let part = lists_of c.in_ok-elements.elements.value c.in_ok-offsets.offsets c.in-Ok.sizes c.in-Ok-validity_taken.validity in
+    let cut = AreListsAt-of_parts whole same part c.args.positions.now (form_of c.args.places.now) c.self.view_is (ap leaf_of c.in_ok-elements.ensures.cases) c.in_ok-offsets.ensures.form c.in-Ok.ensures.form c.in-Ok-validity_taken.ensures.form in
     record {
-      types = record { first_elements = c.in_ok-offsets.ensures.index; counts = c.in_ok-sizes.ensures.index; flags = c.in_ok-validity.ensures.plain };
+      types = record { first_elements = c.in_ok-offsets.ensures.index; counts = c.in-Ok.ensures.index; flags = c.in-Ok-validity_taken.ensures.plain };
       lists = AreLists-taken whole part c.args.positions.now (form_of c.args.places.now) (subst AreLists c.self.view_is c.self.invariant.lists) c.requires.within cut;
     }
 
-pub returns-clause-rows : goal.returns-clause-rows
-returns-clause-rows g c =
+pub returns-in-Ok-validity_taken-clause-rows : goal.returns-in-Ok-validity_taken-clause-rows
+returns-in-Ok-validity_taken-clause-rows g c =
     let whole = c.args.self.now in
     let same = lists_of c.self.inside.elements.value c.self.inside.offsets c.self.inside.sizes c.self.inside.validity in
-    let part = lists_of c.in_ok-elements.elements.value c.in_ok-offsets.offsets c.in_ok-sizes.sizes c.in_ok-validity.validity in
-    let cut = AreListsAt-of_parts whole same part c.args.positions.now (form_of c.args.places.now) c.self.view_is (ap leaf_of c.in_ok-elements.ensures.cases) c.in_ok-offsets.ensures.form c.in_ok-sizes.ensures.form c.in_ok-validity.ensures.form in
+    let part = lists_of c.in_ok-elements.elements.value c.in_ok-offsets.offsets c.in-Ok.sizes c.in-Ok-validity_taken.validity in
+    let cut = AreListsAt-of_parts whole same part c.args.positions.now (form_of c.args.places.now) c.self.view_is (ap leaf_of c.in_ok-elements.ensures.cases) c.in_ok-offsets.ensures.form c.in-Ok.ensures.form c.in-Ok-validity_taken.ensures.form in
     ap list_rows c.new_unchecked.ensures
     ∙ list_rows-taken whole part c.args.positions.now (form_of c.args.places.now) (subst AreLists c.self.view_is c.self.invariant.lists) c.requires.within cut
 
-pub returns-clause-dtype : goal.returns-clause-dtype
-returns-clause-dtype g c =
+pub returns-in-Ok-validity_taken-clause-dtype : goal.returns-in-Ok-validity_taken-clause-dtype
+returns-in-Ok-validity_taken-clause-dtype g c =
     let whole = c.args.self.now in
     let same = lists_of c.self.inside.elements.value c.self.inside.offsets c.self.inside.sizes c.self.inside.validity in
-    let part = lists_of c.in_ok-elements.elements.value c.in_ok-offsets.offsets c.in_ok-sizes.sizes c.in_ok-validity.validity in
-    let cut = AreListsAt-of_parts whole same part c.args.positions.now (form_of c.args.places.now) c.self.view_is (ap leaf_of c.in_ok-elements.ensures.cases) c.in_ok-offsets.ensures.form c.in_ok-sizes.ensures.form c.in_ok-validity.ensures.form in
+    let part = lists_of c.in_ok-elements.elements.value c.in_ok-offsets.offsets c.in-Ok.sizes c.in-Ok-validity_taken.validity in
+    let cut = AreListsAt-of_parts whole same part c.args.positions.now (form_of c.args.places.now) c.self.view_is (ap leaf_of c.in_ok-elements.ensures.cases) c.in_ok-offsets.ensures.form c.in-Ok.ensures.form c.in-Ok-validity_taken.ensures.form in
     ap list_dtype c.new_unchecked.ensures
     ∙ list_dtype-taken whole part c.args.positions.now (form_of c.args.places.now) (subst AreLists c.self.view_is c.self.invariant.lists) c.requires.within cut
 
-pub returns-clause-form : goal.returns-clause-form
-returns-clause-form g c =
+pub returns-in-Ok-validity_taken-clause-form : goal.returns-in-Ok-validity_taken-clause-form
+returns-in-Ok-validity_taken-clause-form g c =
     let whole = c.args.self.now in
     let same = lists_of c.self.inside.elements.value c.self.inside.offsets c.self.inside.sizes c.self.inside.validity in
-    let part = lists_of c.in_ok-elements.elements.value c.in_ok-offsets.offsets c.in_ok-sizes.sizes c.in_ok-validity.validity in
-    let cut = AreListsAt-of_parts whole same part c.args.positions.now (form_of c.args.places.now) c.self.view_is (ap leaf_of c.in_ok-elements.ensures.cases) c.in_ok-offsets.ensures.form c.in_ok-sizes.ensures.form c.in_ok-validity.ensures.form in
+    let part = lists_of c.in_ok-elements.elements.value c.in_ok-offsets.offsets c.in-Ok.sizes c.in-Ok-validity_taken.validity in
+    let cut = AreListsAt-of_parts whole same part c.args.positions.now (form_of c.args.places.now) c.self.view_is (ap leaf_of c.in_ok-elements.ensures.cases) c.in_ok-offsets.ensures.form c.in-Ok.ensures.form c.in-Ok-validity_taken.ensures.form in
     rw c.new_unchecked.ensures cut

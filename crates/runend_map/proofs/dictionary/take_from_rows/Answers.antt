@@ -1,0 +1,36 @@
+use Rattle.std.proofs.Common.{◌∙◌, Bool, Some, ap, cond, inl, inr, length, sym}
+use Rattle.column_base.specs.declared.error.VortexError.TheVariants.{TypeMismatch}
+use Rattle.column_ops.specs.Cast.{is_numbers}
+use Rattle.column_ops.specs.Codes.{code_fault, code_numbers}
+use Rattle.column_ops.specs.Take.{take_fault}
+use Rattle.column_ops.proofs.IndexPositions.{refused-passed_on}
+use Rattle.runend_array.specs.Array.{column_of, rows}
+use Rattle.runend_array.specs.Column.{plain_of}
+use Rattle.runend_map.proofs.PassedOn.{no_value}
+use Rattle.runend_map.proofs.dictionary.take_from_rows.Goals as goal
+
+pub returns-then-not-is_number_type : goal.returns-then-not-is_number_type
+returns-then-not-is_number_type g c =
+    let count = length (rows c.args.dictionary.now) in
+    let other = sym (c.is_number_type.ensures ∙ ap is_numbers c.dtype.ensures) ∙ c.if-not-is_number_type.true in
+    record {
+      refused = inr (ap (λ (b : Bool). cond b (take_fault (code_numbers (rows c.args.codes.now)) count) (Some TypeMismatch)) other);
+      rows = tt;
+      dtype = tt;
+      flat = tt;
+      session = λ i. c.args.ctx.now;
+    }
+
+pub returns-in_err-flat-clause-refused : goal.returns-in_err-flat-clause-refused
+returns-in_err-flat-clause-refused g c =
+    refused-passed_on (code_fault (plain_of (column_of c.args.codes.now)) (length (rows c.args.dictionary.now))) c.in_err-flat.field-0.0 c.from_residual.result c.from_residual.ensures.1
+    (inl c.in_err-flat.ensures.only)
+
+pub returns-in_err-flat-clause-rows : goal.returns-in_err-flat-clause-rows
+returns-in_err-flat-clause-rows g c = no_value _ c.from_residual.result c.from_residual.ensures.0
+
+pub returns-in_err-flat-clause-dtype : goal.returns-in_err-flat-clause-dtype
+returns-in_err-flat-clause-dtype g c = no_value _ c.from_residual.result c.from_residual.ensures.0
+
+pub returns-in_err-flat-clause-flat : goal.returns-in_err-flat-clause-flat
+returns-in_err-flat-clause-flat g c = no_value _ c.from_residual.result c.from_residual.ensures.0

@@ -1,0 +1,44 @@
+use Rattle.std.proofs.Common.{length, subst, sym, ap, ◌∙◌}
+use Rattle.std.specs.Prelude.{count_by}
+use Rattle.runend_array.specs.Canonical.{canonical_column}
+use Rattle.runend_array.specs.Column.{Column, Runs, column_dtype, column_rows}
+use Rattle.runend_array.specs.SessionForm.{SessionForm}
+use Rattle.runend_select.specs.FilterForm.{AreSelectedRuns, IsSelectedForm, TakesDirectly}
+use Rattle.runend_select.proofs.Forms.{flat-selected, takes_directly-same}
+use Rattle.runend_select.proofs.filters.filter_bits.Goals as goal
+
+pub returns-then-takes_directly-clause-rows : goal.returns-then-takes_directly-clause-rows
+returns-then-takes_directly-clause-rows g c = ap column_rows c.in_ok-taken-2.ensures.form ∙ c.in_ok-taken.ensures.made.rows
+
+pub returns-then-takes_directly-clause-dtype : goal.returns-then-takes_directly-clause-dtype
+returns-then-takes_directly-clause-dtype g c = ap column_dtype c.in_ok-taken-2.ensures.form ∙ c.in_ok-taken.ensures.made.dtype
+
+pub returns-then-takes_directly-clause-form : goal.returns-then-takes_directly-clause-form
+returns-then-takes_directly-clause-form g c =
+    let array = c.args.array.now in
+    let bits = c.args.bits.now in
+    let own = c.args.ctx.now.thresholds in
+    let runs = c.len-runs.ensures ∙ ap (λ (column : Column). length (column_rows column)) c.values.ensures.form ∙ c.values.ensures.valid.paired in
+    let thresholds = c.thresholds-thresholds.ensures ∙ ap (λ (s : SessionForm). s.thresholds) c.session.ensures in
+    let same = takes_directly-same c.true_count.result c.len-runs.result c.thresholds-thresholds.result (count_by (λ bit. bit) bits) (length array.ends) own c.true_count.ensures runs thresholds in
+    let directly = TakesDirectly (count_by (λ bit. bit) bits) (length array.ends) own in
+    subst (λ (column : Column). IsSelectedForm directly array bits column) (sym c.in_ok-taken-2.ensures.form)
+    (flat-selected directly array bits (canonical_column c.in_ok-taken.taken) c.in_ok-taken.ensures.made.form (same.0 (c.takes_directly.ensures.0 c.if-takes_directly.true)))
+
+pub returns-clause-rows : goal.returns-clause-rows
+returns-clause-rows g c = rw c.in_ok-boxed.ensures.ok c.in_ok-kept.ensures.rows
+
+pub returns-clause-dtype : goal.returns-clause-dtype
+returns-clause-dtype g c = rw c.in_ok-boxed.ensures.ok c.in_ok-kept.ensures.dtype
+
+pub returns-clause-form : goal.returns-clause-form
+returns-clause-form g c =
+    let array = c.args.array.now in
+    let bits = c.args.bits.now in
+    let own = c.args.ctx.now.thresholds in
+    let runs = c.len-runs.ensures ∙ ap (λ (column : Column). length (column_rows column)) c.values.ensures.form ∙ c.values.ensures.valid.paired in
+    let thresholds = c.thresholds-thresholds.ensures ∙ ap (λ (s : SessionForm). s.thresholds) c.session.ensures in
+    let same = takes_directly-same c.true_count.result c.len-runs.result c.thresholds-thresholds.result (count_by (λ bit. bit) bits) (length array.ends) own c.true_count.ensures runs thresholds in (
+      (λ few. let yes = c.takes_directly.ensures.1 (same.1 few) in let no = c.if-takes_directly.false in cc),
+      subst (λ (part : Runs). AreSelectedRuns array bits part) (sym c.in_ok-boxed.ensures.ok) c.in_ok-kept.ensures.form,
+    )
