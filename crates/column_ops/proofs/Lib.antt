@@ -1,5 +1,6 @@
 pub mod Written
 pub mod RowItems
+pub mod Arms
 pub mod Passed
 pub mod IndexPositions
 pub mod Made

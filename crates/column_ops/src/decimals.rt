@@ -26,7 +26,6 @@ impl<A: Allocator + Copy> ColumnOps<A> for DecimalArray<A> {
         positions: &[u64],
         validity: &Validity<A>,
     ) -> VortexResult<DecimalArray<A>> {
-        prove_eq!(self.len(), self.values().len());
         let own = self.validity();
         let (taken, rows) = take_items(alloc, self.values(), own, 0, positions, validity)?;
         Ok(DecimalArray::new_unchecked(taken, self.decimal_dtype(), rows))
@@ -39,7 +38,6 @@ impl<A: Allocator + Copy> ColumnOps<A> for DecimalArray<A> {
                 length: self.len(),
             });
         }
-        prove_eq!(self.len(), self.values().len());
         let (kept, rows) = filter_items(alloc, self.values(), self.validity(), 0, mask)?;
         Ok(DecimalArray::new_unchecked(kept, self.decimal_dtype(), rows))
     }
@@ -48,13 +46,11 @@ impl<A: Allocator + Copy> ColumnOps<A> for DecimalArray<A> {
         let ScalarValue::Decimal(number) = value else {
             unreachable!()
         };
-        prove_eq!(self.len(), self.values().len());
         let (filled, rows) = fill_items(alloc, self.values(), self.validity(), 0, *number)?;
         Ok(DecimalArray::new_unchecked(filled, self.decimal_dtype(), rows))
     }
 
     fn cast_to(&self, alloc: A, dtype: DType) -> VortexResult<DecimalArray<A>> {
-        prove_eq!(self.len(), self.values().len());
         let validity = self.validity();
         let (numbers, rows) = keep_items(alloc, self.values(), validity, 0, dtype.nullability())?;
         Ok(DecimalArray::new_unchecked(numbers, self.decimal_dtype(), rows))

@@ -120,7 +120,6 @@ impl<A: Allocator + Copy> ColumnOps<A> for PrimitiveArray<A> {
         positions: &[u64],
         validity: &Validity<A>,
     ) -> VortexResult<PrimitiveArray<A>> {
-        prove_eq!(self.len(), self.values().len());
         let own = self.validity();
         match_each_native!(self.values(), items => take_numbers(alloc, items.as_slice(), own, positions, validity))
     }

@@ -78,14 +78,12 @@ impl<A: Allocator + Copy> ColumnOps<A> for BoolArray<A> {
         positions: &[u64],
         validity: &Validity<A>,
     ) -> VortexResult<BoolArray<A>> {
-        prove_eq!(self.len(), self.values().len());
         let own = items_of(alloc, self.values())?;
         let items = own.as_slice();
         let made = take_items(alloc, items, self.validity(), false, positions, validity);
         drop(own);
         let (taken, rows) = made?;
-        let array = array_of(alloc, taken, rows)?;
-        Ok(array)
+        array_of(alloc, taken, rows)
     }
 
     fn filter(&self, alloc: A, mask: &Mask<A>) -> VortexResult<BoolArray<A>> {
@@ -95,36 +93,30 @@ impl<A: Allocator + Copy> ColumnOps<A> for BoolArray<A> {
                 length: self.len(),
             });
         }
-        prove_eq!(self.len(), self.values().len());
         let own = items_of(alloc, self.values())?;
         let made = filter_items(alloc, own.as_slice(), self.validity(), false, mask);
         drop(own);
         let (kept, rows) = made?;
-        let array = array_of(alloc, kept, rows)?;
-        Ok(array)
+        array_of(alloc, kept, rows)
     }
 
     fn fill_with(&self, alloc: A, value: &ScalarValue<A>) -> VortexResult<BoolArray<A>> {
         let ScalarValue::Bool(truth) = value else {
             unreachable!()
         };
-        prove_eq!(self.len(), self.values().len());
         let own = items_of(alloc, self.values())?;
         let made = fill_items(alloc, own.as_slice(), self.validity(), false, *truth);
         drop(own);
         let (filled, rows) = made?;
-        let array = array_of(alloc, filled, rows)?;
-        Ok(array)
+        array_of(alloc, filled, rows)
     }
 
     fn cast_to(&self, alloc: A, dtype: DType) -> VortexResult<BoolArray<A>> {
-        prove_eq!(self.len(), self.values().len());
         let own = items_of(alloc, self.values())?;
         let validity = self.validity();
         let made = keep_items(alloc, own.as_slice(), validity, false, dtype.nullability());
         drop(own);
         let (kept, rows) = made?;
-        let array = array_of(alloc, kept, rows)?;
-        Ok(array)
+        array_of(alloc, kept, rows)
     }
 }

@@ -1,5 +1,5 @@
 //! Operations on columns of texts or of bytes. The bytes of the buffers are shared.
-ghost use Rattle.std.specs.Prelude.{◌≡◌, IfOk, IsOkUnless};
+ghost use Rattle.std.specs.Prelude.{◌≡◌, ◌∷◌, ◌++◌, [], IfOk, IsOkUnless};
 ghost use Rattle.column_base.specs.declared.dtype.Nullability.TheVariants.{NonNullable};
 ghost use Rattle.column_core.specs.VarBinForm.{IsOfKind, kind_dtype, varbin_rows, varbin_value};
 ghost use Rattle.column_ops.specs.Computed.{IsMade};
@@ -36,6 +36,20 @@ fn share<A: Allocator + Copy>(alloc: A, buffers: &[Bytes<A>]) -> VortexResult<Ve
     Ok(owners)
 }
 
+// The same buffers, and one more that holds these bytes.
+fn share_with<A: Allocator + Copy>(
+    alloc: A,
+    buffers: &[Bytes<A>],
+    bytes: &[u8],
+) -> VortexResult<Vec<Bytes<A>, A>>
+    ensures only { IsOkUnless result VortexError.OutOfMemory }
+    ensures more { IfOk result (λ owners. owners.items ≡ buffers.now ++ bytes.now ∷ []) }
+{
+    let mut owners = share(alloc, buffers)?;
+    owners.push(Bytes::copy_from_slice(alloc, bytes)?)?;
+    Ok(owners)
+}
+
 // The texts or bytes of the column, with these bytes in place of each null, in one more buffer.
 fn fill_bytes<A: Allocator + Copy>(
     alloc: A,
@@ -47,14 +61,13 @@ fn fill_bytes<A: Allocator + Copy>(
     ensures made { IfOk result (λ filled. IsMade (fill_rows (varbin_rows array.now) (varbin_value array.now.kind bytes.now))
         (kind_dtype array.now.kind NonNullable) (OfVarBins filled)) }
 {
-    prove_eq!(array.len(), array.views().len());
-    let mut buffers = share(alloc, array.buffers())?;
+    let shared = array.buffers();
     let whole = View {
-        buffer: buffers.len(),
+        buffer: shared.len(),
         start: 0,
         size: bytes.len(),
     };
-    buffers.push(Bytes::copy_from_slice(alloc, bytes)?)?;
+    let buffers = share_with(alloc, shared, bytes)?;
     let own = array.validity();
     let (filled, rows) = fill_items(alloc, array.views(), own, NOTHING, whole)?;
     Ok(VarBinViewArray::new_unchecked(filled, buffers, array.kind(), rows))
@@ -77,7 +90,6 @@ impl<A: Allocator + Copy> ColumnOps<A> for VarBinViewArray<A> {
         positions: &[u64],
         validity: &Validity<A>,
     ) -> VortexResult<VarBinViewArray<A>> {
-        prove_eq!(self.len(), self.views().len());
         let own = self.validity();
         let (taken, rows) = take_items(alloc, self.views(), own, NOTHING, positions, validity)?;
         let buffers = share(alloc, self.buffers())?;
@@ -91,7 +103,6 @@ impl<A: Allocator + Copy> ColumnOps<A> for VarBinViewArray<A> {
                 length: self.len(),
             });
         }
-        prove_eq!(self.len(), self.views().len());
         let (kept, rows) = filter_items(alloc, self.views(), self.validity(), NOTHING, mask)?;
         let buffers = share(alloc, self.buffers())?;
         Ok(VarBinViewArray::new_unchecked(kept, buffers, self.kind(), rows))
@@ -106,7 +117,6 @@ impl<A: Allocator + Copy> ColumnOps<A> for VarBinViewArray<A> {
     }
 
     fn cast_to(&self, alloc: A, dtype: DType) -> VortexResult<VarBinViewArray<A>> {
-        prove_eq!(self.len(), self.views().len());
         let validity = self.validity();
         let (views, rows) = keep_items(
             alloc,

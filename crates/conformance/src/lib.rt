@@ -9,6 +9,8 @@ mod columns;
 #[cfg(test)]
 mod errors;
 #[cfg(test)]
+mod fakes;
+#[cfg(test)]
 mod flat;
 #[cfg(test)]
 mod indices;
@@ -32,6 +34,8 @@ mod refusals;
 mod reports;
 #[cfg(test)]
 mod scalars;
+#[cfg(test)]
+mod scripts;
 #[cfg(test)]
 mod shown;
 #[cfg(test)]

@@ -539,7 +539,9 @@ impl<A: Allocator + Copy> RunEndArray<A> {
         let Some(ends) = plain_ends(&self.ends) else {
             unreachable!()
         };
-        validity_in_runs(alloc, ends, &values, self.offset, self.length)
+        let shown = validity_in_runs(alloc, ends, &values, self.offset, self.length);
+        drop(values);
+        shown
     }
 
     /// Is it a run column over flat u64 without null?

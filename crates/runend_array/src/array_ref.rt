@@ -1,12 +1,12 @@
 //! Arrays of any form.
-ghost use Rattle.std.specs.Prelude.{◌≡◌, ◌≤◌, ◌↔◌, Some, [], pos, length, slice_get, IsTrue, IfOk, IsErrOf, IsOkUnless};
+ghost use Rattle.std.specs.Prelude.{◌≡◌, ◌<◌, ◌≤◌, ◌↔◌, Some, [], pos, length, slice_get, IsTrue, IfOk, IsErrOf, IsOkUnless};
 ghost use Rattle.column_core.specs.PrimitiveForm.{primitive_dtype};
 ghost use Rattle.column_core.specs.ScalarView.{sees, IsViewOf};
 ghost use Rattle.runend_codec.specs.Ends.{IsEndsType, ends_of};
 ghost use Rattle.runend_codec.specs.Window.{IsWindow, run_rows};
 ghost use Rattle.runend_array.specs.Array.{column_of, dtype_of, rows};
 ghost use Rattle.runend_array.specs.Canonical.{IsCanonical, IsFlatPart, canonical_column};
-ghost use Rattle.runend_array.specs.Column.{column_dtype, column_rows};
+ghost use Rattle.runend_array.specs.Column.{OfConstant, OfLists, column_dtype, column_of_runs, column_rows};
 ghost use Rattle.runend_array.specs.Encoding.{IsComputedFlat};
 
 use crate::array::RunEndArray;
@@ -139,36 +139,34 @@ impl<A: Allocator + Copy> ArrayRef<A> {
         ensures form { IfOk result (λ array. column_of array ≡ column_of self.now) }
     {
         match self {
-            ArrayRef::Primitive(array) => {
-                let copy = array.try_clone(alloc)?;
-                Ok(ArrayRef::Primitive(copy))
-            }
-            ArrayRef::Bool(array) => {
-                let copy = array.try_clone(alloc)?;
-                Ok(ArrayRef::Bool(copy))
-            }
-            ArrayRef::Decimal(array) => {
-                let copy = array.try_clone(alloc)?;
-                Ok(ArrayRef::Decimal(copy))
-            }
-            ArrayRef::VarBinView(array) => {
-                let copy = array.try_clone(alloc)?;
-                Ok(ArrayRef::VarBinView(copy))
-            }
-            ArrayRef::ListView(lists) => {
-                let copy = lists.clone_in(alloc)?;
-                let boxed = Box::new(alloc, copy)?;
-                Ok(ArrayRef::ListView(boxed))
-            }
-            ArrayRef::Constant(array) => {
-                let copy = array.clone_in(alloc)?;
-                Ok(ArrayRef::Constant(copy))
-            }
-            ArrayRef::RunEnd(array) => {
-                let copy = array.clone_in(alloc)?;
-                let boxed = Box::new(alloc, copy)?;
-                Ok(ArrayRef::RunEnd(boxed))
-            }
+            ArrayRef::Primitive(array) => match array.try_clone(alloc) {
+                Ok(copy) => Ok(ArrayRef::Primitive(copy)),
+                Err(error) => Err(error),
+            },
+            ArrayRef::Bool(array) => match array.try_clone(alloc) {
+                Ok(copy) => Ok(ArrayRef::Bool(copy)),
+                Err(error) => Err(error),
+            },
+            ArrayRef::Decimal(array) => match array.try_clone(alloc) {
+                Ok(copy) => Ok(ArrayRef::Decimal(copy)),
+                Err(error) => Err(error),
+            },
+            ArrayRef::VarBinView(array) => match array.try_clone(alloc) {
+                Ok(copy) => Ok(ArrayRef::VarBinView(copy)),
+                Err(error) => Err(error),
+            },
+            ArrayRef::ListView(lists) => match lists.clone_in(alloc) {
+                Ok(copy) => of_lists(alloc, copy),
+                Err(error) => Err(error),
+            },
+            ArrayRef::Constant(array) => match array.clone_in(alloc) {
+                Ok(copy) => Ok(ArrayRef::Constant(copy)),
+                Err(error) => Err(error),
+            },
+            ArrayRef::RunEnd(array) => match array.clone_in(alloc) {
+                Ok(copy) => of_runs(alloc, copy),
+                Err(error) => Err(error),
+            },
         }
     }
 
@@ -249,13 +247,17 @@ impl<A: Allocator + Copy> ArrayRef<A> {
         match self {
             ArrayRef::Primitive(values) => {
                 prove_eq!(values.len(), ends.len());
-                let array = decode_numbers(alloc, ends, values, offset, count)?;
-                Ok(Canonical::Flat(FlatColumn::Primitive(array)))
+                match decode_numbers(alloc, ends, values, offset, count) {
+                    Ok(array) => Ok(Canonical::Flat(FlatColumn::Primitive(array))),
+                    Err(error) => Err(error),
+                }
             }
             ArrayRef::Bool(values) => {
                 prove_eq!(values.len(), ends.len());
-                let array = decode_truths(alloc, ends, values, offset, count, prefill_runs)?;
-                Ok(Canonical::Flat(FlatColumn::Bool(array)))
+                match decode_truths(alloc, ends, values, offset, count, prefill_runs) {
+                    Ok(array) => Ok(Canonical::Flat(FlatColumn::Bool(array))),
+                    Err(error) => Err(error),
+                }
             }
             ArrayRef::Decimal(values) => {
                 prove_eq!(values.len(), ends.len());
@@ -297,18 +299,24 @@ impl<A: Allocator + Copy> ArrayRef<A> {
         match self {
             ArrayRef::Primitive(array) => {
                 prove!(stop <= array.len());
-                let part = array.slice(alloc, start..stop)?;
-                Ok(Canonical::Flat(FlatColumn::Primitive(part)))
+                match array.slice(alloc, start..stop) {
+                    Ok(part) => Ok(Canonical::Flat(FlatColumn::Primitive(part))),
+                    Err(error) => Err(error),
+                }
             }
             ArrayRef::Bool(array) => {
                 prove!(stop <= array.len());
-                let part = array.slice(alloc, start..stop)?;
-                Ok(Canonical::Flat(FlatColumn::Bool(part)))
+                match array.slice(alloc, start..stop) {
+                    Ok(part) => Ok(Canonical::Flat(FlatColumn::Bool(part))),
+                    Err(error) => Err(error),
+                }
             }
             ArrayRef::Decimal(array) => {
                 prove!(stop <= array.len());
-                let part = array.slice(alloc, start..stop)?;
-                Ok(Canonical::Flat(FlatColumn::Decimal(part)))
+                match array.slice(alloc, start..stop) {
+                    Ok(part) => Ok(Canonical::Flat(FlatColumn::Decimal(part))),
+                    Err(error) => Err(error),
+                }
             }
             ArrayRef::VarBinView(array) => {
                 prove!(stop <= array.len());
@@ -320,16 +328,29 @@ impl<A: Allocator + Copy> ArrayRef<A> {
                 let part = lists.slice(alloc, start..stop)?;
                 Ok(Canonical::List(part))
             }
-            ArrayRef::Constant(array) => {
-                let part = array.repeated(alloc, stop - start)?;
-                let made = write_constant(alloc, &part);
-                drop(part);
-                let rows = made?;
-                Ok(rows)
-            }
+            ArrayRef::Constant(array) => constant_between(alloc, array, start, stop),
             ArrayRef::RunEnd(array) => array.rows_between(alloc, start, stop),
         }
     }
+}
+
+// The rows of a constant from `start` to `stop - 1`, of which there is one at least, written out.
+fn constant_between<A: Allocator + Copy>(
+    alloc: A,
+    array: &ConstantArray<A>,
+    start: usize,
+    stop: usize,
+) -> VortexResult<Canonical<A>>
+    requires some { start < stop }
+    requires within { stop ≤ array.now.count }
+    ensures only { IsOkUnless result VortexError.OutOfMemory }
+    ensures part { IfOk result (λ flat. IsFlatPart (OfConstant array.now) start stop (canonical_column flat)) }
+{
+    let part = array.repeated(alloc, stop - start)?;
+    let made = write_constant(alloc, &part);
+    drop(part);
+    let rows = made?;
+    Ok(rows)
 }
 
 /// The refusal of an index that is not below the number of rows.
@@ -340,4 +361,28 @@ pub(crate) fn out_of_bounds(index: usize, length: usize) -> VortexError
         index: index as i128,
         length,
     }
+}
+
+/// Lists as an array. Refused as `OutOfMemory` alone.
+pub(crate) fn of_lists<A: Allocator + Copy>(
+    alloc: A,
+    lists: ListViewArray<A>,
+) -> VortexResult<ArrayRef<A>>
+    ensures only { IsOkUnless result VortexError.OutOfMemory }
+    ensures form { IfOk result (λ array. column_of array ≡ OfLists lists) }
+{
+    let boxed = Box::new(alloc, lists)?;
+    Ok(ArrayRef::ListView(boxed))
+}
+
+/// A run column as an array. Refused as `OutOfMemory` alone.
+pub(crate) fn of_runs<A: Allocator + Copy>(
+    alloc: A,
+    runs: RunEndArray<A>,
+) -> VortexResult<ArrayRef<A>>
+    ensures only { IsOkUnless result VortexError.OutOfMemory }
+    ensures form { IfOk result (λ array. column_of array ≡ column_of_runs runs) }
+{
+    let boxed = Box::new(alloc, runs)?;
+    Ok(ArrayRef::RunEnd(boxed))
 }

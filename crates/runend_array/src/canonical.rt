@@ -12,8 +12,9 @@ ghost use Rattle.runend_codec.specs.Encoding.{IsDecodedLeaf};
 ghost use Rattle.runend_array.specs.Encoding.{IsComputedFlat};
 ghost use Rattle.runend_array.specs.Canonical.{canonical_column};
 
-use crate::array_ref::ArrayRef;
+use crate::array_ref::{ArrayRef, of_lists};
 use crate::lists::ListViewArray;
+use bytes::Bytes;
 use column_core::{
     DecimalArray, FlatColumn, PrimitiveArray, VarBinViewArray, View, VortexError, VortexResult,
 };
@@ -47,10 +48,7 @@ impl<A: Allocator + Copy> Canonical<A> {
     {
         match self {
             Canonical::Flat(array) => Ok(array_of(array)),
-            Canonical::List(lists) => {
-                let boxed = Box::new(alloc, lists)?;
-                Ok(ArrayRef::ListView(boxed))
-            }
+            Canonical::List(lists) => of_lists(alloc, lists),
         }
     }
 
@@ -131,8 +129,28 @@ pub(crate) fn views_shown<A: Allocator + Copy>(
     };
     let validity = values.validity();
     let (views, rows) = decode_rows(alloc, ends, values.views(), validity, blank, offset, count)?;
+    match buffers_of(alloc, values) {
+        Ok(buffers) => Ok(VarBinViewArray::new_unchecked(views, buffers, values.kind(), rows)),
+        Err(error) => {
+            drop(rows);
+            drop(views);
+            Err(error)
+        }
+    }
+}
+
+// The buffers of a column, whose bytes are shared.
+fn buffers_of<A: Allocator + Copy>(
+    alloc: A,
+    values: &VarBinViewArray<A>,
+) -> VortexResult<Vec<Bytes<A>, A>>
+    ensures only { IsOkUnless result VortexError.OutOfMemory }
+    ensures shared { IfOk result (λ buffers. buffers.items ≡ values.now.buffers) }
+{
     // No row of a column still has all of its buffers.
     let no_row = values.slice(alloc, 0..0)?;
-    let (_, buffers, _, _) = no_row.into_parts();
-    Ok(VarBinViewArray::new_unchecked(views, buffers, values.kind(), rows))
+    let (views, buffers, _, validity) = no_row.into_parts();
+    drop(validity);
+    drop(views);
+    Ok(buffers)
 }

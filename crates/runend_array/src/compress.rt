@@ -245,12 +245,14 @@ pub fn runend_decode_typed_primitive<
     ensures some { IfOk result (λ array. HasRowIfAllNull array.validity length) }
     ensures session { ctx.new ≡ ctx.old }
 {
-    decode_typed_numbers(
+    let decoded = decode_typed_numbers(
         *ctx.allocator(),
         run_ends,
         values,
         &values_validity,
         values_nullability,
         length,
-    )
+    );
+    drop(values_validity);
+    decoded
 }

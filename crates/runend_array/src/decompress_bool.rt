@@ -81,11 +81,12 @@ pub fn runend_decode_typed_bool<I: Iterator<Item = usize>, A: Allocator + Copy>(
     ensures session { ctx.new ≡ ctx.old }
 {
     if masks_all(&values_validity, values) {
+        drop(values_validity);
         let dtype = DType::Bool(values_nullability);
         return Ok(ArrayRef::Constant(null_constant(dtype, length)));
     }
     let prefill_runs = ctx.session().thresholds().prefill_runs;
-    let (bits, validity) = decode_typed_bits(
+    let decoded = decode_typed_bits(
         *ctx.allocator(),
         run_ends,
         values,
@@ -93,6 +94,8 @@ pub fn runend_decode_typed_bool<I: Iterator<Item = usize>, A: Allocator + Copy>(
         values_nullability,
         length,
         prefill_runs,
-    )?;
+    );
+    drop(values_validity);
+    let (bits, validity) = decoded?;
     Ok(ArrayRef::Bool(BoolArray::new_unchecked(bits, validity)))
 }

@@ -47,30 +47,38 @@ pub(crate) fn write_constant<A: Allocator + Copy>(
     ensures form { IfOk result (λ flat. IsCanonical (OfConstant constant.now) (canonical_column flat)) }
 {
     match constant.dtype() {
-        DType::Bool(nullability) => {
-            let array = write_truths(alloc, constant, nullability)?;
-            Ok(Canonical::Flat(FlatColumn::Bool(array)))
-        }
+        DType::Bool(nullability) => match write_truths(alloc, constant, nullability) {
+            Ok(array) => Ok(Canonical::Flat(FlatColumn::Bool(array))),
+            Err(error) => Err(error),
+        },
         DType::Primitive(ptype, nullability) => {
-            let array = write_numbers(alloc, constant, ptype, nullability)?;
-            Ok(Canonical::Flat(FlatColumn::Primitive(array)))
+            match write_numbers(alloc, constant, ptype, nullability) {
+                Ok(array) => Ok(Canonical::Flat(FlatColumn::Primitive(array))),
+                Err(error) => Err(error),
+            }
         }
         DType::Decimal(decimal, nullability) => {
-            let array = write_decimals(alloc, constant, decimal, nullability)?;
-            Ok(Canonical::Flat(FlatColumn::Decimal(array)))
+            match write_decimals(alloc, constant, decimal, nullability) {
+                Ok(array) => Ok(Canonical::Flat(FlatColumn::Decimal(array))),
+                Err(error) => Err(error),
+            }
         }
         DType::Utf8(nullability) => {
-            let array = write_bytes(alloc, constant, VarBinKind::Utf8, nullability)?;
-            Ok(Canonical::Flat(FlatColumn::VarBinView(array)))
+            match write_bytes(alloc, constant, VarBinKind::Utf8, nullability) {
+                Ok(array) => Ok(Canonical::Flat(FlatColumn::VarBinView(array))),
+                Err(error) => Err(error),
+            }
         }
         DType::Binary(nullability) => {
-            let array = write_bytes(alloc, constant, VarBinKind::Binary, nullability)?;
-            Ok(Canonical::Flat(FlatColumn::VarBinView(array)))
+            match write_bytes(alloc, constant, VarBinKind::Binary, nullability) {
+                Ok(array) => Ok(Canonical::Flat(FlatColumn::VarBinView(array))),
+                Err(error) => Err(error),
+            }
         }
-        DType::List(element, _) => {
-            let lists = write_null_lists(alloc, constant, element)?;
-            Ok(Canonical::List(lists))
-        }
+        DType::List(element, _) => match write_null_lists(alloc, constant, element) {
+            Ok(lists) => Ok(Canonical::List(lists)),
+            Err(error) => Err(error),
+        },
     }
 }
 
@@ -304,6 +312,20 @@ fn no_elements<A: Allocator + Copy>(alloc: A, element: ElementDType) -> VortexRe
     }
 }
 
+// The same, to be shared by lists.
+fn shared_elements<A: Allocator + Copy>(
+    alloc: A,
+    element: ElementDType,
+) -> VortexResult<Rc<FlatColumn<A>, A>>
+    ensures only { IsOkUnless result VortexError.OutOfMemory }
+    ensures rows { IfOk result (λ shared. leaf_rows (leaf_of shared.value) ≡ []) }
+    ensures dtype { IfOk result (λ shared. element_of (leaf_dtype (leaf_of shared.value)) ≡ element) }
+{
+    let column = no_elements(alloc, element)?;
+    let shared = Rc::new(alloc, column)?;
+    Ok(shared)
+}
+
 // Lists of those elements, of which there are none.
 fn no_lists<A: Allocator + Copy>(
     alloc: A,
@@ -314,18 +336,18 @@ fn no_lists<A: Allocator + Copy>(
     ensures rows { IfOk result (λ lists. list_rows lists ≡ []) }
     ensures dtype { IfOk result (λ lists. list_dtype lists ≡ column.List element nullability) }
 {
-    let elements = Rc::new(alloc, no_elements(alloc, element)?)?;
-    let offsets = zeros_of(alloc, 0)?;
-    let sizes = match zeros_of(alloc, 0) {
-        Ok(sizes) => sizes,
-        Err(error) => {
-            drop(offsets);
-            return Err(error);
+    let elements = shared_elements(alloc, element)?;
+    match zeros_twice(alloc, 0) {
+        Ok((offsets, sizes)) => {
+            let rows = no_null(nullability);
+            let validity = told_by_rows(rows);
+            Ok(ListViewArray::new_unchecked(elements, offsets, sizes, validity))
         }
-    };
-    let rows = no_null(nullability);
-    let validity = told_by_rows(rows);
-    Ok(ListViewArray::new_unchecked(elements, offsets, sizes, validity))
+        Err(error) => {
+            drop(elements);
+            Err(error)
+        }
+    }
 }
 
 /// A column of that type without rows, in a flat form. Refused as `OutOfMemory` alone.
@@ -371,6 +393,25 @@ fn zeros_of<A: Allocator + Copy>(alloc: A, count: usize) -> VortexResult<ArrayRe
     Ok(ArrayRef::Primitive(zeros))
 }
 
+// Zeros in u64, for offsets and for sizes.
+fn zeros_twice<A: Allocator + Copy>(
+    alloc: A,
+    count: usize,
+) -> VortexResult<(ArrayRef<A>, ArrayRef<A>)>
+    ensures only { IsOkUnless result VortexError.OutOfMemory }
+    ensures offsets { IfOk result (λ pair. column_of pair.0 ≡ OfLeaf (OfNumbers (primitive_with U64 (replicate count (pos 0)) NeverNull))) }
+    ensures sizes { IfOk result (λ pair. column_of pair.1 ≡ OfLeaf (OfNumbers (primitive_with U64 (replicate count (pos 0)) NeverNull))) }
+{
+    let offsets = zeros_of(alloc, count)?;
+    match zeros_of(alloc, count) {
+        Ok(sizes) => Ok((offsets, sizes)),
+        Err(error) => {
+            drop(offsets);
+            Err(error)
+        }
+    }
+}
+
 // A constant of a list type, which is null since no scalar is a list, written out.
 fn write_null_lists<A: Allocator + Copy>(
     alloc: A,
@@ -400,15 +441,14 @@ fn null_lists<A: Allocator + Copy>(
     ensures dtype { IfOk result (λ lists. list_dtype lists ≡ column.List element Nullable) }
     ensures validity { IfOk result (λ lists. lists.validity ≡ ByRows AllNull) }
 {
-    let elements = Rc::new(alloc, no_elements(alloc, element)?)?;
-    let offsets = zeros_of(alloc, count)?;
-    match zeros_of(alloc, count) {
-        Ok(sizes) => {
+    let elements = shared_elements(alloc, element)?;
+    match zeros_twice(alloc, count) {
+        Ok((offsets, sizes)) => {
             let validity = RowValidity::AllInvalid;
             Ok(ListViewArray::new_unchecked(elements, offsets, sizes, validity))
         }
         Err(error) => {
-            drop(offsets);
+            drop(elements);
             Err(error)
         }
     }

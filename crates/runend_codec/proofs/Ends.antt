@@ -1,5 +1,5 @@
 -- Ends as they are stored, and as a column has them.
-use Rattle.std.proofs.Common.{◌≡◌, ℕ, ℤ, pos, List, [], ◌∷◌, map, length, refl, ap, subst, ◌∙◌, arith, false}
+use Rattle.std.proofs.Common.{◌≡◌, ℕ, ℤ, pos, List, [], ◌∷◌, map, length, refl, sym, ap, subst, ◌∙◌, arith, false}
 use Rattle.std.specs.List.Sorted.{IsStrictlyIncreasing}
 use Rattle.std.specs.Prelude.{unsigned_abs, count_by, nat_lt, cond}
 use Rattle.std.proofs.lemmas.Bool.{le-ltb}
@@ -12,6 +12,10 @@ use Rattle.runend_codec.specs.Ends.{ends_of}
 pub ends_stored : (ns : List ℕ) → map unsigned_abs (map (λ (n : ℕ). pos n) ns) ≡ map (λ n. n) ns
 ends_stored [] = refl
 ends_stored (n ∷ ns) = ap (λ xs. n ∷ xs) (ends_stored ns)
+
+-- also where the numbers are given
+pub numbers_stored : (ns : List ℕ) (numbers : List ℤ) → map (λ (n : ℕ). pos n) ns ≡ numbers → map (λ n. n) ns ≡ map unsigned_abs numbers
+numbers_stored ns numbers e = sym (ends_stored ns) ∙ ap (map unsigned_abs) e
 
 -- and so they increase where the ends do
 pub increasing_stored : (numbers : List ℤ) (ns : List ℕ) → numbers ≡ map (λ (n : ℕ). pos n) ns → IsStrictlyIncreasing (map unsigned_abs numbers) → IsStrictlyIncreasing (map (λ n. n) ns)

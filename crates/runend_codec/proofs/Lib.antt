@@ -11,6 +11,7 @@ pub mod RunRows
 pub mod Items
 pub mod Places
 pub mod Ends
+pub mod Arms
 pub mod NullRows
 pub mod StoredNumbers
 pub mod Widths

@@ -186,6 +186,10 @@ pub nullable-under_values : {A : Type 0} (nullability : Nullability) (mask : Mas
 nullable-under_values NonNullable mask bits form fits = absurd (rw form at fits)
 nullable-under_values Nullable mask bits form fits = refl
 
+pub nullable-under_nulls : {A : Type 0} (nullability : Nullability) (mask : Mask A) (n : ℕ) → mask ≡ AllFalse n → FitsMask nullability mask → nullability ≡ Nullable
+nullable-under_nulls NonNullable mask n form fits = absurd (rw form at fits)
+nullable-under_nulls Nullable mask n form fits = refl
+
 -- a type under a mask that is true where there is a value and nowhere true has null
 pub nullable-of_nulls : {A : Type 0} (nullability : Nullability) (mask : Mask A) (truths : List Bool) → FitsMask nullability mask → length (mask_bits mask) ≡ length truths
     → HasNullsAlone (masked_truths truths (mask_bits mask)) → MayBeNull nullability

@@ -57,7 +57,7 @@ fn decode_views<A: Allocator + Copy>(
         start: 0,
         size: 0,
     };
-    let (rows_views, rows) = decode_rows(
+    let decoded = decode_rows(
         alloc,
         ends,
         views.as_slice(),
@@ -65,7 +65,10 @@ fn decode_views<A: Allocator + Copy>(
         blank,
         offset,
         count,
-    )?;
+    );
+    drop(views);
+    drop(validity);
+    let (rows_views, rows) = decoded?;
     Ok(VarBinViewArray::new_unchecked(rows_views, buffers, kind, rows))
 }
 

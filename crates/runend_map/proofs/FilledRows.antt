@@ -3,8 +3,9 @@ use Rattle.std.proofs.Common.{◌≡◌, Bool, true, false, List, Option, Some, 
 use Rattle.std.specs.Prelude.{IfSome, is_some, option_map, unwrap_or}
 use Rattle.std.proofs.lemmas.List.{length-map}
 use Rattle.column_base.specs.declared.dtype.DType.{DType}
+use Rattle.column_base.specs.declared.dtype.DType.TheVariants as column
 use Rattle.column_base.specs.declared.error.VortexError.TheVariants.{NullFill, TypeMismatch, Unsupported}
-use Rattle.column_core.specs.Value.{FlatValue, Single, Value}
+use Rattle.column_core.specs.Value.{FlatValue, IsLists, Single, Value}
 use Rattle.column_core.specs.Leaf.{Leaf, leaf_dtype, leaf_rows, single_rows}
 use Rattle.column_core.specs.ScalarForm.{ScalarForm}
 use Rattle.column_ops.specs.Computed.{IsMade}
@@ -19,6 +20,15 @@ null_refused : (lists same : Bool) → ¬ (cond lists (Some Unsupported) (cond s
 null_refused true same h = cc
 null_refused false true h = cc
 null_refused false false h = cc
+
+-- lists are not filled
+pub lists_refused : (dtype : DType) (scalar : ScalarForm) → IsLists dtype → fill_fault dtype scalar ≡ Some Unsupported
+lists_refused (column.Bool n) scalar lists = absurd lists
+lists_refused (column.Primitive t n) scalar lists = absurd lists
+lists_refused (column.Decimal d n) scalar lists = absurd lists
+lists_refused (column.Utf8 n) scalar lists = absurd lists
+lists_refused (column.Binary n) scalar lists = absurd lists
+lists_refused (column.List e n) scalar lists = refl
 
 -- a scalar that fills is no null
 pub filling : (dtype : DType) (scalar : ScalarForm) (P : FlatValue → Type 0) → fill_fault dtype scalar ≡ None → IfSome scalar.value P → (v : FlatValue) × (scalar.value ≡ Some v) × P v

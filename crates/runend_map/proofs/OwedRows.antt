@@ -1,8 +1,8 @@
 -- Rows that a function is asked for, its answers, and the rows that these make.
 use Rattle.std.proofs.Common.{◌≡◌, ℕ, ℤ, ◌+◌, ◌<◌, suc, List, [], ◌∷◌, ◌++◌, Bool, true, false, Option, Some, None, length, map, take, refl, sym, ap, subst, ◌∙◌, arith, get_or}
-use Rattle.std.specs.Prelude.{Contains, is_some, option_map, slice_get, unwrap_or}
+use Rattle.std.specs.Prelude.{Contains, is_some, option_map, slice_get, unwrap_or, if◌then◌else◌}
 use Rattle.std.specs.List.{All, AllZip}
-use Rattle.std.proofs.lemmas.List.{length-map, get_or-map, take_more}
+use Rattle.std.proofs.lemmas.List.{length-map, get_or-map, map_more, take_more}
 use Rattle.std.proofs.lemmas.List.Elements.{AllZip-get_or}
 use Rattle.std.proofs.lemmas.List.FromFn.{get_or-map-range_with_len}
 use Rattle.std.proofs.lemmas.Option.{slice_get_within}
@@ -11,6 +11,7 @@ use Rattle.column_base.specs.ValidityForm.{ValidityForm, flags}
 use Rattle.column_base.specs.declared.dtype.PType.{PType}
 use Rattle.column_base.specs.declared.dtype.DType.{DType}
 use Rattle.column_base.specs.declared.dtype.DType.TheVariants as column
+use Rattle.column_base.specs.declared.error.VortexError.TheVariants.{TypeMismatch}
 use Rattle.column_core.specs.Optionals.{optionals}
 use Rattle.column_core.specs.Value.{FlatValue, IsLists, Number, Single, Value}
 use Rattle.column_core.specs.Leaf.{Leaf, leaf_rows, single_rows}
@@ -23,7 +24,7 @@ use Rattle.runend_array.specs.Column.{AreRuns, Column, OfLeaf, OfConstant, OfLis
 use Rattle.runend_array.specs.SessionForm.{SessionForm, is_registered_in}
 use Rattle.runend_array.specs.declared.session.Kernel.TheVariants.{ScalarFn}
 use Rattle.runend_map.specs.Asked.{HasValidRuns, IsAsked, answered_rows, asked_rows}
-use Rattle.runend_map.specs.Owed.{IsMappedForm, IsMappedRuns, IsOwed, MayAsk, is_native, number_row}
+use Rattle.runend_map.specs.Owed.{IsMappedForm, IsMappedRuns, IsOwed, MayAsk, is_native, native_fault, number_row}
 use Rattle.runend_map.specs.VisibleForm.{visible_ends, visible_values, window_start}
 use Rattle.runend_map.proofs.KeptRows.{visible_paired, visible_rows, visible_window}
 
@@ -33,6 +34,17 @@ pub zipped_next : {X Y : Type 0} (R : X → Y → Type 0) (xs : List X) (k : ℕ
 zipped_next {X} {Y} R xs k x y ys zs here zipped owed pushed =
     let grown : take (k + 1) xs ≡ take k xs ++ x ∷ [] = take_more xs k x (slice_get_within xs k x here) ∙ ap (λ (o : X). take k xs ++ o ∷ []) (get_or-read xs k x x here) in
     subst (λ (ps : List X). AllZip R ps zs) (sym grown) (subst (λ (qs : List Y). AllZip R (take k xs ++ x ∷ []) qs) (sym pushed) (all_zipped_more R (take k xs) ys x y zipped owed))
+
+-- what holds of all items holds of the one at a place
+pub all_at : {X : Type 0} (P : X → Type 0) (xs : List X) (k : ℕ) (x : X) → slice_get xs k ≡ Some x → All P xs → P x
+all_at P xs k x here all = subst P (get_or-read xs k x x here) (all k x (slice_get_within xs k x here))
+
+-- one item more that is made of one
+pub mapped_next : {X Y : Type 0} (f : X → Y) (xs : List X) (k : ℕ) (x : X) (made : Y) (ys zs : List Y) → k < length xs → x ≡ get_or xs k x → ys ≡ map f (take k xs) → made ≡ f x → zs ≡ ys ++ made ∷ []
+    → zs ≡ map f (take (k + 1) xs)
+mapped_next {X} {Y} f xs k x made ys zs lt here shown same pushed =
+    let grown : map f (take (k + 1) xs) ≡ map f (take k xs) ++ f x ∷ [] = map_more f xs k x lt ∙ ap (λ (o : X). map f (take k xs) ++ f o ∷ []) (sym here) in
+    pushed ∙ ap (λ (l : List Y). l ++ made ∷ []) shown ∙ ap (λ (y : Y). map f (take k xs) ++ y ∷ []) same ∙ sym grown
 
 twice : {X Y Z : Type 0} (f : Y → Z) (g : X → Y) (xs : List X) → map f (map g xs) ≡ map (λ x. f (g x)) xs
 twice f g [] = refl
@@ -172,6 +184,10 @@ native_single ptype (column.Decimal d n) native = λ h. h
 native_single ptype (column.Utf8 n) native = λ h. h
 native_single ptype (column.Binary n) native = λ h. h
 native_single ptype (column.List e n) native = cc
+
+-- which have no fault
+pub no_native_fault : (ptype : PType) (dtype : DType) → is_native ptype dtype ≡ true → native_fault ptype dtype ≡ None
+no_native_fault ptype dtype native = ap (λ (b : Bool). if b then None else Some TypeMismatch) native
 
 -- the form that a session gives
 pub mapped_form : (session : SessionForm) (r : Runs) (c mapped : Column) (flag : Bool) → c ≡ column_of_runs r → flag ≡ is_registered_in session ScalarFn → IsMappedRuns flag r mapped

@@ -16,3 +16,4 @@ pub mod SelectLaws
 pub mod RowPositions
 pub mod Forms
 pub mod WholeRows
+pub mod PassedOn

@@ -1,19 +1,7 @@
 //! Reads a script of commands on a column from standard input, and prints an answer line for each.
 #![tactic(auto)]
 
-mod answer;
-mod command;
-mod parse;
-mod record;
-mod script;
-mod serve;
-mod session;
-#[cfg(test)]
-mod tests;
-mod values;
-mod words;
-
-use serve::serve;
+use runend_script::serve;
 use std::process::ExitCode;
 use vortex_runend::{ExecutionCtx, VortexSession, initialize};
 

@@ -180,12 +180,36 @@ fn keep<A: Allocator + Copy>(
     ensures unmade { OnErr result (columns.new.named.items ≡ columns.old.named.items) }
 {
     let Outcome { reply, column } = outcome;
-    if let Reply::Done | Reply::Says(_) = &reply {
-        if let Some(column) = column {
-            columns.put(name, column)?;
+    match put_if_done(name, &reply, column, columns) {
+        Ok(()) => Ok(reply),
+        Err(error) => {
+            drop(reply);
+            Err(error)
         }
     }
-    Ok(reply)
+}
+
+// Keeps the column, where there is one and the call was done.
+fn put_if_done<A: Allocator + Copy>(
+    name: &str,
+    reply: &Reply<A>,
+    column: Option<ArrayRef<A>>,
+    columns: &mut Columns<A>,
+) -> VortexResult<()>
+    ensures kept { ChangesNothing reply.now → columns.new.named.items ≡ columns.old.named.items }
+    ensures unmade { OnErr result (columns.new.named.items ≡ columns.old.named.items) }
+{
+    let done = match reply {
+        Reply::Done | Reply::Says(_) => true,
+        _ => false,
+    };
+    match column {
+        Some(column) if done => columns.put(name, column),
+        other => {
+            drop(other);
+            Ok(())
+        }
+    }
 }
 
 // What of the column is looked at.

@@ -229,34 +229,70 @@ fn read_look(verb: &str) -> Option<Look> {
 
 // A command on a column, or a look at it by a call.
 fn read_call<'a>(verb: &str, words: &'a [&'a str]) -> Option<Call<'a>> {
-    match (verb, words) {
-        ("row", [index]) => Some(Call::Row(read_count(index)?)),
-        ("probe", [index]) => Some(Call::Probe(read_count(index)?)),
-        ("validity", []) => Some(Call::Validity),
-        ("meta", []) => Some(Call::Meta),
+    match verb {
+        "row" => Some(Call::Row(read_count(only(words)?)?)),
+        "probe" => Some(Call::Probe(read_count(only(words)?)?)),
+        "validity" if words.is_empty() => Some(Call::Validity),
+        "meta" if words.is_empty() => Some(Call::Meta),
         _ => Some(Call::Command(read_command(verb, words)?)),
     }
 }
 
-fn read_command<'a>(verb: &str, words: &'a [&'a str]) -> Option<Command<'a>> {
-    match (verb, words) {
-        ("slice", [start, stop]) => Some(Command::Slice(read_count(start)?, read_count(stop)?)),
-        ("filter", [bits]) => Some(Command::Filter(*bits)),
-        ("take", [dtype, indices @ ..]) => Some(Command::Take(read_type(dtype)?, indices)),
-        ("codes", [dictionary]) => Some(Command::TakeFrom(read_name(dictionary)?)),
-        ("compare", [operator, rest @ ..]) => read_comparison(read_operator(operator)?, rest),
-        ("cast", [dtype]) => Some(Command::Cast(read_type(dtype)?)),
-        ("fill", [dtype, value]) => Some(Command::Fill(read_type(dtype)?, read_value(value)?)),
-        ("encode", []) => Some(Command::Encode),
-        ("decode", []) => Some(Command::Decode),
-        ("at", [index]) => Some(Command::At(read_count(index)?)),
-        ("sum", []) => Some(Command::Sum),
-        ("minmax", []) => Some(Command::MinMax),
-        ("constant", []) => Some(Command::Constant),
-        ("sorted", []) => Some(Command::Sorted),
-        ("strict", []) => Some(Command::Strict),
+// The word, where it is the only one.
+fn only<'a>(words: &'a [&'a str]) -> Option<&'a str> {
+    match words {
+        [word] => Some(*word),
         _ => None,
     }
+}
+
+fn read_command<'a>(verb: &str, words: &'a [&'a str]) -> Option<Command<'a>> {
+    let Some((first, rest)) = words.split_first() else {
+        return read_bare(verb);
+    };
+    match verb {
+        "slice" => read_slice(first, rest),
+        "take" => Some(Command::Take(read_type(first)?, rest)),
+        "compare" => read_comparison(read_operator(first)?, rest),
+        "fill" => read_fill(first, rest),
+        _ if rest.is_empty() => read_with_word(verb, first),
+        _ => None,
+    }
+}
+
+// The command that is its verb alone.
+fn read_bare<'a>(verb: &str) -> Option<Command<'a>> {
+    match verb {
+        "encode" => Some(Command::Encode),
+        "decode" => Some(Command::Decode),
+        "sum" => Some(Command::Sum),
+        "minmax" => Some(Command::MinMax),
+        "constant" => Some(Command::Constant),
+        "sorted" => Some(Command::Sorted),
+        "strict" => Some(Command::Strict),
+        _ => None,
+    }
+}
+
+// The command of a verb and one word.
+fn read_with_word<'a>(verb: &str, word: &'a str) -> Option<Command<'a>> {
+    match verb {
+        "filter" => Some(Command::Filter(word)),
+        "codes" => Some(Command::TakeFrom(read_name(word)?)),
+        "cast" => Some(Command::Cast(read_type(word)?)),
+        "at" => Some(Command::At(read_count(word)?)),
+        _ => None,
+    }
+}
+
+fn read_slice<'a>(start: &str, rest: &'a [&'a str]) -> Option<Command<'a>> {
+    let stop = read_count(only(rest)?)?;
+    Some(Command::Slice(read_count(start)?, stop))
+}
+
+fn read_fill<'a>(dtype: &str, rest: &'a [&'a str]) -> Option<Command<'a>> {
+    let value = read_value(only(rest)?)?;
+    Some(Command::Fill(read_type(dtype)?, value))
 }
 
 // A comparison with a named column, or with a value of a type.
@@ -294,48 +330,79 @@ fn read_maker<'a>(name: &'a str, words: &'a [&'a str]) -> Option<Request<'a>> {
 }
 
 fn read_plain<'a>(maker: &str, words: &'a [&'a str]) -> Option<Plain<'a>> {
-    match (maker, words) {
-        ("flat", [dtype, values @ ..]) => Some(Plain::Flat(read_type(dtype)?, values)),
-        ("raw", [dtype, validity, values @ ..]) => {
-            Some(Plain::Raw(read_type(dtype)?, *validity, values))
-        }
-        ("invalid", [dtype, count]) => {
-            Some(Plain::Invalid(read_type(dtype)?, read_count(count)?))
-        }
-        ("constant", [dtype, value, count]) => Some(Plain::Constant(
-            read_type(dtype)?,
-            read_value(value)?,
-            read_count(count)?,
-        )),
-        ("ends", [name]) => Some(Plain::Ends(read_name(name)?)),
-        ("values", [name]) => Some(Plain::Values(read_name(name)?)),
+    match maker {
+        "flat" => read_flat(words),
+        "raw" => read_raw(words),
+        "invalid" => read_invalid(words),
+        "constant" => read_constant(words),
+        "ends" => Some(Plain::Ends(read_name(only(words)?)?)),
+        "values" => Some(Plain::Values(read_name(only(words)?)?)),
         _ => None,
     }
 }
 
+fn read_flat<'a>(words: &'a [&'a str]) -> Option<Plain<'a>> {
+    let (dtype, values) = words.split_first()?;
+    Some(Plain::Flat(read_type(dtype)?, values))
+}
+
+fn read_raw<'a>(words: &'a [&'a str]) -> Option<Plain<'a>> {
+    let (dtype, rest) = words.split_first()?;
+    let (validity, values) = rest.split_first()?;
+    Some(Plain::Raw(read_type(dtype)?, *validity, values))
+}
+
+fn read_invalid<'a>(words: &'a [&'a str]) -> Option<Plain<'a>> {
+    let [dtype, count] = words else {
+        return None;
+    };
+    Some(Plain::Invalid(read_type(dtype)?, read_count(count)?))
+}
+
+fn read_constant<'a>(words: &'a [&'a str]) -> Option<Plain<'a>> {
+    let [dtype, value, count] = words else {
+        return None;
+    };
+    let value = read_value(value)?;
+    Some(Plain::Constant(read_type(dtype)?, value, read_count(count)?))
+}
+
 fn read_made<'a>(maker: &str, words: &'a [&'a str]) -> Option<Call<'a>> {
-    match (maker, words) {
-        ("copy", [name]) => Some(Call::Copy(read_name(name)?)),
-        ("encode", [name]) => Some(Call::Encode(read_name(name)?)),
-        ("runs", [dtype, offset, length, parts @ ..]) => {
-            let (offset, length) = (read_count(offset)?, read_count(length)?);
-            Some(Call::Runs(read_runs(dtype, offset, length, parts)?))
-        }
-        ("whole", [dtype, parts @ ..]) => Some(Call::Whole(read_runs(dtype, 0, 0, parts)?)),
-        ("lists", [elements, offsets, sizes, validity]) => Some(Call::Lists(Lists {
-            elements: read_name(elements)?,
-            offsets: read_name(offsets)?,
-            sizes: read_name(sizes)?,
-            validity: *validity,
-        })),
-        ("views", [kind, validity, parts @ ..]) => {
-            Some(Call::Views(read_views(kind, *validity, parts)?))
-        }
-        ("deserialize", [dtype, length, parts @ ..]) => {
-            Some(Call::Deserialize(read_record(dtype, length, parts)?))
-        }
+    match maker {
+        "copy" => Some(Call::Copy(read_name(only(words)?)?)),
+        "encode" => Some(Call::Encode(read_name(only(words)?)?)),
+        "runs" => read_window(words),
+        "whole" => read_whole(words),
+        "lists" => read_lists(words),
+        "views" => read_views(words),
+        "deserialize" => read_record(words),
         _ => None,
     }
+}
+
+fn read_window<'a>(words: &'a [&'a str]) -> Option<Call<'a>> {
+    let [dtype, offset, length, parts @ ..] = words else {
+        return None;
+    };
+    let (offset, length) = (read_count(offset)?, read_count(length)?);
+    Some(Call::Runs(read_runs(dtype, offset, length, parts)?))
+}
+
+fn read_whole<'a>(words: &'a [&'a str]) -> Option<Call<'a>> {
+    let (dtype, parts) = words.split_first()?;
+    Some(Call::Whole(read_runs(dtype, 0, 0, parts)?))
+}
+
+fn read_lists<'a>(words: &'a [&'a str]) -> Option<Call<'a>> {
+    let [elements, offsets, sizes, validity] = words else {
+        return None;
+    };
+    Some(Call::Lists(Lists {
+        elements: read_name(elements)?,
+        offsets: read_name(offsets)?,
+        sizes: read_name(sizes)?,
+        validity: *validity,
+    }))
 }
 
 // The ends, a slash and the name of the values.
@@ -361,32 +428,42 @@ fn read_runs<'a>(
     }
 }
 
-fn read_views<'a>(kind: &str, validity: &'a str, parts: &'a [&'a str]) -> Option<Views<'a>> {
-    let kind = match kind {
-        "utf8" => VarBinKind::Utf8,
-        "binary" => VarBinKind::Binary,
-        _ => return None,
+fn read_views<'a>(words: &'a [&'a str]) -> Option<Call<'a>> {
+    let [kind, validity, parts @ ..] = words else {
+        return None;
     };
+    let kind = read_kind(kind)?;
     let (views, buffers) = split_at_slash(parts)?;
-    Some(Views {
+    Some(Call::Views(Views {
         kind,
-        validity,
+        validity: *validity,
         views,
         buffers,
-    })
+    }))
 }
 
-fn read_record<'a>(dtype: &str, length: &str, parts: &'a [&'a str]) -> Option<Record<'a>> {
-    match split_at_slash(parts)? {
-        (bytes, [ends, values]) => Some(Record {
-            dtype: read_type(dtype)?,
-            length: read_count(length)?,
-            bytes,
-            ends: read_name(ends)?,
-            values: read_name(values)?,
-        }),
+fn read_kind(word: &str) -> Option<VarBinKind> {
+    match word {
+        "utf8" => Some(VarBinKind::Utf8),
+        "binary" => Some(VarBinKind::Binary),
         _ => None,
     }
+}
+
+fn read_record<'a>(words: &'a [&'a str]) -> Option<Call<'a>> {
+    let [dtype, length, parts @ ..] = words else {
+        return None;
+    };
+    let (bytes, [ends, values]) = split_at_slash(parts)? else {
+        return None;
+    };
+    Some(Call::Deserialize(Record {
+        dtype: read_type(dtype)?,
+        length: read_count(length)?,
+        bytes,
+        ends: read_name(ends)?,
+        values: read_name(values)?,
+    }))
 }
 
 // The words before the first slash, and those behind it.

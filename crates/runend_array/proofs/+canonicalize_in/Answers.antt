@@ -51,23 +51,23 @@ array_ref::ArrayRef::shown_by-returns-in_ok-shown-in-ListView-clause-rows g t c 
     let ends = ends_of c.args.ends.now in
     rw c.in-ListView.is (c.in_ok-shown-in-ListView.ensures.rows ∙ ap (λ (lists : Lists). run_rows ends (list_rows lists) c.args.offset c.args.count) c.deref.ensures)
 
-pub array_ref::ArrayRef::shown_by-returns-in_ok-array-in-Primitive-clause-rows : goal.array_ref::ArrayRef::shown_by-returns-in_ok-array-in-Primitive-clause-rows
-array_ref::ArrayRef::shown_by-returns-in_ok-array-in-Primitive-clause-rows g t c = rw c.in-Primitive.is c.in_ok-array-in-Primitive.ensures.flat.rows
+pub array_ref::ArrayRef::shown_by-returns-in-Ok-clause-rows : goal.array_ref::ArrayRef::shown_by-returns-in-Ok-clause-rows
+array_ref::ArrayRef::shown_by-returns-in-Ok-clause-rows g t c = rw c.in-Primitive.is c.in-Ok.ensures.flat.rows
 
-pub array_ref::ArrayRef::shown_by-returns-in_ok-array-in-Primitive-clause-dtype : goal.array_ref::ArrayRef::shown_by-returns-in_ok-array-in-Primitive-clause-dtype
-array_ref::ArrayRef::shown_by-returns-in_ok-array-in-Primitive-clause-dtype g t c = rw c.in-Primitive.is c.in_ok-array-in-Primitive.ensures.flat.dtype
+pub array_ref::ArrayRef::shown_by-returns-in-Ok-clause-dtype : goal.array_ref::ArrayRef::shown_by-returns-in-Ok-clause-dtype
+array_ref::ArrayRef::shown_by-returns-in-Ok-clause-dtype g t c = rw c.in-Primitive.is c.in-Ok.ensures.flat.dtype
 
-pub array_ref::ArrayRef::shown_by-returns-in_ok-array-in-Primitive-clause-form : goal.array_ref::ArrayRef::shown_by-returns-in_ok-array-in-Primitive-clause-form
-array_ref::ArrayRef::shown_by-returns-in_ok-array-in-Primitive-clause-form g t c = c.in_ok-array-in-Primitive.ensures.flat.computed
+pub array_ref::ArrayRef::shown_by-returns-in-Ok-clause-form : goal.array_ref::ArrayRef::shown_by-returns-in-Ok-clause-form
+array_ref::ArrayRef::shown_by-returns-in-Ok-clause-form g t c = c.in-Ok.ensures.flat.computed
 
-pub array_ref::ArrayRef::shown_by-returns-in_ok-array-in-Bool-clause-rows : goal.array_ref::ArrayRef::shown_by-returns-in_ok-array-in-Bool-clause-rows
-array_ref::ArrayRef::shown_by-returns-in_ok-array-in-Bool-clause-rows g t c = rw c.in-Bool.is c.in_ok-array-in-Bool.ensures.flat.rows
+pub array_ref::ArrayRef::shown_by-returns-in-Ok-decode_truths-clause-rows : goal.array_ref::ArrayRef::shown_by-returns-in-Ok-decode_truths-clause-rows
+array_ref::ArrayRef::shown_by-returns-in-Ok-decode_truths-clause-rows g t c = rw c.in-Bool.is c.in-Ok-decode_truths.ensures.flat.rows
 
-pub array_ref::ArrayRef::shown_by-returns-in_ok-array-in-Bool-clause-dtype : goal.array_ref::ArrayRef::shown_by-returns-in_ok-array-in-Bool-clause-dtype
-array_ref::ArrayRef::shown_by-returns-in_ok-array-in-Bool-clause-dtype g t c = rw c.in-Bool.is c.in_ok-array-in-Bool.ensures.flat.dtype
+pub array_ref::ArrayRef::shown_by-returns-in-Ok-decode_truths-clause-dtype : goal.array_ref::ArrayRef::shown_by-returns-in-Ok-decode_truths-clause-dtype
+array_ref::ArrayRef::shown_by-returns-in-Ok-decode_truths-clause-dtype g t c = rw c.in-Bool.is c.in-Ok-decode_truths.ensures.flat.dtype
 
-pub array_ref::ArrayRef::shown_by-returns-in_ok-array-in-Bool-clause-form : goal.array_ref::ArrayRef::shown_by-returns-in_ok-array-in-Bool-clause-form
-array_ref::ArrayRef::shown_by-returns-in_ok-array-in-Bool-clause-form g t c = c.in_ok-array-in-Bool.ensures.flat.computed
+pub array_ref::ArrayRef::shown_by-returns-in-Ok-decode_truths-clause-form : goal.array_ref::ArrayRef::shown_by-returns-in-Ok-decode_truths-clause-form
+array_ref::ArrayRef::shown_by-returns-in-Ok-decode_truths-clause-form g t c = c.in-Ok-decode_truths.ensures.flat.computed
 
 pub array_ref::ArrayRef::shown_by-returns-in_ok-array-in-Decimal-clause-rows : goal.array_ref::ArrayRef::shown_by-returns-in_ok-array-in-Decimal-clause-rows
 array_ref::ArrayRef::shown_by-returns-in_ok-array-in-Decimal-clause-rows g t c = rw c.in-Decimal.is c.in_ok-array-in-Decimal.ensures.flat.rows

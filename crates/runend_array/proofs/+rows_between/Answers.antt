@@ -13,12 +13,12 @@ use Rattle.runend_codec.proofs.RunRows.{length-run_rows}
 use Rattle.runend_array.specs.Array.{column_of, rows}
 use Rattle.runend_array.specs.Canonical.{canonical_column}
 use Rattle.runend_array.specs.Column.{Runs, runs_of}
-use Rattle.runend_array.proofs.Parts.{part-of_constant, part-of_runs}
+use Rattle.runend_array.proofs.Parts.{part-of_runs}
 use Rattle.runend_array.proofs.+rows_between.Goals as goal
 
-pub array_ref::ArrayRef::rows_between-returns-in_ok-part-in-Primitive-clause-part : goal.array_ref::ArrayRef::rows_between-returns-in_ok-part-in-Primitive-clause-part
-array_ref::ArrayRef::rows_between-returns-in_ok-part-in-Primitive-clause-part g t c =
-    let made = c.in_ok-part-in-Primitive in
+pub array_ref::ArrayRef::rows_between-returns-in-Ok-clause-part : goal.array_ref::ArrayRef::rows_between-returns-in-Ok-clause-part
+array_ref::ArrayRef::rows_between-returns-in-Ok-clause-part g t c =
+    let made = c.in-Ok in
     rw c.in-Primitive.is (record {
       rows = single-of_range (primitive_rows made.part) (primitive_rows c.in-Primitive.array) c.args.start c.args.stop made.ensures.rows;
       dtype = made.ensures.dtype;
@@ -26,9 +26,9 @@ array_ref::ArrayRef::rows_between-returns-in_ok-part-in-Primitive-clause-part g 
       some = made.ensures.empty;
     })
 
-pub array_ref::ArrayRef::rows_between-returns-in_ok-part-in-Bool-clause-part : goal.array_ref::ArrayRef::rows_between-returns-in_ok-part-in-Bool-clause-part
-array_ref::ArrayRef::rows_between-returns-in_ok-part-in-Bool-clause-part g t c =
-    let made = c.in_ok-part-in-Bool in
+pub array_ref::ArrayRef::rows_between-returns-in-Ok-slice-clause-part : goal.array_ref::ArrayRef::rows_between-returns-in-Ok-slice-clause-part
+array_ref::ArrayRef::rows_between-returns-in-Ok-slice-clause-part g t c =
+    let made = c.in-Ok-slice in
     rw c.in-Bool.is (record {
       rows = single-of_range (bool_rows made.part) (bool_rows c.in-Bool.array) c.args.start c.args.stop made.ensures.rows;
       dtype = made.ensures.dtype;
@@ -36,9 +36,9 @@ array_ref::ArrayRef::rows_between-returns-in_ok-part-in-Bool-clause-part g t c =
       some = made.ensures.empty;
     })
 
-pub array_ref::ArrayRef::rows_between-returns-in_ok-part-in-Decimal-clause-part : goal.array_ref::ArrayRef::rows_between-returns-in_ok-part-in-Decimal-clause-part
-array_ref::ArrayRef::rows_between-returns-in_ok-part-in-Decimal-clause-part g t c =
-    let made = c.in_ok-part-in-Decimal in
+pub array_ref::ArrayRef::rows_between-returns-in-Ok-slice-2-clause-part : goal.array_ref::ArrayRef::rows_between-returns-in-Ok-slice-2-clause-part
+array_ref::ArrayRef::rows_between-returns-in-Ok-slice-2-clause-part g t c =
+    let made = c.in-Ok-slice-2 in
     rw c.in-Decimal.is (record {
       rows = single-of_range (decimal_rows made.part) (decimal_rows c.in-Decimal.array) c.args.start c.args.stop made.ensures.rows;
       dtype = made.ensures.dtype;
@@ -56,17 +56,17 @@ array_ref::ArrayRef::rows_between-returns-in_ok-part-in-VarBinView-clause-part g
       some = made.ensures.empty;
     })
 
-pub array_ref::ArrayRef::rows_between-returns-in_ok-rows-in-Constant-clause-part : goal.array_ref::ArrayRef::rows_between-returns-in_ok-rows-in-Constant-clause-part
-array_ref::ArrayRef::rows_between-returns-in_ok-rows-in-Constant-clause-part g t c =
+pub array_ref::ArrayRef::rows_between-constant_between-requires : goal.array_ref::ArrayRef::rows_between-constant_between-requires
+array_ref::ArrayRef::rows_between-constant_between-requires g t c =
     let constant = c.in-Constant.array in
     let row = option_map (λ (v : FlatValue). Single v) constant.value in
     let counted : c.args.stop ≤ length (replicate constant.count row) = rw c.in-Constant.is at c.requires.within in
     let within : c.args.stop ≤ constant.count = rw (length-replicate constant.count row) at counted in
     let some : c.args.start < c.args.stop = omega (arith, c.requires.ordered, c.if-start-stop.false) in
-    let made = c.in_ok-rows-in-Constant in
-    rw c.in-Constant.is
-    (part-of_constant constant c.in_ok-part-in-Constant.part c.args.start c.args.stop (canonical_column made.rows) c.in_ok-part-in-Constant.ensures.form some within
-    made.ensures.rows made.ensures.dtype made.ensures.form)
+    record { some = some; within = within }
+
+pub array_ref::ArrayRef::rows_between-returns-in-Constant-clause-part : goal.array_ref::ArrayRef::rows_between-returns-in-Constant-clause-part
+array_ref::ArrayRef::rows_between-returns-in-Constant-clause-part g t c = rw c.in-Constant.is c.constant_between.ensures.part
 
 pub array_ref::ArrayRef::rows_between-rows_between-requires : goal.array_ref::ArrayRef::rows_between-rows_between-requires
 array_ref::ArrayRef::rows_between-rows_between-requires g t c κs within =

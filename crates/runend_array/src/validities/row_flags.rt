@@ -44,6 +44,16 @@ pub(crate) fn told_by_rows<A: Allocator>(validity: Validity<A>) -> RowValidity<A
     }
 }
 
+// A copy of a validity, told row by row.
+fn copy_told<A: Allocator + Copy>(alloc: A, validity: &Validity<A>) -> VortexResult<RowValidity<A>>
+    ensures only { IsOkUnless result VortexError.OutOfMemory }
+    ensures form { IfOk result (λ rows. validity_of rows ≡ ByRows (form_of validity.now)) }
+    ensures plain { IfOk result (λ rows. IsRowValidity rows) }
+{
+    let copy = validity.try_clone(alloc)?;
+    Ok(told_by_rows(copy))
+}
+
 // Which rows of a constant are valid: all, or none.
 fn validity_of_constant<A: Allocator>(constant: &ConstantArray<A>) -> RowValidity<A>
     ensures rows { IsValidityOf (OfConstant constant.now) (validity_of result) }
@@ -69,22 +79,10 @@ impl<A: Allocator + Copy> ArrayRef<A> {
         ensures plain { IfOk result (λ rows. IsRowValidity rows) }
     {
         match self {
-            ArrayRef::Primitive(array) => {
-                let validity = array.validity().try_clone(alloc)?;
-                Ok(told_by_rows(validity))
-            }
-            ArrayRef::Bool(array) => {
-                let validity = array.validity().try_clone(alloc)?;
-                Ok(told_by_rows(validity))
-            }
-            ArrayRef::Decimal(array) => {
-                let validity = array.validity().try_clone(alloc)?;
-                Ok(told_by_rows(validity))
-            }
-            ArrayRef::VarBinView(array) => {
-                let validity = array.validity().try_clone(alloc)?;
-                Ok(told_by_rows(validity))
-            }
+            ArrayRef::Primitive(array) => copy_told(alloc, array.validity()),
+            ArrayRef::Bool(array) => copy_told(alloc, array.validity()),
+            ArrayRef::Decimal(array) => copy_told(alloc, array.validity()),
+            ArrayRef::VarBinView(array) => copy_told(alloc, array.validity()),
             ArrayRef::ListView(lists) => lists.validity().clone_in(alloc),
             ArrayRef::Constant(array) => Ok(validity_of_constant(array)),
             ArrayRef::RunEnd(array) => array.validity_in(alloc),

@@ -86,10 +86,10 @@ impl<A: Allocator + Copy> RowValidity<A> {
             RowValidity::NonNullable => Ok(RowValidity::NonNullable),
             RowValidity::AllValid => Ok(RowValidity::AllValid),
             RowValidity::AllInvalid => Ok(RowValidity::AllInvalid),
-            RowValidity::Bits(bits) => {
-                let copy = bits.try_clone(alloc)?;
-                Ok(RowValidity::Bits(copy))
-            }
+            RowValidity::Bits(bits) => match bits.try_clone(alloc) {
+                Ok(copy) => Ok(RowValidity::Bits(copy)),
+                Err(error) => Err(error),
+            },
             RowValidity::Runs(runs) => {
                 let copy = runs.clone_in(alloc)?;
                 let boxed = Box::new(alloc, copy)?;

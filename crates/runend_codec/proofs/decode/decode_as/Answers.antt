@@ -1,4 +1,4 @@
-use Rattle.std.proofs.Common.{◌≡◌, length, map, sym, pos, ◌∙◌}
+use Rattle.std.proofs.Common.{◌≡◌, ℕ, length, map, sym, ap, subst, pos, ◌∙◌}
 use Rattle.std.specs.Prelude.{unsigned_abs}
 use Rattle.std.proofs.lemmas.List.{length-map}
 use Rattle.column_base.specs.ValidityForm.{HasLength}
@@ -23,3 +23,12 @@ returns-clause-flat g c =
     rw (c.new_unchecked.ensures, c.wrap.ensures.shows, c.wrap.ensures.typed)
     (IsDecodedFlat-numbers g.T.NativePType.PTYPE ends (map number values) form c.args.offset c.args.count (map number c.in_ok-items.items.items) (form_of c.in_ok-items.rows) c.requires.window
     (long ∙ c.requires.paired ∙ sym (length-map c.args.ends.now.numbers unsigned_abs)) fits decoded)
+
+pub decode_rows-requires : goal.decode_rows-requires
+decode_rows-requires g c = record { plain = c.requires.plain; window = c.requires.window; paired = c.requires.paired; fits = c.requires.fits }
+
+pub new_unchecked-requires : goal.new_unchecked-requires
+new_unchecked-requires g c =
+    let decoded = c.in_ok-items.ensures.decoded in
+    let long = ap length c.wrap.ensures.shows ∙ length-map c.in_ok-items.items.items g.T.NativePType.number ∙ decoded.covered.counted in
+    subst (λ (n : ℕ). HasLength (form_of c.in_ok-items.rows) n) (sym long) decoded.fits

@@ -1,11 +1,20 @@
-use Rattle.std.proofs.Common.{map, refl, sym, ◌∙◌, ap}
+use Rattle.std.proofs.Common.{◌≡◌, ℕ, length, map, refl, sym, ◌∙◌, ap, subst}
 use Rattle.std.proofs.lemmas.List.{length-map}
 use Rattle.column_base.specs.Numbers.{numbers, ptype_of}
 use Rattle.column_base.specs.ValidityForm.{NeverNull, flags}
 use Rattle.column_base.specs.Validity.{form_of}
 use Rattle.column_core.specs.PrimitiveForm.{optionals, primitive_with}
 use Rattle.runend_codec.proofs.FlatColumns.{IsFlatEncoding-made}
+use Rattle.column_base.specs.ValidityForm.{ValidityForm, HasLength, NoneNull, AllNull, ByBits, nullability_in}
+use Rattle.column_base.specs.declared.dtype.Nullability.TheVariants.{NonNullable}
 use Rattle.runend_codec.proofs.encode.encode_as.Goals as goal
+
+-- a type without null has no null by its form
+never-from_required : (form : ValidityForm) → nullability_in form ≡ NonNullable → form ≡ NeverNull
+never-from_required NeverNull e = refl
+never-from_required NoneNull e = cc
+never-from_required AllNull e = cc
+never-from_required (ByBits bits) e = cc
 
 pub returns-clause-encoding : goal.returns-clause-encoding
 returns-clause-encoding g c =
@@ -24,3 +33,15 @@ returns-clause-encoding g c =
     c.wrap.ensures.typed c.wrap.ensures.shows (c.in_ok-ends.ensures.paired ∙ sym (length-map runs.values.items number))
     (rw frozen at c.validity_with-validity.ensures.flags) c.validity_with-validity.ensures.normal
     (c.validity_with-validity.ensures.nullability ∙ c.nullability.ensures) (rw frozen at c.validity_with-validity.ensures.some) c.in_ok-ends.ensures.zeroed)
+
+pub narrowed-requires : goal.narrowed-requires
+narrowed-requires g c = rw c.as_slice.ensures.value c.in_ok-ends.ensures.cover.covers.window.increasing
+
+pub validity_with-validity-requires : goal.validity_with-validity-requires
+validity_with-validity-requires g c = λ required. rw c.freeze.ensures (c.in_ok-ends.ensures.never (never-from_required (form_of c.args.validity.now) (sym c.nullability.ensures ∙ required)))
+
+pub new_unchecked-requires-2 : goal.new_unchecked-requires-2
+new_unchecked-requires-2 g c =
+    let runs = c.in_ok-ends.field-0 in
+    let long = ap length c.freeze.ensures ∙ c.in_ok-ends.ensures.paired ∙ sym (ap length c.wrap.ensures.shows ∙ length-map runs.values.items g.T.NativePType.number) in
+    subst (λ (n : ℕ). HasLength (form_of c.validity_with-validity.result) n) long c.validity_with-validity.ensures.fits

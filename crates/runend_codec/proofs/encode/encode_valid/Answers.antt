@@ -1,6 +1,7 @@
-use Rattle.std.proofs.Common.{◌≡◌, length, map, sym, arith}
-use Rattle.std.proofs.lemmas.List.{length-map}
+use Rattle.std.proofs.Common.{◌≡◌, ◌∙◌, Bool, length, map, refl, sym, true, arith}
+use Rattle.std.proofs.lemmas.List.{length-map, length-replicate}
 use Rattle.runend_codec.proofs.ValidRuns.{IsTightCover-valid, AreZeroAtNulls-valid}
+use Rattle.std.proofs.lemmas.List.Elements.{All-replicate}
 use Rattle.runend_codec.proofs.encode.encode_valid.Goals as goal
 
 pub returns-clause-cover : goal.returns-clause-cover
@@ -16,3 +17,11 @@ returns-clause-cover g c =
 
 pub returns-clause-zeroed : goal.returns-clause-zeroed
 returns-clause-zeroed g c = rw c.in_ok-flags.ensures.bits (AreZeroAtNulls-valid (map g.T.NativePType.number c.in_ok-ends.values.items) c.len.result)
+
+pub returns-clause-paired : goal.returns-clause-paired
+returns-clause-paired g c =
+    let count : c.len.result ≡ length c.in_ok-ends.values.items = omega arith in
+    rw c.in_ok-flags.ensures.bits (length-replicate c.len.result true ∙ count)
+
+pub returns-clause-valid : goal.returns-clause-valid
+returns-clause-valid g c = rw c.in_ok-flags.ensures.bits (All-replicate (λ (flag : Bool). flag ≡ true) c.len.result true refl)

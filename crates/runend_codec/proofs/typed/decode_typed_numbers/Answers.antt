@@ -1,13 +1,14 @@
-use Rattle.std.proofs.Common.{◌≡◌, length, map, pos, true, false, sym, ap, ◌∙◌}
+use Rattle.std.proofs.Common.{◌≡◌, ℕ, length, map, pos, true, false, sym, ap, subst, ◌∙◌}
 use Rattle.std.specs.Prelude.{replicate}
-use Rattle.std.proofs.lemmas.List.{length-map}
+use Rattle.std.proofs.lemmas.List.{length-map, length-replicate}
 use Rattle.column_base.specs.Mask.{mask_bits}
 use Rattle.column_base.specs.Validity.{form_of}
 use Rattle.column_base.specs.declared.dtype.DType.TheVariants as column
 use Rattle.runend_codec.proofs.NullRows.{nullable-of_bits}
 use Rattle.runend_codec.proofs.StoredNumbers.{map-replicate}
-use Rattle.runend_codec.proofs.WrittenConstants.{normal-without_nulls, some-of_bits, some-without_nulls}
-use Rattle.runend_codec.proofs.TypedRows.{Shows-of_valid, Shows-of_nulls, Shows-of_marks, number_rows-of_Shows, IsComputed-of_Shows, nullable-under_values, rows_masked}
+use Rattle.runend_codec.proofs.WrittenConstants.{fits-without_nulls, normal-without_nulls, nullability-without_nulls, some-of_bits, some-without_nulls}
+use Rattle.runend_codec.proofs.TypedRows.{Shows-of_valid, Shows-of_nulls, Shows-of_marks, number_rows-of_Shows, IsComputed-of_Shows, nullable-under_nulls, nullable-under_values, rows_masked}
+use Rattle.column_base.specs.ValidityForm.{HasLength}
 use Rattle.runend_codec.proofs.typed.decode_typed_numbers.Goals as goal
 
 pub returns-in_ok-items-in-AllTrue-clause-rows : goal.returns-in_ok-items-in-AllTrue-clause-rows
@@ -113,3 +114,38 @@ returns-in_ok-items-in-Values-clause-form g c =
     (rw (c.new_unchecked-in-Values.ensures, c.wrap-in-Values.ensures.shows) shows)
     (rw c.new_unchecked-in-Values.ensures c.from_bits-validity.ensures.normal)
     (rw c.new_unchecked-in-Values.ensures (some-of_bits (form_of c.from_bits-validity.result) found.bits c.args.count (found.ensures.flags ends given).counted c.from_bits-validity.ensures.all_null))
+
+pub new_unchecked-requires : goal.new_unchecked-requires
+new_unchecked-requires g c = rw c.no_null-validity.ensures (fits-without_nulls c.args.nullability _)
+
+pub new_unchecked-requires-in-AllFalse : goal.new_unchecked-requires-in-AllFalse
+new_unchecked-requires-in-AllFalse g c =
+    let long = length-map c.in_ok-zeros-in-AllFalse.zeros.items g.T.NativePType.number ∙ ap length c.in_ok-zeros-in-AllFalse.ensures.items ∙ length-replicate c.args.count c.default.result in
+    subst (λ (n : ℕ). HasLength (form_of c.no_value.result) n) (sym (ap length c.wrap-in-AllFalse.ensures.shows ∙ long)) c.no_value.ensures.fits
+
+pub new_unchecked-requires-in-Values : goal.new_unchecked-requires-in-Values
+new_unchecked-requires-in-Values g c =
+    let found = c.in_ok-items-in-Values in
+    let long = (found.ensures.flags c.requires.ends.0 c.requires.ends.1).counted ∙ sym (ap length c.wrap-in-Values.ensures.shows ∙ (found.ensures.numbers c.requires.ends.0 c.requires.ends.1).counted) in
+    subst (λ (n : ℕ). HasLength (form_of c.from_bits-validity.result) n) long c.from_bits-validity.ensures.fits
+
+pub returns-in_ok-items-in-AllTrue-clause-dtype : goal.returns-in_ok-items-in-AllTrue-clause-dtype
+returns-in_ok-items-in-AllTrue-clause-dtype g c =
+    rw (c.new_unchecked.ensures, c.wrap.ensures.typed, c.no_null-validity.ensures) (ap (column.Primitive g.T.NativePType.PTYPE) (nullability-without_nulls c.args.nullability))
+
+pub returns-in_ok-items-in-AllTrue-clause-some : goal.returns-in_ok-items-in-AllTrue-clause-some
+returns-in_ok-items-in-AllTrue-clause-some g c = rw (c.new_unchecked.ensures, c.no_null-validity.ensures) (some-without_nulls c.args.nullability c.args.count)
+
+pub returns-in_ok-zeros-in-AllFalse-clause-dtype : goal.returns-in_ok-zeros-in-AllFalse-clause-dtype
+returns-in_ok-zeros-in-AllFalse-clause-dtype g c =
+    let nullable = c.no_value.ensures.nullable ∙ sym (nullable-under_nulls c.args.nullability c.args.mask.now c.in-AllFalse.field-0 c.in-AllFalse.is c.requires.nullable) in
+    rw (c.new_unchecked-in-AllFalse.ensures, c.wrap-in-AllFalse.ensures.typed) (ap (column.Primitive g.T.NativePType.PTYPE) nullable)
+
+pub returns-in_ok-zeros-in-AllFalse-clause-some : goal.returns-in_ok-zeros-in-AllFalse-clause-some
+returns-in_ok-zeros-in-AllFalse-clause-some g c = rw c.new_unchecked-in-AllFalse.ensures c.no_value.ensures.some
+
+pub returns-in_ok-items-in-Values-clause-some : goal.returns-in_ok-items-in-Values-clause-some
+returns-in_ok-items-in-Values-clause-some g c =
+    let found = c.in_ok-items-in-Values in
+    rw c.new_unchecked-in-Values.ensures
+    (some-of_bits (form_of c.from_bits-validity.result) found.bits c.args.count (found.ensures.flags c.requires.ends.0 c.requires.ends.1).counted c.from_bits-validity.ensures.all_null)

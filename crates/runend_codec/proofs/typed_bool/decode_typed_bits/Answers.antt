@@ -1,9 +1,12 @@
-use Rattle.std.proofs.Common.{◌≡◌, length, true, false, sym, ap, ◌∙◌}
+use Rattle.std.proofs.Common.{◌≡◌, ℕ, length, true, false, sym, ap, subst, ◌∙◌}
 use Rattle.std.specs.Prelude.{replicate}
+use Rattle.std.proofs.lemmas.List.{length-replicate}
 use Rattle.column_base.specs.Mask.{mask_bits}
 use Rattle.column_base.specs.Validity.{form_of}
 use Rattle.runend_codec.proofs.NullRows.{nullable-of_bits}
-use Rattle.runend_codec.proofs.TypedRows.{Shows-of_valid, Shows-of_nulls, Shows-of_marks, nullable-under_values, rows_masked}
+use Rattle.runend_codec.proofs.TypedRows.{Shows-of_valid, Shows-of_nulls, Shows-of_marks, nullable-under_nulls, nullable-under_values, rows_masked}
+use Rattle.column_base.specs.ValidityForm.{HasLength}
+use Rattle.runend_codec.proofs.WrittenConstants.{fits-without_nulls, normal-without_nulls, nullability-without_nulls, some-of_bits, some-without_nulls}
 use Rattle.runend_codec.proofs.typed_bool.decode_typed_bits.Goals as goal
 
 pub returns-in_ok-bits-in-AllTrue-clause-rows : goal.returns-in_ok-bits-in-AllTrue-clause-rows
@@ -65,3 +68,46 @@ pub returns-in_ok-bits-in-Values-clause-nullability : goal.returns-in_ok-bits-in
 returns-in_ok-bits-in-Values-clause-nullability g c =
     nullable-of_bits (form_of c.from_bits.result) c.in_ok-bits-in-Values.flags c.from_bits.ensures.flags c.from_bits.ensures.all_valid
     ∙ sym (nullable-under_values c.args.nullability c.args.mask.now c.in-Values.field-0 c.in-Values.is c.requires.nullable)
+
+pub returns-in_ok-bits-in-AllTrue-clause-counted : goal.returns-in_ok-bits-in-AllTrue-clause-counted
+returns-in_ok-bits-in-AllTrue-clause-counted g c = (c.in_ok-bits-in-AllTrue.ensures.fills c.requires.ends.0 c.requires.ends.1).counted
+
+pub returns-in_ok-bits-in-AllTrue-clause-fits : goal.returns-in_ok-bits-in-AllTrue-clause-fits
+returns-in_ok-bits-in-AllTrue-clause-fits g c = rw c.no_null.ensures (fits-without_nulls c.args.nullability c.args.count)
+
+pub returns-in_ok-bits-in-AllTrue-clause-normal : goal.returns-in_ok-bits-in-AllTrue-clause-normal
+returns-in_ok-bits-in-AllTrue-clause-normal g c = rw c.no_null.ensures (normal-without_nulls c.args.nullability)
+
+pub returns-in_ok-bits-in-AllTrue-clause-nullability : goal.returns-in_ok-bits-in-AllTrue-clause-nullability
+returns-in_ok-bits-in-AllTrue-clause-nullability g c = rw c.no_null.ensures (nullability-without_nulls c.args.nullability)
+
+pub returns-in_ok-bits-in-AllTrue-clause-some : goal.returns-in_ok-bits-in-AllTrue-clause-some
+returns-in_ok-bits-in-AllTrue-clause-some g c = rw c.no_null.ensures (some-without_nulls c.args.nullability c.args.count)
+
+pub returns-in_ok-bits-in-AllFalse-clause-counted : goal.returns-in_ok-bits-in-AllFalse-clause-counted
+returns-in_ok-bits-in-AllFalse-clause-counted g c = rw (c.freeze.ensures, c.in_ok-bits-in-AllFalse.ensures.bits) (length-replicate c.args.count false)
+
+pub returns-in_ok-bits-in-AllFalse-clause-fits : goal.returns-in_ok-bits-in-AllFalse-clause-fits
+returns-in_ok-bits-in-AllFalse-clause-fits g c = c.no_value.ensures.fits
+
+pub returns-in_ok-bits-in-AllFalse-clause-normal : goal.returns-in_ok-bits-in-AllFalse-clause-normal
+returns-in_ok-bits-in-AllFalse-clause-normal g c = c.no_value.ensures.normal
+
+pub returns-in_ok-bits-in-AllFalse-clause-nullability : goal.returns-in_ok-bits-in-AllFalse-clause-nullability
+returns-in_ok-bits-in-AllFalse-clause-nullability g c =
+    c.no_value.ensures.nullable ∙ sym (nullable-under_nulls c.args.nullability c.args.mask.now c.in-AllFalse.field-0 c.in-AllFalse.is c.requires.nullable)
+
+pub returns-in_ok-bits-in-AllFalse-clause-some : goal.returns-in_ok-bits-in-AllFalse-clause-some
+returns-in_ok-bits-in-AllFalse-clause-some g c = c.no_value.ensures.some
+
+pub returns-in_ok-bits-in-Values-clause-counted : goal.returns-in_ok-bits-in-Values-clause-counted
+returns-in_ok-bits-in-Values-clause-counted g c = (c.in_ok-bits-in-Values.ensures.bits c.requires.ends.0 c.requires.ends.1).counted
+
+pub returns-in_ok-bits-in-Values-clause-fits : goal.returns-in_ok-bits-in-Values-clause-fits
+returns-in_ok-bits-in-Values-clause-fits g c = subst (λ (n : ℕ). HasLength (form_of c.from_bits.result) n) (c.in_ok-bits-in-Values.ensures.flags c.requires.ends.0 c.requires.ends.1).counted c.from_bits.ensures.fits
+
+pub returns-in_ok-bits-in-Values-clause-normal : goal.returns-in_ok-bits-in-Values-clause-normal
+returns-in_ok-bits-in-Values-clause-normal g c = c.from_bits.ensures.normal
+
+pub returns-in_ok-bits-in-Values-clause-some : goal.returns-in_ok-bits-in-Values-clause-some
+returns-in_ok-bits-in-Values-clause-some g c = some-of_bits (form_of c.from_bits.result) c.in_ok-bits-in-Values.flags c.args.count (c.in_ok-bits-in-Values.ensures.flags c.requires.ends.0 c.requires.ends.1).counted c.from_bits.ensures.all_null

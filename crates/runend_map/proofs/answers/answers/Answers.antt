@@ -3,7 +3,8 @@ use Rattle.column_base.specs.ValidityForm.{flags}
 use Rattle.column_base.specs.Validity.{form_of}
 use Rattle.column_core.specs.Optionals.{optionals}
 use Rattle.column_ops.proofs.Passed.{passed_all}
-use Rattle.runend_map.proofs.OwedRows.{zipped_next}
+use Rattle.runend_map.proofs.OwedRows.{all_at, zipped_next}
+use Rattle.runend_map.proofs.PassedOn.{no_value}
 use Rattle.runend_map.proofs.answers.answers.Goals as goal
 
 pub loop-row-preserved : goal.loop-row-preserved
@@ -15,3 +16,20 @@ pub returns-clause-each : goal.returns-clause-each
 returns-clause-each g c =
     let all = passed_all c.args.items.now (flags (form_of c.args.validity.now) (length c.args.items.now)) c.loop-row.row (omega arith) in
     rw all at c.loop-row.invariant
+
+pub row_at-requires-clause-fits : goal.row_at-requires-clause-fits
+row_at-requires-clause-fits g c = c.requires.fits
+
+pub returns-clause-only : goal.returns-clause-only
+returns-clause-only g c = tt
+
+pub returns-in_err-answers-clause-each : goal.returns-in_err-answers-clause-each
+returns-in_err-answers-clause-each g c = no_value _ c.from_residual.result c.from_residual.ensures.0
+
+pub returns-in_err-push-clause-each : goal.returns-in_err-push-clause-each
+returns-in_err-push-clause-each g c = no_value _ c.from_residual-in_err-push.result c.from_residual-in_err-push.ensures.0
+
+pub function-answer-requires : goal.function-answer-requires
+function-answer-requires g c =
+    all_at (λ row. g.F.Fn.pre c.args.function.now (row, tt)) (optionals c.args.items.now (flags (form_of c.args.validity.now) (length c.args.items.now))) c.loop-row.row c.row_at.result c.row_at.ensures
+    c.requires.callable

@@ -7,6 +7,7 @@ use Rattle.column_core.specs.Leaf.{OfNumbers, single_rows}
 use Rattle.column_core.specs.PrimitiveForm.{PrimitiveForm, primitive_dtype}
 use Rattle.column_core.specs.Value.{Number}
 use Rattle.runend_map.proofs.OwedRows.{written_rows}
+use Rattle.runend_map.proofs.PassedOn.{no_value, only_error}
 use Rattle.runend_map.proofs.answers.column_of_numbers.Goals as goal
 
 pub returns-clause-rows : goal.returns-clause-rows
@@ -19,3 +20,24 @@ pub returns-clause-dtype : goal.returns-clause-dtype
 returns-clause-dtype g c =
     let nullable = nullable-of_bits (form_of c.from_bits-validity.result) c.freeze.result c.from_bits-validity.ensures.flags c.from_bits-validity.ensures.all_valid in
     ap primitive_dtype c.new_unchecked.ensures ∙ (λ i. column.Primitive (c.wrap.ensures.typed i) (nullable i))
+
+pub returns-clause-only : goal.returns-clause-only
+returns-clause-only g c = tt
+
+pub returns-in_err-flags-clause-dtype : goal.returns-in_err-flags-clause-dtype
+returns-in_err-flags-clause-dtype g c = no_value _ c.from_residual-in_err-flags.result c.from_residual-in_err-flags.ensures.0
+
+pub returns-in_err-flags-clause-only : goal.returns-in_err-flags-clause-only
+returns-in_err-flags-clause-only g c = only_error c.from_residual-in_err-flags.result c.in_err-flags.field-0.0 _ c.from_residual-in_err-flags.ensures.1 c.in_err-flags.ensures.only
+
+pub returns-in_err-flags-clause-rows : goal.returns-in_err-flags-clause-rows
+returns-in_err-flags-clause-rows g c = no_value _ c.from_residual-in_err-flags.result c.from_residual-in_err-flags.ensures.0
+
+pub returns-in_err-items-clause-dtype : goal.returns-in_err-items-clause-dtype
+returns-in_err-items-clause-dtype g c = no_value _ c.from_residual.result c.from_residual.ensures.0
+
+pub returns-in_err-items-clause-only : goal.returns-in_err-items-clause-only
+returns-in_err-items-clause-only g c = only_error c.from_residual.result c.in_err-items.field-0.0 _ c.from_residual.ensures.1 c.in_err-items.ensures.only
+
+pub returns-in_err-items-clause-rows : goal.returns-in_err-items-clause-rows
+returns-in_err-items-clause-rows g c = no_value _ c.from_residual.result c.from_residual.ensures.0

@@ -1,4 +1,4 @@
-use Rattle.std.proofs.Common.{◌∙◌, Option, sym, ap, subst, length}
+use Rattle.std.proofs.Common.{◌∙◌, Option, sym, ap, subst, length, inl}
 use Rattle.column_base.specs.declared.error.VortexError.{VortexError}
 use Rattle.column_core.specs.FlatColumn.{leaf_of}
 use Rattle.column_core.specs.Leaf.{leaf_rows}
@@ -12,6 +12,7 @@ use Rattle.column_ops.specs.Codes.{code_fault}
 use Rattle.runend_map.proofs.CodeRows.{same_fault, taken_count, taken_over}
 use Rattle.runend_map.proofs.KeptRows.{if_ok}
 use Rattle.runend_map.proofs.OneKind.{no_fault}
+use Rattle.runend_map.proofs.PassedOn.{no_value}
 use Rattle.runend_map.proofs.codes.take_from_flat.Goals as goal
 
 pub returns-in_err-taken-clause-refused : goal.returns-in_err-taken-clause-refused
@@ -40,3 +41,25 @@ returns-clause-rows g c =
     if_ok c.placed.result (λ taken rows_are.
     taken_over c.args.codes.now (optional_numbers c.in_ok-indices.indices) c.in_ok-indices.ensures.valid c.in_ok-indices.ensures.codes (leaf_of c.args.dictionary.now) (leaf_of c.in_ok-taken.taken)
     (rows taken) c.in_ok-taken.ensures.made.rows rows_are) c.placed.ensures.rows
+
+pub returns-in_err-indices-clause-dtype : goal.returns-in_err-indices-clause-dtype
+returns-in_err-indices-clause-dtype g c = no_value _ c.from_residual.result c.from_residual.ensures.0
+
+pub returns-in_err-indices-clause-form : goal.returns-in_err-indices-clause-form
+returns-in_err-indices-clause-form g c = no_value _ c.from_residual.result c.from_residual.ensures.0
+
+pub returns-in_err-indices-clause-refused : goal.returns-in_err-indices-clause-refused
+returns-in_err-indices-clause-refused g c =
+    refused-passed_on (code_fault (plain_of (column_of_runs c.args.codes.now)) (length (leaf_rows (leaf_of c.args.dictionary.now)))) c.in_err-indices.field-0.0 c.from_residual.result c.from_residual.ensures.1 (inl c.in_err-indices.ensures.only)
+
+pub returns-in_err-indices-clause-rows : goal.returns-in_err-indices-clause-rows
+returns-in_err-indices-clause-rows g c = no_value _ c.from_residual.result c.from_residual.ensures.0
+
+pub returns-in_err-taken-clause-dtype : goal.returns-in_err-taken-clause-dtype
+returns-in_err-taken-clause-dtype g c = no_value _ c.from_residual-in_err-taken.result c.from_residual-in_err-taken.ensures.0
+
+pub returns-in_err-taken-clause-form : goal.returns-in_err-taken-clause-form
+returns-in_err-taken-clause-form g c = no_value _ c.from_residual-in_err-taken.result c.from_residual-in_err-taken.ensures.0
+
+pub returns-in_err-taken-clause-rows : goal.returns-in_err-taken-clause-rows
+returns-in_err-taken-clause-rows g c = no_value _ c.from_residual-in_err-taken.result c.from_residual-in_err-taken.ensures.0

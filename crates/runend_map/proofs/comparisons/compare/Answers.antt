@@ -1,16 +1,17 @@
-use Rattle.std.proofs.Common.{◌≡◌, ◌∙◌, length, sym, ap, inr}
+use Rattle.std.proofs.Common.{◌≡◌, ◌∙◌, length, sym, ap, inr, subst}
 use Rattle.std.specs.Prelude.{option_map}
 use Rattle.std.proofs.lemmas.List.{length-replicate}
 use Rattle.column_core.specs.ScalarForm.{ScalarForm}
 use Rattle.column_core.specs.Value.{FlatValue, Single}
-use Rattle.column_order.specs.Comparing.{compare_rows, compare_with}
+use Rattle.column_order.specs.Comparing.{compare_rows, compare_with, compare_dtype}
 use Rattle.runend_array.specs.declared.array_ref.ArrayRef.{ArrayRef}
 use Rattle.runend_codec.proofs.RunRows.{length-run_rows}
-use Rattle.runend_array.specs.Array.{dtype_of, rows}
-use Rattle.runend_array.specs.Column.{OfConstant, column_dtype, column_of_runs, column_rows}
+use Rattle.runend_array.specs.Array.{dtype_of, rows, column_of}
+use Rattle.runend_array.specs.Column.{OfConstant, column_dtype, column_of_runs, column_rows, Column}
 use Rattle.runend_map.proofs.ComparedRows.{constant_rows}
 use Rattle.runend_map.proofs.KeptRows.{if_ok}
 use Rattle.runend_map.proofs.OneKind.{no_column_fault, no_fault}
+use Rattle.runend_map.specs.ComparisonForm.{IsComparisonForm}
 use Rattle.runend_map.proofs.comparisons.compare.Goals as goal
 
 pub returns-in-Some-clause-refused : goal.returns-in-Some-clause-refused
@@ -36,3 +37,29 @@ returns-in-Constant-clause-rows g c =
 pub returns-in_default-right-clause-refused : goal.returns-in_default-right-clause-refused
 returns-in_default-right-clause-refused g c =
     rw length-run_rows (no_fault _ c.compare_beside.result (sym c.fault_beside.ensures ∙ c.in_default.is) c.compare_beside.ensures.only)
+
+pub returns-in-Some-clause-rows : goal.returns-in-Some-clause-rows
+returns-in-Some-clause-rows g c = tt
+
+pub returns-in-Some-clause-dtype : goal.returns-in-Some-clause-dtype
+returns-in-Some-clause-dtype g c = tt
+
+pub returns-in-Some-clause-form : goal.returns-in-Some-clause-form
+returns-in-Some-clause-form g c = tt
+
+pub returns-in-Constant-clause-dtype : goal.returns-in-Constant-clause-dtype
+returns-in-Constant-clause-dtype g c =
+    let left = column_dtype c.args.array.now.values in
+    let typed = ap (λ (array : ArrayRef _). dtype_of array) c.in-Constant.is in
+    if_ok c.compare_to_scalar.result (λ truths same. same ∙ ap (λ (s : ScalarForm). compare_dtype left s.dtype) c.scalar.ensures ∙ ap (compare_dtype left) (sym typed)) c.compare_to_scalar.ensures.dtype
+
+pub returns-in-Constant-clause-form : goal.returns-in-Constant-clause-form
+returns-in-Constant-clause-form g c =
+    let constant = ap (λ (array : ArrayRef _). column_of array) c.in-Constant.is in
+    if_ok c.compare_to_scalar.result (λ truths form. subst (λ (x : Column). IsComparisonForm x (column_of truths)) (sym constant) form) c.compare_to_scalar.ensures.form
+
+pub returns-in_default-right-clause-rows : goal.returns-in_default-right-clause-rows
+returns-in_default-right-clause-rows g c = c.compare_beside.ensures.rows
+
+pub returns-in_default-right-clause-dtype : goal.returns-in_default-right-clause-dtype
+returns-in_default-right-clause-dtype g c = c.compare_beside.ensures.dtype

@@ -7,6 +7,7 @@ use Rattle.runend_array.specs.Array.{dtype_of, rows}
 use Rattle.runend_map.proofs.ComparedRows.{beside_fault, memory_alone}
 use Rattle.runend_map.proofs.KeptRows.{if_ok}
 use Rattle.runend_map.proofs.OneKind.{no_column_fault, no_lists_beside}
+use Rattle.runend_map.proofs.PassedOn.{no_value, only_error}
 use Rattle.runend_map.proofs.comparisons.compare_flat.Goals as goal
 
 pub flat_rows-requires : goal.flat_rows-requires
@@ -29,3 +30,12 @@ returns-clause-rows g c =
 pub returns-clause-dtype : goal.returns-clause-dtype
 returns-clause-dtype g c =
     if_ok c.compare_column-truths.result (λ truths same. same ∙ ap (compare_dtype (leaf_dtype (leaf_of c.args.left.now))) c.in_ok-right.ensures.dtype) c.compare_column-truths.ensures.dtype
+
+pub returns-in_err-right-clause-dtype : goal.returns-in_err-right-clause-dtype
+returns-in_err-right-clause-dtype g c = no_value _ c.from_residual.result c.from_residual.ensures.0
+
+pub returns-in_err-right-clause-only : goal.returns-in_err-right-clause-only
+returns-in_err-right-clause-only g c = only_error c.from_residual.result c.in_err-right.field-0.0 _ c.from_residual.ensures.1 c.in_err-right.ensures.only
+
+pub returns-in_err-right-clause-rows : goal.returns-in_err-right-clause-rows
+returns-in_err-right-clause-rows g c = no_value _ c.from_residual.result c.from_residual.ensures.0

@@ -12,6 +12,7 @@ use Rattle.runend_map.specs.VisibleForm.{visible_values}
 use Rattle.runend_map.proofs.ComparedRows.{compared_count, made_form, null_rows, nulls_alone-copies}
 use Rattle.runend_map.proofs.KeptRows.{if_ok, if_ok_both, mapped_rows}
 use Rattle.runend_map.proofs.OneKind.{filled}
+use Rattle.runend_map.proofs.PassedOn.{no_value, only_error}
 use Rattle.runend_map.proofs.comparisons.compare_to_scalar.Goals as goal
 
 pub returns-then-not-is_empty-clause-rows : goal.returns-then-not-is_empty-clause-rows
@@ -48,3 +49,27 @@ returns-clause-form g c =
     if_ok_both c.shown_truths.result (λ truths rows_are form.
     made_form f r made (rows truths) (column_of truths) c.in_ok-values.ensures.valid each (rows_are ∙ mapped_rows f r made c.in_ok-values.ensures.valid each) form)
     c.shown_truths.ensures.rows c.shown_truths.ensures.form
+
+pub returns-clause-only : goal.returns-clause-only
+returns-clause-only g c = c.shown_truths.ensures.only
+
+pub returns-in_err-truths-clause-dtype : goal.returns-in_err-truths-clause-dtype
+returns-in_err-truths-clause-dtype g c = no_value _ c.from_residual-in_err-truths.result c.from_residual-in_err-truths.ensures.0
+
+pub returns-in_err-truths-clause-form : goal.returns-in_err-truths-clause-form
+returns-in_err-truths-clause-form g c = no_value _ c.from_residual-in_err-truths.result c.from_residual-in_err-truths.ensures.0
+
+pub returns-in_err-truths-clause-rows : goal.returns-in_err-truths-clause-rows
+returns-in_err-truths-clause-rows g c = no_value _ c.from_residual-in_err-truths.result c.from_residual-in_err-truths.ensures.0
+
+pub returns-in_err-values-clause-dtype : goal.returns-in_err-values-clause-dtype
+returns-in_err-values-clause-dtype g c = no_value _ c.from_residual.result c.from_residual.ensures.0
+
+pub returns-in_err-values-clause-form : goal.returns-in_err-values-clause-form
+returns-in_err-values-clause-form g c = no_value _ c.from_residual.result c.from_residual.ensures.0
+
+pub returns-in_err-values-clause-only : goal.returns-in_err-values-clause-only
+returns-in_err-values-clause-only g c = only_error c.from_residual.result c.in_err-values.field-0.0 _ c.from_residual.ensures.1 c.in_err-values.ensures.only
+
+pub returns-in_err-values-clause-rows : goal.returns-in_err-values-clause-rows
+returns-in_err-values-clause-rows g c = no_value _ c.from_residual.result c.from_residual.ensures.0

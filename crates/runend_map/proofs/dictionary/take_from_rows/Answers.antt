@@ -34,3 +34,6 @@ returns-in_err-flat-clause-dtype g c = no_value _ c.from_residual.result c.from_
 
 pub returns-in_err-flat-clause-flat : goal.returns-in_err-flat-clause-flat
 returns-in_err-flat-clause-flat g c = no_value _ c.from_residual.result c.from_residual.ensures.0
+
+pub numbers_of-indices-requires : goal.numbers_of-indices-requires
+numbers_of-indices-requires g c = record { numbers = ap is_numbers c.in_ok-flat.ensures.dtype ∙ sym (c.is_number_type.ensures ∙ ap is_numbers c.dtype.ensures) ∙ c.if-not-is_number_type.false }

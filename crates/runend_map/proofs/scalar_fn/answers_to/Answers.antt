@@ -30,3 +30,6 @@ returns-clause-each g c =
     if_ok c.answers.result (λ answers zipped.
     asked_each (number_row number) (λ x y. g.F.Fn.post c.args.function.now (x, tt) y) (optionals c.in-Some.items.now (flags form (length c.in-Some.items.now))) answers.items
     (single_rows (leaf_of c.args.values.now)) rows_are zipped) c.answers.ensures.each
+
+pub returns-clause-only : goal.returns-clause-only
+returns-clause-only g c = c.answers.ensures.only

@@ -1,10 +1,13 @@
-use Rattle.std.proofs.Common.{◌∙◌, map, refl, ap}
+use Rattle.std.proofs.Common.{◌∙◌, map, refl, ap, sym, inl}
 use Rattle.column_core.specs.Leaf.{OfNumbers, single_rows}
-use Rattle.runend_array.specs.Array.{column_of, rows}
+use Rattle.runend_array.specs.Array.{column_of, rows, dtype_of}
 use Rattle.runend_map.specs.Asked.{asked_rows}
-use Rattle.runend_map.specs.Owed.{number_row}
+use Rattle.runend_map.specs.Owed.{number_row, is_native, native_fault}
 use Rattle.runend_map.proofs.KeptRows.{if_ok}
-use Rattle.runend_map.proofs.OwedRows.{answers_count, owed_rows}
+use Rattle.runend_map.proofs.OwedRows.{answers_count, owed_rows, no_native_fault}
+use Rattle.runend_map.proofs.OneKind.{no_fault}
+use Rattle.runend_map.proofs.PassedOn.{no_value}
+use Rattle.column_ops.proofs.IndexPositions.{refused-passed_on}
 use Rattle.runend_map.proofs.scalar_fn.map_rows.Goals as goal
 
 pub answered-requires : goal.answered-requires
@@ -20,3 +23,43 @@ returns-clause-rows g c =
     owed_rows (number_row g.S.NativePType.number) (number_row g.T.NativePType.number) (λ x y. g.F.Fn.post c.args.function.now (x, tt) y) (column_of c.args.column.now) (asked_rows (column_of c.args.column.now))
     (single_rows (OfNumbers c.in_ok-mapped.mapped)) (rows mapped) c.in_ok-answers.answers.items c.in_ok-answers.ensures.valid refl c.in_ok-answers.ensures.each
     (c.in_ok-mapped.ensures.rows ∙ ap (map (number_row g.T.NativePType.number)) c.as_slice.ensures.value) rows_are) c.answered.ensures.rows
+
+pub asked_answers-requires-clause-native : goal.asked_answers-requires-clause-native
+asked_answers-requires-clause-native g c = sym (c.is_type_of.ensures ∙ ap (is_native g.S.NativePType.PTYPE) c.dtype.ensures) ∙ c.if-not-is_type_of.false
+
+pub returns-clause-refused : goal.returns-clause-refused
+returns-clause-refused g c =
+    let native = sym (c.is_type_of.ensures ∙ ap (is_native g.S.NativePType.PTYPE) c.dtype.ensures) ∙ c.if-not-is_type_of.false in
+    no_fault (native_fault g.S.NativePType.PTYPE (dtype_of c.args.column.now)) c.answered.result (no_native_fault g.S.NativePType.PTYPE (dtype_of c.args.column.now) native) c.answered.ensures.only
+
+pub returns-clause-dtype : goal.returns-clause-dtype
+returns-clause-dtype g c = if_ok c.answered.result (λ mapped same. same ∙ c.in_ok-mapped.ensures.dtype) c.answered.ensures.dtype
+
+pub returns-clause-form : goal.returns-clause-form
+returns-clause-form g c = c.answered.ensures.form
+
+pub returns-in_err-answers-clause-dtype : goal.returns-in_err-answers-clause-dtype
+returns-in_err-answers-clause-dtype g c = no_value _ c.from_residual.result c.from_residual.ensures.0
+
+pub returns-in_err-answers-clause-form : goal.returns-in_err-answers-clause-form
+returns-in_err-answers-clause-form g c = no_value _ c.from_residual.result c.from_residual.ensures.0
+
+pub returns-in_err-answers-clause-refused : goal.returns-in_err-answers-clause-refused
+returns-in_err-answers-clause-refused g c =
+    refused-passed_on (native_fault g.S.NativePType.PTYPE (dtype_of c.args.column.now)) c.in_err-answers.field-0.0 c.from_residual.result c.from_residual.ensures.1 (inl c.in_err-answers.ensures.only)
+
+pub returns-in_err-answers-clause-rows : goal.returns-in_err-answers-clause-rows
+returns-in_err-answers-clause-rows g c = no_value _ c.from_residual.result c.from_residual.ensures.0
+
+pub returns-in_err-mapped-clause-dtype : goal.returns-in_err-mapped-clause-dtype
+returns-in_err-mapped-clause-dtype g c = no_value _ c.from_residual-in_err-mapped.result c.from_residual-in_err-mapped.ensures.0
+
+pub returns-in_err-mapped-clause-form : goal.returns-in_err-mapped-clause-form
+returns-in_err-mapped-clause-form g c = no_value _ c.from_residual-in_err-mapped.result c.from_residual-in_err-mapped.ensures.0
+
+pub returns-in_err-mapped-clause-refused : goal.returns-in_err-mapped-clause-refused
+returns-in_err-mapped-clause-refused g c =
+    refused-passed_on (native_fault g.S.NativePType.PTYPE (dtype_of c.args.column.now)) c.in_err-mapped.field-0.0 c.from_residual-in_err-mapped.result c.from_residual-in_err-mapped.ensures.1 (inl c.in_err-mapped.ensures.only)
+
+pub returns-in_err-mapped-clause-rows : goal.returns-in_err-mapped-clause-rows
+returns-in_err-mapped-clause-rows g c = no_value _ c.from_residual-in_err-mapped.result c.from_residual-in_err-mapped.ensures.0

@@ -9,6 +9,7 @@ use Rattle.runend_positions.specs.Indices.{optional_indices}
 use Rattle.runend_select.specs.Positions.{positions_of}
 use Rattle.runend_select.proofs.AllNull.{length-indices}
 use Rattle.runend_select.proofs.RowPositions.{positions-push}
+use Rattle.runend_select.proofs.PassedOn.{no_value}
 use Rattle.runend_select.proofs.any_rows.checked_positions.Goals as goal
 
 pub returns-in_err-position-clause-refused : goal.returns-in_err-position-clause-refused
@@ -47,3 +48,12 @@ returns-clause-positions g c =
     let long = length-map items number in
     let counted = length-indices (map number items) (flags form (length items)) (length-flags form (length items) c.requires.fits ∙ sym long) in
     c.loop-place.invariant.positions ∙ ap positions_of (take_all c.loop-place.place indices (omega arith))
+
+pub returns-in_err-positions-clause-positions : goal.returns-in_err-positions-clause-positions
+returns-in_err-positions-clause-positions g c = no_value _ c.from_residual.result c.from_residual.ensures.0
+
+pub returns-in_err-position-clause-positions : goal.returns-in_err-position-clause-positions
+returns-in_err-position-clause-positions g c = no_value _ c.from_residual-in_err-position.result c.from_residual-in_err-position.ensures.0
+
+pub returns-in_err-push-clause-positions : goal.returns-in_err-push-clause-positions
+returns-in_err-push-clause-positions g c = no_value _ c.from_residual-in_err-push.result c.from_residual-in_err-push.ensures.0

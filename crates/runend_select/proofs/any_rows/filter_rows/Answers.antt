@@ -4,6 +4,7 @@ use Rattle.runend_array.specs.Array.{rows}
 use Rattle.runend_array.specs.Column.{column_dtype, column_rows}
 use Rattle.runend_array.specs.Encoding.{IsComputedFlat}
 use Rattle.runend_select.proofs.FilterFaults.{fault_here, no_fault}
+use Rattle.runend_select.proofs.PassedOn.{no_value}
 use Rattle.runend_select.proofs.any_rows.filter_rows.Goals as goal
 
 pub returns-then-len-clause-refused : goal.returns-then-len-clause-refused
@@ -23,3 +24,21 @@ returns-clause-dtype g c = ap column_dtype c.in_ok-kept-2.ensures.form ∙ c.in_
 
 pub returns-clause-flat : goal.returns-clause-flat
 returns-clause-flat g c = subst IsComputedFlat (sym c.in_ok-kept-2.ensures.form) c.in_ok-kept.ensures.made.form
+
+pub returns-in_err-kept-clause-rows : goal.returns-in_err-kept-clause-rows
+returns-in_err-kept-clause-rows g c = no_value _ c.from_residual.result c.from_residual.ensures.0
+
+pub returns-in_err-kept-clause-dtype : goal.returns-in_err-kept-clause-dtype
+returns-in_err-kept-clause-dtype g c = no_value _ c.from_residual.result c.from_residual.ensures.0
+
+pub returns-in_err-kept-clause-flat : goal.returns-in_err-kept-clause-flat
+returns-in_err-kept-clause-flat g c = no_value _ c.from_residual.result c.from_residual.ensures.0
+
+pub returns-in_err-kept-2-clause-rows : goal.returns-in_err-kept-2-clause-rows
+returns-in_err-kept-2-clause-rows g c = no_value _ c.from_residual-in_err-kept-2.result c.from_residual-in_err-kept-2.ensures.0
+
+pub returns-in_err-kept-2-clause-dtype : goal.returns-in_err-kept-2-clause-dtype
+returns-in_err-kept-2-clause-dtype g c = no_value _ c.from_residual-in_err-kept-2.result c.from_residual-in_err-kept-2.ensures.0
+
+pub returns-in_err-kept-2-clause-flat : goal.returns-in_err-kept-2-clause-flat
+returns-in_err-kept-2-clause-flat g c = no_value _ c.from_residual-in_err-kept-2.result c.from_residual-in_err-kept-2.ensures.0

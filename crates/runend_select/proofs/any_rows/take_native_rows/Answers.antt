@@ -8,6 +8,7 @@ use Rattle.column_ops.proofs.IndexPositions.{refused-passed_on}
 use Rattle.runend_array.specs.Array.{rows}
 use Rattle.runend_select.proofs.CheckedIndices.{same-fault, same-indices}
 use Rattle.runend_select.proofs.RowPositions.{fits-positions, numbers-of_positions, within-positions}
+use Rattle.runend_select.proofs.PassedOn.{no_value}
 use Rattle.runend_select.proofs.any_rows.take_native_rows.Goals as goal
 
 pub returns-in_err-positions-clause-refused : goal.returns-in_err-positions-clause-refused
@@ -36,3 +37,30 @@ returns-clause-rows g c =
     let made = rw c.as_slice.ensures.value at c.in_ok-taken.ensures.made in
     let numbers = numbers-of_positions g.T.NativePType.number c.args.indices.now (form_of c.args.validity.now) c.len.result c.in_ok-positions.positions.items c.requires.fits c.in_ok-positions.ensures.refused c.in_ok-positions.ensures.positions in
     rw c.in_ok-taken-2.ensures.form (made.rows ∙ ap (take_rows (rows c.args.array.now)) (numbers ∙ same-indices g.T.NativePType.PTYPE g.T.NativePType.number c.args.indices.now (form_of c.args.validity.now)))
+
+pub returns-in_err-positions-clause-rows : goal.returns-in_err-positions-clause-rows
+returns-in_err-positions-clause-rows g c = no_value _ c.from_residual.result c.from_residual.ensures.0
+
+pub returns-in_err-positions-clause-dtype : goal.returns-in_err-positions-clause-dtype
+returns-in_err-positions-clause-dtype g c = no_value _ c.from_residual.result c.from_residual.ensures.0
+
+pub returns-in_err-positions-clause-flat : goal.returns-in_err-positions-clause-flat
+returns-in_err-positions-clause-flat g c = no_value _ c.from_residual.result c.from_residual.ensures.0
+
+pub returns-in_err-taken-clause-rows : goal.returns-in_err-taken-clause-rows
+returns-in_err-taken-clause-rows g c = no_value _ c.from_residual-in_err-taken.result c.from_residual-in_err-taken.ensures.0
+
+pub returns-in_err-taken-clause-dtype : goal.returns-in_err-taken-clause-dtype
+returns-in_err-taken-clause-dtype g c = no_value _ c.from_residual-in_err-taken.result c.from_residual-in_err-taken.ensures.0
+
+pub returns-in_err-taken-clause-flat : goal.returns-in_err-taken-clause-flat
+returns-in_err-taken-clause-flat g c = no_value _ c.from_residual-in_err-taken.result c.from_residual-in_err-taken.ensures.0
+
+pub returns-in_err-taken-2-clause-rows : goal.returns-in_err-taken-2-clause-rows
+returns-in_err-taken-2-clause-rows g c = no_value _ c.from_residual-in_err-taken-2.result c.from_residual-in_err-taken-2.ensures.0
+
+pub returns-in_err-taken-2-clause-dtype : goal.returns-in_err-taken-2-clause-dtype
+returns-in_err-taken-2-clause-dtype g c = no_value _ c.from_residual-in_err-taken-2.result c.from_residual-in_err-taken-2.ensures.0
+
+pub returns-in_err-taken-2-clause-flat : goal.returns-in_err-taken-2-clause-flat
+returns-in_err-taken-2-clause-flat g c = no_value _ c.from_residual-in_err-taken-2.result c.from_residual-in_err-taken-2.ensures.0

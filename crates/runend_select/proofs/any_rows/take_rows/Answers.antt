@@ -203,3 +203,27 @@ returns-in-I64-match_each_native-clause-dtype g c =
     let shown = map-id c.as_slice-8.result.now ∙ c.as_slice-8.ensures.value ∙ sym (ap numbers arm) ∙ c.values.ensures.shows in
     let same = same-primitive I64 (map (λ (n : ℤ). n) c.as_slice-8.result.now) (form_of c.validity-validity.result.now) c.args.indices.now typed shown c.validity-validity.ensures.form in
     subst (λ (p : PrimitiveForm). IfOk c.take_native_rows-8.result (λ taken. dtype_of taken ≡ take_dtype (dtype_of c.args.array.now) (primitive_dtype p))) same c.take_native_rows-8.ensures.dtype
+
+pub returns-in-U8-match_each_native-clause-flat : goal.returns-in-U8-match_each_native-clause-flat
+returns-in-U8-match_each_native-clause-flat g c = c.take_native_rows.ensures.flat
+
+pub returns-in-U16-match_each_native-clause-flat : goal.returns-in-U16-match_each_native-clause-flat
+returns-in-U16-match_each_native-clause-flat g c = c.take_native_rows-2.ensures.flat
+
+pub returns-in-U32-match_each_native-clause-flat : goal.returns-in-U32-match_each_native-clause-flat
+returns-in-U32-match_each_native-clause-flat g c = c.take_native_rows-3.ensures.flat
+
+pub returns-in-U64-match_each_native-clause-flat : goal.returns-in-U64-match_each_native-clause-flat
+returns-in-U64-match_each_native-clause-flat g c = c.take_native_rows-4.ensures.flat
+
+pub returns-in-I8-match_each_native-clause-flat : goal.returns-in-I8-match_each_native-clause-flat
+returns-in-I8-match_each_native-clause-flat g c = c.take_native_rows-5.ensures.flat
+
+pub returns-in-I16-match_each_native-clause-flat : goal.returns-in-I16-match_each_native-clause-flat
+returns-in-I16-match_each_native-clause-flat g c = c.take_native_rows-6.ensures.flat
+
+pub returns-in-I32-match_each_native-clause-flat : goal.returns-in-I32-match_each_native-clause-flat
+returns-in-I32-match_each_native-clause-flat g c = c.take_native_rows-7.ensures.flat
+
+pub returns-in-I64-match_each_native-clause-flat : goal.returns-in-I64-match_each_native-clause-flat
+returns-in-I64-match_each_native-clause-flat g c = c.take_native_rows-8.ensures.flat

@@ -4,6 +4,7 @@ use Rattle.runend_array.specs.Array.{column_of}
 use Rattle.runend_array.specs.Column.{column_dtype, column_of_runs, column_rows}
 use Rattle.runend_codec.proofs.RunRows.{length-run_rows}
 use Rattle.runend_select.proofs.FilterFaults.{fault_here, no_fault, rows-unchanged, rows-without_runs}
+use Rattle.runend_select.proofs.PassedOn.{no_value}
 use Rattle.runend_select.proofs.filters.filter.Goals as goal
 
 pub returns-then-len-clause-refused : goal.returns-then-len-clause-refused
@@ -62,3 +63,30 @@ returns-in_ok-kept-in-Values-clause-dtype g c = c.in_ok-kept-in-Values.ensures.d
 
 pub returns-in_ok-kept-in-Values-clause-form : goal.returns-in_ok-kept-in-Values-clause-form
 returns-in_ok-kept-in-Values-clause-form g c = rw c.in-Values.is c.in_ok-kept-in-Values.ensures.form
+
+pub returns-in_err-copy-in-AllTrue-clause-rows : goal.returns-in_err-copy-in-AllTrue-clause-rows
+returns-in_err-copy-in-AllTrue-clause-rows g c = no_value _ c.from_residual.result c.from_residual.ensures.0
+
+pub returns-in_err-copy-in-AllTrue-clause-dtype : goal.returns-in_err-copy-in-AllTrue-clause-dtype
+returns-in_err-copy-in-AllTrue-clause-dtype g c = no_value _ c.from_residual.result c.from_residual.ensures.0
+
+pub returns-in_err-copy-in-AllTrue-clause-form : goal.returns-in_err-copy-in-AllTrue-clause-form
+returns-in_err-copy-in-AllTrue-clause-form g c = no_value _ c.from_residual.result c.from_residual.ensures.0
+
+pub returns-in_err-none-in-AllFalse-clause-rows : goal.returns-in_err-none-in-AllFalse-clause-rows
+returns-in_err-none-in-AllFalse-clause-rows g c = no_value _ c.from_residual-in_err-none-in-AllFalse.result c.from_residual-in_err-none-in-AllFalse.ensures.0
+
+pub returns-in_err-none-in-AllFalse-clause-dtype : goal.returns-in_err-none-in-AllFalse-clause-dtype
+returns-in_err-none-in-AllFalse-clause-dtype g c = no_value _ c.from_residual-in_err-none-in-AllFalse.result c.from_residual-in_err-none-in-AllFalse.ensures.0
+
+pub returns-in_err-none-in-AllFalse-clause-form : goal.returns-in_err-none-in-AllFalse-clause-form
+returns-in_err-none-in-AllFalse-clause-form g c = no_value _ c.from_residual-in_err-none-in-AllFalse.result c.from_residual-in_err-none-in-AllFalse.ensures.0
+
+pub returns-in_err-kept-in-Values-clause-rows : goal.returns-in_err-kept-in-Values-clause-rows
+returns-in_err-kept-in-Values-clause-rows g c = no_value _ c.from_residual-in_err-kept-in-Values.result c.from_residual-in_err-kept-in-Values.ensures.0
+
+pub returns-in_err-kept-in-Values-clause-dtype : goal.returns-in_err-kept-in-Values-clause-dtype
+returns-in_err-kept-in-Values-clause-dtype g c = no_value _ c.from_residual-in_err-kept-in-Values.result c.from_residual-in_err-kept-in-Values.ensures.0
+
+pub returns-in_err-kept-in-Values-clause-form : goal.returns-in_err-kept-in-Values-clause-form
+returns-in_err-kept-in-Values-clause-form g c = no_value _ c.from_residual-in_err-kept-in-Values.result c.from_residual-in_err-kept-in-Values.ensures.0

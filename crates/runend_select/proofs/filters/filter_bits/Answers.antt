@@ -5,6 +5,7 @@ use Rattle.runend_array.specs.Column.{Column, Runs, column_dtype, column_rows}
 use Rattle.runend_array.specs.SessionForm.{SessionForm}
 use Rattle.runend_select.specs.FilterForm.{AreSelectedRuns, IsSelectedForm, TakesDirectly}
 use Rattle.runend_select.proofs.Forms.{flat-selected, takes_directly-same}
+use Rattle.runend_select.proofs.PassedOn.{no_value, only_error}
 use Rattle.runend_select.proofs.filters.filter_bits.Goals as goal
 
 pub returns-then-takes_directly-clause-rows : goal.returns-then-takes_directly-clause-rows
@@ -42,3 +43,48 @@ returns-clause-form g c =
       (λ few. let yes = c.takes_directly.ensures.1 (same.1 few) in let no = c.if-takes_directly.false in cc),
       subst (λ (part : Runs). AreSelectedRuns array bits part) (sym c.in_ok-boxed.ensures.ok) c.in_ok-kept.ensures.form,
     )
+
+pub returns-in_err-taken-clause-only : goal.returns-in_err-taken-clause-only
+returns-in_err-taken-clause-only g c = only_error c.from_residual.result c.in_err-taken.field-0.0 _ c.from_residual.ensures.1 c.in_err-taken.ensures.only
+
+pub returns-in_err-taken-clause-rows : goal.returns-in_err-taken-clause-rows
+returns-in_err-taken-clause-rows g c = no_value _ c.from_residual.result c.from_residual.ensures.0
+
+pub returns-in_err-taken-clause-dtype : goal.returns-in_err-taken-clause-dtype
+returns-in_err-taken-clause-dtype g c = no_value _ c.from_residual.result c.from_residual.ensures.0
+
+pub returns-in_err-taken-clause-form : goal.returns-in_err-taken-clause-form
+returns-in_err-taken-clause-form g c = no_value _ c.from_residual.result c.from_residual.ensures.0
+
+pub returns-in_err-taken-2-clause-only : goal.returns-in_err-taken-2-clause-only
+returns-in_err-taken-2-clause-only g c = only_error c.from_residual-in_err-taken-2.result c.in_err-taken-2.field-0.0 _ c.from_residual-in_err-taken-2.ensures.1 c.in_err-taken-2.ensures.only
+
+pub returns-in_err-taken-2-clause-rows : goal.returns-in_err-taken-2-clause-rows
+returns-in_err-taken-2-clause-rows g c = no_value _ c.from_residual-in_err-taken-2.result c.from_residual-in_err-taken-2.ensures.0
+
+pub returns-in_err-taken-2-clause-dtype : goal.returns-in_err-taken-2-clause-dtype
+returns-in_err-taken-2-clause-dtype g c = no_value _ c.from_residual-in_err-taken-2.result c.from_residual-in_err-taken-2.ensures.0
+
+pub returns-in_err-taken-2-clause-form : goal.returns-in_err-taken-2-clause-form
+returns-in_err-taken-2-clause-form g c = no_value _ c.from_residual-in_err-taken-2.result c.from_residual-in_err-taken-2.ensures.0
+
+pub returns-in_err-kept-clause-only : goal.returns-in_err-kept-clause-only
+returns-in_err-kept-clause-only g c = only_error c.from_residual-in_err-kept.result c.in_err-kept.field-0.0 _ c.from_residual-in_err-kept.ensures.1 c.in_err-kept.ensures.only
+
+pub returns-in_err-kept-clause-rows : goal.returns-in_err-kept-clause-rows
+returns-in_err-kept-clause-rows g c = no_value _ c.from_residual-in_err-kept.result c.from_residual-in_err-kept.ensures.0
+
+pub returns-in_err-kept-clause-dtype : goal.returns-in_err-kept-clause-dtype
+returns-in_err-kept-clause-dtype g c = no_value _ c.from_residual-in_err-kept.result c.from_residual-in_err-kept.ensures.0
+
+pub returns-in_err-kept-clause-form : goal.returns-in_err-kept-clause-form
+returns-in_err-kept-clause-form g c = no_value _ c.from_residual-in_err-kept.result c.from_residual-in_err-kept.ensures.0
+
+pub returns-in_err-boxed-clause-rows : goal.returns-in_err-boxed-clause-rows
+returns-in_err-boxed-clause-rows g c = no_value _ c.from_residual-in_err-boxed.result c.from_residual-in_err-boxed.ensures.0
+
+pub returns-in_err-boxed-clause-dtype : goal.returns-in_err-boxed-clause-dtype
+returns-in_err-boxed-clause-dtype g c = no_value _ c.from_residual-in_err-boxed.result c.from_residual-in_err-boxed.ensures.0
+
+pub returns-in_err-boxed-clause-form : goal.returns-in_err-boxed-clause-form
+returns-in_err-boxed-clause-form g c = no_value _ c.from_residual-in_err-boxed.result c.from_residual-in_err-boxed.ensures.0

@@ -1,6 +1,7 @@
 use Rattle.std.proofs.Common.{◌∙◌, ap, sym, subst}
 use Rattle.runend_array.specs.Column.{column_dtype, column_rows}
 use Rattle.runend_array.specs.Encoding.{IsComputedFlat}
+use Rattle.runend_select.proofs.PassedOn.{no_value, only_error}
 use Rattle.runend_select.proofs.filters.kept_values.Goals as goal
 
 pub returns-clause-made : goal.returns-clause-made
@@ -11,3 +12,15 @@ returns-clause-made g c =
       dtype = ap column_dtype same ∙ made.dtype;
       form = subst IsComputedFlat (sym same) made.form;
     }
+
+pub returns-in_err-kept-clause-only : goal.returns-in_err-kept-clause-only
+returns-in_err-kept-clause-only g c = only_error c.from_residual.result c.in_err-kept.field-0.0 _ c.from_residual.ensures.1 c.in_err-kept.ensures.only
+
+pub returns-in_err-kept-clause-made : goal.returns-in_err-kept-clause-made
+returns-in_err-kept-clause-made g c = no_value _ c.from_residual.result c.from_residual.ensures.0
+
+pub returns-in_err-kept-2-clause-only : goal.returns-in_err-kept-2-clause-only
+returns-in_err-kept-2-clause-only g c = only_error c.from_residual-in_err-kept-2.result c.in_err-kept-2.field-0.0 _ c.from_residual-in_err-kept-2.ensures.1 c.in_err-kept-2.ensures.only
+
+pub returns-in_err-kept-2-clause-made : goal.returns-in_err-kept-2-clause-made
+returns-in_err-kept-2-clause-made g c = no_value _ c.from_residual-in_err-kept-2.result c.from_residual-in_err-kept-2.ensures.0

@@ -3,6 +3,7 @@ use Rattle.runend_array.specs.Column.{column_of_runs, column_rows, column_dtype}
 use Rattle.runend_codec.proofs.RunRows.{length-run_rows}
 use Rattle.runend_select.proofs.KeptColumn.{take_dtype-required}
 use Rattle.runend_select.proofs.SetPlaces.{bounds-places, take_rows-places}
+use Rattle.runend_select.proofs.PassedOn.{no_value, only_error}
 use Rattle.runend_select.proofs.filters.taken_directly.Goals as goal
 
 pub taken_rows-requires-clause-in_bounds : goal.taken_rows-requires-clause-in_bounds
@@ -19,3 +20,15 @@ returns-clause-made g c =
       dtype = made.dtype ∙ take_dtype-required (column_dtype array.values);
       form = made.form;
     }
+
+pub returns-in_err-places-clause-only : goal.returns-in_err-places-clause-only
+returns-in_err-places-clause-only g c = only_error c.from_residual.result c.in_err-places.field-0.0 _ c.from_residual.ensures.1 c.in_err-places.ensures.only
+
+pub returns-in_err-places-clause-made : goal.returns-in_err-places-clause-made
+returns-in_err-places-clause-made g c = no_value _ c.from_residual.result c.from_residual.ensures.0
+
+pub returns-in_err-taken-clause-only : goal.returns-in_err-taken-clause-only
+returns-in_err-taken-clause-only g c = only_error c.from_residual-in_err-taken.result c.in_err-taken.field-0.0 _ c.from_residual-in_err-taken.ensures.1 c.in_err-taken.ensures.only
+
+pub returns-in_err-taken-clause-made : goal.returns-in_err-taken-clause-made
+returns-in_err-taken-clause-made g c = no_value _ c.from_residual-in_err-taken.result c.from_residual-in_err-taken.ensures.0

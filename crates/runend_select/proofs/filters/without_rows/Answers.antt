@@ -1,6 +1,7 @@
 use Rattle.std.proofs.Common.{subst, sym, ap, ◌∙◌}
 use Rattle.runend_array.specs.Canonical.{IsNormalFlat}
 use Rattle.runend_array.specs.Column.{Runs, column_dtype, column_rows}
+use Rattle.runend_select.proofs.PassedOn.{no_value, only_error}
 use Rattle.runend_select.proofs.filters.without_rows.Goals as goal
 
 pub returns-clause-dtype : goal.returns-clause-dtype
@@ -18,3 +19,18 @@ returns-clause-form g c =
       ap (λ (r : Runs). r.offset) is,
       ap (λ (r : Runs). r.count) is,
     )
+
+pub returns-in_err-ends-clause-only : goal.returns-in_err-ends-clause-only
+returns-in_err-ends-clause-only g c = only_error c.from_residual.result c.in_err-ends.field-0.0 _ c.from_residual.ensures.1 c.in_err-ends.ensures.only
+
+pub returns-in_err-ends-clause-dtype : goal.returns-in_err-ends-clause-dtype
+returns-in_err-ends-clause-dtype g c = no_value _ c.from_residual.result c.from_residual.ensures.0
+
+pub returns-in_err-ends-clause-form : goal.returns-in_err-ends-clause-form
+returns-in_err-ends-clause-form g c = no_value _ c.from_residual.result c.from_residual.ensures.0
+
+pub returns-in_err-boxed-clause-dtype : goal.returns-in_err-boxed-clause-dtype
+returns-in_err-boxed-clause-dtype g c = no_value _ c.from_residual-in_err-boxed.result c.from_residual-in_err-boxed.ensures.0
+
+pub returns-in_err-boxed-clause-form : goal.returns-in_err-boxed-clause-form
+returns-in_err-boxed-clause-form g c = no_value _ c.from_residual-in_err-boxed.result c.from_residual-in_err-boxed.ensures.0

@@ -97,3 +97,51 @@ returns-in-U64-match_each_unsigned-clause-kept g c =
 pub returns-in-U64-match_each_unsigned-clause-typed : goal.returns-in-U64-match_each_unsigned-clause-typed
 returns-in-U64-match_each_unsigned-clause-typed g c =
     subst (λ (ptype : PType). IfOk c.filter_stored-4.result (λ parts. parts.0.ptype ≡ ptype)) (sym (ap ptype_of c.in-U64-match_each_unsigned.is)) c.filter_stored-4.ensures.typed
+
+pub filter_stored-requires-clause-masked : goal.filter_stored-requires-clause-masked
+filter_stored-requires-clause-masked g c = c.requires.masked
+
+pub returns-in-U8-match_each_unsigned-clause-only : goal.returns-in-U8-match_each_unsigned-clause-only
+returns-in-U8-match_each_unsigned-clause-only g c = c.filter_stored.ensures.only
+
+pub returns-in-U8-match_each_unsigned-clause-required : goal.returns-in-U8-match_each_unsigned-clause-required
+returns-in-U8-match_each_unsigned-clause-required g c = c.filter_stored.ensures.required
+
+pub returns-in-U8-match_each_unsigned-clause-normal : goal.returns-in-U8-match_each_unsigned-clause-normal
+returns-in-U8-match_each_unsigned-clause-normal g c = c.filter_stored.ensures.normal
+
+pub filter_stored-requires-2-clause-masked : goal.filter_stored-requires-2-clause-masked
+filter_stored-requires-2-clause-masked g c = c.requires.masked
+
+pub returns-in-U16-match_each_unsigned-clause-only : goal.returns-in-U16-match_each_unsigned-clause-only
+returns-in-U16-match_each_unsigned-clause-only g c = c.filter_stored-2.ensures.only
+
+pub returns-in-U16-match_each_unsigned-clause-required : goal.returns-in-U16-match_each_unsigned-clause-required
+returns-in-U16-match_each_unsigned-clause-required g c = c.filter_stored-2.ensures.required
+
+pub returns-in-U16-match_each_unsigned-clause-normal : goal.returns-in-U16-match_each_unsigned-clause-normal
+returns-in-U16-match_each_unsigned-clause-normal g c = c.filter_stored-2.ensures.normal
+
+pub filter_stored-requires-3-clause-masked : goal.filter_stored-requires-3-clause-masked
+filter_stored-requires-3-clause-masked g c = c.requires.masked
+
+pub returns-in-U32-match_each_unsigned-clause-only : goal.returns-in-U32-match_each_unsigned-clause-only
+returns-in-U32-match_each_unsigned-clause-only g c = c.filter_stored-3.ensures.only
+
+pub returns-in-U32-match_each_unsigned-clause-required : goal.returns-in-U32-match_each_unsigned-clause-required
+returns-in-U32-match_each_unsigned-clause-required g c = c.filter_stored-3.ensures.required
+
+pub returns-in-U32-match_each_unsigned-clause-normal : goal.returns-in-U32-match_each_unsigned-clause-normal
+returns-in-U32-match_each_unsigned-clause-normal g c = c.filter_stored-3.ensures.normal
+
+pub filter_stored-requires-4-clause-masked : goal.filter_stored-requires-4-clause-masked
+filter_stored-requires-4-clause-masked g c = c.requires.masked
+
+pub returns-in-U64-match_each_unsigned-clause-only : goal.returns-in-U64-match_each_unsigned-clause-only
+returns-in-U64-match_each_unsigned-clause-only g c = c.filter_stored-4.ensures.only
+
+pub returns-in-U64-match_each_unsigned-clause-required : goal.returns-in-U64-match_each_unsigned-clause-required
+returns-in-U64-match_each_unsigned-clause-required g c = c.filter_stored-4.ensures.required
+
+pub returns-in-U64-match_each_unsigned-clause-normal : goal.returns-in-U64-match_each_unsigned-clause-normal
+returns-in-U64-match_each_unsigned-clause-normal g c = c.filter_stored-4.ensures.normal

@@ -2,6 +2,7 @@ use Rattle.std.proofs.Common.{◌∙◌, length}
 use Rattle.runend_array.specs.Lists.{list_dtype, list_rows}
 use Rattle.runend_select.proofs.KeptColumn.{take_dtype-required}
 use Rattle.runend_select.proofs.SetPlaces.{positions-places, take_rows-positions}
+use Rattle.runend_select.proofs.PassedOn.{no_value, only_error}
 use Rattle.runend_select.proofs.list_values.lists_at_bits.Goals as goal
 
 pub take_lists-requires-clause-within : goal.take_lists-requires-clause-within
@@ -16,3 +17,15 @@ returns-clause-made g c =
       dtype = made.dtype ∙ take_dtype-required (list_dtype c.args.lists.now);
       form = made.form;
     }
+
+pub returns-in_err-places-clause-only : goal.returns-in_err-places-clause-only
+returns-in_err-places-clause-only g c = only_error c.from_residual.result c.in_err-places.field-0.0 _ c.from_residual.ensures.1 c.in_err-places.ensures.only
+
+pub returns-in_err-places-clause-made : goal.returns-in_err-places-clause-made
+returns-in_err-places-clause-made g c = no_value _ c.from_residual.result c.from_residual.ensures.0
+
+pub returns-in_err-kept-clause-only : goal.returns-in_err-kept-clause-only
+returns-in_err-kept-clause-only g c = only_error c.from_residual-in_err-kept.result c.in_err-kept.field-0.0 _ c.from_residual-in_err-kept.ensures.1 c.in_err-kept.ensures.only
+
+pub returns-in_err-kept-clause-made : goal.returns-in_err-kept-clause-made
+returns-in_err-kept-clause-made g c = no_value _ c.from_residual-in_err-kept.result c.from_residual-in_err-kept.ensures.0

@@ -2,6 +2,7 @@ use Rattle.std.proofs.Common.{◌∙◌, ap}
 use Rattle.column_base.specs.Mask.{mask_bits}
 use Rattle.runend_array.specs.Lists.{list_rows}
 use Rattle.runend_select.proofs.FilterFaults.{first-all_selected, first-none_selected}
+use Rattle.runend_select.proofs.PassedOn.{no_value, only_error}
 use Rattle.runend_select.proofs.list_values.select_lists.Goals as goal
 
 pub returns-in_ok-kept-in-AllTrue-clause-made : goal.returns-in_ok-kept-in-AllTrue-clause-made
@@ -21,3 +22,21 @@ returns-in_ok-kept-in-AllFalse-clause-made g c =
       dtype = kept.dtype;
       form = tt;
     }
+
+pub returns-in_err-kept-in-AllTrue-clause-only : goal.returns-in_err-kept-in-AllTrue-clause-only
+returns-in_err-kept-in-AllTrue-clause-only g c = only_error c.from_residual.result c.in_err-kept-in-AllTrue.field-0.0 _ c.from_residual.ensures.1 c.in_err-kept-in-AllTrue.ensures.only
+
+pub returns-in_err-kept-in-AllTrue-clause-made : goal.returns-in_err-kept-in-AllTrue-clause-made
+returns-in_err-kept-in-AllTrue-clause-made g c = no_value _ c.from_residual.result c.from_residual.ensures.0
+
+pub returns-in_err-kept-in-AllFalse-clause-only : goal.returns-in_err-kept-in-AllFalse-clause-only
+returns-in_err-kept-in-AllFalse-clause-only g c = only_error c.from_residual-in_err-kept-in-AllFalse.result c.in_err-kept-in-AllFalse.field-0.0 _ c.from_residual-in_err-kept-in-AllFalse.ensures.1 c.in_err-kept-in-AllFalse.ensures.only
+
+pub returns-in_err-kept-in-AllFalse-clause-made : goal.returns-in_err-kept-in-AllFalse-clause-made
+returns-in_err-kept-in-AllFalse-clause-made g c = no_value _ c.from_residual-in_err-kept-in-AllFalse.result c.from_residual-in_err-kept-in-AllFalse.ensures.0
+
+pub returns-in_err-kept-in-Values-clause-only : goal.returns-in_err-kept-in-Values-clause-only
+returns-in_err-kept-in-Values-clause-only g c = only_error c.from_residual-in_err-kept-in-Values.result c.in_err-kept-in-Values.field-0.0 _ c.from_residual-in_err-kept-in-Values.ensures.1 c.in_err-kept-in-Values.ensures.only
+
+pub returns-in_err-kept-in-Values-clause-made : goal.returns-in_err-kept-in-Values-clause-made
+returns-in_err-kept-in-Values-clause-made g c = no_value _ c.from_residual-in_err-kept-in-Values.result c.from_residual-in_err-kept-in-Values.ensures.0

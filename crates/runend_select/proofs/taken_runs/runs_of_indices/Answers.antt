@@ -5,6 +5,7 @@ use Rattle.column_base.specs.ValidityForm.{flags}
 use Rattle.column_base.proofs.ValidityRows.{length-flags}
 use Rattle.runend_positions.specs.Indices.{AreInBounds, optional_indices}
 use Rattle.runend_select.proofs.TakenRuns.{runs-of_no_rows}
+use Rattle.runend_select.proofs.PassedOn.{no_value, only_error}
 use Rattle.runend_select.proofs.taken_runs.runs_of_indices.Goals as goal
 
 pub returns-then-is_empty-clause-runs : goal.returns-then-is_empty-clause-runs
@@ -19,3 +20,15 @@ returns-then-is_empty-clause-runs g c =
       null = 0;
       answer = c.in_ok-zeros.ensures.items ∙ ap (λ (n : ℕ). replicate n 0) (sym long) ∙ runs-of_no_rows c.args.array.now.ends c.args.array.now.offset (map number indices) (flags form (length indices)) (length-flags form (length indices) c.requires.fits ∙ sym long) bounds;
     }
+
+pub returns-in_err-zeros-clause-only : goal.returns-in_err-zeros-clause-only
+returns-in_err-zeros-clause-only g c = only_error c.from_residual.result c.in_err-zeros.field-0.0 _ c.from_residual.ensures.1 c.in_err-zeros.ensures.only
+
+pub returns-in_err-zeros-clause-runs : goal.returns-in_err-zeros-clause-runs
+returns-in_err-zeros-clause-runs g c = no_value _ c.from_residual.result c.from_residual.ensures.0
+
+pub returns-in_err-mask-clause-only : goal.returns-in_err-mask-clause-only
+returns-in_err-mask-clause-only g c = only_error c.from_residual-in_err-mask.result c.in_err-mask.field-0.0 _ c.from_residual-in_err-mask.ensures.1 c.in_err-mask.ensures.only
+
+pub returns-in_err-mask-clause-runs : goal.returns-in_err-mask-clause-runs
+returns-in_err-mask-clause-runs g c = no_value _ c.from_residual-in_err-mask.result c.from_residual-in_err-mask.ensures.0

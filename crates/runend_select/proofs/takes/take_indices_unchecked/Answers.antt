@@ -6,6 +6,7 @@ use Rattle.runend_array.specs.Column.{column_dtype, column_of_runs, column_rows}
 use Rattle.runend_codec.proofs.RunRows.{length-run_rows}
 use Rattle.runend_positions.specs.Indices.{optional_indices}
 use Rattle.runend_select.proofs.AllNull.{all_null, flat-taken, not_all_null, null_dtype, null_rows}
+use Rattle.runend_select.proofs.PassedOn.{no_value, only_error}
 use Rattle.runend_select.proofs.takes.take_indices_unchecked.Goals as goal
 
 pub returns-then-are_all_null-clause-rows : goal.returns-then-are_all_null-clause-rows
@@ -30,3 +31,27 @@ returns-clause-form g c =
     let indices = optional_indices g.T.NativePType.number c.args.indices.now (flags (form_of c.args.validity.now) (length c.args.indices.now)) in
     let not = not_all_null g.T.NativePType.number c.args.indices.now (form_of c.args.validity.now) c.requires.fits (λ h. let yes = c.are_all_null.ensures.1 h in let no = c.if-are_all_null.false in cc) in
     rw c.in_ok-taken-2.ensures.form (flat-taken indices (canonical_column c.in_ok-taken.taken) c.in_ok-taken.ensures.made.form not)
+
+pub returns-in_err-taken-clause-only : goal.returns-in_err-taken-clause-only
+returns-in_err-taken-clause-only g c = only_error c.from_residual.result c.in_err-taken.field-0.0 _ c.from_residual.ensures.1 c.in_err-taken.ensures.only
+
+pub returns-in_err-taken-clause-rows : goal.returns-in_err-taken-clause-rows
+returns-in_err-taken-clause-rows g c = no_value _ c.from_residual.result c.from_residual.ensures.0
+
+pub returns-in_err-taken-clause-dtype : goal.returns-in_err-taken-clause-dtype
+returns-in_err-taken-clause-dtype g c = no_value _ c.from_residual.result c.from_residual.ensures.0
+
+pub returns-in_err-taken-clause-form : goal.returns-in_err-taken-clause-form
+returns-in_err-taken-clause-form g c = no_value _ c.from_residual.result c.from_residual.ensures.0
+
+pub returns-in_err-taken-2-clause-only : goal.returns-in_err-taken-2-clause-only
+returns-in_err-taken-2-clause-only g c = only_error c.from_residual-in_err-taken-2.result c.in_err-taken-2.field-0.0 _ c.from_residual-in_err-taken-2.ensures.1 c.in_err-taken-2.ensures.only
+
+pub returns-in_err-taken-2-clause-rows : goal.returns-in_err-taken-2-clause-rows
+returns-in_err-taken-2-clause-rows g c = no_value _ c.from_residual-in_err-taken-2.result c.from_residual-in_err-taken-2.ensures.0
+
+pub returns-in_err-taken-2-clause-dtype : goal.returns-in_err-taken-2-clause-dtype
+returns-in_err-taken-2-clause-dtype g c = no_value _ c.from_residual-in_err-taken-2.result c.from_residual-in_err-taken-2.ensures.0
+
+pub returns-in_err-taken-2-clause-form : goal.returns-in_err-taken-2-clause-form
+returns-in_err-taken-2-clause-form g c = no_value _ c.from_residual-in_err-taken-2.result c.from_residual-in_err-taken-2.ensures.0

@@ -1,4 +1,4 @@
-use Rattle.std.proofs.Common.{◌∙◌, Option, length, map, subst, sym}
+use Rattle.std.proofs.Common.{◌∙◌, Option, length, map, subst, sym, inl}
 use Rattle.column_base.specs.declared.error.VortexError.{VortexError}
 use Rattle.column_base.specs.Validity.{form_of}
 use Rattle.column_core.specs.PrimitiveForm.{optional_numbers, primitive_with}
@@ -8,6 +8,7 @@ use Rattle.column_ops.proofs.IndexPositions.{refused-passed_on}
 use Rattle.runend_array.specs.Column.{column_of_runs, column_rows}
 use Rattle.runend_codec.proofs.RunRows.{length-run_rows}
 use Rattle.runend_select.proofs.CheckedIndices.{AreInBounds-checked, same-fault}
+use Rattle.runend_select.proofs.PassedOn.{no_value}
 use Rattle.runend_select.proofs.takes.take_native.Goals as goal
 
 pub returns-in_err-check_indices-clause-refused : goal.returns-in_err-check_indices-clause-refused
@@ -31,3 +32,29 @@ take_indices_unchecked-requires-clause-in_bounds g c =
     let array = c.args.array.now in
     let counted = length-run_rows array.ends (column_rows array.values) array.offset array.count in
     rw counted (AreInBounds-checked _ array.count (rw c.len.ensures at c.in_ok-check_indices.ensures))
+
+pub returns-in_err-check_indices-clause-rows : goal.returns-in_err-check_indices-clause-rows
+returns-in_err-check_indices-clause-rows g c = no_value _ c.from_residual.result c.from_residual.ensures.0
+
+pub returns-in_err-check_indices-clause-dtype : goal.returns-in_err-check_indices-clause-dtype
+returns-in_err-check_indices-clause-dtype g c = no_value _ c.from_residual.result c.from_residual.ensures.0
+
+pub returns-in_err-check_indices-clause-form : goal.returns-in_err-check_indices-clause-form
+returns-in_err-check_indices-clause-form g c = no_value _ c.from_residual.result c.from_residual.ensures.0
+
+pub returns-in_err-taken-clause-rows : goal.returns-in_err-taken-clause-rows
+returns-in_err-taken-clause-rows g c = no_value _ c.from_residual-in_err-taken.result c.from_residual-in_err-taken.ensures.0
+
+pub returns-in_err-taken-clause-dtype : goal.returns-in_err-taken-clause-dtype
+returns-in_err-taken-clause-dtype g c = no_value _ c.from_residual-in_err-taken.result c.from_residual-in_err-taken.ensures.0
+
+pub returns-in_err-taken-clause-form : goal.returns-in_err-taken-clause-form
+returns-in_err-taken-clause-form g c = no_value _ c.from_residual-in_err-taken.result c.from_residual-in_err-taken.ensures.0
+
+pub take_indices_unchecked-requires-clause-fits : goal.take_indices_unchecked-requires-clause-fits
+take_indices_unchecked-requires-clause-fits g c = c.requires.fits
+
+pub returns-in_err-taken-clause-refused : goal.returns-in_err-taken-clause-refused
+returns-in_err-taken-clause-refused g c =
+    let fault = take_fault (optional_numbers (primitive_with g.T.NativePType.PTYPE (map g.T.NativePType.number c.args.indices.now) (form_of c.args.validity.now))) (length (column_rows (column_of_runs c.args.array.now))) in
+    refused-passed_on fault c.in_err-taken.field-0.0 c.from_residual-in_err-taken.result c.from_residual-in_err-taken.ensures.1 (inl c.in_err-taken.ensures.only)

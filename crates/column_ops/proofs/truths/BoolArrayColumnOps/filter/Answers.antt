@@ -1,19 +1,37 @@
-use Rattle.std.proofs.Common.{Bool}
+use Rattle.std.proofs.Common.{Bool, length, sym, ap, ◌∙◌}
 use Rattle.std.specs.Prelude.{option_map}
 use Rattle.column_base.specs.Mask.{mask_bits}
 use Rattle.column_base.specs.ValidityForm.{nullability_in}
 use Rattle.column_base.specs.Validity.{form_of}
 use Rattle.column_core.specs.Value.{Truth}
-use Rattle.column_core.specs.BoolForm.{optional_truths}
+use Rattle.column_core.specs.BoolForm.{BoolForm, bool_rows, bool_with, optional_truths}
 use Rattle.column_ops.specs.Filter.{filter_rows}
 use Rattle.column_ops.proofs.Made.{filter_rows-map}
 use Rattle.column_ops.proofs.Columns.{IsMade-truths}
+use Rattle.column_base.specs.declared.dtype.DType.TheVariants as column
+use Rattle.column_core.specs.Leaf.{OfTruths}
+use Rattle.column_ops.specs.Computed.{IsMade}
+use Rattle.column_ops.proofs.Arms.{HasLength-arm, IfOk-same, no_fault, same_count}
 use Rattle.column_ops.proofs.truths.BoolArrayColumnOps.filter.Goals as goal
 
 pub returns-clause-made : goal.returns-clause-made
 returns-clause-made g c =
     let own = c.args.self.now in
     let mask = mask_bits c.args.mask.now in
-    let written = rw (c.as_slice.ensures.value, c.in_ok-own.ensures.same, c.values-2.ensures, c.validity.ensures.form) at c.in_ok-kept.ensures.filtered in
-    rw (c.in_ok-array.ensures.same, filter_rows-map (option_map (λ (b : Bool). Truth b)) mask (optional_truths own))
-    (IsMade-truths (filter_rows mask (optional_truths own)) (nullability_in own.validity) c.in_ok-kept.kept.items (form_of c.in_ok-kept.rows) written)
+    let written = rw (c.as_slice.ensures.value, c.in_ok-own.ensures.same, c.values.ensures, c.validity.ensures.form) at c.in_ok-kept.ensures.filtered in
+    IfOk-same c.array_of.result (bool_with c.in_ok-kept.kept.items (form_of c.in_ok-kept.rows))
+    (λ (made : BoolForm). IsMade (filter_rows mask (bool_rows own)) (column.Bool (nullability_in own.validity)) (OfTruths made)) c.array_of.ensures.same
+    (rw (filter_rows-map (option_map (λ (b : Bool). Truth b)) mask (optional_truths own))
+    (IsMade-truths (filter_rows mask (optional_truths own)) (nullability_in own.validity) c.in_ok-kept.kept.items (form_of c.in_ok-kept.rows) written))
+
+pub returns-clause-refused : goal.returns-clause-refused
+returns-clause-refused g c = no_fault _ c.array_of.result (same_count _ _ (sym c.len.ensures ∙ c.if-len.false ∙ c.len-2.ensures.rows)) c.array_of.ensures.only
+
+pub filter_items-made-requires-clause-fits : goal.filter_items-made-requires-clause-fits
+filter_items-made-requires-clause-fits g c = HasLength-arm _ _ _ _ c.validity.ensures.form (ap length (c.as_slice.ensures.value ∙ c.in_ok-own.ensures.same ∙ c.values.ensures)) c.validity.ensures.counted
+
+pub array_of-requires : goal.array_of-requires
+array_of-requires g c = c.in_ok-kept.ensures.filtered.fits
+
+pub filter_items-made-requires-clause-masked : goal.filter_items-made-requires-clause-masked
+filter_items-made-requires-clause-masked g c = sym c.len.ensures ∙ c.if-len.false ∙ c.len-2.ensures.bits ∙ sym (ap length (c.as_slice.ensures.value ∙ c.in_ok-own.ensures.same ∙ c.values.ensures))

@@ -1,13 +1,17 @@
-use Rattle.std.proofs.Common.{Bool, length}
+use Rattle.std.proofs.Common.{Bool, length, sym, ap, subst, ◌∙◌}
 use Rattle.column_base.specs.ValidityForm.{flags, nullability_in}
 use Rattle.column_base.specs.Validity.{form_of}
 use Rattle.column_core.specs.Value.{Truth}
-use Rattle.column_core.specs.BoolForm.{optional_truths}
+use Rattle.column_core.specs.BoolForm.{BoolForm, bool_rows, bool_with, optional_truths}
 use Rattle.column_core.specs.Optionals.{optionals}
 use Rattle.column_ops.specs.Nullable.{either_nullable}
-use Rattle.column_ops.specs.Take.{position_numbers, take_rows}
+use Rattle.column_ops.specs.Take.{ArePositions, position_numbers, take_rows}
 use Rattle.column_ops.proofs.Made.{take_rows-map}
 use Rattle.column_ops.proofs.Columns.{IsMade-truths}
+use Rattle.column_base.specs.declared.dtype.DType.TheVariants as column
+use Rattle.column_core.specs.Leaf.{OfTruths}
+use Rattle.column_ops.specs.Computed.{IsMade}
+use Rattle.column_ops.proofs.Arms.{HasLength-arm, IfOk-same, length-rows}
 use Rattle.column_ops.proofs.truths.BoolArrayColumnOps.take_at.Goals as goal
 
 pub returns-clause-made : goal.returns-clause-made
@@ -15,6 +19,26 @@ returns-clause-made g c =
     let own = c.args.self.now in
     let indices = position_numbers (optionals c.args.positions.now (flags (form_of c.args.validity.now) (length c.args.positions.now))) in
     let wanted = either_nullable (nullability_in own.validity) (nullability_in (form_of c.args.validity.now)) in
-    let written = rw (c.as_slice-items.ensures.value, c.in_ok-own.ensures.same, c.values-2.ensures, c.validity.ensures.form) at c.in_ok-taken.ensures.taken in
-    rw (c.in_ok-array.ensures.same, take_rows-map (λ (b : Bool). Truth b) (optional_truths own) indices)
-    (IsMade-truths (take_rows (optional_truths own) indices) wanted c.in_ok-taken.taken.items (form_of c.in_ok-taken.rows) written)
+    let written = rw (c.as_slice-items.ensures.value, c.in_ok-own.ensures.same, c.values.ensures, c.validity.ensures.form) at c.in_ok-taken.ensures.taken in
+    IfOk-same c.array_of.result (bool_with c.in_ok-taken.taken.items (form_of c.in_ok-taken.rows))
+    (λ (made : BoolForm). IsMade (take_rows (bool_rows own) indices) (column.Bool wanted) (OfTruths made)) c.array_of.ensures.same
+    (rw (take_rows-map (λ (b : Bool). Truth b) (optional_truths own) indices)
+    (IsMade-truths (take_rows (optional_truths own) indices) wanted c.in_ok-taken.taken.items (form_of c.in_ok-taken.rows) written))
+
+pub returns-clause-only : goal.returns-clause-only
+returns-clause-only g c = c.array_of.ensures.only
+
+pub take_items-made-requires-clause-fits : goal.take_items-made-requires-clause-fits
+take_items-made-requires-clause-fits g c = HasLength-arm _ _ _ _ c.validity.ensures.form (ap length (c.as_slice-items.ensures.value ∙ c.in_ok-own.ensures.same ∙ c.values.ensures)) c.validity.ensures.counted
+
+pub take_items-made-requires-clause-counted : goal.take_items-made-requires-clause-counted
+take_items-made-requires-clause-counted g c = c.requires.counted
+
+pub take_items-made-requires-clause-within : goal.take_items-made-requires-clause-within
+take_items-made-requires-clause-within g c =
+    subst (ArePositions (optionals c.args.positions.now (flags (form_of c.args.validity.now) (length c.args.positions.now))))
+    (length-rows (λ (b : Bool). Truth b) c.args.self.now.bits c.args.self.now.validity c.validity.ensures.counted
+    ∙ sym (ap length (c.as_slice-items.ensures.value ∙ c.in_ok-own.ensures.same ∙ c.values.ensures))) c.requires.within
+
+pub array_of-requires : goal.array_of-requires
+array_of-requires g c = c.in_ok-taken.ensures.taken.fits

@@ -1,0 +1,232 @@
+//! Scripts whose lines are no commands, and what comes of reads, writes and growths that fail. The stored script of
+//! the program has the lines that are answered.
+use crate::fakes::{Closed, Endless, FailsAt};
+use refusing::Refusing;
+use runend_script::{script, serve};
+use std::alloc::Allocator;
+use std::test::Fail;
+use vortex_runend::{ExecutionCtx, VortexResult, VortexSession};
+
+// What a script answers, and whether a bad line ended it.
+fn answered<A: Allocator + Copy>(alloc: A, text: &str) -> VortexResult<(String<A>, bool)> {
+    let mut ctx = ExecutionCtx::new(VortexSession::empty(), alloc);
+    let answer = script(text, &mut ctx)?;
+    Ok((answer.text, answer.bad))
+}
+
+// Lines that are no commands on a column of `u8?`.
+const BAD_LINES: &[&str] = &[
+    "jump",
+    "Rows",
+    "\trows",
+    "rows\r",
+    "col",
+    "col u9 1",
+    "col u8??",
+    "col u8 256",
+    "col u8 -1",
+    "col i8 128",
+    "col i8 -129",
+    "col u64 18446744073709551616",
+    "col i64 9223372036854775808",
+    "col i32 1 null",
+    "col i32 +5",
+    "col i32 -",
+    "col i32 --5",
+    "col i32 5-",
+    "col i32? Null",
+    "col i32 1\t2",
+    "col i32 0x10",
+    "runs i32",
+    "runs i32 u32 0 / 1",
+    "runs i32 u32 -1 10 10 / 1",
+    "runs i32 u32? 0 10 10 / 1",
+    "runs i32 u32 0 10 2 5 10",
+    "runs i32 u32 0 10 2 5 10/ 1 2 3",
+    "runs i32 u8 0 3 256 / 1",
+    "runs i32 u8 0 3 null / 1",
+    "runs i8 u8 0 3 3 / 128",
+    "runs i8 u8 0 3 3 / null",
+    "runs i8 u8 0 3 3 / 1 / 2",
+    "encode 1",
+    "at",
+    "at 1 2",
+    "at -0",
+    "at +1",
+    "at 18446744073709551616",
+    "slice 1",
+    "slice 1 2 3",
+    "slice -1 2",
+    "filter 2",
+    "filter 0x",
+    "filter 0 1",
+    "filter /",
+    "filter true",
+    "take 9223372036854775808",
+    "take -9223372036854775809",
+    "take +1",
+    "take 0 Null",
+    "take 1,0",
+    "cast",
+    "cast u128",
+    "cast u8 u8",
+    "fill",
+    "fill 7 7",
+    "fill 256",
+    "fill -1",
+    "fill +1",
+    "fill Null",
+    "fill 0x1",
+    "sum 1",
+    "minmax 1",
+    "constant true",
+    "sorted strict",
+    "strict 1",
+    "kernels",
+    "kernels All",
+    "kernels zero",
+    "kernels all none",
+    "thresholds",
+    "thresholds all",
+    "thresholds zero 0",
+    "meta 08",
+    "read 1",
+    "read GG",
+    "read 0G",
+    "read +8",
+    "read 008",
+    "read 08 2",
+    "read 0x",
+    "read 08,02",
+];
+
+#[test]
+fn lines_that_are_no_commands(rt: HostRuntime) -> Result<(), Fail> {
+    for line in BAD_LINES {
+        let text = format!(in rt.alloc(); "\n col u8? null\n\n{line}\nrows\n")?;
+        let (found, ended) = answered(rt.alloc(), text.as_str())?;
+        assert_eq!(rt; found.as_str(), "ok\nline 4: bad command\n", "of {line:?}");
+        assert!(rt; ended);
+    }
+    Ok(())
+}
+
+#[test]
+fn lines_that_want_a_column(rt: HostRuntime) -> Result<(), Fail> {
+    for line in [
+        "encode",
+        "rows",
+        "at 0",
+        "slice 0 0",
+        "filter",
+        "take",
+        "cast u8",
+        "fill 0",
+        "sum",
+        "kernels all",
+        "thresholds zero",
+        "meta",
+        "read 08 02",
+    ] {
+        let (found, ended) = answered(rt.alloc(), line)?;
+        assert_eq!(rt; found.as_str(), "line 1: bad command\n", "of {line:?}");
+        assert!(rt; ended);
+    }
+    Ok(())
+}
+
+#[test]
+fn served_inputs(rt: HostRuntime) -> Result<(), Fail> {
+    for (input, status, text) in [
+        (b"".as_slice(), 0, ""),
+        (b" \n\n".as_slice(), 0, ""),
+        (b"col u8 1\nrows".as_slice(), 0, "ok\nrows 1\n"),
+        (b"col u8\njump\n".as_slice(), 2, "ok\nline 2: bad command\n"),
+        (b"col u8\n\xff".as_slice(), 2, "not UTF-8\n"),
+    ] {
+        let mut ctx = ExecutionCtx::new(VortexSession::empty(), rt.alloc());
+        let mut input = input;
+        let mut out = Vec::new(rt.alloc());
+        let mut err = Vec::new(rt.alloc());
+        let found = serve(&mut input, &mut out, &mut err, &mut ctx);
+        assert_eq!(rt; found, status, "before {text:?}");
+        assert_eq!(rt; out.as_slice(), text.as_bytes());
+        assert!(rt; err.is_empty());
+    }
+    Ok(())
+}
+
+// Three blocks of 65,536 bytes, the last of them not full, and so four reads that have to succeed.
+const LONG: usize = 140_000;
+
+#[test]
+fn reads_that_fail(rt: HostRuntime) -> Result<(), Fail> {
+    let text = vec![in rt.alloc(); b'\n'; LONG]?;
+    for failing in 1..6u64 {
+        let mut ctx = ExecutionCtx::new(VortexSession::empty(), rt.alloc());
+        let mut input = FailsAt::new(&text, failing);
+        let mut out = Vec::new(rt.alloc());
+        let mut err = Vec::new(rt.alloc());
+        let status = serve(&mut input, &mut out, &mut err, &mut ctx);
+        let (due, said) = if failing < 5 {
+            (3, "cannot read input\n")
+        } else {
+            (0, "")
+        };
+        assert_eq!(rt; status, due);
+        assert_eq!(rt; err.as_slice(), said.as_bytes());
+        assert!(rt; out.is_empty());
+    }
+    Ok(())
+}
+
+#[test]
+fn input_without_end(rt: HostRuntime) {
+    let mut ctx = ExecutionCtx::new(VortexSession::empty(), rt.alloc());
+    let mut input = Endless::new();
+    let mut out = Vec::new(rt.alloc());
+    let mut err = Vec::new(rt.alloc());
+    assert_eq!(rt; serve(&mut input, &mut out, &mut err, &mut ctx), 3);
+    assert_eq!(rt; input.calls(), 1_048_576);
+    assert_eq!(rt; err.as_slice(), b"cannot read input\n".as_slice());
+    assert!(rt; out.is_empty());
+}
+
+#[test]
+fn a_write_that_fails(rt: HostRuntime) {
+    let mut ctx = ExecutionCtx::new(VortexSession::empty(), rt.alloc());
+    let mut input = b"col u8\n".as_slice();
+    let mut err = Vec::new(rt.alloc());
+    assert_eq!(rt; serve(&mut input, &mut Closed, &mut err, &mut ctx), 3);
+    assert!(rt; err.is_empty());
+}
+
+// Lines for each way of making and answering that asks for memory.
+const SERVED: &[u8] =
+    b"col u8? 7 7 null\nencode\nshow\nrows\nat 3\nruns i8 u8 0 2 1 2 / 4 5\nslice 1 2\nminmax\nmeta\nread 08 01\n";
+
+const SERVED_ANSWERS: &[u8] =
+    b"ok\nok\nruns u8? u8 offset 0 length 3 ends 2 3 values 7 null\nrows 7 7 null\nrefused 8 3 3\nok\nok\nminmax 5 5\nnot runs\nread u16 runs 0 offset 0\n";
+
+#[test]
+fn growths_that_are_refused(rt: HostRuntime) {
+    let mut met = 0u64;
+    for request in 1..99u64 {
+        let heap = Refusing::from(rt.alloc(), request);
+        let mut ctx = ExecutionCtx::new(VortexSession::empty(), &heap);
+        let mut input = SERVED;
+        let mut out = Vec::new(rt.alloc());
+        let mut err = Vec::new(rt.alloc());
+        let status = serve(&mut input, &mut out, &mut err, &mut ctx);
+        if heap.refused() == 0 {
+            assert_eq!(rt; status, 0);
+            assert_eq!(rt; out.as_slice(), SERVED_ANSWERS);
+            break;
+        }
+        assert_eq!(rt; status, 3);
+        assert_eq!(rt; err.as_slice(), b"out of memory\n".as_slice());
+        assert!(rt; out.is_empty());
+        met = request;
+    }
+    assert!(rt; met > 9 && met < 98);
+}

@@ -1,0 +1,20 @@
+use Rattle.std.proofs.Common.{length, inl}
+use Rattle.column_ops.specs.Codes.{code_fault}
+use Rattle.runend_array.specs.Array.{rows}
+use Rattle.runend_array.specs.Column.{column_of_runs, plain_of}
+use Rattle.runend_map.proofs.PassedOn.{no_value}
+use Rattle.column_ops.proofs.IndexPositions.{refused-passed_on}
+use Rattle.runend_map.proofs.dictionary.take_each.Goals as goal
+
+pub returns-in_err-indices-clause-dtype : goal.returns-in_err-indices-clause-dtype
+returns-in_err-indices-clause-dtype g c = no_value _ c.from_residual.result c.from_residual.ensures.0
+
+pub returns-in_err-indices-clause-flat : goal.returns-in_err-indices-clause-flat
+returns-in_err-indices-clause-flat g c = no_value _ c.from_residual.result c.from_residual.ensures.0
+
+pub returns-in_err-indices-clause-refused : goal.returns-in_err-indices-clause-refused
+returns-in_err-indices-clause-refused g c =
+    refused-passed_on (code_fault (plain_of (column_of_runs c.args.codes.now)) (length (rows c.args.dictionary.now))) c.in_err-indices.field-0.0 c.from_residual.result c.from_residual.ensures.1 (inl c.in_err-indices.ensures.only)
+
+pub returns-in_err-indices-clause-rows : goal.returns-in_err-indices-clause-rows
+returns-in_err-indices-clause-rows g c = no_value _ c.from_residual.result c.from_residual.ensures.0

@@ -1,0 +1,226 @@
+//! The commands of the script.
+use column_base::{Nullability, PType};
+use script_text::{Words, parse_count, parse_ptype, parse_type};
+
+/// The word between the ends and the values of a `runs` line.
+pub const SLASH: &str = "/";
+
+/// What a line of the script says.
+#[derive(Clone, Copy)]
+pub enum Line<'a> {
+    /// It has no words.
+    Blank,
+    /// It is a command.
+    Command(Command<'a>),
+    /// It has words, and they are no command.
+    Bad,
+}
+
+/// What a line sets of the session.
+#[derive(Clone, Copy)]
+pub enum Setting {
+    /// Every kernel is registered.
+    AllKernels,
+    /// No kernel is registered.
+    NoKernels,
+    /// The thresholds are those of the crate.
+    CrateThresholds,
+    /// The thresholds are all 0.
+    ZeroThresholds,
+}
+
+/// A command on the column.
+#[derive(Clone, Copy)]
+pub enum Command<'a> {
+    /// A flat column of the listed rows replaces the column. The words are yet to be read.
+    Col(PType, Nullability, Words<'a>),
+    /// A run column of the listed runs replaces the column. The words are yet to be read.
+    Runs(RunsLine<'a>),
+    /// The column is written as runs.
+    Encode,
+    /// The column is written row by row.
+    Decode,
+    /// The form of the column is shown.
+    Show,
+    /// The rows of the column are shown.
+    Rows,
+    /// The row of this number, counted from 0, is shown.
+    At(u64),
+    /// The rows from the first number to before the second, counted from 0, replace the column.
+    Slice(u64, u64),
+    /// The rows that a word of bits selects replace the column. The word is yet to be read, and is empty
+    /// where the line has none.
+    Filter(&'a str),
+    /// The rows at the listed indices replace the column. The words are yet to be read.
+    Take(Words<'a>),
+    /// The rows are cast to this type.
+    Cast(PType, Nullability),
+    /// Each null is filled. The word is yet to be read, since the column's type says what it may be.
+    Fill(&'a str),
+    /// The sum of the rows is shown.
+    Sum,
+    /// The least and the greatest row are shown.
+    MinMax,
+    /// Whether the rows are constant is shown.
+    Constant,
+    /// Whether the rows are sorted is shown.
+    Sorted,
+    /// Whether the rows are strictly sorted is shown.
+    Strict,
+    /// The session is set, and the column stays.
+    Set(Setting),
+    /// The bytes of the column's metadata record are shown.
+    Meta,
+    /// What a metadata record of these bytes says is shown. The words are yet to be read.
+    Read(Words<'a>),
+}
+
+/// What a `runs` line says of the run column.
+#[derive(Clone, Copy)]
+pub struct RunsLine<'a> {
+    /// The type of the rows: of what numbers, and whether null is among them.
+    pub ptype: PType,
+    pub nullability: Nullability,
+    /// Of what numbers the ends are.
+    pub ends_ptype: PType,
+    /// How many rows of the runs lie before the window.
+    pub offset: u64,
+    /// How many rows the window has.
+    pub length: u64,
+    /// The words from the first end on. The ends stop before the first slash.
+    pub ends: Words<'a>,
+    /// The words behind that slash, the values.
+    pub values: Words<'a>,
+}
+
+/// What the line says. The words behind the type of a `col` line are not looked at, nor are the ends
+/// and values of a `runs` line, the bits of a `filter` line, the indices of a `take` line, the value of a
+/// `fill` line and the bytes of a `read` line.
+pub fn read_line(line: &str) -> Line<'_> {
+    let mut words = Words::new(line);
+    let Some(name) = words.next() else {
+        return Line::Blank;
+    };
+    match read_command(name, words) {
+        Some(command) => Line::Command(command),
+        None => Line::Bad,
+    }
+}
+
+// The command of this name, where these words may follow it.
+fn read_command<'a>(name: &str, words: Words<'a>) -> Option<Command<'a>> {
+    match read_name(name) {
+        Some(command) => ended(words, command),
+        None => read_longer(name, words),
+    }
+}
+
+// The command that is its name alone.
+fn read_name<'a>(name: &str) -> Option<Command<'a>> {
+    match name {
+        "encode" => Some(Command::Encode),
+        "decode" => Some(Command::Decode),
+        "show" => Some(Command::Show),
+        "rows" => Some(Command::Rows),
+        "sum" => Some(Command::Sum),
+        "minmax" => Some(Command::MinMax),
+        "constant" => Some(Command::Constant),
+        "sorted" => Some(Command::Sorted),
+        "strict" => Some(Command::Strict),
+        "meta" => Some(Command::Meta),
+        _ => None,
+    }
+}
+
+// The command of this name that more words belong to.
+fn read_longer<'a>(name: &str, words: Words<'a>) -> Option<Command<'a>> {
+    match name {
+        "col" => read_col(words),
+        "runs" => read_runs(words),
+        "at" => read_at(words),
+        "slice" => read_slice(words),
+        "filter" => read_filter(words),
+        "take" => Some(Command::Take(words)),
+        "cast" => read_cast(words),
+        "fill" => read_fill(words),
+        "kernels" | "thresholds" => read_setting(name, words),
+        "read" => Some(Command::Read(words)),
+        _ => None,
+    }
+}
+
+// The command of a `col` line. The words behind its type are its rows.
+fn read_col(mut words: Words<'_>) -> Option<Command<'_>> {
+    let (ptype, nullability) = parse_type(words.next()?)?;
+    Some(Command::Col(ptype, nullability, words))
+}
+
+// The command of an `at` line: the index of a row.
+fn read_at(mut words: Words<'_>) -> Option<Command<'_>> {
+    let index = parse_count(words.next()?)?;
+    ended(words, Command::At(index))
+}
+
+// The command of a `filter` line: a word of bits, or none.
+fn read_filter(mut words: Words<'_>) -> Option<Command<'_>> {
+    let bits = words.next().unwrap_or("");
+    ended(words, Command::Filter(bits))
+}
+
+// The command of a `cast` line: a type.
+fn read_cast(mut words: Words<'_>) -> Option<Command<'_>> {
+    let (ptype, nullability) = parse_type(words.next()?)?;
+    ended(words, Command::Cast(ptype, nullability))
+}
+
+// The command of a `fill` line: the word of a value.
+fn read_fill(mut words: Words<'_>) -> Option<Command<'_>> {
+    let value = words.next()?;
+    ended(words, Command::Fill(value))
+}
+
+// The command of a `slice` line: where the rows start, and where they stop.
+fn read_slice(mut words: Words<'_>) -> Option<Command<'_>> {
+    let start = parse_count(words.next()?)?;
+    let stop = parse_count(words.next()?)?;
+    ended(words, Command::Slice(start, stop))
+}
+
+// The command of a `runs` line with these words. A slash parts the ends from the values.
+fn read_runs(mut words: Words<'_>) -> Option<Command<'_>> {
+    let (ptype, nullability) = parse_type(words.next()?)?;
+    let ends_ptype = parse_ptype(words.next()?)?;
+    let offset = parse_count(words.next()?)?;
+    let length = parse_count(words.next()?)?;
+    let ends = words;
+    let _slash = words.find(|word| *word == SLASH)?;
+    Some(Command::Runs(RunsLine {
+        ptype,
+        nullability,
+        ends_ptype,
+        offset,
+        length,
+        ends,
+        values: words,
+    }))
+}
+
+// The command of a `kernels` or `thresholds` line with these words.
+fn read_setting<'a>(name: &str, mut words: Words<'a>) -> Option<Command<'a>> {
+    let setting = match (name, words.next()?) {
+        ("kernels", "all") => Setting::AllKernels,
+        ("kernels", "none") => Setting::NoKernels,
+        ("thresholds", "crate") => Setting::CrateThresholds,
+        ("thresholds", "zero") => Setting::ZeroThresholds,
+        _ => return None,
+    };
+    ended(words, Command::Set(setting))
+}
+
+// The command, where no word is left.
+fn ended<'a>(mut words: Words<'a>, command: Command<'a>) -> Option<Command<'a>> {
+    match words.next() {
+        None => Some(command),
+        Some(_) => None,
+    }
+}

@@ -1,0 +1,11 @@
+//! Scripts of commands on a column: their lines are read, done, and answered by a line each.
+#![tactic(auto)]
+
+mod command;
+mod record;
+mod scripts;
+mod serving;
+mod session;
+
+pub use scripts::{ScriptAnswer, script};
+pub use serving::serve;

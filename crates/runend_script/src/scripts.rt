@@ -1,0 +1,384 @@
+//! Runs a script of commands on one column.
+ghost use Rattle.std.specs.Prelude.{◌≡◌, ◌≢◌, ◌⊎◌, ◌↔◌, IfOk, IfSome, IsOkUnless, IsTrue, MatchResult, OnErr};
+ghost use Rattle.std.specs.Iterator.{IsFinite};
+ghost use Rattle.runend_array.specs.Array.{column_of};
+ghost use Rattle.runend_array.specs.Column.{AreParts, column_of_runs, runs_of};
+ghost use Rattle.runend_array.specs.Fault.{PartsFault};
+ghost use Rattle.runend_commands.specs.declared.command.Answer.TheVariants.{Done};
+ghost use Rattle.runend_script.specs.declared.command.Command.TheVariants as line;
+ghost use Rattle.runend_script.specs.Listed.{AreRunsOf, IsFlatOf};
+ghost use Rattle.runend_script.specs.Replies.{IsKeptOrStep, IsReplyTo, Tells};
+ghost use Rattle.runend_script.specs.Session.{IsSessionAfter};
+
+use crate::command::{Command, Line, RunsLine, SLASH, Setting, read_line};
+use crate::record::{meta_line, read_record};
+use crate::session::set_session;
+use column_base::{DType, Nullability, PType, VortexError, VortexResult};
+use runend_commands::{Answer, Command as ColumnCommand, execute_one};
+use script_answers::{answer_line, form_line, has_line, refusal_line, rows_line};
+use script_text::{read_indices, read_mask, read_scalar, read_values};
+use std::alloc::{AllocError, Allocator};
+use std::mem::replace;
+use vortex_runend::{ArrayRef, ExecutionCtx, PrimitiveArray, RunEnd};
+
+/// What a script prints: its answer lines, each with a line feed, and whether the last of them says
+/// that a line was no command, which ended the script.
+#[derive(Drop)]
+pub struct ScriptAnswer<A: Allocator> {
+    pub text: String<A>,
+    pub bad: bool,
+}
+
+// What comes of a line.
+#[derive(Drop)]
+enum Reply<A: Allocator> {
+    // Nothing, since it has no words.
+    Silent,
+    // The command is done, and there is nothing more to say.
+    Done,
+    // This answer line.
+    Line(String<A>),
+    // It is no command here.
+    Bad,
+}
+
+/// Runs the script line by line until a line is no command. Refusals are answered, and leave the
+/// column as it is; `OutOfMemory` alone ends the script without an answer.
+pub fn script<A: Allocator + Copy>(
+    text: &str,
+    ctx: &mut ExecutionCtx<A>,
+) -> VortexResult<ScriptAnswer<A>>
+    ensures only { IsOkUnless result VortexError.OutOfMemory }
+{
+    let mut answers = String::new(*ctx.allocator());
+    let mut column = None;
+    let ended = answer_lines(text, &mut answers, &mut column, ctx);
+    drop(column);
+    match ended {
+        Ok(bad) => Ok(ScriptAnswer { text: answers, bad }),
+        Err(error) => {
+            drop(answers);
+            Err(error)
+        }
+    }
+}
+
+// Puts the answer lines of the script behind the answers, up to the first line that is no command. Is there one?
+fn answer_lines<A: Allocator + Copy>(
+    text: &str,
+    answers: &mut String<A>,
+    column: &mut Option<ArrayRef<A>>,
+    ctx: &mut ExecutionCtx<A>,
+) -> VortexResult<bool>
+    ensures only { IsOkUnless result VortexError.OutOfMemory }
+{
+    let mut before = 0usize;
+    for line in text.split('\n') {
+        let reply = reply_to(line, column, ctx)?;
+        let bad = push_reply(answers, before, reply)?;
+        if bad {
+            return Ok(true);
+        }
+        // A text has fewer lines than 2^64.
+        before = before.saturating_add(1);
+    }
+    Ok(false)
+}
+
+// Puts the line of the reply behind the answers, where it has one. Was the line, which so many stand before, no
+// command?
+fn push_reply<A: Allocator + Copy>(
+    answers: &mut String<A>,
+    before: usize,
+    reply: Reply<A>,
+) -> Result<bool, AllocError> {
+    match reply {
+        Reply::Silent => {}
+        Reply::Done => answers.push_str("ok\n")?,
+        Reply::Line(answer) => {
+            let pushed = writeln!(answers, "{answer}");
+            drop(answer);
+            pushed?
+        }
+        Reply::Bad => {
+            let number = before.saturating_add(1);
+            writeln!(answers, "line {number}: bad command")?;
+            return Ok(true);
+        }
+    }
+    Ok(false)
+}
+
+// What comes of the line, where refusals are answers.
+fn reply_to<A: Allocator + Copy>(
+    line: &str,
+    column: &mut Option<ArrayRef<A>>,
+    ctx: &mut ExecutionCtx<A>,
+) -> VortexResult<Reply<A>>
+    ensures only { IsOkUnless result VortexError.OutOfMemory }
+{
+    let command = match read_line(line) {
+        Line::Blank => return Ok(Reply::Silent),
+        Line::Bad => return Ok(Reply::Bad),
+        Line::Command(command) => command,
+    };
+    let outcome = perform(command, column, ctx);
+    told(*ctx.allocator(), outcome)
+}
+
+// The same, with a refusal as its line; refused memory alone stays refused.
+fn told<A: Allocator + Copy>(alloc: A, outcome: VortexResult<Reply<A>>) -> VortexResult<Reply<A>>
+    ensures only { IsOkUnless result VortexError.OutOfMemory }
+{
+    match outcome {
+        Ok(reply) => Ok(reply),
+        Err(VortexError::OutOfMemory) => Err(VortexError::OutOfMemory),
+        Err(error) => {
+            let refused = refusal_line(alloc, error)?;
+            Ok(Reply::Line(refused))
+        }
+    }
+}
+
+// Does the command. It is bad where it asks for rows that are none of their type, or for a column
+// where none stands yet.
+#[tactic(auto, using(crate::proofs::Sessions::left_by_others))]
+fn perform<A: Allocator + Copy>(
+    command: Command<'_>,
+    column: &mut Option<ArrayRef<A>>,
+    ctx: &mut ExecutionCtx<A>,
+) -> VortexResult<Reply<A>>
+    ensures kept { OnErr result (column.new ≡ column.old) }
+    ensures session { IsSessionAfter command.entry column.old ctx.old ctx.new }
+{
+    let made = match command {
+        Command::Col(ptype, nullability, words) => {
+            plain_of(*ctx.allocator(), ptype, nullability, words)?
+        }
+        Command::Runs(line) => runs_of_line(line, ctx)?,
+        Command::Set(setting) => return Ok(set_beside(setting, column, ctx)),
+        _ => {
+            return match column {
+                Some(array) => perform_on(command, array, ctx),
+                None => Ok(Reply::Bad),
+            };
+        }
+    };
+    let Some(array) = made else {
+        return Ok(Reply::Bad);
+    };
+    drop(replace(column, Some(array)));
+    Ok(Reply::Done)
+}
+
+// Sets the session beside the column that stands. It is bad where none stands yet.
+#[tactic(auto, using(crate::proofs::Sessions::unset_without_column, crate::proofs::Sessions::set_beside_column))]
+fn set_beside<A: Allocator + Copy>(
+    setting: Setting,
+    column: &Option<ArrayRef<A>>,
+    ctx: &mut ExecutionCtx<A>,
+) -> Reply<A>
+    ensures session { IsSessionAfter (line.Set setting) column.now ctx.old ctx.new }
+{
+    if column.is_none() {
+        return Reply::Bad;
+    }
+    set_session(setting, ctx);
+    Reply::Done
+}
+
+// The flat column of the rows that the words stand for, or `None` where a word stands for none.
+fn plain_of<'a, I: Iterator<Item = &'a str> + Drop, A: Allocator + Copy>(
+    alloc: A,
+    ptype: PType,
+    nullability: Nullability,
+    words: I,
+) -> VortexResult<Option<ArrayRef<A>>>
+    requires can { I.can_next words }
+    requires finite { IsFinite (I.remaining words) }
+    ensures only { IsOkUnless result VortexError.OutOfMemory }
+    ensures flat { IfOk result (λ made. IfSome made (λ array. IsFlatOf ptype (column_of array))) }
+{
+    let Some(listed) = read_values(alloc, ptype, nullability, words)? else {
+        return Ok(None);
+    };
+    let array = PrimitiveArray::new_unchecked(listed.numbers, listed.validity);
+    Ok(Some(ArrayRef::Primitive(array)))
+}
+
+// The run column of the line, or `None` where a word of it stands for no end or no row. Refused as
+// `try_new_offset_length` is, and as `OutOfMemory`.
+fn runs_of_line<A: Allocator + Copy>(
+    line: RunsLine<'_>,
+    ctx: &mut ExecutionCtx<A>,
+) -> VortexResult<Option<ArrayRef<A>>>
+    ensures runs { IfOk result (λ made. IfSome made
+        (λ array. AreRunsOf line.entry.ptype line.entry.ends_ptype line.entry.offset line.entry.length (column_of array))) }
+    ensures session { ctx.new ≡ ctx.old }
+{
+    let alloc = *ctx.allocator();
+    let words = line.ends.take_while(|word| *word != SLASH);
+    let Some(ends) = plain_of(alloc, line.ends_ptype, Nullability::NonNullable, words)? else {
+        return Ok(None);
+    };
+    let offset = line.offset as usize;
+    let length = line.length as usize;
+    match plain_of(alloc, line.ptype, line.nullability, line.values) {
+        Ok(Some(values)) => {
+            let array = runs_of_parts(ends, values, offset, length, ctx)?;
+            Ok(Some(array))
+        }
+        Ok(None) => {
+            drop(ends);
+            Ok(None)
+        }
+        Err(error) => {
+            drop(ends);
+            Err(error)
+        }
+    }
+}
+
+// The run column of these parts. Refused as `try_new_offset_length` is, and as `OutOfMemory`.
+fn runs_of_parts<A: Allocator + Copy>(
+    ends: ArrayRef<A>,
+    values: ArrayRef<A>,
+    offset: usize,
+    length: usize,
+    ctx: &mut ExecutionCtx<A>,
+) -> VortexResult<ArrayRef<A>>
+    ensures parts { MatchResult result
+        (λ array. AreParts (column_of ends) (column_of values) offset length × (column_of array ≡ column_of_runs (runs_of (column_of ends) (column_of values) offset length)))
+        (λ error. (error ≡ VortexError.OutOfMemory) ⊎ PartsFault (column_of ends) (column_of values) offset length error) }
+    ensures session { ctx.new ≡ ctx.old }
+{
+    let runs = RunEnd::try_new_offset_length(ends, values, offset, length, ctx)?;
+    let boxed = Box::new(*ctx.allocator(), runs)?;
+    Ok(ArrayRef::RunEnd(boxed))
+}
+
+// Does the command on the column that stands.
+#[tactic(auto, using(crate::proofs::Replies::step_of_reply))]
+fn perform_on<A: Allocator + Copy>(
+    command: Command<'_>,
+    column: &mut ArrayRef<A>,
+    ctx: &mut ExecutionCtx<A>,
+) -> VortexResult<Reply<A>>
+    ensures step { IfOk result (λ reply. IsKeptOrStep column.old column.new) }
+    ensures kept { OnErr result (column.new ≡ column.old) }
+    ensures session { ctx.new ≡ ctx.old }
+{
+    match command {
+        Command::Show => Ok(Reply::Line(form_line(*ctx.allocator(), column)?)),
+        Command::Rows => Ok(Reply::Line(rows_line(*ctx.allocator(), column)?)),
+        Command::Meta => Ok(Reply::Line(meta_line(column, ctx)?)),
+        Command::Read(words) => match read_record(words, ctx)? {
+            Some(line) => Ok(Reply::Line(line)),
+            None => Ok(Reply::Bad),
+        },
+        Command::Filter(bits) => match read_mask(*ctx.allocator(), bits)? {
+            Some(mask) => reply_of(ColumnCommand::Filter(mask), column, ctx),
+            None => Ok(Reply::Bad),
+        },
+        Command::Take(words) => match read_indices(*ctx.allocator(), words)? {
+            Some(indices) => reply_of(ColumnCommand::Take(indices), column, ctx),
+            None => Ok(Reply::Bad),
+        },
+        _ => match column_command(command, column.dtype()) {
+            Some(executed) => reply_of(executed, column, ctx),
+            None => Ok(Reply::Bad),
+        },
+    }
+}
+
+// The command that is executed on a column of the type, or `None` where the line is no such command or
+// a word of it is none that the type has.
+fn column_command<A: Allocator>(command: Command<'_>, dtype: DType) -> Option<ColumnCommand<A>> {
+    match command {
+        Command::Encode => Some(ColumnCommand::Encode),
+        Command::Decode => Some(ColumnCommand::Decode),
+        Command::At(index) => Some(ColumnCommand::At(index as usize)),
+        Command::Slice(start, stop) => Some(ColumnCommand::Slice(start as usize..stop as usize)),
+        Command::Cast(ptype, nullability) => {
+            let target = DType::Primitive(ptype, nullability);
+            Some(ColumnCommand::Cast(target))
+        }
+        Command::Fill(word) => Some(ColumnCommand::FillNull(read_scalar(dtype, word)?)),
+        Command::Sum => Some(ColumnCommand::Sum),
+        Command::MinMax => Some(ColumnCommand::MinMax),
+        Command::Constant => Some(ColumnCommand::IsConstant),
+        Command::Sorted => Some(ColumnCommand::IsSorted { strict: false }),
+        Command::Strict => Some(ColumnCommand::IsSorted { strict: true }),
+        _ => None,
+    }
+}
+
+// Executes the command, and answers by the line of what it was answered.
+fn reply_of<A: Allocator + Copy>(
+    command: ColumnCommand<A>,
+    column: &mut ArrayRef<A>,
+    ctx: &mut ExecutionCtx<A>,
+) -> VortexResult<Reply<A>>
+    ensures answered { IfOk result (λ reply. IsReplyTo column.old command column.new reply) }
+    ensures kept { OnErr result (column.new ≡ column.old) }
+    ensures session { ctx.new ≡ ctx.old }
+{
+    let reply = reply_by(&command, column, ctx);
+    drop(command);
+    reply
+}
+
+// The same, of a command that its owner drops.
+fn reply_by<A: Allocator + Copy>(
+    command: &ColumnCommand<A>,
+    column: &mut ArrayRef<A>,
+    ctx: &mut ExecutionCtx<A>,
+) -> VortexResult<Reply<A>>
+    ensures answered { IfOk result (λ reply. IsReplyTo column.old command.now column.new reply) }
+    ensures kept { OnErr result (column.new ≡ column.old) }
+    ensures session { ctx.new ≡ ctx.old }
+{
+    let answer = execute_one(command, column, ctx);
+    let reply = reply_that(command, &answer, ctx);
+    drop(answer);
+    reply
+}
+
+// What tells the answer. A command that is done needs no line, so that want of memory for one leaves the column as it
+// was. `Unsupported` where there is no line, as there is none of what is no whole number.
+fn reply_that<A: Allocator + Copy>(
+    command: &ColumnCommand<A>,
+    answer: &Answer<A>,
+    ctx: &mut ExecutionCtx<A>,
+) -> VortexResult<Reply<A>>
+    ensures told { IfOk result (λ reply. Tells command.now answer.now reply) }
+    ensures undone { OnErr result (answer.now ≢ Done) }
+    ensures session { ctx.new ≡ ctx.old }
+{
+    if is_done(answer) {
+        return Ok(Reply::Done);
+    }
+    if !has_line(command, answer) {
+        return Err(want_of(answer));
+    }
+    let line = answer_line(command, answer, ctx)?;
+    Ok(Reply::Line(line))
+}
+
+// Is it answered that the command is done?
+fn is_done<A: Allocator>(answer: &Answer<A>) -> bool
+    ensures { IsTrue result ↔ (answer.now ≡ Done) }
+{
+    match answer {
+        Answer::Done => true,
+        _ => false,
+    }
+}
+
+// Why an answer has no line.
+fn want_of<A: Allocator>(answer: &Answer<A>) -> VortexError {
+    match answer {
+        Answer::Refused(error) => *error,
+        _ => VortexError::Unsupported,
+    }
+}

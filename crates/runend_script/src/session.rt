@@ -1,0 +1,49 @@
+//! What lines set of the session.
+ghost use Rattle.runend_script.specs.Session.{IsSetTo};
+
+use crate::command::Setting;
+use std::alloc::Allocator;
+use vortex_runend::{ExecutionCtx, Thresholds, VortexSession, initialize};
+
+/// Sets the session: which kernels are registered, and the thresholds stay; or the thresholds, and each
+/// kernel stays registered or not.
+pub fn set_session<A: Allocator + Copy>(setting: Setting, ctx: &mut ExecutionCtx<A>)
+    ensures { IsSetTo setting ctx.old ctx.new }
+{
+    match setting {
+        Setting::AllKernels => register_all(ctx.session_mut()),
+        Setting::NoKernels => {
+            let session = without_kernels(ctx.session());
+            *ctx = ExecutionCtx::new(session, *ctx.allocator());
+        }
+        Setting::CrateThresholds => set_crate_thresholds(ctx.session_mut()),
+        Setting::ZeroThresholds => ctx.session_mut().set_thresholds(Thresholds::default()),
+    }
+}
+
+// Registers every kernel, and keeps the thresholds.
+fn register_all(session: &mut VortexSession)
+    ensures { IsSetTo Setting.AllKernels session.old session.new }
+{
+    let thresholds = session.thresholds();
+    initialize(session);
+    session.set_thresholds(thresholds);
+}
+
+// A session of these thresholds, with no kernel.
+fn without_kernels(session: &VortexSession) -> VortexSession
+    ensures { IsSetTo Setting.NoKernels session.now result }
+{
+    let mut bare = VortexSession::empty();
+    bare.set_thresholds(session.thresholds());
+    bare
+}
+
+// Sets the thresholds of the crate, and keeps each kernel registered or not.
+fn set_crate_thresholds(session: &mut VortexSession)
+    ensures { IsSetTo Setting.CrateThresholds session.old session.new }
+{
+    let mut initial = VortexSession::empty();
+    initialize(&mut initial);
+    session.set_thresholds(initial.thresholds());
+}

@@ -1,6 +1,0 @@
-pub mod BitWords
-pub mod KnownInput
-pub mod WordForms
-pub mod WordSplits
-pub mod Sessions
-pub mod Replies

@@ -1,0 +1,4 @@
+pub mod BitWords
+pub mod KnownInput
+pub mod WordForms
+pub mod WordSplits

@@ -1,0 +1,10 @@
+use Rattle.std.proofs.Common.{◌≡◌, take}
+use Rattle.std.specs.List.{AllPass}
+use Rattle.script_text.specs.Bits.{bit_word, is_bit_digit}
+use Rattle.script_text.proofs.values.read_mask.Given as goal
+
+abbrev pub invariant-loop-byte : goal.invariant-loop-byte
+invariant-loop-byte g l = record {
+  bits : bit_word l.bits ≡ take l.byte-index l.word;
+  digits : AllPass is_bit_digit (take l.byte-index l.word);
+}

@@ -1,0 +1,4 @@
+pub mod Words
+pub mod Parse
+pub mod Scalars
+pub mod Bits

@@ -1,0 +1,62 @@
+//! Input that is read whole.
+ghost use Rattle.std.specs.Prelude.{◌≡◌, IfOk, OnOk, vec_len};
+ghost use Rattle.std.specs.Io.KnownBytes.{Consumes, IsAtEnd};
+ghost use Rattle.script_text.specs.declared.input.Failure.TheVariants.{OutOfMemory};
+
+use std::alloc::{AllocError, Allocator};
+use std::io::Read;
+use thiserror::Error;
+
+/// How many blocks are asked for at most: input that has not ended by then is not read.
+const MAX_READS: u64 = 1 << 20;
+
+/// How many bytes are asked for at a time.
+const BLOCK_BYTES: usize = 1 << 16;
+
+/// Why there is no answer. The text is what the program prints.
+#[derive(Clone, Copy, Debug, PartialEq, Eq, Error)]
+pub enum Failure {
+    /// A growth of memory was refused.
+    #[error("out of memory")]
+    OutOfMemory,
+    /// A read failed, or the input did not end.
+    #[error("cannot read input")]
+    CannotRead,
+}
+
+impl From<AllocError> for Failure {
+    ghost from_gives = { λ _ e. e ≡ OutOfMemory };
+
+    fn from(_error: AllocError) -> Failure {
+        Failure::OutOfMemory
+    }
+}
+
+/// All that is left of the input. Refused as `CannotRead` where a read fails, or where the input
+/// does not end within 1,048,576 reads of at most 65,536 bytes, and as `OutOfMemory`.
+#[tactic(auto, using(crate::proofs::KnownInput::consumes_none, crate::proofs::KnownInput::consumes_more, crate::proofs::KnownInput::consumes_end))]
+pub fn read_input<R: Read, A: Allocator + Copy>(
+    input: &mut R,
+    alloc: A,
+) -> Result<Vec<u8, A>, Failure>
+    ensures bytes { IfOk result (λ all. Consumes (R.remaining input.old) (R.remaining input.new) all.items) }
+    ensures end { OnOk result (IsAtEnd (R.remaining input.new)) }
+{
+    let mut all = Vec::new(alloc);
+    let mut block = empty_block(alloc)?;
+    for _ in 0..MAX_READS {
+        match input.read(&mut block) {
+            Ok(0) => return Ok(all),
+            Ok(n) => all.extend_from_slice(&block[..n])?,
+            Err(_) => return Err(Failure::CannotRead),
+        }
+    }
+    Err(Failure::CannotRead)
+}
+
+// Room for one block. It lies on the heap, since it is large for a stack.
+fn empty_block<A: Allocator + Copy>(alloc: A) -> Result<Vec<u8, A>, AllocError>
+    ensures { IfOk result (λ block. vec_len block ≡ BLOCK_BYTES) }
+{
+    vec![in alloc; 0u8; BLOCK_BYTES]
+}
