@@ -18,14 +18,20 @@ fn with_skipped_fields(alloc: Global) -> VortexResult<Vec<u8, Global>> {
 }
 
 #[test]
-fn a_record_is_built_written_and_read(rt: HostRuntime) -> Result<(), Fail> {
-    let mut metadata = RunEndMetadata::default();
+fn a_record_is_empty_at_first(rt: HostRuntime) -> Result<(), Fail> {
+    let metadata = RunEndMetadata::default();
     assert_eq!(rt;
         (metadata.ends_ptype, metadata.num_runs, metadata.offset),
         (0, 0, 0)
     );
     assert_eq!(rt; metadata.ends_ptype(), PType::U8);
     assert!(rt; metadata.encode_to_vec(rt.alloc())?.is_empty());
+    Ok(())
+}
+
+#[test]
+fn a_record_is_built_written_and_read(rt: HostRuntime) -> Result<(), Fail> {
+    let mut metadata = RunEndMetadata::default();
     metadata.set_ends_ptype(PType::U32);
     metadata.num_runs = 3;
     metadata.offset = 1;
@@ -35,12 +41,18 @@ fn a_record_is_built_written_and_read(rt: HostRuntime) -> Result<(), Fail> {
         bytes.as_slice(),
         [0x08u8, 0x02, 0x10, 0x03, 0x18, 0x01].as_slice()
     );
+    drop(bytes);
     assert_eq!(rt; write_then_read(&metadata, rt.alloc())?, metadata);
-    let offset_alone = RunEndMetadata {
+    Ok(())
+}
+
+#[test]
+fn an_offset_is_written_alone(rt: HostRuntime) -> Result<(), Fail> {
+    let metadata = RunEndMetadata {
         offset: 300,
         ..RunEndMetadata::default()
     };
-    let bytes = offset_alone.encode_to_vec(rt.alloc())?;
+    let bytes = metadata.encode_to_vec(rt.alloc())?;
     assert_eq!(rt; bytes.as_slice(), [0x18u8, 0xAC, 0x02].as_slice());
     Ok(())
 }
