@@ -1,5 +1,6 @@
 pub mod BitLists
 pub mod Ranges
+pub mod Arms
 pub mod ValidityRows
 pub mod WordDigits
 pub mod WordMasks

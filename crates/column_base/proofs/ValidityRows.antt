@@ -45,3 +45,10 @@ nullable-of_bits NeverNull bits flagged valid =
 nullable-of_bits NoneNull bits flagged valid = refl
 nullable-of_bits AllNull bits flagged valid = refl
 nullable-of_bits (ByBits own) bits flagged valid = refl
+
+-- no null and all null are two forms
+pub none_not_all : ¬ (NoneNull ≡ AllNull)
+none_not_all same = cc
+
+pub never_not_all : ¬ (NeverNull ≡ AllNull)
+never_not_all same = cc

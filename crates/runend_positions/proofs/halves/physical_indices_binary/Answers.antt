@@ -4,9 +4,20 @@ use Rattle.column_base.specs.Mask.{mask_bits}
 use Rattle.column_core.specs.Digits.{digits}
 use Rattle.runend_codec.specs.Window.{run_at}
 use Rattle.runend_positions.specs.Indices.{optional_indices, run_of, valid_count}
+use Rattle.runend_positions.proofs.Bounds.{in_bounds_of_window, position_fits}
 use Rattle.runend_positions.proofs.Places.{answered-all, answered-more, counted-all, counted-null, counted-valid, length-optional_indices, one_search_more}
 use Rattle.runend_positions.proofs.halves.physical_indices_binary.Goals as goal
 use Rattle.runend_positions.proofs.halves.physical_indices_binary.Goals.{in-Some, in-None}
+
+pub row_at-requires-clause-in_bounds : goal.row_at-requires-clause-in_bounds
+row_at-requires-clause-in_bounds g c =
+    in_bounds_of_window c.args.ends.now.ends c.args.offset (optional_indices g.T.NativePType.number c.args.indices.now (mask_bits c.args.mask.now)) c.requires.in_window
+
+pub overflow_add-offset : goal.overflow_add-offset
+overflow_add-offset g c =
+    let indices = optional_indices g.T.NativePType.number c.args.indices.now (mask_bits c.args.mask.now) in
+    let fits = position_fits c.args.ends.now.ends c.args.offset indices c.loop-place.place c.in-Some.row c.requires.in_window c.in-Some.ensures in
+    omega arith
 
 pub loop-place-preserved : goal.loop-place-preserved
 loop-place-preserved g c =

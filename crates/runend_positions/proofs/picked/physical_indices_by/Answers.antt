@@ -20,3 +20,36 @@ returns-in_ok-table-in-Table-clause-runs g c =
     let items = items_of_rows ends offset c.args.length c.deref.result.now indices (c.deref.ensures.value ∙ c.in_ok-table-in-Table.ensures.runs) c.requires.some c.requires.in_bounds in
     let same = ap (λ (s : Strategy). answer_of s ends offset indices) (sym c.in-Table.is) in
     subst (λ (xs : List ℕ). IfOk c.physical_indices_table.result (λ runs. runs.items ≡ xs)) (items ∙ same) c.physical_indices_table.ensures.items
+
+pub run_index_table-requires : goal.run_index_table-requires
+run_index_table-requires g c = c.requires.window
+
+pub physical_indices_linear_sorted-requires-clause-in_window : goal.physical_indices_linear_sorted-requires-clause-in_window
+physical_indices_linear_sorted-requires-clause-in_window g c = (c.args.length, c.requires.window, c.requires.in_bounds)
+
+pub physical_indices_linear_sorted-requires-clause-sorted : goal.physical_indices_linear_sorted-requires-clause-sorted
+physical_indices_linear_sorted-requires-clause-sorted g c = c.requires.sorted c.in-SortedMerge.is
+
+pub physical_indices_linear_unsorted-requires-clause-in_window : goal.physical_indices_linear_unsorted-requires-clause-in_window
+physical_indices_linear_unsorted-requires-clause-in_window g c = (c.args.length, c.requires.window, c.requires.in_bounds)
+
+pub physical_indices_binary-requires-clause-in_window : goal.physical_indices_binary-requires-clause-in_window
+physical_indices_binary-requires-clause-in_window g c = (c.args.length, c.requires.window, c.requires.in_bounds)
+
+pub returns-in-SortedMerge-clause-runs : goal.returns-in-SortedMerge-clause-runs
+returns-in-SortedMerge-clause-runs g c = rw c.in-SortedMerge.is c.physical_indices_linear_sorted.ensures.runs
+
+pub returns-in-SortedMerge-clause-cost : goal.returns-in-SortedMerge-clause-cost
+returns-in-SortedMerge-clause-cost g c = rw c.in-SortedMerge.is c.physical_indices_linear_sorted.ensures.cost
+
+pub returns-in-SortAndMerge-clause-runs : goal.returns-in-SortAndMerge-clause-runs
+returns-in-SortAndMerge-clause-runs g c = rw c.in-SortAndMerge.is c.physical_indices_linear_unsorted.ensures.runs
+
+pub returns-in-SortAndMerge-clause-cost : goal.returns-in-SortAndMerge-clause-cost
+returns-in-SortAndMerge-clause-cost g c = rw c.in-SortAndMerge.is c.physical_indices_linear_unsorted.ensures.cost
+
+pub returns-in-Binary-clause-runs : goal.returns-in-Binary-clause-runs
+returns-in-Binary-clause-runs g c = rw c.in-Binary.is c.physical_indices_binary.ensures.runs
+
+pub returns-in-Binary-clause-cost : goal.returns-in-Binary-clause-cost
+returns-in-Binary-clause-cost g c = rw c.in-Binary.is c.physical_indices_binary.ensures.cost

@@ -1,9 +1,14 @@
-use Rattle.std.proofs.Common.{◌+◌, pos, ℕ, ap, ◌∙◌, arith}
+use Rattle.std.proofs.Common.{◌+◌, ◌^◌, pos, length, ℕ, ap, ◌∙◌, arith}
 use Rattle.std.specs.Prelude.{option_map, slice_index}
 use Rattle.column_base.specs.Mask.{mask_bits}
 use Rattle.runend_positions.specs.Indices.{item_of, optional_indices}
+use Rattle.runend_positions.proofs.Bounds.{AreInBounds-wider}
 use Rattle.runend_positions.proofs.Places.{answered-all, answered-more, item_at, length-optional_indices}
 use Rattle.runend_positions.proofs.table.physical_indices_table.Goals as goal
+
+pub row_at-requires-clause-in_bounds : goal.row_at-requires-clause-in_bounds
+row_at-requires-clause-in_bounds g c =
+    AreInBounds-wider (optional_indices g.T.NativePType.number c.args.indices.now (mask_bits c.args.mask.now)) (length c.args.table.now) (2 ^ 64) (omega arith) c.requires.in_bounds
 
 pub loop-place-preserved : goal.loop-place-preserved
 loop-place-preserved g c =
