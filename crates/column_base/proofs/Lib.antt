@@ -1,6 +1,7 @@
 pub mod BitLists
 pub mod Ranges
 pub mod Arms
+pub mod Refusals
 pub mod ValidityRows
 pub mod WordDigits
 pub mod WordMasks

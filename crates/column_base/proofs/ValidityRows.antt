@@ -16,6 +16,10 @@ slice_get-replicate n i b h =
     let at = slice_get-get_or (replicate n b) i b within in
     rw (get_or-replicate n i b b h) at at
 
+-- the same, where the place is one of the list
+pub copy_at : (n i : ℕ) (b : Bool) → i < length (replicate n b) → slice_get (replicate n b) i ≡ Some b
+copy_at n i b h = slice_get-replicate n i b (subst (λ (k : ℕ). i < k) (length-replicate n b) h)
+
 -- the flag of a row that it speaks of stands at that row
 pub flags-at : (form : ValidityForm) (n i : ℕ) → HasLength form n → i < n → slice_get (flags form n) i ≡ Some (flag_at form i)
 flags-at NeverNull n i fits h = slice_get-replicate n i true h

@@ -3,7 +3,9 @@ use Rattle.std.specs.Prelude.{slice_get}
 use Rattle.std.proofs.lemmas.List.{take_all, length-set}
 use Rattle.std.proofs.lemmas.Option.{slice_get-get_or, same_Some}
 use Rattle.column_base.specs.Mask.{mask_bits}
+use Rattle.column_base.specs.declared.error.VortexError.TheVariants.{OutOfMemory}
 use Rattle.column_base.proofs.BitLists.{fill_one, selected_more}
+use Rattle.column_base.proofs.Refusals.{nothing_made, passed_on}
 use Rattle.column_base.proofs.mask.Mask.from_indices.Goals as goal
 
 pub loop-index-preserved : goal.loop-index-preserved
@@ -26,3 +28,26 @@ returns-clause-selected g c i h =
     let all : take c.loop-index.index-index c.args.indices.now ≡ c.args.indices.now = take_all c.loop-index.index-index c.args.indices.now c.loop-index-test.false in
     let shown = rw all at (c.loop-index.invariant.selected i h) in
     rw (same, read) (λ e. shown.0 (same_Some _ _ e), λ member. ap Some (shown.1 member))
+
+pub fill_range-requires-clause-in_bounds : goal.fill_range-requires-clause-in_bounds
+fill_range-requires-clause-in_bounds g c =
+    let place = c.requires.in_bounds c.loop-index.index-index 0 c.loop-index-test.true in
+    omega (arith, place, c.loop-index.invariant.len)
+
+pub returns-clause-len : goal.returns-clause-len
+returns-clause-len g c = ap length (c.from_buffer.ensures.bits ∙ c.freeze.ensures) ∙ c.loop-index.invariant.len
+
+pub returns-clause-normal : goal.returns-clause-normal
+returns-clause-normal g c = c.from_buffer.ensures.normal
+
+pub returns-in_err-bits-clause-selected : goal.returns-in_err-bits-clause-selected
+returns-in_err-bits-clause-selected g c = nothing_made _ c.from_residual.result c.from_residual.ensures.0
+
+pub returns-in_err-bits-clause-len : goal.returns-in_err-bits-clause-len
+returns-in_err-bits-clause-len g c = nothing_made _ c.from_residual.result c.from_residual.ensures.0
+
+pub returns-in_err-bits-clause-normal : goal.returns-in_err-bits-clause-normal
+returns-in_err-bits-clause-normal g c = nothing_made _ c.from_residual.result c.from_residual.ensures.0
+
+pub returns-in_err-bits-clause-only : goal.returns-in_err-bits-clause-only
+returns-in_err-bits-clause-only g c = passed_on c.from_residual.result c.in_err-bits.field-0.0 OutOfMemory c.from_residual.ensures.1 c.in_err-bits.ensures.only
