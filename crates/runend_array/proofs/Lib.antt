@@ -3,6 +3,7 @@ pub mod ListRows
 pub mod ListParts
 pub mod ListRuns
 pub mod ListSlice
+pub mod ListWalks
 pub mod ListTake
 pub mod ShownLists
 pub mod RowFlags

@@ -34,7 +34,7 @@ made_from-push f xs ys start i x from pushed is made =
     ∙ sym (map-range_with_len_more f start (i - start) i (omega arith)) ∙ ap (λ n. map f (range_with_len start n)) (sym more)
 
 -- an item of such a list
-slice_get-made_from : {X : Type 0} (f : ℕ → X) (start n i : ℕ) → i < n → slice_get (map f (range_with_len start n)) i ≡ Some (f (start + i))
+pub slice_get-made_from : {X : Type 0} (f : ℕ → X) (start n i : ℕ) → i < n → slice_get (map f (range_with_len start n)) i ≡ Some (f (start + i))
 slice_get-made_from f start n i h =
     slice_get-get_or (map f (range_with_len start n)) i (f i) (rw (length-map-range_with_len f start n) h)
     ∙ ap Some (get_or-map-range_with_len f start n i (start + i) (f i) h refl)

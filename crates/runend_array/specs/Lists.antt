@@ -1,5 +1,5 @@
 -- What a column of lists is: for each row where its elements start and how many there are.
-use Rattle.std.specs.Prelude.{◌≡◌, ℕ, ◌+◌, ◌<◌, ◌≤◌, List, length, map, Option, None, Some, Bool, false, cond, IsTrue, max, slice_index, slice_index_or, slice_range}
+use Rattle.std.specs.Prelude.{◌≡◌, ℕ, ◌+◌, ◌<◌, ◌≤◌, List, length, map, ⊤, Option, None, Some, Bool, false, cond, IsTrue, max, slice_index, slice_index_or, slice_range}
 use Rattle.std.specs.List.{range_with_len}
 use Rattle.column_base.specs.declared.dtype.PType.{PType}
 use Rattle.column_base.specs.declared.dtype.Nullability.{Nullability}
@@ -30,6 +30,11 @@ index_at (RunIndex ends_type ends numbers offset count) i = slice_index numbers 
 abbrev pub index_numbers : Index → List ℕ
 index_numbers index = map (index_at index) (range_with_len 0 (index_count index))
 
+-- where the run of a row may be sought from: anywhere in numbers one by one, in runs from a run that is not past it
+abbrev pub IsRunUpTo : Index → ℕ → ℕ → Type 0
+IsRunUpTo (PlainIndex numbers) run i = ⊤
+IsRunUpTo (RunIndex ends_type ends numbers offset count) run i = run ≤ run_at ends (offset + i)
+
 -- which rows are valid: told row by row, or by runs over flat flags
 pub data RowValidityForm : Type 0 where
   ByRows : ValidityForm → RowValidityForm
@@ -39,6 +44,11 @@ pub data RowValidityForm : Type 0 where
 abbrev pub row_flag_at : RowValidityForm → ℕ → Bool
 row_flag_at (ByRows form) i = flag_at form i
 row_flag_at (ByRuns ends_type ends bits offset count) i = slice_index_or bits (run_at ends (offset + i)) false
+
+-- where the run of a row may be sought from, among flags
+abbrev pub IsFlagRunUpTo : RowValidityForm → ℕ → ℕ → Type 0
+IsFlagRunUpTo (ByRows form) run i = ⊤
+IsFlagRunUpTo (ByRuns ends_type ends bits offset count) run i = run ≤ run_at ends (offset + i)
 
 -- the flags of so many rows
 abbrev pub row_flags_of : RowValidityForm → ℕ → List Bool

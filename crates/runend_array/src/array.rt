@@ -1,5 +1,6 @@
 //! The run column: runs of equal rows, seen through a window.
 ghost use Rattle.std.specs.Prelude.{◌≡◌, ℕ, ◌+◌, ◌-◌, ◌<◌, ◌≤◌, ◌↔◌, Some, fold, pos, length, min, count_by, nat_le, nat_lt, slice_get, slice_index, slice_index_or, false, codes, IsTrue, IfOk, IsErrOf, IsOkUnless, MatchOption, MatchResult, map, slice_range};
+ghost use Rattle.std.specs.List.{range_with_len};
 ghost use Rattle.column_core.specs.Leaf.{OfNumbers};
 ghost use Rattle.column_core.specs.PrimitiveForm.{primitive_dtype};
 ghost use Rattle.runend_codec.specs.Ends.{IsEndsType, ends_of};
@@ -23,8 +24,11 @@ use crate::lists::{
 use crate::session::ExecutionCtx;
 use crate::validities::RowValidity;
 use crate::{compress, ops};
-use column_core::{DType, Nullability, PrimitiveArray, ScalarView, VortexError, VortexResult};
-use runend_codec::{last_end_of, validate_ends};
+use column_core::{
+    BitBuffer, BitBufferMut, DType, Nullability, PrimitiveArray, ScalarView, VortexError,
+    VortexResult,
+};
+use runend_codec::{RunWriter, last_end_of, validate_ends};
 use std::alloc::Allocator;
 use std::fmt;
 use std::hash::Hasher;
@@ -576,6 +580,105 @@ impl<A: Allocator + Copy> RunEndArray<A> {
     {
         let run = ops::run_of(&self.ends, self.offset + index);
         plain_truth_at(&self.values, run)
+    }
+
+    // The run of a row, sought from `run` on: that of an earlier row, or the first.
+    fn run_from(&self, run: usize, index: usize) -> usize
+        requires within { index < self.now.count }
+        requires before { run ≤ run_at self.now.ends (self.now.offset + index) }
+        ensures { result ≡ run_at self.now.ends (self.now.offset + index) }
+    {
+        ops::run_from(&self.ends, run, self.offset + index)
+    }
+
+    /// The number in a row of a run column over flat u64 without null, and in `run` its run, sought
+    /// from `run` on: that of an earlier row, or the first.
+    pub(crate) fn number_from(&self, run: &mut usize, index: usize) -> u64
+        requires plain { IsPlainIndex self.now.values }
+        requires within { index < self.now.count }
+        requires before { run.old ≤ run_at self.now.ends (self.now.offset + index) }
+        ensures number { result ≡ slice_index (end_numbers self.now.values) (run_at self.now.ends (self.now.offset + index)) }
+        ensures run { run.new ≡ run_at self.now.ends (self.now.offset + index) }
+    {
+        *run = self.run_from(*run, index);
+        plain_number_at(&self.values, *run)
+    }
+
+    /// The truth value in a row of a run column over flat truth values without null, and in `run` its
+    /// run, sought from `run` on: that of an earlier row, or the first.
+    pub(crate) fn truth_from(&self, run: &mut usize, index: usize) -> bool
+        requires plain { IsPlainTruths self.now.values }
+        requires within { index < self.now.count }
+        requires before { run.old ≤ run_at self.now.ends (self.now.offset + index) }
+        ensures truth { result ≡ slice_index_or (truths_of self.now.values) (run_at self.now.ends (self.now.offset + index)) false }
+        ensures run { run.new ≡ run_at self.now.ends (self.now.offset + index) }
+    {
+        *run = self.run_from(*run, index);
+        plain_truth_at(&self.values, *run)
+    }
+
+    // How many of the rows from `start` to `stop - 1` are in the runs up to this one.
+    fn reach_of(&self, run: usize, start: usize, stop: usize) -> usize
+        requires ordered { start ≤ stop }
+        requires in_bounds { stop ≤ self.now.count }
+        requires within { run < length self.now.ends }
+        ensures { result ≡ min (slice_index self.now.ends run - (self.now.offset + start)) (stop - start) }
+    {
+        ops::end_of_run(&self.ends, run)
+            .saturating_sub(self.offset + start)
+            .min(stop - start)
+    }
+
+    /// The numbers in the rows from `start` to `stop - 1` of a run column over flat u64 without null.
+    /// Each run is looked at once. Refused as `OutOfMemory` alone.
+    pub(crate) fn numbers_between(
+        &self,
+        alloc: A,
+        start: usize,
+        stop: usize,
+    ) -> VortexResult<Vec<u64, A>>
+        requires plain { IsPlainIndex self.now.values }
+        requires ordered { start ≤ stop }
+        requires in_bounds { stop ≤ self.now.count }
+        ensures only { IsOkUnless result VortexError.OutOfMemory }
+        ensures numbers { IfOk result (λ numbers. numbers.items ≡ map (λ row. slice_index (end_numbers self.now.values) (run_at self.now.ends (self.now.offset + row))) (range_with_len start (stop - start))) }
+    {
+        if start == stop {
+            return Ok(Vec::new(alloc));
+        }
+        let mut rows = RunWriter::with_room(alloc, stop - start)?;
+        let runs = self.runs_of_rows(start, stop);
+        for run in runs.start..runs.end {
+            let number = plain_number_at(&self.values, run);
+            rows.repeat_to(number, self.reach_of(run, start, stop));
+        }
+        Ok(rows.finish())
+    }
+
+    /// The truth values in the rows from `start` to `stop - 1` of a run column over flat truth values
+    /// without null. Each run is looked at once. Refused as `OutOfMemory` alone.
+    pub(crate) fn truths_between(
+        &self,
+        alloc: A,
+        start: usize,
+        stop: usize,
+    ) -> VortexResult<BitBuffer<A>>
+        requires plain { IsPlainTruths self.now.values }
+        requires ordered { start ≤ stop }
+        requires in_bounds { stop ≤ self.now.count }
+        ensures only { IsOkUnless result VortexError.OutOfMemory }
+        ensures truths { IfOk result (λ truths. truths ≡ map (λ row. slice_index_or (truths_of self.now.values) (run_at self.now.ends (self.now.offset + row)) false) (range_with_len start (stop - start))) }
+    {
+        let mut rows = BitBufferMut::with_capacity(alloc, stop - start)?;
+        if start == stop {
+            return Ok(rows.freeze());
+        }
+        let runs = self.runs_of_rows(start, stop);
+        for run in runs.start..runs.end {
+            let missing = self.reach_of(run, start, stop).saturating_sub(rows.len());
+            rows.append_n(plain_truth_at(&self.values, run), missing)?;
+        }
+        Ok(rows.freeze())
     }
 }
 

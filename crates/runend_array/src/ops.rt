@@ -1,11 +1,14 @@
 //! Which run a row is in. Ends and rows count rows, and runs are counted from 0.
-ghost use Rattle.std.specs.Prelude.{◌≡◌, ◌+◌, ◌-◌, ◌<◌, count_by, length, min, nat_le, nat_lt};
+ghost use Rattle.std.specs.Prelude.{◌≡◌, ◌+◌, ◌-◌, ◌<◌, ◌≤◌, count_by, length, map, min, nat_le, nat_lt, slice_index, unsigned_abs};
 ghost use Rattle.std.specs.List.Sorted.{IsStrictlyIncreasing};
+ghost use Rattle.column_base.specs.Numbers.{numbers, ptype_of};
+ghost use Rattle.column_base.specs.Types.{IsUnsigned};
 ghost use Rattle.runend_codec.specs.Window.{run_at};
 ghost use Rattle.runend_array.specs.Array.{column_of};
 ghost use Rattle.runend_array.specs.Column.{IsPlainEnds, end_numbers};
 
 use crate::array_ref::ArrayRef;
+use column_core::PrimitiveValues;
 use runend_codec::{ended_before, first_past_of};
 pub use runend_codec::{
     first_past, first_past_of_524288_runs, first_past_of_four_runs, first_past_of_one_run,
@@ -24,6 +27,62 @@ pub(crate) fn run_of<A: Allocator + Copy>(ends: &ArrayRef<A>, row: usize) -> usi
         ArrayRef::Primitive(plain) => first_past_of(plain, row),
         _ => unreachable!(),
     }
+}
+
+// One of the ends as they are stored.
+fn end_among<A: Allocator>(ends: &PrimitiveValues<A>, run: usize) -> usize
+    requires unsigned { IsUnsigned (ptype_of ends.now) }
+    requires within { run < length (map unsigned_abs (numbers ends.now)) }
+    ensures { result ≡ slice_index (map unsigned_abs (numbers ends.now)) run }
+{
+    match ends {
+        PrimitiveValues::U8(items) => items[run] as usize,
+        PrimitiveValues::U16(items) => items[run] as usize,
+        PrimitiveValues::U32(items) => items[run] as usize,
+        PrimitiveValues::U64(items) => items[run] as usize,
+        _ => unreachable!(),
+    }
+}
+
+/// The end of a run, over a column of ends.
+pub(crate) fn end_of_run<A: Allocator + Copy>(ends: &ArrayRef<A>, run: usize) -> usize
+    requires plain { IsPlainEnds (column_of ends.now) }
+    requires within { run < length (end_numbers (column_of ends.now)) }
+    ensures { result ≡ slice_index (end_numbers (column_of ends.now)) run }
+{
+    match ends {
+        ArrayRef::Primitive(plain) => end_among(plain.values(), run),
+        _ => unreachable!(),
+    }
+}
+
+// How many runs there are, over a column of ends.
+#[tactic(auto, using(runend_codec::proofs::Ends::length_ends_of))]
+fn run_count<A: Allocator + Copy>(ends: &ArrayRef<A>) -> usize
+    requires plain { IsPlainEnds (column_of ends.now) }
+    ensures { result ≡ length (end_numbers (column_of ends.now)) }
+{
+    match ends {
+        ArrayRef::Primitive(plain) => plain.len(),
+        _ => unreachable!(),
+    }
+}
+
+/// The run of a row, over a column of strictly increasing ends: run by run from `run` on, which is not
+/// past it. Some run ends past the row.
+pub(crate) fn run_from<A: Allocator + Copy>(ends: &ArrayRef<A>, run: usize, row: usize) -> usize
+    requires plain { IsPlainEnds (column_of ends.now) }
+    requires increasing { IsStrictlyIncreasing (end_numbers (column_of ends.now)) }
+    requires before { run ≤ run_at (end_numbers (column_of ends.now)) row }
+    requires within { run_at (end_numbers (column_of ends.now)) row < length (end_numbers (column_of ends.now)) }
+    ensures { result ≡ run_at (end_numbers (column_of ends.now)) row }
+{
+    for found in run..run_count(ends) {
+        if row < end_of_run(ends, found) {
+            return found;
+        }
+    }
+    unreachable!()
 }
 
 /// The run of a row, over a column of ends: the number of ends at or below it, but the last run where

@@ -1,11 +1,11 @@
 //! The numbers of a column of lists: offsets or sizes, flat or in runs.
-ghost use Rattle.std.specs.Prelude.{◌≡◌, ◌<◌, ◌↔◌, IsTrue, length, slice_index, slice_index_or, false};
+ghost use Rattle.std.specs.Prelude.{◌≡◌, ◌<◌, ◌≤◌, ◌↔◌, IfOk, IsOkUnless, IsTrue, length, slice_index, slice_index_or, slice_range, false};
 ghost use Rattle.runend_array.specs.Array.{column_of};
 ghost use Rattle.runend_array.specs.Column.{IsIndex, IsPlainIndex, IsPlainTruths, end_numbers, index_of, truths_of};
-ghost use Rattle.runend_array.specs.Lists.{index_at as number_in_row, index_count};
+ghost use Rattle.runend_array.specs.Lists.{IsRunUpTo, index_at as number_in_row, index_count};
 
 use crate::array_ref::ArrayRef;
-use column_core::{DType, Nullability, PType, PrimitiveValues};
+use column_core::{DType, Nullability, PType, PrimitiveValues, VortexError, VortexResult};
 use std::alloc::Allocator;
 
 /// Is it a flat column of u64 without null?
@@ -29,6 +29,29 @@ pub(crate) fn plain_number_at<A: Allocator + Copy>(column: &ArrayRef<A>, index: 
     match column {
         ArrayRef::Primitive(numbers) => match numbers.values() {
             PrimitiveValues::U64(items) => items[index],
+            _ => unreachable!(),
+        },
+        _ => unreachable!(),
+    }
+}
+
+/// The numbers of a flat column of u64 from row `start` to row `stop - 1`. Refused as `OutOfMemory`
+/// alone.
+pub(crate) fn plain_numbers_between<A: Allocator + Copy>(
+    column: &ArrayRef<A>,
+    alloc: A,
+    start: usize,
+    stop: usize,
+) -> VortexResult<Vec<u64, A>>
+    requires plain { IsPlainIndex (column_of column.now) }
+    requires ordered { start ≤ stop }
+    requires in_bounds { stop ≤ length (end_numbers (column_of column.now)) }
+    ensures only { IsOkUnless result VortexError.OutOfMemory }
+    ensures numbers { IfOk result (λ numbers. numbers.items ≡ slice_range (end_numbers (column_of column.now)) start stop) }
+{
+    match column {
+        ArrayRef::Primitive(numbers) => match numbers.values() {
+            PrimitiveValues::U64(items) => Ok(Vec::from_slice(alloc, &items[start..stop])?),
             _ => unreachable!(),
         },
         _ => unreachable!(),
@@ -89,6 +112,26 @@ pub(crate) fn index_at<A: Allocator + Copy>(column: &ArrayRef<A>, index: usize) 
     match column {
         ArrayRef::Primitive(_) => plain_number_at(column, index),
         ArrayRef::RunEnd(runs) => runs.number_at(index),
+        _ => unreachable!(),
+    }
+}
+
+/// The offset or size at `index`; of runs, with its run in `run`, sought from `run` on: that of an
+/// earlier row, or the first.
+pub(crate) fn index_from<A: Allocator + Copy>(
+    column: &ArrayRef<A>,
+    run: &mut usize,
+    index: usize,
+) -> u64
+    requires index { IsIndex (column_of column.now) }
+    requires within { index < index_count (index_of (column_of column.now)) }
+    requires before { IsRunUpTo (index_of (column_of column.now)) run.old index }
+    ensures number { result ≡ number_in_row (index_of (column_of column.now)) index }
+    ensures before { IsRunUpTo (index_of (column_of column.now)) run.new index }
+{
+    match column {
+        ArrayRef::Primitive(_) => plain_number_at(column, index),
+        ArrayRef::RunEnd(runs) => runs.number_from(run, index),
         _ => unreachable!(),
     }
 }

@@ -20,7 +20,7 @@ ghost use Rattle.column_base.specs.ValidityForm.{HasLength, nullability_in};
 ghost use Rattle.column_base.specs.Validity.{form_of};
 
 use crate::array_ref::{ArrayRef, out_of_bounds};
-use crate::lists::index::{index_at, index_len, is_index};
+use crate::lists::index::{index_at, index_from, index_len, is_index};
 use crate::lists::runs::{index_in_runs, validity_in_runs};
 use crate::lists::slice::{index_between, validity_between};
 use crate::lists::take::{index_taken, validity_taken};
@@ -100,7 +100,7 @@ fn is_within(offset: u64, size: u64, count: usize) -> bool
     offset <= count && size <= count - offset
 }
 
-// The first valid row that does not lie within `count` elements.
+// The first valid row that does not lie within `count` elements. Runs are walked beside the rows.
 fn first_outside<A: Allocator + Copy>(
     elements: &FlatColumn<A>,
     offsets: &ArrayRef<A>,
@@ -116,11 +116,16 @@ fn first_outside<A: Allocator + Copy>(
 {
     let rows = index_len(offsets);
     let count = elements.len();
+    let mut flag_run = 0;
+    let mut offset_run = 0;
+    let mut size_run = 0;
     for row in 0..rows {
-        if validity.is_valid(row, rows)
-            && !is_within(index_at(offsets, row), index_at(sizes, row), count)
-        {
-            return Some(row);
+        if validity.valid_from(&mut flag_run, row, rows) {
+            let offset = index_from(offsets, &mut offset_run, row);
+            let size = index_from(sizes, &mut size_run, row);
+            if !is_within(offset, size, count) {
+                return Some(row);
+            }
         }
     }
     None

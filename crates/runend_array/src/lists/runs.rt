@@ -5,49 +5,18 @@ ghost use Rattle.runend_array.specs.Array.{IsRowValidity, column_of, validity_of
 ghost use Rattle.runend_codec.specs.Ends.{IsEndsType, ends_of};
 ghost use Rattle.runend_array.specs.Column.{IsIndex, index_of};
 ghost use Rattle.runend_array.specs.ListRuns.{IsValidityInRuns};
-ghost use Rattle.runend_array.specs.Lists.{ByRuns, HasRows, RunIndex, index_count, index_numbers, row_flags_of};
+ghost use Rattle.runend_array.specs.Lists.{ByRuns, HasRows, RunIndex, index_count, index_numbers};
 ghost use Rattle.runend_codec.specs.Window.{IsWindow};
 
 use crate::array::RunEnd;
 use crate::array_ref::ArrayRef;
-use crate::lists::index::{index_at, index_len};
+use crate::lists::index::index_len;
+use crate::lists::slice::{flags_between, numbers_between};
 use crate::validities::RowValidity;
 use column_core::{
-    BitBuffer, BitBufferMut, BoolArray, PrimitiveArray, PrimitiveValues, Validity, VortexError,
-    VortexResult,
+    BitBuffer, BoolArray, PrimitiveArray, PrimitiveValues, Validity, VortexError, VortexResult,
 };
 use std::alloc::Allocator;
-
-// The numbers of an index, one by one.
-fn numbers_of<A: Allocator + Copy>(alloc: A, index: &ArrayRef<A>) -> VortexResult<Vec<u64, A>>
-    requires { IsIndex (column_of index.now) }
-    ensures only { IsOkUnless result VortexError.OutOfMemory }
-    ensures numbers { IfOk result (λ numbers. numbers.items ≡ index_numbers (index_of (column_of index.now))) }
-{
-    let mut numbers = Vec::with_capacity(alloc, index_len(index))?;
-    for row in 0..index_len(index) {
-        numbers.push(index_at(index, row))?;
-    }
-    Ok(numbers)
-}
-
-// Whether each of `count` rows is valid.
-fn flags_of<A: Allocator + Copy>(
-    alloc: A,
-    validity: &RowValidity<A>,
-    count: usize,
-) -> VortexResult<BitBuffer<A>>
-    requires plain { IsRowValidity validity.now }
-    requires counted { HasRows (validity_of validity.now) count }
-    ensures only { IsOkUnless result VortexError.OutOfMemory }
-    ensures flags { IfOk result (λ bits. bits ≡ row_flags_of (validity_of validity.now) count) }
-{
-    let mut bits = BitBufferMut::with_capacity(alloc, count)?;
-    for row in 0..count {
-        bits.append(validity.is_valid(row, count))?;
-    }
-    Ok(bits.freeze())
-}
 
 /// The numbers of an index in runs: a run column over them, with these ends and this window. Refused
 /// as `OutOfMemory` alone.
@@ -66,7 +35,7 @@ pub(crate) fn index_in_runs<A: Allocator + Copy>(
     ensures index { IfOk result (λ runs. IsIndex (column_of runs)) }
     ensures form { IfOk result (λ runs. index_of (column_of runs) ≡ RunIndex ends.now.ptype (ends_of ends.now) (index_numbers (index_of (column_of index.now))) offset count) }
 {
-    let numbers = PrimitiveValues::U64(numbers_of(alloc, index)?);
+    let numbers = PrimitiveValues::U64(numbers_between(alloc, index, 0, index_len(index))?);
     let numbers = PrimitiveArray::new_unchecked(numbers, Validity::NonNullable);
     let ends = match ends.try_clone(alloc) {
         Ok(ends) => ends,
@@ -140,7 +109,8 @@ pub(crate) fn validity_in_runs<A: Allocator + Copy>(
         RowValidity::AllValid => Ok(RowValidity::AllValid),
         RowValidity::AllInvalid => Ok(RowValidity::AllInvalid),
         _ => {
-            let flags = flags_of(alloc, validity, ends.len())?;
+            let runs = ends.len();
+            let flags = flags_between(alloc, validity, runs, 0, runs)?;
             flags_in_runs(alloc, ends, flags, offset, count)
         }
     }

@@ -1,5 +1,5 @@
 //! Offsets, sizes and validity of a range of lists.
-ghost use Rattle.std.specs.Prelude.{◌≡◌, ◌-◌, ◌≤◌, map, slice_range, IfOk, IsOkUnless};
+ghost use Rattle.std.specs.Prelude.{◌≡◌, ◌-◌, ◌≤◌, map, replicate, slice_range, IfOk, IsOkUnless};
 ghost use Rattle.std.specs.List.{range_with_len};
 ghost use Rattle.runend_array.specs.Array.{IsRowValidity, column_of, validity_of};
 ghost use Rattle.runend_array.specs.Column.{IsIndex, index_of};
@@ -7,15 +7,16 @@ ghost use Rattle.runend_array.specs.ListSlice.{IsValidityInRange};
 ghost use Rattle.runend_array.specs.Lists.{HasRows, PlainIndex, index_at as number_in_row, index_count, index_numbers, row_flag_at};
 
 use crate::array_ref::ArrayRef;
-use crate::lists::index::index_at;
+use crate::lists::index::plain_numbers_between;
 use crate::validities::{RowValidity, told_by_rows};
 use column_core::{
     BitBuffer, BitBufferMut, PrimitiveArray, PrimitiveValues, Validity, VortexError, VortexResult,
 };
 use std::alloc::Allocator;
 
-// The numbers of an index from row `start` to row `stop - 1`.
-fn numbers_between<A: Allocator + Copy>(
+/// The numbers of an index from row `start` to row `stop - 1`. Of runs each is looked at once. Refused
+/// as `OutOfMemory` alone.
+pub(super) fn numbers_between<A: Allocator + Copy>(
     alloc: A,
     index: &ArrayRef<A>,
     start: usize,
@@ -27,15 +28,16 @@ fn numbers_between<A: Allocator + Copy>(
     ensures only { IsOkUnless result VortexError.OutOfMemory }
     ensures numbers { IfOk result (λ numbers. numbers.items ≡ map (number_in_row (index_of (column_of index.now))) (range_with_len start (stop - start))) }
 {
-    let mut numbers = Vec::with_capacity(alloc, stop - start)?;
-    for row in start..stop {
-        numbers.push(index_at(index, row))?;
+    match index {
+        ArrayRef::Primitive(_) => plain_numbers_between(index, alloc, start, stop),
+        ArrayRef::RunEnd(runs) => runs.numbers_between(alloc, start, stop),
+        _ => unreachable!(),
     }
-    Ok(numbers)
 }
 
-// Whether each row from `start` to `stop - 1` is valid, of `count` rows.
-fn flags_between<A: Allocator + Copy>(
+/// Whether each row from `start` to `stop - 1` is valid, of `count` rows. Of runs each is looked at
+/// once. Refused as `OutOfMemory` alone.
+pub(super) fn flags_between<A: Allocator + Copy>(
     alloc: A,
     validity: &RowValidity<A>,
     count: usize,
@@ -49,10 +51,22 @@ fn flags_between<A: Allocator + Copy>(
     ensures only { IsOkUnless result VortexError.OutOfMemory }
     ensures flags { IfOk result (λ bits. bits ≡ map (row_flag_at (validity_of validity.now)) (range_with_len start (stop - start))) }
 {
-    let mut bits = BitBufferMut::with_capacity(alloc, stop - start)?;
-    for row in start..stop {
-        bits.append(validity.is_valid(row, count))?;
+    let _ = count;
+    match validity {
+        RowValidity::NonNullable => same_flags(alloc, true, stop - start),
+        RowValidity::AllValid => same_flags(alloc, true, stop - start),
+        RowValidity::AllInvalid => same_flags(alloc, false, stop - start),
+        RowValidity::Bits(bits) => bits.slice(alloc, start..stop),
+        RowValidity::Runs(runs) => runs.truths_between(alloc, start, stop),
     }
+}
+
+// The flag in each of `count` rows.
+fn same_flags<A: Allocator + Copy>(alloc: A, flag: bool, count: usize) -> VortexResult<BitBuffer<A>>
+    ensures only { IsOkUnless result VortexError.OutOfMemory }
+    ensures flags { IfOk result (λ bits. bits ≡ replicate count flag) }
+{
+    let bits = BitBufferMut::full(alloc, flag, count)?;
     Ok(bits.freeze())
 }
 

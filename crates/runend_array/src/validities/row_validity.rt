@@ -2,7 +2,7 @@
 ghost use Rattle.std.specs.Prelude.{◌≡◌, ◌<◌, ◌↔◌, IsTrue, IfOk, IsOkUnless};
 ghost use Rattle.runend_array.specs.Array.{validity_of, IsRowValidity};
 ghost use Rattle.runend_array.specs.Fault.{rows_told};
-ghost use Rattle.runend_array.specs.Lists.{HasRows, row_flag_at, row_nullability};
+ghost use Rattle.runend_array.specs.Lists.{HasRows, IsFlagRunUpTo, row_flag_at, row_nullability};
 
 use crate::array::RunEndArray;
 use column_core::{BitBuffer, Nullability, VortexError, VortexResult};
@@ -72,6 +72,26 @@ impl<A: Allocator + Copy> RowValidity<A> {
             RowValidity::AllInvalid => false,
             RowValidity::Bits(bits) => bits.value(index),
             RowValidity::Runs(runs) => runs.truth_at(index),
+        }
+    }
+
+    /// Is the row at `index` there, of `count` rows? Of runs, with its run in `run`, sought from `run`
+    /// on: that of an earlier row, or the first.
+    pub(crate) fn valid_from(&self, run: &mut usize, index: usize, count: usize) -> bool
+        requires plain { IsRowValidity self.now }
+        requires counted { HasRows (validity_of self.now) count }
+        requires within { index < count }
+        requires before { IsFlagRunUpTo (validity_of self.now) run.old index }
+        ensures flag { result ≡ row_flag_at (validity_of self.now) index }
+        ensures before { IsFlagRunUpTo (validity_of self.now) run.new index }
+    {
+        let _ = count;
+        match self {
+            RowValidity::NonNullable => true,
+            RowValidity::AllValid => true,
+            RowValidity::AllInvalid => false,
+            RowValidity::Bits(bits) => bits.value(index),
+            RowValidity::Runs(runs) => runs.truth_from(run, index),
         }
     }
 

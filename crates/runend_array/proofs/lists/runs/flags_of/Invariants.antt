@@ -1,8 +1,0 @@
-use Rattle.std.proofs.Common.{◌≡◌, map}
-use Rattle.std.specs.List.{range_with_len}
-use Rattle.runend_array.specs.Array.{validity_of}
-use Rattle.runend_array.specs.Lists.{row_flag_at}
-use Rattle.runend_array.proofs.lists.runs.flags_of.Given as goal
-
-abbrev pub invariant-loop-row : goal.invariant-loop-row
-invariant-loop-row g l = l.bits ≡ map (row_flag_at (validity_of l.validity)) (range_with_len 0 l.row)
