@@ -1,4 +1,5 @@
 pub mod OptionalRows
+pub mod NumberViews
 pub mod VarBinRows
 pub mod SameValues
 pub mod Digits

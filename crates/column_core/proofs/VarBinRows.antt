@@ -1,9 +1,10 @@
 -- Lemmas on the rows of a column of texts or of bytes.
-use Rattle.std.proofs.Common.{◌≡◌, ◌∙◌, ◌+◌, ◌-◌, ◌<◌, ◌≤◌, ℕ, List, Bool, true, false, Some, None, length, map, refl, sym, ap, subst, arith, get_or}
-use Rattle.std.specs.Prelude.{slice_get, slice_range, option_map}
+use Rattle.std.proofs.Common.{◌≡◌, ◌∙◌, ◌+◌, ◌-◌, ◌<◌, ◌≤◌, ℕ, List, Bool, true, false, Some, None, length, map, refl, sym, ap, subst, inl, inr, arith, get_or}
+use Rattle.std.specs.Prelude.{◌⊎◌, slice_get, slice_range, option_map}
+use Rattle.std.proofs.lemmas.Bool.{cases_lt, false≢true}
 use Rattle.std.proofs.lemmas.List.{length-map}
 use Rattle.std.proofs.lemmas.Option.{slice_get-map, slice_get-get_or, slice_get_read}
-use Rattle.column_base.specs.ValidityForm.{ValidityForm, HasLength, flag_at, flags}
+use Rattle.column_base.specs.ValidityForm.{ValidityForm, NeverNull, NoneNull, AllNull, ByBits, HasLength, length_of, flag_at, flags}
 use Rattle.column_base.proofs.Ranges.{length-slice_range, get_or-slice_range, slice_range_of_map}
 use Rattle.column_base.proofs.ValidityRows.{flags-at, length-flags}
 use Rattle.std.specs.Str.{IsUtf8}
@@ -25,6 +26,38 @@ flag-of_row form n k has within =
 -- the view at a row, with any default
 view-of_row : (views : List View) (k : ℕ) (view : View) → k < length views → slice_get views k ≡ Some view → get_or views k zero_view ≡ view
 view-of_row views k view within here = let read = slice_get-get_or views k zero_view within in cc
+
+-- a row is valid where the validity says so
+pub valid-where_told : (form : ValidityForm) (n k : ℕ) (told : Bool) → HasLength form n → k < n → told ≡ flag_at form k → told ≡ true → get_or (flags form n) k false ≡ true
+valid-where_told form n k told has within is set = flag-of_row form n k has within ∙ sym is ∙ set
+
+-- and only there
+pub null-where_told : (form : ValidityForm) (n k : ℕ) (told : Bool) → HasLength form n → k < n → told ≡ flag_at form k → told ≡ false → ¬ (get_or (flags form n) k false ≡ true)
+null-where_told form n k told has within is unset valid = false≢true (sym unset ∙ is ∙ sym (flag-of_row form n k has within) ∙ valid)
+
+-- a validity that tells the number of its rows speaks of so many
+pub has-length-told : (form : ValidityForm) (n count : ℕ) → length_of form ≡ Some count → count ≡ n → HasLength form n
+has-length-told NeverNull n count told same = tt
+has-length-told NoneNull n count told same = tt
+has-length-told AllNull n count told same = tt
+has-length-told (ByBits bits) n count told same = let long : length bits ≡ count = cc in long ∙ same
+
+-- and one that tells none speaks of any
+pub has-length-untold : (form : ValidityForm) (n : ℕ) → ((count : ℕ) → ¬ (length_of form ≡ Some count)) → HasLength form n
+has-length-untold NeverNull n untold = tt
+has-length-untold NoneNull n untold = tt
+has-length-untold AllNull n untold = tt
+has-length-untold (ByBits bits) n untold = absurd (untold (length bits) refl)
+
+-- what holds of each place below one, and there, holds up to it
+next-of : (P : ℕ → Type 0) (n k : ℕ) → (k < n) ⊎ (n ≤ k) → ((j : ℕ) → j < n → P j) → P n → k < n + 1 → P k
+next-of P n k (inl below) old new within = old k below
+next-of P n k (inr above) old new within = let same : n ≡ k = omega arith in subst P same new
+
+-- what holds of each valid row before one, and of that one if it is valid, holds of each valid row up to it
+pub next-row : (form : VarBinForm) (P : ℕ → Type 0) (row : ℕ) → ((k : ℕ) → k < row → IsValidRow form k → P k) → (IsValidRow form row → P row)
+    → (k : ℕ) → k < row + 1 → IsValidRow form k → P k
+next-row form P row old new k within = next-of (λ (j : ℕ). IsValidRow form j → P j) row k (cases_lt k row) old new within
 
 -- row k is valid, and this is its view
 pub record HasView (f : VarBinForm) (k : ℕ) (view : View) : Type 0 where

@@ -1,5 +1,5 @@
 //! Flat columns of texts or of bytes, as views into shared buffers.
-ghost use Rattle.std.specs.Prelude.{◌≡◌, ◌<◌, ◌↔◌, IsErrOf, slice_range, Some, length, map, option_map, slice_get, IfOk, IfErr, IfSome, IfNone, IsOk, IsOkUnless, IsTrue, [], ℕ};
+ghost use Rattle.std.specs.Prelude.{◌≡◌, ◌<◌, ◌↔◌, IsErrOf, slice_range, Some, length, map, option_map, slice_get, IfOk, IfErr, IfSome, IfNone, IsNone, IsOk, IsOkUnless, IsTrue, [], ℕ};
 ghost use Rattle.std.specs.Bool.{OnTrue, OnFalse};
 ghost use Rattle.std.specs.Str.{IsUtf8};
 ghost use Rattle.column_base.specs.ValidityForm.{AllNull, HasLength, IsNormal};
@@ -71,22 +71,8 @@ impl<A: Allocator> VarBinViewArray<A> {
         ensures accepts { IsOk result ↔ AreVarBins (varbin_with kind views.items buffers.items (form_of validity)) }
         ensures refused { IfErr result (λ error. VarBinFault (varbin_with kind views.items buffers.items (form_of validity)) error) }
     {
-        if let Some(count) = validity.len() {
-            if count != views.len() {
-                return Err(VortexError::ColumnLength {
-                    left: views.len(),
-                    right: count,
-                });
-            }
-        }
-        if let Some(row) = first_outside(&views, &buffers, &validity) {
-            return Err(VortexError::OutOfBounds {
-                index: row as i128,
-                length: views.len(),
-            });
-        }
-        if kind == VarBinKind::Utf8 && !are_texts(&views, &buffers, &validity) {
-            return Err(VortexError::TypeMismatch);
+        if let Some(fault) = first_fault(&views, &buffers, kind, &validity) {
+            return Err(fault);
         }
         Ok(VarBinViewArray {
             kind,
@@ -246,6 +232,36 @@ impl<A: Allocator + Copy> VarBinViewArray<A> {
             validity,
         })
     }
+}
+
+// The first fault of these parts, if they are no column.
+fn first_fault<A: Allocator>(
+    views: &[View],
+    buffers: &[Bytes<A>],
+    kind: VarBinKind,
+    validity: &Validity<A>,
+) -> Option<VortexError>
+    ensures fault { IfSome result (λ error. VarBinFault (varbin_with kind views.now buffers.now (form_of validity.now)) error) }
+    ensures none { IsNone result ↔ AreVarBins (varbin_with kind views.now buffers.now (form_of validity.now)) }
+{
+    if let Some(count) = validity.len() {
+        if count != views.len() {
+            return Some(VortexError::ColumnLength {
+                left: views.len(),
+                right: count,
+            });
+        }
+    }
+    if let Some(row) = first_outside(views, buffers, validity) {
+        return Some(VortexError::OutOfBounds {
+            index: row as i128,
+            length: views.len(),
+        });
+    }
+    if kind == VarBinKind::Utf8 && !are_texts(views, buffers, validity) {
+        return Some(VortexError::TypeMismatch);
+    }
+    None
 }
 
 // Is the view within its buffer?

@@ -1,7 +1,7 @@
 -- What an arm of a match over the types of numbers knows of the column.
 use Rattle.std.proofs.Common.{◌≡◌, ◌∙◌, ℕ, ℤ, List, Option, Some, None, Err, length, map, sym, ap, subst, inl}
 use Rattle.std.specs.Prelude.{Result, Ok, IfOk, IsOkUnless, cond, option_map}
-use Rattle.std.proofs.lemmas.Bool.{eq-eqb}
+use Rattle.std.proofs.lemmas.Bool.{eq-eqb, ne_eqb}
 use Rattle.std.proofs.lemmas.List.{length-map}
 use Rattle.column_base.specs.declared.dtype.PType.{PType}
 use Rattle.column_base.specs.declared.error.VortexError.{VortexError}
@@ -41,6 +41,12 @@ IfOk-same (Err error) wanted P same holds = tt
 -- a mask of as many rows is no fault
 pub same_count : (mask rows : ℕ) → mask ≡ rows → filter_fault mask rows ≡ None
 same_count mask rows same = ap (λ equal. cond equal None (Some (MaskLength mask rows))) (eq-eqb mask rows same)
+
+-- a mask of another number of rows is told with both numbers
+pub other_count : (mask rows m n : ℕ) → m ≡ mask → n ≡ rows → ¬ (m ≡ n) → filter_fault mask rows ≡ Some (MaskLength m n)
+other_count mask rows m n m_is n_is other =
+    ap (λ equal. cond equal None (Some (MaskLength mask rows))) (ne_eqb mask rows (λ same. other (m_is ∙ same ∙ sym n_is)))
+    ∙ ap (λ (k : ℕ). Some (MaskLength k rows)) (sym m_is) ∙ ap (λ (k : ℕ). Some (MaskLength m k)) (sym n_is)
 
 -- what can be refused for want of memory alone, where there is no fault
 pub no_fault : {T : Type 0} (fault : Option VortexError) (result : Result T VortexError) → fault ≡ None → IsOkUnless result OutOfMemory → IsRefusedBy fault result

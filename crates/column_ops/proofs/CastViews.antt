@@ -39,7 +39,7 @@ kept_views_sound own wanted items form are written =
     AreVarBins-sound own.kind own.buffers items form written.fits (rw (written.shown) (sound_views own.kind own.buffers own.views own.validity are))
 
 -- texts and bytes are no numbers
-no_numbers : (kind : VarBinKind) (n : Nullability) → is_numbers (kind_dtype kind n) ≡ false
+pub no_numbers : (kind : VarBinKind) (n : Nullability) → is_numbers (kind_dtype kind n) ≡ false
 no_numbers Utf8 n = refl
 no_numbers Binary n = refl
 

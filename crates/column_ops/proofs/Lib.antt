@@ -2,6 +2,7 @@ pub mod Written
 pub mod RowItems
 pub mod Arms
 pub mod Passed
+pub mod Loops
 pub mod IndexPositions
 pub mod Made
 pub mod Columns

@@ -1,7 +1,5 @@
 use Rattle.std.proofs.Common.{Some, length, map, refl, sym, ap, ◌∙◌}
-use Rattle.std.specs.Int.{w128}
 use Rattle.std.specs.Option.{option_map}
-use Rattle.std.proofs.lemmas.Int.{to_z-of_z}
 use Rattle.std.proofs.lemmas.Option.{slice_get-map, slice_get_read}
 use Rattle.column_base.proofs.Arms.{number-arm}
 use Rattle.column_base.proofs.values.number_at.Goals as goal

@@ -5,6 +5,7 @@ use Rattle.column_base.specs.ValidityForm.{flags}
 use Rattle.column_base.specs.Validity.{form_of}
 use Rattle.column_core.specs.Optionals.{optionals}
 use Rattle.column_ops.specs.Written.{RowWriterForm}
+use Rattle.column_ops.proofs.Loops.{no_rows}
 use Rattle.column_ops.proofs.Passed.{passed_all, filter_rows-selected, filter_rows-passed}
 use Rattle.column_ops.proofs.filter_items.filter_items.Goals as goal
 use Rattle.column_ops.proofs.filter_items.filter_items.Goals.{then-value+in-Ok, else-value}
@@ -37,3 +38,11 @@ returns-clause-filtered g c =
     let masked : length (mask_bits c.args.mask.now) ≤ c.loop-row.row = omega arith in
     let all_bits = take_all c.loop-row.row (mask_bits c.args.mask.now) masked in
     rw (c.loop-row.invariant.blank, c.loop-row.invariant.rows, c.loop-row.invariant.nullability, all, all_bits) at c.finish.ensures
+
+pub loop-row-init : goal.loop-row-init
+loop-row-init g c =
+    let empty = no_rows c.in_ok-rows.rows c.args.blank c.nullability.result c.in_ok-rows.ensures.empty in
+    record { rows = empty.0; blank = empty.1; nullability = empty.2 ∙ c.nullability.ensures }
+
+pub push-requires : goal.push-requires
+push-requires g c = λ none. c.row_at.ensures.valid (sym c.loop-row.invariant.nullability ∙ none)

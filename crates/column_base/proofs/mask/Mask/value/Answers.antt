@@ -1,4 +1,4 @@
-use Rattle.std.proofs.Common.{◌<◌, List, Bool, length, true, false, Some, ap, subst, ◌∙◌}
+use Rattle.std.proofs.Common.{◌<◌, List, Bool, length, true, false, ap, subst, ◌∙◌}
 use Rattle.std.specs.Prelude.{slice_get}
 use Rattle.column_base.specs.Mask.{mask_bits}
 use Rattle.column_base.proofs.ValidityRows.{copy_at}
