@@ -1,4 +1,5 @@
 //! Calls, and what comes of them.
+use crate::flats::boxed_lists;
 use crate::printer::{
     push_metadata, push_record, push_row, push_sum, push_truth, push_validity, push_word,
 };
@@ -8,9 +9,9 @@ use runend_commands::{Answer, Command, execute};
 use std::alloc::Allocator;
 use std::rc::Rc;
 use vortex_runend::{
-    ArrayRef, DType, ExecutionCtx, FlatColumn, ListViewArray, RowValidity, RunEnd, RunEndMetadata,
-    RunEndProbe, Validity, VarBinKind, VarBinViewArray, View, VortexError, deserialize, serialize,
-    validity,
+    ArrayRef, DType, ExecutionCtx, FlatColumn, ListViewArray, RowValidity, RunEnd, RunEndArray,
+    RunEndMetadata, RunEndProbe, Validity, VarBinKind, VarBinViewArray, View, VortexError,
+    deserialize, serialize, validity,
 };
 
 /// A call with what it is given.
@@ -109,31 +110,42 @@ impl<A: Allocator + Copy> Call<A> {
 impl<A: Allocator + Copy> Maker<A> {
     // The column, with memory for the call from `ctx`, and for its box from `ample`.
     fn made(self, ctx: &mut ExecutionCtx<A>, ample: A) -> VortexResult<ArrayRef<A>> {
-        let runs = match self {
+        match self {
             Maker::Copy(array) => {
                 let copy = array.try_clone(ctx);
                 drop(array);
-                return copy;
+                copy
             }
             Maker::Lists(elements, offsets, sizes, validity) => {
-                let lists = ListViewArray::try_new(elements, offsets, sizes, validity, ctx)?;
-                return Ok(ArrayRef::ListView(Box::new(ample, lists)?));
+                boxed_lists(
+                    ListViewArray::try_new(elements, offsets, sizes, validity, ctx),
+                    ample,
+                )
             }
             Maker::Views(views, buffers, kind, validity) => {
-                let array = VarBinViewArray::try_new(views, buffers, kind, validity)?;
-                return Ok(ArrayRef::VarBinView(array));
+                Ok(ArrayRef::VarBinView(VarBinViewArray::try_new(views, buffers, kind, validity)?))
             }
-            Maker::Encode(array) => RunEnd::encode(array, ctx)?,
+            Maker::Encode(array) => boxed_runs(RunEnd::encode(array, ctx), ample),
             Maker::Runs(ends, values, offset, length) => {
-                RunEnd::try_new_offset_length(ends, values, offset, length, ctx)?
+                let runs = RunEnd::try_new_offset_length(ends, values, offset, length, ctx);
+                boxed_runs(runs, ample)
             }
-            Maker::Whole(ends, values) => RunEnd::try_new(ends, values, ctx)?,
+            Maker::Whole(ends, values) => boxed_runs(RunEnd::try_new(ends, values, ctx), ample),
             Maker::Deserialize(dtype, length, bytes, ends, values) => {
-                deserialize(dtype, length, &bytes, ends, values, ctx)?
+                let runs = deserialize(dtype, length, &bytes, ends, values, ctx);
+                drop(bytes);
+                boxed_runs(runs, ample)
             }
-        };
-        Ok(ArrayRef::RunEnd(Box::new(ample, runs)?))
+        }
     }
+}
+
+// The column of the runs that were made, with memory for its box from `ample`.
+fn boxed_runs<A: Allocator + Copy>(
+    made: VortexResult<RunEndArray<A>>,
+    ample: A,
+) -> VortexResult<ArrayRef<A>> {
+    Ok(ArrayRef::RunEnd(Box::new(ample, made?)?))
 }
 
 impl<A: Allocator + Copy> Task<A> {
@@ -178,20 +190,30 @@ fn run_command<A: Allocator + Copy>(
 
 // What is said of the answer to a command.
 fn reply_to<A: Allocator + Copy>(answer: &Answer<A>, ample: A) -> VortexResult<Reply<A>> {
-    let mut text = String::new(ample);
     match answer {
-        Answer::Done => return Ok(Reply::Done),
-        Answer::Refused(error) => return Ok(Reply::Refused(*error)),
-        Answer::Value(scalar) => push_row(&mut text, scalar.view())?,
-        Answer::Sum(total) => push_sum(&mut text, *total)?,
-        Answer::MinMax(Some((least, greatest))) => {
-            push_row(&mut text, least.view())?;
-            push_row(&mut text, greatest.view())?;
+        Answer::Done => Ok(Reply::Done),
+        Answer::Refused(error) => Ok(Reply::Refused(*error)),
+        _ => {
+            let mut text = String::new(ample);
+            push_answer(&mut text, answer)?;
+            Ok(Reply::Says(text))
         }
-        Answer::MinMax(None) => push_word(&mut text, "none")?,
-        Answer::Bool(truth) => push_truth(&mut text, *truth)?,
     }
-    Ok(Reply::Says(text))
+}
+
+// The words of an answer, nothing where it has none.
+fn push_answer<A: Allocator + Copy>(text: &mut String<A>, answer: &Answer<A>) -> VortexResult<()> {
+    match answer {
+        Answer::Done | Answer::Refused(_) => Ok(()),
+        Answer::Value(scalar) => push_row(text, scalar.view()),
+        Answer::Sum(total) => push_sum(text, *total),
+        Answer::MinMax(Some((least, greatest))) => {
+            push_row(text, least.view())?;
+            push_row(text, greatest.view())
+        }
+        Answer::MinMax(None) => push_word(text, "none"),
+        Answer::Bool(truth) => push_truth(text, *truth),
+    }
 }
 
 fn row_of<A: Allocator + Copy>(

@@ -56,22 +56,50 @@ pub fn raw_column<A: Allocator + Copy>(
     validity: Validity<A>,
     words: &[&str],
 ) -> VortexResult<Option<ArrayRef<A>>> {
-    if validity.nullability() != dtype.nullability() {
-        return Ok(None);
-    }
-    let Some(element) = single_of(dtype) else {
+    let Some(element) = raw_element(dtype, validity.nullability()) else {
+        drop(validity);
         return Ok(None);
     };
-    if let ElementDType::Utf8(_) | ElementDType::Binary(_) = element {
-        return Ok(None);
+    match read_rows(alloc, words) {
+        Ok(Some(rows)) => {
+            let array = raw_of_rows(alloc, element, rows.as_slice(), validity);
+            drop(rows);
+            array
+        }
+        Ok(None) => {
+            drop(validity);
+            Ok(None)
+        }
+        Err(error) => {
+            drop(validity);
+            Err(error)
+        }
     }
-    let Some(rows) = read_rows(alloc, words)? else {
-        return Ok(None);
-    };
+}
+
+// The type of what words may store under such a validity: whole numbers, decimals or truth values.
+fn raw_element(dtype: DType, nullability: Nullability) -> Option<ElementDType> {
+    if nullability != dtype.nullability() {
+        return None;
+    }
+    match single_of(dtype)? {
+        ElementDType::Utf8(_) | ElementDType::Binary(_) => None,
+        element => Some(element),
+    }
+}
+
+// The flat column of what the rows store, with this validity, or `None` where one is null.
+fn raw_of_rows<A: Allocator + Copy>(
+    alloc: A,
+    element: ElementDType,
+    rows: &[Row<'_>],
+    validity: Validity<A>,
+) -> VortexResult<Option<ArrayRef<A>>> {
     if rows.iter().any(|row| !row.valid) {
+        drop(validity);
         return Ok(None);
     }
-    let flat = stored_column(alloc, element, rows.as_slice(), validity)?;
+    let flat = stored_column(alloc, element, rows, validity)?;
     Ok(flat.map(array_of))
 }
 
@@ -265,13 +293,21 @@ fn stored_of<A: Allocator + Copy>(
 fn truths_of<A: Allocator + Copy>(alloc: A, rows: &[Row<'_>]) -> VortexResult<Option<Stored<A>>> {
     let mut bits = BitBufferMut::with_capacity(alloc, rows.len())?;
     for row in rows {
-        match (row.valid, row.value) {
-            (_, Value::Truth(truth)) => bits.append(truth)?,
-            (false, Value::Null) => bits.append(false)?,
-            _ => return Ok(None),
+        match stored_truth(*row) {
+            Some(truth) => bits.append(truth)?,
+            None => return Ok(None),
         }
     }
     Ok(Some(Stored::Truths(bits.freeze())))
+}
+
+// The truth value that a row of truth values stores.
+fn stored_truth(row: Row<'_>) -> Option<bool> {
+    match (row.valid, row.value) {
+        (_, Value::Truth(truth)) => Some(truth),
+        (false, Value::Null) => Some(false),
+        _ => None,
+    }
 }
 
 fn numbers_of<A: Allocator + Copy>(
@@ -297,15 +333,17 @@ fn natives_of<T: NativePType, A: Allocator + Copy>(
 ) -> VortexResult<Option<Stored<A>>> {
     let mut items = Vec::new(alloc);
     for row in rows {
-        let Some(number) = stored_number(*row) else {
-            return Ok(None);
-        };
-        match T::narrow(number) {
+        match stored_native::<T>(*row) {
             Some(item) => items.push(item)?,
             None => return Ok(None),
         }
     }
     Ok(Some(Stored::Numbers(T::wrap(items))))
+}
+
+// The number that a row of numbers stores, where it is one of the type.
+fn stored_native<T: NativePType>(row: Row<'_>) -> Option<T> {
+    T::narrow(stored_number(row)?)
 }
 
 fn decimals_of<A: Allocator + Copy>(
@@ -406,8 +444,8 @@ fn lists_of_rows<A: Allocator + Copy>(
         Ok(Some(validity)) => {
             let (offsets, sizes) = (indices_of(listed.offsets), indices_of(listed.sizes));
             let validity = row_validity(validity);
-            let lists = ListViewArray::try_new(elements, offsets, sizes, validity, ctx)?;
-            Ok(Some(ArrayRef::ListView(Box::new(alloc, lists)?)))
+            let lists = ListViewArray::try_new(elements, offsets, sizes, validity, ctx);
+            Ok(Some(boxed_lists(lists, alloc)?))
         }
         Ok(None) => {
             drop(elements);
@@ -418,6 +456,14 @@ fn lists_of_rows<A: Allocator + Copy>(
             Err(error)
         }
     }
+}
+
+/// The column of the lists that were made, with memory for its box from `alloc`.
+pub fn boxed_lists<A: Allocator + Copy>(
+    made: VortexResult<ListViewArray<A>>,
+    alloc: A,
+) -> VortexResult<ArrayRef<A>> {
+    Ok(ArrayRef::ListView(Box::new(alloc, made?)?))
 }
 
 // The elements of all rows, and where those of each row lie.

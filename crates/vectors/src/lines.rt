@@ -6,15 +6,18 @@ use crate::bench::{Bench, Heap};
 use crate::calls::{Outcome, Reply};
 use crate::columns::Columns;
 use crate::flats::{flat_column, invalid_column, raw_column, scalar_of};
-use crate::prepare::{prepare, read_validity};
+use crate::prepare::{copied, prepare, read_validity};
 use crate::printer::{push_dtype, push_form, push_refusal, push_rows, push_stored};
 use crate::reader::{self, Look, Plain, Request, read_request};
 use crate::refuse::{Found, refused_in_turn};
 use crate::session::{crate_thresholds, set_kernels, set_thresholds};
+use crate::values::Value;
 use column_base::VortexResult;
 use std::alloc::Allocator;
 use vector_report::{Report, read_line};
-use vortex_runend::{ArrayRef, ConstantArray, ExecutionCtx, RunEndArraySlotsExt, VortexError};
+use vortex_runend::{
+    ArrayRef, ConstantArray, DType, ExecutionCtx, RunEndArraySlotsExt, VortexError,
+};
 
 /// Runs all lines, and reports which of them are not answered as they expect.
 pub fn run_lines<'a>(text: &str, bench: &mut Bench<'a>) -> VortexResult<Report<Heap<'a>>>
@@ -99,14 +102,21 @@ impl<'a> Bench<'a> {
 pub fn reply_text<A: Allocator + Copy>(alloc: A, reply: Reply<A>) -> VortexResult<String<A>>
     ensures only { IsOkUnless result VortexError.OutOfMemory }
 {
-    let mut text = String::new(alloc);
     match reply {
-        Reply::Done => text.push_str("ok")?,
-        Reply::Refused(error) => push_refusal(&mut text, error)?,
-        Reply::NoRoom => push_refusal(&mut text, VortexError::OutOfMemory)?,
-        Reply::Says(said) => return Ok(said),
-        Reply::Bad => text.push_str("bad line")?,
+        Reply::Done => Ok(String::from_str(alloc, "ok")?),
+        Reply::Refused(error) => refusal_text(alloc, error),
+        Reply::NoRoom => refusal_text(alloc, VortexError::OutOfMemory),
+        Reply::Says(said) => Ok(said),
+        Reply::Bad => Ok(String::from_str(alloc, "bad line")?),
     }
+}
+
+// The text of a refusal.
+fn refusal_text<A: Allocator + Copy>(alloc: A, error: VortexError) -> VortexResult<String<A>>
+    ensures only { IsOkUnless result VortexError.OutOfMemory }
+{
+    let mut text = String::new(alloc);
+    push_refusal(&mut text, error)?;
     Ok(text)
 }
 
@@ -134,22 +144,43 @@ fn made<A: Allocator + Copy>(
     let alloc = *ctx.allocator();
     match plain {
         Plain::Flat(dtype, words) => flat_column(dtype, words, ctx),
-        Plain::Raw(dtype, validity, words) => match read_validity(alloc, validity)? {
-            Some(validity) => raw_column(alloc, dtype, validity, words),
-            None => Ok(None),
-        },
+        Plain::Raw(dtype, validity, words) => raw_of_words(alloc, dtype, validity, words),
         Plain::Invalid(dtype, count) => invalid_column(alloc, dtype, count),
-        Plain::Constant(dtype, value, count) => Ok(scalar_of(alloc, dtype, value)?.map(
-            |scalar| ArrayRef::Constant(ConstantArray::new(scalar, count)),
-        )),
+        Plain::Constant(dtype, value, count) => constant_of(alloc, dtype, value, count),
         Plain::Ends(name) => match columns.get(name) {
-            Some(ArrayRef::RunEnd(runs)) => Ok(Some(runs.ends().try_clone(ctx)?)),
+            Some(ArrayRef::RunEnd(runs)) => copied(runs.ends(), ctx),
             _ => Ok(None),
         },
         Plain::Values(name) => match columns.get(name) {
-            Some(ArrayRef::RunEnd(runs)) => Ok(Some(runs.values().try_clone(ctx)?)),
+            Some(ArrayRef::RunEnd(runs)) => copied(runs.values(), ctx),
             _ => Ok(None),
         },
+    }
+}
+
+// The flat column of what the words store, with the validity of a word.
+fn raw_of_words<A: Allocator + Copy>(
+    alloc: A,
+    dtype: DType,
+    validity: &str,
+    words: &[&str],
+) -> VortexResult<Option<ArrayRef<A>>> {
+    match read_validity(alloc, validity)? {
+        Some(validity) => raw_column(alloc, dtype, validity, words),
+        None => Ok(None),
+    }
+}
+
+// So many rows of one value.
+fn constant_of<A: Allocator + Copy>(
+    alloc: A,
+    dtype: DType,
+    value: Value<'_>,
+    count: usize,
+) -> VortexResult<Option<ArrayRef<A>>> {
+    match scalar_of(alloc, dtype, value)? {
+        Some(scalar) => Ok(Some(ArrayRef::Constant(ConstantArray::new(scalar, count)))),
+        None => Ok(None),
     }
 }
 
@@ -219,18 +250,27 @@ fn looked_at<A: Allocator + Copy>(
     look: Look,
 ) -> VortexResult<Reply<A>> {
     let mut text = String::new(alloc);
-    match look {
-        Look::Rows => push_rows(&mut text, column)?,
-        Look::Type => push_dtype(&mut text, column.dtype())?,
-        Look::Form => push_form(&mut text, column)?,
-        Look::Stored => {
-            if !push_stored(&mut text, column)? {
-                return Ok(Reply::Bad);
-            }
-        }
+    if !push_look(&mut text, column, look)? {
+        return Ok(Reply::Bad);
     }
     if text.is_empty() {
         text.push_str("-")?;
     }
     Ok(Reply::Says(text))
+}
+
+// What is looked at, or nothing and `false` where the column does not have it.
+fn push_look<A: Allocator + Copy>(
+    text: &mut String<A>,
+    column: &ArrayRef<A>,
+    look: Look,
+) -> VortexResult<bool> {
+    let pushed = match look {
+        Look::Rows => push_rows(text, column),
+        Look::Type => push_dtype(text, column.dtype()),
+        Look::Form => push_form(text, column),
+        Look::Stored => return push_stored(text, column),
+    };
+    pushed?;
+    Ok(true)
 }

@@ -19,24 +19,33 @@ pub fn prepare<A: Allocator + Copy>(
     columns: &Columns<A>,
     ctx: &mut ExecutionCtx<A>,
 ) -> VortexResult<Option<Call<A>>> {
-    let task = match call {
+    match call {
         reader::Call::Command(command) => match prepared_command(command, columns, ctx)? {
-            Some(command) => Task::Command(command),
-            None => return Ok(None),
+            Some(command) => on_copy(name, Task::Command(command), columns, ctx),
+            None => Ok(None),
         },
-        reader::Call::Row(index) => Task::Row(index),
-        reader::Call::Probe(index) => Task::Probe(index),
-        reader::Call::Validity => Task::Validity,
-        reader::Call::Meta => Task::Meta,
-        reader::Call::Read(words) => {
-            let bytes = bytes_of_words(*ctx.allocator(), words)?;
-            return Ok(bytes.map(|bytes| Call::Read(bytes)));
-        }
-        _ => {
-            let maker = prepared_maker(call, columns, ctx)?;
-            return Ok(maker.map(|maker| Call::Make(maker)));
-        }
-    };
+        reader::Call::Row(index) => on_copy(name, Task::Row(index), columns, ctx),
+        reader::Call::Probe(index) => on_copy(name, Task::Probe(index), columns, ctx),
+        reader::Call::Validity => on_copy(name, Task::Validity, columns, ctx),
+        reader::Call::Meta => on_copy(name, Task::Meta, columns, ctx),
+        reader::Call::Read(words) => match bytes_of_words(*ctx.allocator(), words)? {
+            Some(bytes) => Ok(Some(Call::Read(bytes))),
+            None => Ok(None),
+        },
+        _ => match prepared_maker(call, columns, ctx)? {
+            Some(maker) => Ok(Some(Call::Make(maker))),
+            None => Ok(None),
+        },
+    }
+}
+
+// The task on a copy of the column of this name.
+fn on_copy<A: Allocator + Copy>(
+    name: &str,
+    task: Task<A>,
+    columns: &Columns<A>,
+    ctx: &mut ExecutionCtx<A>,
+) -> VortexResult<Option<Call<A>>> {
     match copy_of(name, columns, ctx) {
         Ok(Some(column)) => Ok(Some(Call::On(column, task))),
         Ok(None) => {
@@ -58,26 +67,55 @@ fn prepared_command<A: Allocator + Copy>(
 ) -> VortexResult<Option<Command<A>>> {
     let alloc = *ctx.allocator();
     match command {
-        reader::Command::Filter(word) => Ok(bits_of_word(alloc, word)?.map(|bits| Command::Filter(
-            Mask::from_buffer(bits),
-        ))),
+        reader::Command::Filter(word) => prepared_filter(alloc, word),
         reader::Command::Take(dtype, words) => prepared_take(dtype, words, ctx),
-        reader::Command::TakeFrom(name) => {
-            Ok(copy_of(name, columns, ctx)?.map(|dictionary| Command::TakeFrom(dictionary)))
+        reader::Command::TakeFrom(name) | reader::Command::CompareColumn(_, name) => {
+            with_column(command, name, columns, ctx)
         }
-        reader::Command::CompareScalar(operator, dtype, value) => {
-            Ok(scalar_of(alloc, dtype, value)?.map(|scalar| Command::CompareScalar(
-                operator, scalar,
-            )))
-        }
-        reader::Command::CompareColumn(operator, name) => {
-            Ok(copy_of(name, columns, ctx)?.map(|right| Command::CompareColumn(operator, right)))
-        }
-        reader::Command::Fill(dtype, value) => {
-            Ok(scalar_of(alloc, dtype, value)?.map(|scalar| Command::FillNull(scalar)))
+        reader::Command::CompareScalar(_, dtype, value) | reader::Command::Fill(dtype, value) => {
+            with_scalar(command, alloc, dtype, value)
         }
         _ => Ok(plain_command(command)),
     }
+}
+
+fn prepared_filter<A: Allocator + Copy>(alloc: A, word: &str) -> VortexResult<Option<Command<A>>> {
+    match bits_of_word(alloc, word)? {
+        Some(bits) => Ok(Some(Command::Filter(Mask::from_buffer(bits)))),
+        None => Ok(None),
+    }
+}
+
+// The command with the column of this name, which codes are looked up in, or which is compared with.
+fn with_column<A: Allocator + Copy>(
+    command: reader::Command<'_>,
+    name: &str,
+    columns: &Columns<A>,
+    ctx: &mut ExecutionCtx<A>,
+) -> VortexResult<Option<Command<A>>> {
+    let Some(column) = copy_of(name, columns, ctx)? else {
+        return Ok(None);
+    };
+    Ok(Some(match command {
+        reader::Command::CompareColumn(operator, _) => Command::CompareColumn(operator, column),
+        _ => Command::TakeFrom(column),
+    }))
+}
+
+// The command with this value, which is compared with, or which fills nulls.
+fn with_scalar<A: Allocator + Copy>(
+    command: reader::Command<'_>,
+    alloc: A,
+    dtype: DType,
+    value: Value<'_>,
+) -> VortexResult<Option<Command<A>>> {
+    let Some(scalar) = scalar_of(alloc, dtype, value)? else {
+        return Ok(None);
+    };
+    Ok(Some(match command {
+        reader::Command::CompareScalar(operator, _, _) => Command::CompareScalar(operator, scalar),
+        _ => Command::FillNull(scalar),
+    }))
 }
 
 // The indices are made as a flat column is.
@@ -127,9 +165,17 @@ fn copy_of<A: Allocator + Copy>(
     ctx: &mut ExecutionCtx<A>,
 ) -> VortexResult<Option<ArrayRef<A>>> {
     match columns.get(name) {
-        Some(column) => Ok(Some(column.try_clone(ctx)?)),
+        Some(column) => copied(column, ctx),
         None => Ok(None),
     }
+}
+
+/// A copy of this column.
+pub fn copied<A: Allocator + Copy>(
+    column: &ArrayRef<A>,
+    ctx: &mut ExecutionCtx<A>,
+) -> VortexResult<Option<ArrayRef<A>>> {
+    Ok(Some(column.try_clone(ctx)?))
 }
 
 fn prepared_maker<A: Allocator + Copy>(
@@ -138,25 +184,49 @@ fn prepared_maker<A: Allocator + Copy>(
     ctx: &mut ExecutionCtx<A>,
 ) -> VortexResult<Option<Maker<A>>> {
     match call {
-        reader::Call::Copy(name) => Ok(copy_of(name, columns, ctx)?.map(|array| Maker::Copy(
-            array,
-        ))),
-        reader::Call::Encode(name) => Ok(copy_of(name, columns, ctx)?.map(|array| Maker::Encode(
-            array,
-        ))),
-        reader::Call::Runs(runs) => Ok(prepared_runs(runs, columns, ctx)?.map(|(
-            ends,
-            values,
-        )| Maker::Runs(ends, values, runs.offset, runs.length))),
-        reader::Call::Whole(runs) => Ok(prepared_runs(runs, columns, ctx)?.map(|(
-            ends,
-            values,
-        )| Maker::Whole(ends, values))),
+        reader::Call::Copy(name) | reader::Call::Encode(name) => {
+            maker_of_column(call, name, columns, ctx)
+        }
+        reader::Call::Runs(runs) | reader::Call::Whole(runs) => {
+            maker_of_runs(call, runs, columns, ctx)
+        }
         reader::Call::Lists(lists) => prepared_lists(lists, columns, ctx),
         reader::Call::Views(views) => prepared_views(*ctx.allocator(), views),
         reader::Call::Deserialize(record) => prepared_record(record, columns, ctx),
         _ => Ok(None),
     }
+}
+
+// The call on the column of this name, which is copied or encoded.
+fn maker_of_column<A: Allocator + Copy>(
+    call: reader::Call<'_>,
+    name: &str,
+    columns: &Columns<A>,
+    ctx: &mut ExecutionCtx<A>,
+) -> VortexResult<Option<Maker<A>>> {
+    let Some(array) = copy_of(name, columns, ctx)? else {
+        return Ok(None);
+    };
+    Ok(Some(match call {
+        reader::Call::Encode(_) => Maker::Encode(array),
+        _ => Maker::Copy(array),
+    }))
+}
+
+// The call on ends and values, with a window or without.
+fn maker_of_runs<A: Allocator + Copy>(
+    call: reader::Call<'_>,
+    runs: Runs<'_>,
+    columns: &Columns<A>,
+    ctx: &mut ExecutionCtx<A>,
+) -> VortexResult<Option<Maker<A>>> {
+    let Some((ends, values)) = prepared_runs(runs, columns, ctx)? else {
+        return Ok(None);
+    };
+    Ok(Some(match call {
+        reader::Call::Runs(_) => Maker::Runs(ends, values, runs.offset, runs.length),
+        _ => Maker::Whole(ends, values),
+    }))
 }
 
 // Copies of the columns of two names.
@@ -273,7 +343,10 @@ pub fn read_validity<A: Allocator + Copy>(
         "nonnull" => Ok(Some(Validity::NonNullable)),
         "valid" => Ok(Some(Validity::AllValid)),
         "invalid" => Ok(Some(Validity::AllInvalid)),
-        _ => Ok(bits_of_word(alloc, word)?.map(|bits| Validity::Bits(bits))),
+        _ => match bits_of_word(alloc, word)? {
+            Some(bits) => Ok(Some(Validity::Bits(bits))),
+            None => Ok(None),
+        },
     }
 }
 
@@ -310,13 +383,30 @@ fn prepared_views<A: Allocator + Copy>(
     let Some(validity) = read_validity(alloc, line.validity)? else {
         return Ok(None);
     };
+    match views_and_buffers(alloc, line) {
+        Ok(Some((views, buffers))) => Ok(Some(Maker::Views(views, buffers, line.kind, validity))),
+        Ok(None) => {
+            drop(validity);
+            Ok(None)
+        }
+        Err(error) => {
+            drop(validity);
+            Err(error)
+        }
+    }
+}
+
+fn views_and_buffers<A: Allocator + Copy>(
+    alloc: A,
+    line: Views<'_>,
+) -> VortexResult<Option<(Vec<View, A>, Vec<Bytes<A>, A>)>> {
     let Some(views) = read_views(alloc, line.views)? else {
         return Ok(None);
     };
-    let Some(buffers) = read_buffers(alloc, line.buffers)? else {
-        return Ok(None);
-    };
-    Ok(Some(Maker::Views(views, buffers, line.kind, validity)))
+    match read_buffers(alloc, line.buffers)? {
+        Some(buffers) => Ok(Some((views, buffers))),
+        None => Ok(None),
+    }
 }
 
 // A view for each three words.

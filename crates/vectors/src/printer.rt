@@ -16,7 +16,14 @@ pub fn push_word<A: Allocator + Copy>(text: &mut String<A>, word: &str) -> Vorte
     ensures only { IsOkUnless result VortexError.OutOfMemory }
 {
     push_space(text)?;
-    text.push_str(word)?;
+    push_letters(text, word)
+}
+
+// Letters right behind the text.
+fn push_letters<A: Allocator + Copy>(text: &mut String<A>, letters: &str) -> VortexResult<()>
+    ensures only { IsOkUnless result VortexError.OutOfMemory }
+{
+    text.push_str(letters)?;
     Ok(())
 }
 
@@ -34,6 +41,13 @@ fn push_number<A: Allocator + Copy>(text: &mut String<A>, number: i128) -> Vorte
     ensures only { IsOkUnless result VortexError.OutOfMemory }
 {
     push_space(text)?;
+    push_digits(text, number)
+}
+
+// The digits of a number, right behind the text.
+fn push_digits<A: Allocator + Copy>(text: &mut String<A>, number: i128) -> VortexResult<()>
+    ensures only { IsOkUnless result VortexError.OutOfMemory }
+{
     write!(text, "{number}")?;
     Ok(())
 }
@@ -67,17 +81,16 @@ fn push_list<A: Allocator + Copy>(
     start: usize,
     size: usize,
 ) -> VortexResult<()> {
-    text.push_str("[")?;
+    push_letters(text, "[")?;
     for index in start..start.saturating_add(size) {
         if index > start {
-            text.push_str(",")?;
+            push_letters(text, ",")?;
         }
         if index < elements.len() {
             push_single(text, elements.get(index))?;
         }
     }
-    text.push_str("]")?;
-    Ok(())
+    push_letters(text, "]")
 }
 
 // A value that is no list. Elements of lists are none.
@@ -86,37 +99,52 @@ fn push_single<A: Allocator + Copy>(
     row: ScalarView<'_, A>,
 ) -> VortexResult<()> {
     match row {
-        ScalarView::Null => text.push_str("null")?,
-        ScalarView::Bool(truth) => write!(text, "{truth}")?,
-        ScalarView::Unsigned(number) => write!(text, "{number}")?,
-        ScalarView::Signed(number) => write!(text, "{number}")?,
-        ScalarView::Decimal(number) => write!(text, "{number}")?,
-        ScalarView::Utf8(letters) => push_quoted(text, letters)?,
-        ScalarView::Binary(bytes) => push_bytes(text, bytes)?,
-        ScalarView::List { .. } => return Err(VortexError::Unsupported),
+        ScalarView::Null => push_letters(text, "null"),
+        ScalarView::Bool(truth) => push_letters(text, name_of_truth(truth)),
+        ScalarView::Unsigned(number) => push_digits(text, i128::from(number)),
+        ScalarView::Signed(number) => push_digits(text, i128::from(number)),
+        ScalarView::Decimal(number) => push_digits(text, number),
+        ScalarView::Utf8(letters) => push_quoted(text, letters),
+        ScalarView::Binary(bytes) => push_bytes(text, bytes),
+        ScalarView::List { .. } => Err(VortexError::Unsupported),
     }
-    Ok(())
+}
+
+fn name_of_truth(truth: bool) -> &'static str {
+    if truth { "true" } else { "false" }
 }
 
 // A text within quotes, with its escapes.
 fn push_quoted<A: Allocator + Copy>(text: &mut String<A>, letters: &str) -> VortexResult<()> {
-    text.push_str("\"")?;
+    push_letters(text, "\"")?;
     for letter in letters.chars() {
-        match letter {
-            ' ' => text.push_str("\\s")?,
-            '\n' => text.push_str("\\n")?,
-            '"' => text.push_str("\\\"")?,
-            '\\' => text.push_str("\\\\")?,
-            _ => text.push(letter)?,
-        }
+        push_escaped(text, letter)?;
     }
-    text.push_str("\"")?;
-    Ok(())
+    push_letters(text, "\"")
+}
+
+// A letter of a text within quotes.
+fn push_escaped<A: Allocator + Copy>(text: &mut String<A>, letter: char) -> VortexResult<()> {
+    match escape_of(letter) {
+        Some(escape) => push_letters(text, escape),
+        None => Ok(text.push(letter)?),
+    }
+}
+
+// What is written for a letter that does not stand for itself within quotes.
+fn escape_of(letter: char) -> Option<&'static str> {
+    match letter {
+        ' ' => Some("\\s"),
+        '\n' => Some("\\n"),
+        '"' => Some("\\\""),
+        '\\' => Some("\\\\"),
+        _ => None,
+    }
 }
 
 // An x, and two hexadecimal digits for each byte.
 fn push_bytes<A: Allocator + Copy>(text: &mut String<A>, bytes: &[u8]) -> VortexResult<()> {
-    text.push_str("x")?;
+    push_letters(text, "x")?;
     for byte in bytes {
         write!(text, "{byte:02X}")?;
     }
@@ -140,17 +168,21 @@ pub fn push_stored<A: Allocator + Copy>(
     text: &mut String<A>,
     array: &ArrayRef<A>,
 ) -> VortexResult<bool> {
-    match array {
-        ArrayRef::Primitive(plain) => push_numbers(text, plain.values())?,
-        ArrayRef::Bool(truths) => push_truths(text, truths.values())?,
-        ArrayRef::Decimal(decimals) => {
-            for number in decimals.values() {
-                push_number(text, *number)?;
-            }
-        }
+    let pushed = match array {
+        ArrayRef::Primitive(plain) => push_numbers(text, plain.values()),
+        ArrayRef::Bool(truths) => push_truths(text, truths.values()),
+        ArrayRef::Decimal(decimals) => push_decimals(text, decimals.values()),
         _ => return Ok(false),
-    }
+    };
+    pushed?;
     Ok(true)
+}
+
+fn push_decimals<A: Allocator + Copy>(text: &mut String<A>, numbers: &[i128]) -> VortexResult<()> {
+    for number in numbers {
+        push_number(text, *number)?;
+    }
+    Ok(())
 }
 
 fn push_numbers<A: Allocator + Copy>(
@@ -172,20 +204,22 @@ fn push_truths<A: Allocator + Copy>(text: &mut String<A>, bits: &BitBuffer<A>) -
 
 /// A truth value.
 pub fn push_truth<A: Allocator + Copy>(text: &mut String<A>, truth: bool) -> VortexResult<()> {
-    push_word(text, if truth { "true" } else { "false" })
+    push_word(text, name_of_truth(truth))
 }
 
 /// A sum: the number, or `overflow`, and behind it `empty` where no row is valid.
 pub fn push_sum<A: Allocator + Copy>(text: &mut String<A>, total: SumAnswer) -> VortexResult<()> {
-    match total.sum {
-        None => push_word(text, "overflow")?,
-        Some(SumValue::Unsigned(number)) => push_number(text, i128::from(number))?,
-        Some(SumValue::Signed(number)) => push_number(text, i128::from(number))?,
-    }
+    let pushed = match total.sum {
+        None => push_word(text, "overflow"),
+        Some(SumValue::Unsigned(number)) => push_number(text, i128::from(number)),
+        Some(SumValue::Signed(number)) => push_number(text, i128::from(number)),
+    };
+    pushed?;
     if total.is_empty {
-        push_word(text, "empty")?;
+        push_word(text, "empty")
+    } else {
+        Ok(())
     }
-    Ok(())
 }
 
 /// The form of a column.
@@ -194,10 +228,11 @@ pub fn push_form<A: Allocator + Copy>(
     array: &ArrayRef<A>,
 ) -> VortexResult<()> {
     let (inner, depth) = push_outer_runs(text, array)?;
-    match inner {
-        ArrayRef::ListView(lists) => push_lists(text, lists)?,
-        _ => push_leaf(text, inner)?,
-    }
+    let pushed = match inner {
+        ArrayRef::ListView(lists) => push_lists(text, lists),
+        _ => push_leaf(text, inner),
+    };
+    pushed?;
     push_braces(text, depth)
 }
 
@@ -260,29 +295,38 @@ fn push_window<A: Allocator + Copy>(
 // The form of a flat column or a constant.
 fn push_leaf<A: Allocator + Copy>(text: &mut String<A>, array: &ArrayRef<A>) -> VortexResult<()> {
     match array {
-        ArrayRef::Primitive(plain) => push_head(text, array, plain.validity())?,
-        ArrayRef::Bool(truths) => push_head(text, array, truths.validity())?,
-        ArrayRef::Decimal(decimals) => push_head(text, array, decimals.validity())?,
-        ArrayRef::VarBinView(views) => push_head(text, array, views.validity())?,
+        ArrayRef::Primitive(plain) => push_flat(text, array, plain.validity()),
+        ArrayRef::Bool(truths) => push_flat(text, array, truths.validity()),
+        ArrayRef::Decimal(decimals) => push_flat(text, array, decimals.validity()),
+        ArrayRef::VarBinView(views) => push_flat(text, array, views.validity()),
         ArrayRef::Constant(constant) => {
             push_word(text, "constant")?;
             push_dtype(text, constant.dtype())?;
             push_row(text, constant.scalar().view())?;
-            return push_number(text, constant.len() as i128);
+            push_number(text, constant.len() as i128)
         }
-        ArrayRef::ListView(_) | ArrayRef::RunEnd(_) => return Err(VortexError::Unsupported),
+        ArrayRef::ListView(_) | ArrayRef::RunEnd(_) => Err(VortexError::Unsupported),
     }
+}
+
+// The form of a flat column of this validity.
+fn push_flat<A: Allocator + Copy>(
+    text: &mut String<A>,
+    array: &ArrayRef<A>,
+    validity: &Validity<A>,
+) -> VortexResult<()> {
+    push_head(text, array.dtype(), validity)?;
     push_rows(text, array)
 }
 
 // What stands before the rows of a flat column.
 fn push_head<A: Allocator + Copy>(
     text: &mut String<A>,
-    array: &ArrayRef<A>,
+    dtype: DType,
     validity: &Validity<A>,
 ) -> VortexResult<()> {
     push_word(text, "flat")?;
-    push_dtype(text, array.dtype())?;
+    push_dtype(text, dtype)?;
     push_word(text, name_of(validity))
 }
 
@@ -315,9 +359,7 @@ fn push_elements<A: Allocator + Copy>(
     text: &mut String<A>,
     elements: &FlatColumn<A>,
 ) -> VortexResult<()> {
-    push_word(text, "flat")?;
-    push_dtype(text, elements.dtype())?;
-    push_word(text, name_of(elements.validity()))?;
+    push_head(text, elements.dtype(), elements.validity())?;
     for index in 0..elements.len() {
         push_row(text, elements.get(index))?;
     }
@@ -344,10 +386,10 @@ pub fn push_validity<A: Allocator + Copy>(
 // A digit for each bit, or `-` where there are none.
 fn push_bits<A: Allocator + Copy>(text: &mut String<A>, bits: &BitBuffer<A>) -> VortexResult<()> {
     if bits.is_empty() {
-        text.push_str("-")?;
+        push_letters(text, "-")?;
     }
     for index in 0..bits.len() {
-        text.push_str(if bits.value(index) { "1" } else { "0" })?;
+        push_letters(text, if bits.value(index) { "1" } else { "0" })?;
     }
     Ok(())
 }

@@ -64,11 +64,23 @@ pub fn refused_in_turn(
     let Some(expected) = expected_of(name, call, &bench.columns, &mut bench.ctx)? else {
         return Ok(None);
     };
-    match refused_by(Plan::Only, name, call, bench, &expected)? {
-        Found::Broken(request) => Ok(Some(Found::Broken(request))),
-        alone => match refused_by(Plan::From, name, call, bench, &expected)? {
-            Found::Nothing => Ok(Some(alone)),
-            found => Ok(Some(found)),
+    let found = found_in_turn(name, call, bench, &expected);
+    drop(expected);
+    Ok(Some(found?))
+}
+
+// What comes of the call with each request refused alone, and then with all from each on.
+fn found_in_turn<'a>(
+    name: &str,
+    call: reader::Call<'_>,
+    bench: &mut Bench<'a>,
+    expected: &Expected<Heap<'a>>,
+) -> VortexResult<Found> {
+    match refused_by(Plan::Only, name, call, bench, expected)? {
+        Found::Broken(request) => Ok(Found::Broken(request)),
+        alone => match refused_by(Plan::From, name, call, bench, expected)? {
+            Found::Nothing => Ok(alone),
+            found => Ok(found),
         },
     }
 }

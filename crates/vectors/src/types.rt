@@ -95,8 +95,7 @@ pub fn push_type<A: Allocator + Copy>(text: &mut String<A>, dtype: DType) -> Vor
     if let DType::List(element, nullability) = dtype {
         text.push_str("list(")?;
         push_single(text, element)?;
-        text.push_str(")")?;
-        return push_mark(text, nullability);
+        return push_marked(text, ")", nullability);
     }
     match single_of(dtype) {
         Some(element) => push_single(text, element),
@@ -109,23 +108,35 @@ fn push_single<A: Allocator + Copy>(
     element: ElementDType,
 ) -> VortexResult<()> {
     match element {
-        ElementDType::Bool(_) => text.push_str("bool")?,
-        ElementDType::Primitive(ptype, _) => text.push_str(name_of(ptype))?,
-        ElementDType::Decimal(decimal, _) => push_decimal(text, decimal)?,
-        ElementDType::Utf8(_) => text.push_str("utf8")?,
-        ElementDType::Binary(_) => text.push_str("binary")?,
+        ElementDType::Bool(nullability) => push_marked(text, "bool", nullability),
+        ElementDType::Primitive(ptype, nullability) => {
+            push_marked(text, name_of(ptype), nullability)
+        }
+        ElementDType::Decimal(decimal, nullability) => push_decimal(text, decimal, nullability),
+        ElementDType::Utf8(nullability) => push_marked(text, "utf8", nullability),
+        ElementDType::Binary(nullability) => push_marked(text, "binary", nullability),
     }
-    push_mark(text, dtype_of(element).nullability())
+}
+
+// A name, and the question mark where rows may be null.
+fn push_marked<A: Allocator + Copy>(
+    text: &mut String<A>,
+    name: &str,
+    nullability: Nullability,
+) -> VortexResult<()> {
+    text.push_str(name)?;
+    push_mark(text, nullability)
 }
 
 fn push_decimal<A: Allocator + Copy>(
     text: &mut String<A>,
     decimal: DecimalDType,
+    nullability: Nullability,
 ) -> VortexResult<()> {
     let precision = decimal.precision;
     let scale = decimal.scale;
     write!(text, "decimal({precision},{scale})")?;
-    Ok(())
+    push_mark(text, nullability)
 }
 
 fn push_mark<A: Allocator + Copy>(

@@ -222,17 +222,26 @@ pub fn bytes_of_words<A: Allocator + Copy>(
     alloc: A,
     words: &[&str],
 ) -> VortexResult<Option<Vec<u8, A>>> {
-    let mut bytes = Vec::new(alloc);
-    if let ["-"] = words {
-        return Ok(Some(bytes));
+    match words {
+        ["-"] => Ok(Some(Vec::new(alloc))),
+        [] => Ok(None),
+        _ => bytes_of_each(alloc, words),
     }
+}
+
+// A byte of each word.
+fn bytes_of_each<A: Allocator + Copy>(
+    alloc: A,
+    words: &[&str],
+) -> VortexResult<Option<Vec<u8, A>>> {
+    let mut bytes = Vec::new(alloc);
     for word in words {
         match byte_of(alloc, word)? {
             Some(byte) => bytes.push(byte)?,
             None => return Ok(None),
         }
     }
-    Ok(if words.is_empty() { None } else { Some(bytes) })
+    Ok(Some(bytes))
 }
 
 // The byte of two hexadecimal digits.
