@@ -55,6 +55,7 @@ impl<A: Allocator + Copy> BitRuns<A> {
 
     /// Puts `bit` behind the last bit as often as it takes for `end` bits. Takes no memory up to the
     /// count of bits that there is room for. Refused as `OutOfMemory` alone, and then the bits stay.
+    #[inline(always)]
     pub fn repeat_to(&mut self, bit: bool, end: usize) -> VortexResult<()>
         ensures ok { OnOk result (self.new ≡ self.old ++ replicate (end - length self.old) bit) }
         ensures err { OnErr result (self.new ≡ self.old) }
@@ -109,8 +110,8 @@ pub fn is_majority(true_runs: usize, runs: usize) -> bool
     true_runs > runs / 2
 }
 
-// The bit of a run, false where its mark is false.
-fn marked_at<A: Allocator>(bits: &BitBuffer<A>, marks: &BitBuffer<A>, run: usize) -> bool
+/// The bit of a run, false where its mark is false.
+pub fn marked_at<A: Allocator>(bits: &BitBuffer<A>, marks: &BitBuffer<A>, run: usize) -> bool
     requires within { run < length bits.now }
     requires paired { length marks.now ≡ length bits.now }
     ensures { slice_get (blanked false (optionals bits.now marks.now)) run ≡ Some result }

@@ -1,143 +1,119 @@
 //! The decoder of truth values.
-ghost use Rattle.std.specs.Prelude.{◌≡◌, ◌<◌, [], IfOk, IsOkUnless, count_by, length as item_count, map, slice_get, unsigned_abs, Some, false};
-ghost use Rattle.column_base.specs.ValidityForm.{HasLength, IsNormal, flags, nullability_in};
-ghost use Rattle.column_core.specs.Computed.{HasRowIfAllNull};
+ghost use Rattle.std.specs.Prelude.{◌≡◌, IfOk, IsOkUnless, length as item_count, map, unsigned_abs, false};
+ghost use Rattle.column_base.specs.ValidityForm.{HasLength};
 ghost use Rattle.column_base.specs.Validity.{form_of};
-ghost use Rattle.column_core.specs.BoolForm.{BoolForm};
 ghost use Rattle.column_core.specs.Optionals.{optionals};
 ghost use Rattle.column_core.specs.PrimitiveForm.{primitive_dtype};
-ghost use Rattle.column_core.specs.Leaf.{OfTruths, leaf_dtype};
+ghost use Rattle.column_core.specs.Leaf.{OfTruths};
 ghost use Rattle.runend_codec.specs.Window.{IsWindow};
 ghost use Rattle.runend_codec.specs.Cover.{Covers};
 ghost use Rattle.runend_codec.specs.Ends.{IsEndsType, ends_of};
-ghost use Rattle.runend_codec.specs.Window.{run_rows};
 ghost use Rattle.runend_codec.specs.Decoding.{AreDecoded};
 ghost use Rattle.runend_codec.specs.Encoding.{IsDecodedLeaf, blanked};
-ghost use Rattle.column_core.specs.Leaf.{single_rows};
 
-use crate::bit_runs::{BitRuns, count_marked, is_majority, start_over};
+use crate::bit_runs::{marked_at, start_over};
 use crate::decode::{decode_validity, reach_of};
 use column_base::match_each_unsigned;
 use column_core::{
-    BitBuffer, BoolArray, FlatColumn, PrimitiveArray, UnsignedPType, Validity, VortexError,
+    BitBuffer, BitBufferMut, BoolArray, PrimitiveArray, UnsignedPType, Validity, VortexError,
     VortexResult,
 };
 use std::alloc::Allocator;
 
-// The truth value in a row, and false for null.
-fn truth_at<A: Allocator>(values: &BitBuffer<A>, validity: &Validity<A>, row: usize) -> bool
-    requires within { row < item_count values.now }
-    requires fits { HasLength (form_of validity.now) (item_count values.now) }
-    ensures { slice_get (blanked false (optionals values.now (flags (form_of validity.now) (item_count values.now)))) row ≡ Some result }
-{
-    validity.is_valid(row) && values.value(row)
-}
-
-// How many runs are true, of which a null one is none.
-fn count_truths<A: Allocator>(values: &BitBuffer<A>, validity: &Validity<A>) -> usize
-    requires { HasLength (form_of validity.now) (item_count values.now) }
-    ensures { result ≡ count_by (λ bit. bit) (blanked false (optionals values.now (flags (form_of validity.now) (item_count values.now)))) }
-{
-    match validity {
-        Validity::NonNullable => values.true_count(),
-        Validity::AllValid => values.true_count(),
-        Validity::AllInvalid => 0,
-        Validity::Bits(marks) => count_marked(values, marks),
-    }
-}
-
-// No bits yet. From `prefill_runs` runs on the rows start as the truth value of most runs, so that only
-// the other runs are written.
-fn start_truths<A: Allocator + Copy>(
-    alloc: A,
-    values: &BitBuffer<A>,
-    validity: &Validity<A>,
-    count: usize,
-    prefill_runs: usize,
-) -> VortexResult<BitRuns<A>>
-    requires fits { HasLength (form_of validity.now) (item_count values.now) }
-    ensures only { IsOkUnless result VortexError.OutOfMemory }
-    ensures empty { IfOk result (λ runs. runs ≡ []) }
-{
-    if values.len() < prefill_runs {
-        return BitRuns::with_room(alloc, count);
-    }
-    let majority = is_majority(count_truths(values, validity), values.len());
-    BitRuns::prefilled(alloc, majority, count)
-}
-
-// The truth values that the runs show in the window, false for null.
+// The truth values that the runs show in the window, where no run is null.
 fn decode_bits<E: UnsignedPType, A: Allocator + Copy>(
     alloc: A,
     ends: &[E],
     values: &BitBuffer<A>,
-    validity: &Validity<A>,
     offset: usize,
     count: usize,
     prefill_runs: usize,
 ) -> VortexResult<BitBuffer<A>>
     requires window { IsWindow (map unsigned_abs (map E.number ends.now)) offset count }
     requires paired { item_count values.now ≡ item_count ends.now }
-    requires fits { HasLength (form_of validity.now) (item_count values.now) }
     ensures only { IsOkUnless result VortexError.OutOfMemory }
-    ensures cover { IfOk result (λ bits. Covers bits (map unsigned_abs (map E.number ends.now))
-        (blanked false (optionals values.now (flags (form_of validity.now) (item_count values.now)))) offset count) }
+    ensures cover { IfOk result (λ bits. Covers bits (map unsigned_abs (map E.number ends.now)) values.now offset count) }
 {
-    let mut rows = start_truths(alloc, values, validity, count, prefill_runs)?;
+    let mut rows = start_over(alloc, values, count, prefill_runs)?;
     for run in 0..ends.len() {
         let reach = reach_of(ends, run, offset, count);
-        rows.repeat_to(truth_at(values, validity, run), reach)?;
+        rows.repeat_to(values.value(run), reach)?;
     }
     Ok(rows.finish())
 }
 
-// Whether each row that the runs show in the window is valid.
-fn decode_marks<E: UnsignedPType, A: Allocator + Copy>(
+// The truth values that the runs show in the window, false for null, and whether each row is valid, in one
+// walk over the runs.
+fn decode_marked<E: UnsignedPType, A: Allocator + Copy>(
     alloc: A,
     ends: &[E],
+    values: &BitBuffer<A>,
     marks: &BitBuffer<A>,
     offset: usize,
     count: usize,
     prefill_runs: usize,
-) -> VortexResult<BitBuffer<A>>
+) -> VortexResult<(BitBuffer<A>, BitBuffer<A>)>
     requires window { IsWindow (map unsigned_abs (map E.number ends.now)) offset count }
-    requires paired { item_count marks.now ≡ item_count ends.now }
+    requires paired { item_count values.now ≡ item_count ends.now }
+    requires fits { item_count marks.now ≡ item_count values.now }
     ensures only { IsOkUnless result VortexError.OutOfMemory }
-    ensures cover { IfOk result (λ bits. Covers bits (map unsigned_abs (map E.number ends.now)) marks.now offset count) }
+    ensures bits { IfOk result (λ parts. Covers parts.0 (map unsigned_abs (map E.number ends.now))
+        (blanked false (optionals values.now marks.now)) offset count) }
+    ensures flags { IfOk result (λ parts. Covers parts.1 (map unsigned_abs (map E.number ends.now)) marks.now offset count) }
 {
-    let mut rows = start_over(alloc, marks, count, prefill_runs)?;
+    let mut rows = start_over(alloc, values, count, prefill_runs)?;
+    let mut flags = start_over(alloc, marks, count, prefill_runs)?;
     for run in 0..ends.len() {
         let reach = reach_of(ends, run, offset, count);
-        rows.repeat_to(marks.value(run), reach)?;
+        rows.repeat_to(marked_at(values, marks, run), reach)?;
+        flags.repeat_to(marks.value(run), reach)?;
     }
-    Ok(rows.finish())
+    Ok((rows.finish(), flags.finish()))
 }
 
-// The validity of the rows that the runs show in the window.
-fn decode_nulls<E: UnsignedPType, A: Allocator + Copy>(
+// The truth values and the validity of the rows that the runs show in the window.
+fn decode_parts<E: UnsignedPType, A: Allocator + Copy>(
     alloc: A,
     ends: &[E],
+    values: &BitBuffer<A>,
     validity: &Validity<A>,
     offset: usize,
     count: usize,
     prefill_runs: usize,
-) -> VortexResult<Validity<A>>
+) -> VortexResult<(BitBuffer<A>, Validity<A>)>
     requires window { IsWindow (map unsigned_abs (map E.number ends.now)) offset count }
-    requires fits { HasLength (form_of validity.now) (item_count ends.now) }
+    requires paired { item_count values.now ≡ item_count ends.now }
+    requires fits { HasLength (form_of validity.now) (item_count values.now) }
     ensures only { IsOkUnless result VortexError.OutOfMemory }
-    ensures cover { IfOk result (λ rows. Covers (flags (form_of rows) count) (map unsigned_abs (map E.number ends.now))
-        (flags (form_of validity.now) (item_count ends.now)) offset count) }
-    ensures fits { IfOk result (λ rows. HasLength (form_of rows) count) }
-    ensures normal { IfOk result (λ rows. IsNormal (form_of rows)) }
-    ensures nullability { IfOk result (λ rows. nullability_in (form_of rows) ≡ nullability_in (form_of validity.now)) }
-    ensures some { IfOk result (λ rows. HasRowIfAllNull (form_of rows) count) }
+    ensures decoded { IfOk result (λ parts. AreDecoded false (map unsigned_abs (map E.number ends.now)) values.now (form_of validity.now) offset count
+        parts.0 (form_of parts.1)) }
 {
     match validity {
-        Validity::Bits(marks) => {
-            let bits = decode_marks(alloc, ends, marks, offset, count, prefill_runs)?;
-            Ok(Validity::from_bits(bits))
+        Validity::NonNullable => {
+            let bits = decode_bits(alloc, ends, values, offset, count, prefill_runs)?;
+            Ok((bits, Validity::NonNullable))
         }
-        _ => decode_validity(alloc, ends, validity, offset, count),
+        Validity::AllValid => {
+            let bits = decode_bits(alloc, ends, values, offset, count, prefill_runs)?;
+            Ok((bits, Validity::AllValid))
+        }
+        Validity::AllInvalid => {
+            let rows = decode_validity(alloc, ends, validity, offset, count)?;
+            let bits = BitBufferMut::full(alloc, false, count)?;
+            Ok((bits.freeze(), rows))
+        }
+        Validity::Bits(marks) => {
+            let (bits, flags) = decode_marked(
+                alloc,
+                ends,
+                values,
+                marks,
+                offset,
+                count,
+                prefill_runs,
+            )?;
+            Ok((bits, Validity::from_bits(flags)))
+        }
     }
 }
 
@@ -154,17 +130,15 @@ fn decode_under<E: UnsignedPType, A: Allocator + Copy>(
     ensures only { IsOkUnless result VortexError.OutOfMemory }
     ensures flat { IfOk result (λ array. IsDecodedLeaf (map unsigned_abs (map E.number ends.now)) (OfTruths values.now) offset count (OfTruths array)) }
 {
-    let validity = values.validity();
-    let bits = decode_bits(
+    let (bits, rows) = decode_parts(
         alloc,
         ends,
         values.values(),
-        validity,
+        values.validity(),
         offset,
         count,
         prefill_runs,
     )?;
-    let rows = decode_nulls(alloc, ends, validity, offset, count, prefill_runs)?;
     Ok(BoolArray::new_unchecked(bits, rows))
 }
 

@@ -1,4 +1,4 @@
-use Rattle.std.proofs.Common.{◌≡◌, ◌+◌, ℕ, Bool, false, cond, ap, ◌∙◌, arith}
+use Rattle.std.proofs.Common.{◌≡◌, ℕ, Bool, false, cond, ap, ◌∙◌, arith}
 use Rattle.column_core.specs.Optionals.{optionals}
 use Rattle.runend_codec.specs.Encoding.{blanked}
 use Rattle.runend_codec.proofs.BitRuns.{count-next, count-all}

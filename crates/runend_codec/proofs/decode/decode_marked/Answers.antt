@@ -1,12 +1,12 @@
-use Rattle.std.proofs.Common.{◌≡◌, ℕ, ◌-◌, ◌+◌, ◌<◌, Some, true, false, length, map, min, refl, ap, ◌∙◌, arith, add-one}
-use Rattle.std.specs.Prelude.{slice_get, slice_index, unsigned_abs}
+use Rattle.std.proofs.Common.{◌≡◌, ℕ, ◌-◌, ◌+◌, ◌<◌, Some, true, length, map, min, refl, ap, ◌∙◌, arith, add-one}
+use Rattle.std.specs.Prelude.{slice_index, unsigned_abs}
 use Rattle.std.proofs.lemmas.List.{length-replicate}
 use Rattle.column_base.specs.ValidityForm.{ByBits}
 use Rattle.column_core.specs.Optionals.{optionals}
 use Rattle.runend_codec.specs.Encoding.{blanked}
 use Rattle.runend_codec.proofs.Blanked.{length-blanked}
 use Rattle.runend_codec.proofs.Decoded.{Decoded-none, Decoded-next, Decoded-all, reached, reached-le}
-use Rattle.runend_codec.proofs.Marked.{Marked, Marked-none, Marked-valid, Marked-null, Marked-all, Marked-length}
+use Rattle.runend_codec.proofs.Marked.{Marked-none, Marked-valid, Marked-null, Marked-all, Marked-length}
 use Rattle.runend_codec.proofs.StoredNumbers.{length-naturals}
 use Rattle.runend_codec.proofs.decode.decode_marked.Goals as goal
 use Rattle.runend_codec.proofs.decode.decode_marked.Goals.{then-not-value, else-not-value}

@@ -1,11 +1,6 @@
-use Rattle.std.proofs.Common.{◌≡◌, ◌-◌, ◌<◌, length, map, min, false, arith}
+use Rattle.std.proofs.Common.{◌≡◌, ◌-◌, ◌<◌, length, map, min, sym, ◌∙◌, arith}
 use Rattle.std.specs.Prelude.{slice_index, unsigned_abs}
-use Rattle.column_base.specs.ValidityForm.{flags}
-use Rattle.column_base.specs.Validity.{form_of}
-use Rattle.column_core.specs.Optionals.{optionals}
-use Rattle.runend_codec.specs.Encoding.{blanked}
-use Rattle.runend_codec.proofs.Blanked.{length-blanked}
-use Rattle.runend_codec.proofs.Decoded.{Decoded-all, Decoded-next}
+use Rattle.runend_codec.proofs.Decoded.{Decoded-next, Decoded-all}
 use Rattle.runend_codec.proofs.StoredNumbers.{length-naturals}
 use Rattle.runend_codec.proofs.decode_bool.decode_bits.Goals as goal
 
@@ -13,21 +8,18 @@ pub loop-run-preserved : goal.loop-run-preserved
 loop-run-preserved g c =
     let number = g.E.NativePType.number in
     let ends = map unsigned_abs (map number c.args.ends.now) in
-    let stored = blanked false (optionals c.args.values.now (flags (form_of c.args.validity.now) (length c.args.values.now))) in
     let run = c.loop-run.run in
     let missing = c.reach_of-reach.result - length c.loop-run.rows in
     let copies : missing ≡ min (slice_index ends run - c.args.offset) c.args.count - length c.loop-run.rows = omega (arith, c.reach_of-reach.ensures) in
     let within : run < length ends = omega (arith, length-naturals number c.args.ends.now) in
     rw c.in_ok-repeat_to.ensures.ok
-    (Decoded-next ends stored c.args.offset c.args.count run c.loop-run.rows c.truth_at.result missing c.requires.window within c.truth_at.ensures copies c.loop-run.invariant)
+    (Decoded-next ends c.args.values.now c.args.offset c.args.count run c.loop-run.rows c.value.result missing c.requires.window within c.value.ensures copies c.loop-run.invariant)
 
 pub returns-clause-cover : goal.returns-clause-cover
 returns-clause-cover g c =
     let number = g.E.NativePType.number in
     let ends = map unsigned_abs (map number c.args.ends.now) in
-    let marks = flags (form_of c.args.validity.now) (length c.args.values.now) in
     let long = length-naturals number c.args.ends.now in
-    let paired = length-blanked false c.args.values.now (form_of c.args.validity.now) c.requires.fits in
     let all : c.loop-run.run ≡ length ends = omega arith in
     rw c.finish.ensures
-    (Decoded-all ends (blanked false (optionals c.args.values.now marks)) c.args.offset c.args.count c.loop-run.run c.loop-run.rows c.requires.window (omega arith) all c.loop-run.invariant)
+    (Decoded-all ends c.args.values.now c.args.offset c.args.count c.loop-run.run c.loop-run.rows c.requires.window (c.requires.paired ∙ sym long) all c.loop-run.invariant)

@@ -1,4 +1,4 @@
-use Rattle.std.proofs.Common.{◌≡◌, ◌-◌, ◌++◌, replicate, take, length, sym, ap, ◌∙◌, arith}
+use Rattle.std.proofs.Common.{◌-◌, ◌++◌, replicate, ap, ◌∙◌, arith}
 use Rattle.runend_codec.proofs.BitRuns.{Extended-append, Extended-kept, Extended-filled, same-bit}
 use Rattle.runend_codec.proofs.bit_runs.BitRuns.repeat_to.Goals as goal
 use Rattle.runend_codec.proofs.bit_runs.BitRuns.repeat_to.Goals.{then-end-len+in_ok-append_n, else-end-len+then-bit-self, else-end-len+else-bit-self}
