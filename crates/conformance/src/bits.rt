@@ -89,15 +89,6 @@ fn appended_bits_stand_in_words(rt: HostRuntime) -> Result<(), Fail> {
 }
 
 #[test]
-fn ones_are_counted_between_rows_of_two_words(rt: HostRuntime) -> Result<(), Fail> {
-    let full = BitBufferMut::full(rt.alloc(), true, 128)?.freeze();
-    assert_eq!(rt; full.count_range(0, 0), 0);
-    assert_eq!(rt; full.count_range(63, 65), 2);
-    assert_eq!(rt; full.count_range(1, 127), 126);
-    Ok(())
-}
-
-#[test]
 fn a_range_across_two_words_is_filled_and_sliced(rt: HostRuntime) -> Result<(), Fail> {
     let mut bits = BitBufferMut::full(rt.alloc(), true, 128)?;
     bits.fill_range(60, 70, false);

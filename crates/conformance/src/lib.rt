@@ -7,6 +7,8 @@ mod bits;
 #[cfg(test)]
 mod columns;
 #[cfg(test)]
+mod encoded;
+#[cfg(test)]
 mod errors;
 #[cfg(test)]
 mod fakes;

@@ -1,14 +1,11 @@
-//! Rows, runs and parts of columns.
-use crate::columns::{assert_rows, context, nullable, required};
+//! The runs of rows.
+use crate::columns::{context, required};
 use std::alloc::Allocator;
 use std::process::Abort;
 use std::test::Fail;
 use vortex_runend::{
-    ArrayRef, RunEnd, RunEndArray, RunEndArrayExt, RunEndArraySlotsExt, RunEndData, VortexResult,
-    laws,
+    ArrayRef, RunEnd, RunEndArray, RunEndArrayExt, RunEndArraySlotsExt, VortexResult,
 };
-
-const NUMBERS: [i32; 10] = [1, 1, 2, 2, 2, 3, 3, 3, 3, 3];
 
 // The run of a row, and where the runs of the rows before it stop.
 fn assert_runs_at<A: Allocator + Copy>(
@@ -55,24 +52,5 @@ fn runs_of_rows_are_found(rt: HostRuntime) -> Result<(), Fail> {
     assert_runs_at(&rt, &array, 4, (2, 2));
     assert_runs_at(&rt, &array, 8, (2, 3));
     drop(array);
-    Ok(())
-}
-
-#[test]
-fn an_encoding_begins_at_its_first_row(rt: HostRuntime) -> Result<(), Fail> {
-    let array = ArrayRef::Primitive(required(rt.alloc(), &NUMBERS)?);
-    let data = RunEndData::encode(&array, &mut context(rt.alloc()));
-    drop(array);
-    assert!(rt; data?.array_eq(&RunEndData::new(0)));
-    Ok(())
-}
-
-#[test]
-fn encoded_rows_are_decoded(rt: HostRuntime) -> Result<(), Fail> {
-    let numbers = nullable(rt.alloc(), &[-5i64, 7, 8, 8], &[true, false, true, true])?;
-    let array = ArrayRef::Primitive(numbers);
-    let decoded = laws::encode_then_decode(array, &mut context(rt.alloc()))?;
-    assert_rows(&rt, &decoded, &[Some(-5), None, Some(8), Some(8)]);
-    drop(decoded);
     Ok(())
 }

@@ -47,17 +47,6 @@ fn a_record_is_built_written_and_read(rt: HostRuntime) -> Result<(), Fail> {
 }
 
 #[test]
-fn an_offset_is_written_alone(rt: HostRuntime) -> Result<(), Fail> {
-    let metadata = RunEndMetadata {
-        offset: 300,
-        ..RunEndMetadata::default()
-    };
-    let bytes = metadata.encode_to_vec(rt.alloc())?;
-    assert_eq!(rt; bytes.as_slice(), [0x18u8, 0xAC, 0x02].as_slice());
-    Ok(())
-}
-
-#[test]
 fn a_mebibyte_of_skipped_fields_is_read(rt: HostRuntime) -> Result<(), Fail> {
     let bytes = with_skipped_fields(rt.alloc())?;
     let metadata = RunEndMetadata::decode(&bytes)?;

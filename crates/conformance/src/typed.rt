@@ -3,7 +3,6 @@
 use crate::columns::{assert_rows, assert_stored, context};
 use crate::trials::{Trial, refused_in_turn};
 use std::alloc::Allocator;
-use std::hash::{DefaultHasher, Hasher};
 use std::process::Abort;
 use std::test::Fail;
 use vortex_runend::compress::runend_decode_typed_primitive;
@@ -65,22 +64,5 @@ fn typed_decode_refused_at_each_request(rt: HostRuntime) -> Result<(), Fail> {
 fn the_offset_is_written(rt: HostRuntime) -> Result<(), Fail> {
     let text = RunEndData::new(3).to_string(rt.alloc())?;
     assert_eq!(rt; text.as_str(), "offset: 3");
-    Ok(())
-}
-
-// The hash of what a run column with this offset holds beside its slots.
-fn hash_of(offset: usize) -> u64 {
-    let mut state = DefaultHasher::new();
-    RunEndData::new(offset).array_hash(&mut state);
-    state.finish()
-}
-
-#[test]
-fn the_offset_alone_is_compared(rt: HostRuntime) -> Result<(), Fail> {
-    let three = RunEndData::new(3);
-    assert!(rt; three.array_eq(&RunEndData::new(3)));
-    assert!(rt; !three.array_eq(&RunEndData::new(4)));
-    assert!(rt; hash_of(3) == hash_of(3));
-    assert!(rt; hash_of(3) != hash_of(4));
     Ok(())
 }

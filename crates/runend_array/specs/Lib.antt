@@ -13,4 +13,3 @@ pub mod Canonical
 pub mod RowRuns
 pub mod SessionForm
 pub mod SessionLends
-pub mod Data

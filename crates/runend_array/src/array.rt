@@ -12,7 +12,6 @@ ghost use Rattle.runend_array.specs.Column.{AreParts, AreRuns, IsPlainEnds, IsPl
 ghost use Rattle.runend_array.specs.Canonical.{IsFlatPart, canonical_column};
 ghost use Rattle.runend_array.specs.RowRuns.{first_run, last_run};
 ghost use Rattle.runend_array.specs.Encoding.{IsComputedFlat, IsEncodedColumn, IsPlainNumbers};
-ghost use Rattle.runend_array.specs.Data.{data_eq, data_text, data_writes};
 ghost use Rattle.runend_array.specs.Fault.{PartsFault};
 
 use crate::array_ref::{ArrayRef, out_of_bounds};
@@ -30,8 +29,6 @@ use column_core::{
 };
 use runend_codec::{RunWriter, last_end_of, validate_ends};
 use std::alloc::Allocator;
-use std::fmt;
-use std::hash::Hasher;
 use std::marker::Model;
 use std::ops::Range;
 
@@ -87,28 +84,6 @@ impl<A: Allocator> RunEndSlots<A> {
     pub const VALUES: usize = 1;
 }
 
-/// What a run column holds beside its slots: the offset, in rows.
-#[derive(Clone, Debug, Drop)]
-pub struct RunEndData {
-    offset: usize,
-}
-
-impl Model for RunEndData {
-    ghost use Rattle.std.specs.Prelude.{ℕ};
-
-    ghost Value = { ℕ };
-
-    ghost view = { λ d. d.offset };
-}
-
-/// The slots of a run column, and its offset in rows.
-#[derive(Drop)]
-pub struct RunEndDataParts<A: Allocator> {
-    pub ends: ArrayRef<A>,
-    pub values: ArrayRef<A>,
-    pub offset: usize,
-}
-
 /// The run-end encoding.
 #[derive(Clone, Debug, Drop)]
 pub struct RunEnd;
@@ -150,7 +125,8 @@ impl RunEnd {
             (λ error. PartsFault (column_of ends) (column_of values) offset length error) }
         ensures session { ctx.new ≡ ctx.old }
     {
-        match RunEndData::validate_parts(&ends, &values, offset, length, ctx) {
+        let _ = &ctx;
+        match validate_parts(&ends, &values, offset, length) {
             Ok(()) => Ok(RunEnd::new_unchecked(ends, values, offset, length)),
             Err(error) => {
                 drop(values);
@@ -244,101 +220,23 @@ impl RunEnd {
     }
 }
 
-impl RunEndData {
-    /// The data of a run column with this offset. Nothing is tested.
-    pub fn new(offset: usize) -> Self
-        ensures { result ≡ offset }
-    {
-        RunEndData { offset }
-    }
-
-    /// The same as `new`.
-    pub fn new_unchecked(offset: usize) -> Self
-        ensures { result ≡ offset }
-    {
-        RunEndData { offset }
-    }
-
-    /// The data of the encoding of a plain column of whole numbers: offset 0. Refused as
-    /// `OnlyPrimitive` exactly for other forms and types. Takes no memory.
-    pub fn encode<A: Allocator + Copy>(
-        array: &ArrayRef<A>,
-        ctx: &mut ExecutionCtx<A>,
-    ) -> VortexResult<Self>
-        ensures refused { IsErrOf result VortexError.OnlyPrimitive ↔ (¬ IsPlainNumbers (column_of array.now)) }
-        ensures only { IsOkUnless result VortexError.OnlyPrimitive }
-        ensures offset { IfOk result (λ made. made ≡ 0) }
-        ensures session { ctx.new ≡ ctx.old }
-    {
-        let _ = &ctx;
-        match array {
-            ArrayRef::Primitive(_) => Ok(RunEndData::new_unchecked(0)),
-            _ => Err(VortexError::OnlyPrimitive),
-        }
-    }
-
-    /// Do the parts make a run column? Else the first fault: `EndsNotUnsigned`, `LengthsDiffer`,
-    /// `NoRunsWindow`, `EndsNotStrict`, `WindowOverflow`, `FirstEndBelowOffset`, `LastEndBelowWindow`.
-    /// Takes no memory.
-    pub fn validate_parts<A: Allocator + Copy>(
-        ends: &ArrayRef<A>,
-        values: &ArrayRef<A>,
-        offset: usize,
-        length: usize,
-        ctx: &mut ExecutionCtx<A>,
-    ) -> VortexResult<()>
-        ensures parts { MatchResult result
-            (λ _. AreParts (column_of ends.now) (column_of values.now) offset length)
-            (λ error. PartsFault (column_of ends.now) (column_of values.now) offset length error) }
-        ensures session { ctx.new ≡ ctx.old }
-    {
-        let _ = &ctx;
-        let Some(plain) = plain_ends(ends) else {
-            return Err(VortexError::EndsNotUnsigned);
-        };
-        validate_ends(plain, values.len(), offset, length)
-    }
-
-    /// The offset, beside the slots.
-    pub fn into_parts<A: Allocator>(
-        self,
-        ends: ArrayRef<A>,
-        values: ArrayRef<A>,
-    ) -> RunEndDataParts<A>
-        ensures offset { result.offset ≡ self }
-        ensures ends { result.ends ≡ ends }
-        ensures values { result.values ≡ values }
-    {
-        RunEndDataParts {
-            ends,
-            values,
-            offset: self.offset,
-        }
-    }
-
-    /// Are the offsets equal?
-    pub fn array_eq(&self, other: &RunEndData) -> bool
-        ensures { result ≡ data_eq self.now other.now }
-    {
-        self.offset == other.offset
-    }
-
-    /// Gives the offset to the hasher, and nothing else.
-    pub fn array_hash<H: Hasher>(&self, state: &mut H)
-        ensures { state.new ≡ fold H.write state.old (data_writes self.now) }
-    {
-        state.write_usize(self.offset);
-    }
-}
-
-/// Writes `offset: ` and the offset in decimal digits.
-impl fmt::Display for RunEndData {
-    ghost output = { λ offset. Some (data_text offset) };
-
-    fn fmt<W: fmt::Write>(&self, f: &mut fmt::Formatter<W>) -> fmt::Result {
-        let offset = self.offset;
-        write!(f, "offset: {offset}")
-    }
+/// Do the parts make a run column? Else the first fault: `EndsNotUnsigned`, `LengthsDiffer`,
+/// `NoRunsWindow`, `EndsNotStrict`, `WindowOverflow`, `FirstEndBelowOffset`, `LastEndBelowWindow`.
+/// Takes no memory.
+pub fn validate_parts<A: Allocator + Copy>(
+    ends: &ArrayRef<A>,
+    values: &ArrayRef<A>,
+    offset: usize,
+    length: usize,
+) -> VortexResult<()>
+    ensures { MatchResult result
+        (λ _. AreParts (column_of ends.now) (column_of values.now) offset length)
+        (λ error. PartsFault (column_of ends.now) (column_of values.now) offset length error) }
+{
+    let Some(plain) = plain_ends(ends) else {
+        return Err(VortexError::EndsNotUnsigned);
+    };
+    validate_ends(plain, values.len(), offset, length)
 }
 
 /// The ends, where the column is flat, unsigned and without null.
@@ -412,8 +310,10 @@ impl<A: Allocator + Copy> RunEndArray<A> {
         self.values.dtype()
     }
 
+    /// The row at `index`, borrowed from the column. Refused as `OutOfBounds`, with the index and the
+    /// number of rows, exactly from that number on. Takes no memory.
     #[cycle(scalar_at)]
-    pub(crate) fn row_at(&self, index: usize) -> VortexResult<ScalarView<'_, A>>
+    pub fn row_at(&self, index: usize) -> VortexResult<ScalarView<'_, A>>
         ensures row { IfOk result (λ view. slice_get (column_rows (column_of_runs self.now)) index ≡ Some (sees view)) }
         ensures of_type { IfOk result (λ view. IsViewOf (column_dtype self.now.values) view) }
         ensures refused { IsErrOf result (VortexError.OutOfBounds (pos index) self.now.count) ↔ (self.now.count ≤ index) }
@@ -533,7 +433,7 @@ impl<A: Allocator + Copy> RunEndArray<A> {
 
     /// Which rows are valid. Refused as `OutOfMemory` alone.
     #[cycle(validity_in)]
-    pub(crate) fn validity_in(&self, alloc: A) -> VortexResult<RowValidity<A>>
+    pub fn validity_in(&self, alloc: A) -> VortexResult<RowValidity<A>>
         ensures only { IsOkUnless result VortexError.OutOfMemory }
         ensures rows { IfOk result (λ rows. IsValidityOf (column_of_runs self.now) (validity_of rows)) }
         ensures form { IfOk result (λ rows. IsValidityForm (column_of_runs self.now) (validity_of rows)) }

@@ -97,7 +97,7 @@ impl<A: Allocator + Copy> ConstantArray<A> {
 }
 
 /// Null in each of `count` rows. Takes no memory.
-pub(crate) fn null_constant<A: Allocator>(dtype: DType, count: usize) -> ConstantArray<A>
+pub fn null_constant<A: Allocator>(dtype: DType, count: usize) -> ConstantArray<A>
     requires { MayBeNull (nullability_of dtype) }
     ensures { result ≡ record { dtype = dtype; value = None; count = count } }
 {

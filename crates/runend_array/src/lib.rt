@@ -1,4 +1,4 @@
-//! Run-end encoded columns: arrays, their encoder and decoders, and searches.
+//! Run-end encoded columns: arrays, their encoder, and searches.
 #![tactic(auto)]
 
 mod array;
@@ -6,17 +6,14 @@ mod array_ref;
 mod canonical;
 pub mod compress;
 mod constant;
-pub mod decompress_bool;
 mod lists;
 pub mod ops;
-mod probe;
 mod session;
 mod validities;
 mod written;
 
 pub use array::{
-    RunEnd, RunEndArray, RunEndArrayExt, RunEndArraySlotsExt, RunEndData, RunEndDataParts,
-    RunEndSlots,
+    RunEnd, RunEndArray, RunEndArrayExt, RunEndArraySlotsExt, RunEndSlots, validate_parts,
 };
 pub use array_ref::ArrayRef;
 pub use canonical::{Canonical, array_of};
@@ -26,9 +23,8 @@ pub use column_core::{
     PrimitiveValues, Scalar, ScalarValue, ScalarView, SetIndices, UnsignedPType, Validity,
     VarBinKind, VarBinViewArray, View, VortexError, VortexResult,
 };
-pub use constant::ConstantArray;
+pub use constant::{ConstantArray, null_constant};
 pub use lists::ListViewArray;
-pub use probe::RunEndProbe;
 pub use runend_codec::{TrimmedEnds, trimmed_ends_iter};
 pub use session::{ExecutionCtx, Kernel, Thresholds, VortexSession};
-pub use validities::{RowValidity, validity};
+pub use validities::RowValidity;

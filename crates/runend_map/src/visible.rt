@@ -14,12 +14,12 @@ ghost use Rattle.runend_array.specs.Encoding.{IsDecodedForm};
 ghost use Rattle.runend_map.specs.VisibleForm.{IsOverVisibleRuns, visible_ends, visible_values as values_of_visible, window_start};
 
 use column_core::{BoolArray, DType, FlatColumn, PrimitiveArray, VortexError, VortexResult};
-use runend_array::decompress_bool::runend_decode_bools;
 use runend_array::{
     ArrayRef, Canonical, ExecutionCtx, RunEnd, RunEndArray, RunEndArrayExt, RunEndArraySlotsExt,
     array_of,
 };
 use runend_codec::decode_flat;
+use runend_decode::decompress_bool::runend_decode_bools;
 use std::alloc::Allocator;
 use std::ops::Range;
 

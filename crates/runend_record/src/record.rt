@@ -10,7 +10,8 @@ ghost use Rattle.runend_record.specs.Fault.{AreRecorded, AreStatedSlots, IsRecor
 
 use column_core::{DType, Nullability, VortexError, VortexResult};
 use runend_array::{
-    ArrayRef, ExecutionCtx, RunEnd, RunEndArray, RunEndArrayExt, RunEndArraySlotsExt, RunEndData,
+    ArrayRef, ExecutionCtx, RunEnd, RunEndArray, RunEndArrayExt, RunEndArraySlotsExt,
+    validate_parts,
 };
 use runend_metadata::RunEndMetadata;
 use std::alloc::Allocator;
@@ -49,7 +50,8 @@ pub fn deserialize<A: Allocator + Copy>(
     ensures memory { result ≢ Err VortexError.OutOfMemory }
     ensures session { ctx.new ≡ ctx.old }
 {
-    match read_record(bytes, dtype, length, &ends, &values, ctx) {
+    let _ = &ctx;
+    match read_record(bytes, dtype, length, &ends, &values) {
         Ok(metadata) => {
             let offset = metadata.offset as usize;
             Ok(RunEnd::new_unchecked(ends, values, offset, length))
@@ -70,16 +72,14 @@ fn read_record<A: Allocator + Copy>(
     length: usize,
     ends: &ArrayRef<A>,
     values: &ArrayRef<A>,
-    ctx: &mut ExecutionCtx<A>,
 ) -> VortexResult<RunEndMetadata>
-    ensures read { MatchResult result
+    ensures { MatchResult result
         (λ m. AreRecorded m bytes.now dtype length (column_of ends.now) (column_of values.now))
         (λ error. RecordFault bytes.now dtype length (column_of ends.now) (column_of values.now) error) }
-    ensures session { ctx.new ≡ ctx.old }
 {
     let metadata = RunEndMetadata::decode(bytes)?;
     check_slots(&metadata, dtype, ends, values)?;
-    RunEndData::validate_parts(ends, values, metadata.offset as usize, length, ctx)?;
+    validate_parts(ends, values, metadata.offset as usize, length)?;
     Ok(metadata)
 }
 

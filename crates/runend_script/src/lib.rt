@@ -6,6 +6,7 @@ mod record;
 mod scripts;
 mod serving;
 mod session;
+mod shown;
 
 pub use scripts::{ScriptAnswer, script};
 pub use serving::serve;

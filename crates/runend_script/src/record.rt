@@ -1,10 +1,10 @@
 //! The lines of metadata records.
 ghost use Rattle.std.specs.Prelude.{◌≡◌, IsOkUnless};
+ghost use Rattle.runend_metadata.specs.EndsType.{IsEndsTypeNumber};
 
 use column_base::{VortexError, VortexResult};
-use script_answers::{bytes_line, record_line};
-use script_text::{Words, parse_byte};
-use std::alloc::Allocator;
+use script_text::{Words, name_of, parse_byte};
+use std::alloc::{AllocError, Allocator};
 use vortex_runend::{ArrayRef, ExecutionCtx, RunEndMetadata, serialize};
 
 /// The line of a run column's record, or `not runs` for a column of another form. Refused as
@@ -53,4 +53,26 @@ fn read_bytes<A: Allocator + Copy>(alloc: A, words: Words<'_>) -> VortexResult<O
         bytes.push(byte)?;
     }
     Ok(Some(bytes))
+}
+
+// The line `meta HH ..` of a record's bytes, each as two upper case hexadecimal digits.
+fn bytes_line<A: Allocator + Copy>(alloc: A, bytes: &[u8]) -> Result<String<A>, AllocError> {
+    let mut line = String::from_str(alloc, "meta")?;
+    for byte in bytes {
+        write!(line, " {byte:02X}")?;
+    }
+    Ok(line)
+}
+
+// The line `read ETYPE runs N offset N` of a record.
+fn record_line<A: Allocator + Copy>(
+    alloc: A,
+    metadata: &RunEndMetadata,
+) -> Result<String<A>, AllocError>
+    requires { IsEndsTypeNumber metadata.now.ends_ptype }
+{
+    let name = name_of(metadata.ends_ptype());
+    let runs = metadata.num_runs;
+    let offset = metadata.offset;
+    format!(in alloc; "read {name} runs {runs} offset {offset}")
 }

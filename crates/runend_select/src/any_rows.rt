@@ -42,8 +42,7 @@ pub fn filter_rows<A: Allocator + Copy>(
     }
     let alloc = *ctx.allocator();
     let kept = select_values(alloc, array, mask)?;
-    let kept = kept.into_array(alloc)?;
-    Ok(kept)
+    kept.into_array(alloc)
 }
 
 // The position of an index of `count` rows.
@@ -112,9 +111,10 @@ fn take_native_rows<T: NativePType, A: Allocator + Copy>(
     ensures flat { IfOk result (λ taken. IsComputedFlat (column_of taken)) }
 {
     let positions = checked_positions(alloc, indices, validity, array.len())?;
-    let taken = take_values(alloc, array, positions.as_slice(), validity)?;
-    let taken = taken.into_array(alloc)?;
-    Ok(taken)
+    let taken = take_values(alloc, array, positions.as_slice(), validity);
+    drop(positions);
+    let taken = taken?;
+    taken.into_array(alloc)
 }
 
 /// The rows of a column of any form at the indices, null for null, flat. The type has null where the

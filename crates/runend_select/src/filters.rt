@@ -49,8 +49,9 @@ fn taken_directly<A: Allocator + Copy>(
         places.as_slice(),
         &Validity::NonNullable,
         thresholds,
-    )?;
-    Ok(taken)
+    );
+    drop(places);
+    taken
 }
 
 // The values at which the mask is true, as a column.
@@ -64,8 +65,7 @@ fn kept_values<A: Allocator + Copy>(
     ensures made { IfOk result (λ kept. IsComputedAs (filter_rows (mask_bits mask.now) (rows values.now)) (dtype_of values.now) (column_of kept)) }
 {
     let kept = select_values(alloc, values, mask)?;
-    let kept = kept.into_array(alloc)?;
-    Ok(kept)
+    kept.into_array(alloc)
 }
 
 // The runs with a selected row.
@@ -98,6 +98,15 @@ fn kept_column<A: Allocator + Copy>(
     Ok(RunEnd::new_unchecked(kept_ends, values, 0, bits.true_count()))
 }
 
+// Runs, as a column of any form.
+fn boxed_runs<A: Allocator + Copy>(alloc: A, runs: RunEndArray<A>) -> VortexResult<ArrayRef<A>>
+    ensures only { IsOkUnless result VortexError.OutOfMemory }
+    ensures form { IfOk result (λ boxed. column_of boxed ≡ column_of_runs runs) }
+{
+    let boxed = Box::new(alloc, runs)?;
+    Ok(ArrayRef::RunEnd(boxed))
+}
+
 // The rows at which the bits are true.
 fn filter_bits<A: Allocator + Copy>(
     array: &RunEndArray<A>,
@@ -116,12 +125,10 @@ fn filter_bits<A: Allocator + Copy>(
     let runs = array.values().len();
     if takes_directly(bits.true_count(), runs, thresholds) {
         let taken = taken_directly(alloc, array, bits, thresholds)?;
-        let taken = taken.into_array(alloc)?;
-        return Ok(taken);
+        return taken.into_array(alloc);
     }
     let kept = kept_column(alloc, array, bits)?;
-    let boxed = Box::new(alloc, kept)?;
-    Ok(ArrayRef::RunEnd(boxed))
+    boxed_runs(alloc, kept)
 }
 
 // The same column, in memory of its own.
@@ -142,8 +149,7 @@ fn unchanged<A: Allocator + Copy>(
         }
     };
     let copy = RunEnd::new_unchecked(ends, values, array.offset(), array.len());
-    let boxed = Box::new(*ctx.allocator(), copy)?;
-    Ok(ArrayRef::RunEnd(boxed))
+    boxed_runs(*ctx.allocator(), copy)
 }
 
 // No rows of a column, flat.
@@ -154,8 +160,7 @@ fn no_values<A: Allocator + Copy>(alloc: A, values: &ArrayRef<A>) -> VortexResul
     ensures flat { IfOk result (λ none. IsNormalFlat (column_of none)) }
 {
     let none = values.rows_between(alloc, 0, 0)?;
-    let none = none.into_array(alloc)?;
-    Ok(none)
+    none.into_array(alloc)
 }
 
 // No rows of the column.
@@ -179,8 +184,7 @@ fn without_rows<A: Allocator + Copy>(
     };
     let ends = ArrayRef::Primitive(ends);
     let none = RunEnd::new_unchecked(ends, values, 0, 0);
-    let boxed = Box::new(alloc, none)?;
-    Ok(ArrayRef::RunEnd(boxed))
+    boxed_runs(alloc, none)
 }
 
 /// The rows at which the mask is true, in order. Under `AllTrue` the column is unchanged, under
@@ -208,17 +212,8 @@ pub fn filter<A: Allocator + Copy>(
         });
     }
     match mask {
-        Mask::AllTrue(_) => {
-            let copy = unchanged(array, ctx)?;
-            Ok(copy)
-        }
-        Mask::AllFalse(_) => {
-            let none = without_rows(array, ctx)?;
-            Ok(none)
-        }
-        Mask::Values(bits) => {
-            let kept = filter_bits(array, bits, ctx)?;
-            Ok(kept)
-        }
+        Mask::AllTrue(_) => unchanged(array, ctx),
+        Mask::AllFalse(_) => without_rows(array, ctx),
+        Mask::Values(bits) => filter_bits(array, bits, ctx),
     }
 }

@@ -46,8 +46,9 @@ fn lists_at_bits<A: Allocator + Copy>(
     ensures made { IfOk result (λ kept. IsComputedAs (filter_rows bits.now (list_rows lists.now)) (list_dtype lists.now) (OfLists kept)) }
 {
     let places = set_places(alloc, bits)?;
-    let kept = take_lists(alloc, lists, places.as_slice(), &Validity::NonNullable)?;
-    Ok(kept)
+    let kept = take_lists(alloc, lists, places.as_slice(), &Validity::NonNullable);
+    drop(places);
+    kept
 }
 
 // The first `count` lists.
@@ -75,17 +76,8 @@ pub(crate) fn select_lists<A: Allocator + Copy>(
     ensures made { IfOk result (λ kept. IsComputedAs (filter_rows (mask_bits mask.now) (list_rows lists.now)) (list_dtype lists.now) (OfLists kept)) }
 {
     match mask {
-        Mask::AllTrue(_) => {
-            let kept = first_lists(alloc, lists, lists.len())?;
-            Ok(kept)
-        }
-        Mask::AllFalse(_) => {
-            let kept = first_lists(alloc, lists, 0)?;
-            Ok(kept)
-        }
-        Mask::Values(bits) => {
-            let kept = lists_at_bits(alloc, lists, bits)?;
-            Ok(kept)
-        }
+        Mask::AllTrue(_) => first_lists(alloc, lists, lists.len()),
+        Mask::AllFalse(_) => first_lists(alloc, lists, 0),
+        Mask::Values(bits) => lists_at_bits(alloc, lists, bits),
     }
 }

@@ -128,8 +128,7 @@ fn runs_of_indices<T: NativePType, A: Allocator + Copy>(
 {
     if array.is_empty() {
         // No index is valid.
-        let zeros = copies_of(alloc, 0, indices.len())?;
-        return Ok(zeros);
+        return copies_of(alloc, 0, indices.len());
     }
     let mask = mask_of(alloc, validity, indices.len())?;
     let ends = match array.ends() {
@@ -167,6 +166,7 @@ pub(crate) fn taken_rows<T: NativePType, A: Allocator + Copy>(
         (canonical_column taken)) }
 {
     let runs = runs_of_indices(alloc, array, indices, validity, thresholds)?;
-    let taken = take_values(alloc, array.values(), runs.as_slice(), validity)?;
-    Ok(taken)
+    let taken = take_values(alloc, array.values(), runs.as_slice(), validity);
+    drop(runs);
+    taken
 }

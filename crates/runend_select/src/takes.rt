@@ -112,8 +112,7 @@ pub fn take_indices_unchecked<T: NativePType, A: Allocator + Copy>(
     let alloc = *ctx.allocator();
     let thresholds = ctx.session().thresholds();
     let taken = taken_rows(alloc, array, indices, validity, thresholds)?;
-    let taken = taken.into_array(alloc)?;
-    Ok(taken)
+    taken.into_array(alloc)
 }
 
 // The rows at indices of one native type.
@@ -131,8 +130,7 @@ fn take_native<T: NativePType, A: Allocator + Copy>(
     ensures session { ctx.new ≡ ctx.old }
 {
     check_indices(indices, validity, array.len())?;
-    let taken = take_indices_unchecked(array, indices, validity, ctx)?;
-    Ok(taken)
+    take_indices_unchecked(array, indices, validity, ctx)
 }
 
 /// The rows at the indices, null for null: a constant null where there is an index and each is null,

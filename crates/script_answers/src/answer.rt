@@ -2,18 +2,13 @@
 ghost use Rattle.std.specs.Prelude.{◌≡◌, ◌↔◌, ◌++◌, [], ◌∷◌, IfOk, IsOkUnless, IsTrue, OnOk, codes};
 ghost use Rattle.std.specs.String.{string_bytes};
 ghost use Rattle.column_core.specs.ScalarView.{sees};
-ghost use Rattle.runend_metadata.specs.EndsType.{IsEndsTypeNumber};
 ghost use Rattle.runend_commands.specs.Extremes.{shown};
 ghost use Rattle.script_answers.specs.AnswerLine.{HasLine, IsNullOrNumber, IsQuestion, answer_text, behind_spaces, field_words, question_text, refusal_text, row_word, sum_words, total_word, truth_word};
 
-use column_base::{DType, Nullability, VortexError, VortexResult};
+use column_base::{VortexError, VortexResult};
 use runend_commands::{Answer, Command};
-use script_text::name_of;
 use std::alloc::{AllocError, Allocator};
-use vortex_runend::{
-    ArrayRef, ConstantArray, ExecutionCtx, RunEndArray, RunEndArrayExt, RunEndArraySlotsExt,
-    RunEndMetadata, Scalar, ScalarView, SumAnswer, SumValue,
-};
+use vortex_runend::{ExecutionCtx, Scalar, ScalarView, SumAnswer, SumValue};
 
 /// Does the answer to the command have a line? It has none where it holds a value that is neither null nor
 /// a whole number, or a truth that the command does not ask for, or where memory was refused.
@@ -125,53 +120,6 @@ fn truth_line<A: Allocator + Copy>(
     format!(in alloc; "{name} {truth}")
 }
 
-/// The line `meta HH ..` of a record's bytes, each as two upper case hexadecimal digits.
-pub fn bytes_line<A: Allocator + Copy>(alloc: A, bytes: &[u8]) -> Result<String<A>, AllocError> {
-    let mut line = String::from_str(alloc, "meta")?;
-    for byte in bytes {
-        write!(line, " {byte:02X}")?;
-    }
-    Ok(line)
-}
-
-/// The line `read ETYPE runs N offset N` of a record.
-pub fn record_line<A: Allocator + Copy>(
-    alloc: A,
-    metadata: &RunEndMetadata,
-) -> Result<String<A>, AllocError>
-    requires { IsEndsTypeNumber metadata.now.ends_ptype }
-{
-    let name = name_of(metadata.ends_ptype());
-    let runs = metadata.num_runs;
-    let offset = metadata.offset;
-    format!(in alloc; "read {name} runs {runs} offset {offset}")
-}
-
-/// The line `rows V ..` of all rows. Refused as `Unsupported` where a row is neither null nor a whole
-/// number, and as `OutOfMemory`.
-pub fn rows_line<A: Allocator + Copy>(alloc: A, array: &ArrayRef<A>) -> VortexResult<String<A>> {
-    let mut line = String::from_str(alloc, "rows")?;
-    push_rows(&mut line, array)?;
-    Ok(line)
-}
-
-/// The line of the form of a column: `flat TYPE V ..`, `const TYPE V length N`, or `runs TYPE ETYPE
-/// offset N length N ends e .. values V ..`. Refused as `Unsupported` where rows are no whole
-/// numbers, and as `OutOfMemory`.
-pub fn form_line<A: Allocator + Copy>(alloc: A, array: &ArrayRef<A>) -> VortexResult<String<A>> {
-    let mut line = String::new(alloc);
-    match array {
-        ArrayRef::Constant(constant) => push_constant(&mut line, constant)?,
-        ArrayRef::RunEnd(runs) => push_runs(&mut line, runs)?,
-        _ => {
-            line.push_str("flat")?;
-            push_type(&mut line, array.dtype())?;
-            push_rows(&mut line, array)?;
-        }
-    }
-    Ok(line)
-}
-
 /// The line `refused`, the error's number and its fields in order.
 pub fn refusal_line<A: Allocator + Copy>(
     alloc: A,
@@ -193,49 +141,45 @@ fn push_fields<A: Allocator + Copy>(
     ensures { OnOk result (string_bytes line.new ≡ string_bytes line.old ++ behind_spaces (field_words error)) }
 {
     match error {
-        VortexError::LengthsDiffer { ends, values } => write!(line, " {ends} {values}"),
-        VortexError::NoRunsWindow { offset, length } => write!(line, " {offset} {length}"),
         VortexError::EndsNotStrict { run } => write!(line, " {run}"),
-        VortexError::FirstEndBelowOffset { end, offset } => write!(line, " {end} {offset}"),
-        VortexError::LastEndBelowWindow { end, required } => write!(line, " {end} {required}"),
         VortexError::OutOfBounds { index, length } => write!(line, " {index} {length}"),
         VortexError::BadRange {
             start,
             stop,
             length,
         } => write!(line, " {start} {stop} {length}"),
-        VortexError::MaskLength { mask, length } => write!(line, " {mask} {length}"),
-        VortexError::ColumnLength { left, right } => write!(line, " {left} {right}"),
         VortexError::EndsTypeNumber { number } => write!(line, " {number}"),
         VortexError::RunCount { stated, found } => write!(line, " {stated} {found}"),
+        VortexError::LengthsDiffer {
+            ends: first,
+            values: second,
+        }
+        | VortexError::NoRunsWindow {
+            offset: first,
+            length: second,
+        }
+        | VortexError::FirstEndBelowOffset {
+            end: first,
+            offset: second,
+        }
+        | VortexError::LastEndBelowWindow {
+            end: first,
+            required: second,
+        }
+        | VortexError::MaskLength {
+            mask: first,
+            length: second,
+        }
+        | VortexError::ColumnLength {
+            left: first,
+            right: second,
+        } => write!(line, " {first} {second}"),
         _ => Ok(()),
     }
 }
 
-// The type as a word, behind a space.
-fn push_type<A: Allocator + Copy>(line: &mut String<A>, dtype: DType) -> VortexResult<()> {
-    let DType::Primitive(ptype, nullability) = dtype else {
-        return Err(VortexError::Unsupported);
-    };
-    line.push_str(" ")?;
-    line.push_str(name_of(ptype))?;
-    if nullability == Nullability::Nullable {
-        line.push_str("?")?;
-    }
-    Ok(())
-}
-
-// The row as a word, behind a space. Refused as `Unsupported` where it is neither null nor a whole number.
-fn push_row<A: Allocator + Copy>(line: &mut String<A>, row: ScalarView<'_, A>) -> VortexResult<()> {
-    if !is_null_or_number(row) {
-        return Err(VortexError::Unsupported);
-    }
-    push_word(line, row)?;
-    Ok(())
-}
-
-// The word of a row, behind a space.
-fn push_word<A: Allocator + Copy>(
+/// Adds a space and the word of the row, which is null or a whole number.
+pub fn push_word<A: Allocator + Copy>(
     line: &mut String<A>,
     row: ScalarView<'_, A>,
 ) -> Result<(), AllocError>
@@ -259,8 +203,8 @@ fn push_total<A: Allocator + Copy>(line: &mut String<A>, total: SumValue) -> Res
     }
 }
 
-// Is it null, or a whole number?
-fn is_null_or_number<A: Allocator>(row: ScalarView<'_, A>) -> bool
+/// Is it null, or a whole number?
+pub fn is_null_or_number<A: Allocator>(row: ScalarView<'_, A>) -> bool
     ensures { IsTrue result ↔ IsNullOrNumber (sees row.entry) }
 {
     match row {
@@ -277,36 +221,4 @@ fn is_question<A: Allocator>(command: &Command<A>) -> bool
         Command::IsConstant | Command::IsSorted { .. } => true,
         _ => false,
     }
-}
-
-// A word for each row, each behind a space.
-fn push_rows<A: Allocator + Copy>(line: &mut String<A>, array: &ArrayRef<A>) -> VortexResult<()> {
-    for index in 0..array.len() {
-        push_row(line, array.scalar_at(index)?)?;
-    }
-    Ok(())
-}
-
-fn push_constant<A: Allocator + Copy>(
-    line: &mut String<A>,
-    constant: &ConstantArray<A>,
-) -> VortexResult<()> {
-    line.push_str("const")?;
-    push_type(line, constant.dtype())?;
-    push_row(line, constant.scalar().view())?;
-    let length = constant.len();
-    write!(line, " length {length}")?;
-    Ok(())
-}
-
-fn push_runs<A: Allocator + Copy>(line: &mut String<A>, runs: &RunEndArray<A>) -> VortexResult<()> {
-    line.push_str("runs")?;
-    push_type(line, runs.dtype())?;
-    push_type(line, runs.ends().dtype())?;
-    let offset = runs.offset();
-    let length = runs.len();
-    write!(line, " offset {offset} length {length} ends")?;
-    push_rows(line, runs.ends())?;
-    line.push_str(" values")?;
-    push_rows(line, runs.values())
 }

@@ -3,6 +3,4 @@
 
 mod answer;
 
-pub use answer::{
-    answer_line, bytes_line, form_line, has_line, record_line, refusal_line, rows_line,
-};
+pub use answer::{answer_line, has_line, is_null_or_number, push_word, refusal_line};

@@ -10,8 +10,8 @@ use std::alloc::Allocator;
 use std::rc::Rc;
 use vortex_runend::{
     ArrayRef, DType, ExecutionCtx, FlatColumn, ListViewArray, RowValidity, RunEnd, RunEndArray,
-    RunEndMetadata, RunEndProbe, Validity, VarBinKind, VarBinViewArray, View, VortexError,
-    deserialize, serialize, validity,
+    RunEndMetadata, RunEndProbe, ScalarView, Validity, VarBinKind, VarBinViewArray, View,
+    VortexError, deserialize, serialize, validity,
 };
 
 /// A call with what it is given.
@@ -158,7 +158,7 @@ impl<A: Allocator + Copy> Task<A> {
     ) -> VortexResult<Reply<A>> {
         match self {
             Task::Command(command) => run_command(command, column, ctx, ample),
-            Task::Row(index) => row_of(column, index, ample),
+            Task::Row(index) => row_reply(column.scalar_at(index), ample),
             Task::Probe(index) => probe_of(column, index, ample),
             Task::Validity => validity_of(column, ctx, ample),
             Task::Meta => meta_of(column, ctx, ample),
@@ -175,15 +175,32 @@ fn run_command<A: Allocator + Copy>(
 ) -> VortexResult<Reply<A>> {
     let mut commands = Vec::new(ample);
     commands.push(command)?;
-    let Ok(mut answers) = execute(column, commands.as_slice(), ctx) else {
-        return Ok(Reply::NoRoom);
-    };
-    match answers.pop() {
-        Some(answer) => {
-            let reply = reply_to(&answer, ample);
-            drop(answer);
+    let reply = run_commands(commands.as_slice(), column, ctx, ample);
+    drop(commands);
+    reply
+}
+
+// What the last of the commands answers.
+fn run_commands<A: Allocator + Copy>(
+    commands: &[Command<A>],
+    column: &mut ArrayRef<A>,
+    ctx: &mut ExecutionCtx<A>,
+    ample: A,
+) -> VortexResult<Reply<A>> {
+    match execute(column, commands, ctx) {
+        Ok(answers) => {
+            let reply = last_reply(answers.as_slice(), ample);
+            drop(answers);
             reply
         }
+        Err(_) => Ok(Reply::NoRoom),
+    }
+}
+
+// What is said of the last of the answers.
+fn last_reply<A: Allocator + Copy>(answers: &[Answer<A>], ample: A) -> VortexResult<Reply<A>> {
+    match answers.last() {
+        Some(answer) => reply_to(answer, ample),
         None => Ok(Reply::Bad),
     }
 }
@@ -195,8 +212,19 @@ fn reply_to<A: Allocator + Copy>(answer: &Answer<A>, ample: A) -> VortexResult<R
         Answer::Refused(error) => Ok(Reply::Refused(*error)),
         _ => {
             let mut text = String::new(ample);
-            push_answer(&mut text, answer)?;
-            Ok(Reply::Says(text))
+            let pushed = push_answer(&mut text, answer);
+            said(text, pushed)
+        }
+    }
+}
+
+// The text as a reply, unless it could not be written.
+fn said<A: Allocator>(text: String<A>, pushed: VortexResult<()>) -> VortexResult<Reply<A>> {
+    match pushed {
+        Ok(()) => Ok(Reply::Says(text)),
+        Err(error) => {
+            drop(text);
+            Err(error)
         }
     }
 }
@@ -216,21 +244,6 @@ fn push_answer<A: Allocator + Copy>(text: &mut String<A>, answer: &Answer<A>) ->
     }
 }
 
-fn row_of<A: Allocator + Copy>(
-    column: &ArrayRef<A>,
-    index: usize,
-    ample: A,
-) -> VortexResult<Reply<A>> {
-    match column.scalar_at(index) {
-        Ok(row) => {
-            let mut text = String::new(ample);
-            push_row(&mut text, row)?;
-            Ok(Reply::Says(text))
-        }
-        Err(error) => Ok(Reply::Refused(error)),
-    }
-}
-
 fn probe_of<A: Allocator + Copy>(
     column: &ArrayRef<A>,
     index: usize,
@@ -240,11 +253,19 @@ fn probe_of<A: Allocator + Copy>(
         return Ok(Reply::Bad);
     };
     let probe = RunEndProbe::new(runs);
-    match probe.execute_scalar(index) {
+    row_reply(probe.execute_scalar(index), ample)
+}
+
+// What is said of a row.
+fn row_reply<A: Allocator + Copy>(
+    row: VortexResult<ScalarView<'_, A>>,
+    ample: A,
+) -> VortexResult<Reply<A>> {
+    match row {
         Ok(row) => {
             let mut text = String::new(ample);
-            push_row(&mut text, row)?;
-            Ok(Reply::Says(text))
+            let pushed = push_row(&mut text, row);
+            said(text, pushed)
         }
         Err(error) => Ok(Reply::Refused(error)),
     }
@@ -261,8 +282,9 @@ fn validity_of<A: Allocator + Copy>(
     match validity(runs, ctx) {
         Ok(rows) => {
             let mut text = String::new(ample);
-            push_validity(&mut text, &rows)?;
-            Ok(Reply::Says(text))
+            let pushed = push_validity(&mut text, &rows);
+            drop(rows);
+            said(text, pushed)
         }
         Err(error) => Ok(Reply::Refused(error)),
     }
@@ -279,8 +301,9 @@ fn meta_of<A: Allocator + Copy>(
     match serialize(runs, ctx) {
         Ok(bytes) => {
             let mut text = String::new(ample);
-            push_record(&mut text, &bytes)?;
-            Ok(Reply::Says(text))
+            let pushed = push_record(&mut text, &bytes);
+            drop(bytes);
+            said(text, pushed)
         }
         Err(error) => Ok(Reply::Refused(error)),
     }
@@ -291,8 +314,8 @@ fn read_of<A: Allocator + Copy>(bytes: &[u8], ample: A) -> VortexResult<Reply<A>
     match RunEndMetadata::decode(bytes) {
         Ok(metadata) => {
             let mut text = String::new(ample);
-            push_metadata(&mut text, &metadata)?;
-            Ok(Reply::Says(text))
+            let pushed = push_metadata(&mut text, &metadata);
+            said(text, pushed)
         }
         Err(error) => Ok(Reply::Refused(error)),
     }

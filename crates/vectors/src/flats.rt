@@ -1,6 +1,8 @@
 //! Flat columns of the values that words write.
 use crate::types::{dtype_of, single_of};
-use crate::values::{NULL_ROW, Row, Value, bytes_of, read_bits, read_elements, read_row, text_of};
+use crate::values::{
+    NULL_ROW, Row, Value, both, bytes_of, kept_if, push_row, read_bits, read_elements, text_of,
+};
 use bytes::Bytes;
 use column_base::VortexResult;
 use std::alloc::Allocator;
@@ -17,13 +19,21 @@ pub fn read_rows<'a, A: Allocator + Copy>(
     words: &[&'a str],
 ) -> VortexResult<Option<Vec<Row<'a>, A>>> {
     let mut rows = Vec::new(alloc);
+    let read = push_rows(words, &mut rows);
+    kept_if(read, rows)
+}
+
+// Puts the rows that the words write behind the rows, and answers whether each word writes one.
+fn push_rows<'a, A: Allocator + Copy>(
+    words: &[&'a str],
+    rows: &mut Vec<Row<'a>, A>,
+) -> VortexResult<bool> {
     for word in words {
-        let Some(row) = read_row(word) else {
-            return Ok(None);
-        };
-        rows.push(row)?;
+        if !push_row(word, rows)? {
+            return Ok(false);
+        }
     }
-    Ok(Some(rows))
+    Ok(true)
 }
 
 /// The flat column of these rows, with the validity made from its bits, or `None` where a row is none
@@ -37,14 +47,26 @@ pub fn flat_column<A: Allocator + Copy>(
     let Some(rows) = read_rows(alloc, words)? else {
         return Ok(None);
     };
+    let made = array_of_rows(dtype, rows.as_slice(), ctx);
+    drop(rows);
+    made
+}
+
+fn array_of_rows<A: Allocator + Copy>(
+    dtype: DType,
+    rows: &[Row<'_>],
+    ctx: &mut ExecutionCtx<A>,
+) -> VortexResult<Option<ArrayRef<A>>> {
     if let DType::List(element, nullability) = dtype {
-        return lists_of_rows(element, nullability, rows.as_slice(), ctx);
+        return lists_of_rows(element, nullability, rows, ctx);
     }
-    let Some(element) = single_of(dtype) else {
-        return Ok(None);
-    };
-    let flat = column_of_rows(alloc, element, dtype.nullability(), rows.as_slice())?;
-    Ok(flat.map(array_of))
+    match single_of(dtype) {
+        Some(element) => {
+            let alloc = *ctx.allocator();
+            array_in(column_of_rows(alloc, element, dtype.nullability(), rows))
+        }
+        None => Ok(None),
+    }
 }
 
 /// The flat column of what the words store, with this validity, or `None` where the validity is none
@@ -99,8 +121,7 @@ fn raw_of_rows<A: Allocator + Copy>(
         drop(validity);
         return Ok(None);
     }
-    let flat = stored_column(alloc, element, rows, validity)?;
-    Ok(flat.map(array_of))
+    array_in(stored_column(alloc, element, rows, validity))
 }
 
 /// So many rows that are null by a validity which says that all are, or `None` for a type without null
@@ -117,8 +138,9 @@ pub fn invalid_column<A: Allocator + Copy>(
         return Ok(None);
     }
     let rows = vec![in alloc; NULL_ROW; count]?;
-    let flat = stored_column(alloc, element, rows.as_slice(), Validity::AllInvalid)?;
-    Ok(flat.map(array_of))
+    let made = stored_column(alloc, element, rows.as_slice(), Validity::AllInvalid);
+    drop(rows);
+    array_in(made)
 }
 
 /// The scalar of a value, or `None` where the value is one that no scalar has. Refused as
@@ -173,6 +195,17 @@ pub fn bits_of_word<A: Allocator + Copy>(
         bits.append(*digit == b'1')?;
     }
     Ok(Some(bits.freeze()))
+}
+
+// The flat column as an array, where there is one.
+fn array_in<A: Allocator>(
+    flat: VortexResult<Option<FlatColumn<A>>>,
+) -> VortexResult<Option<ArrayRef<A>>> {
+    match flat {
+        Ok(Some(flat)) => Ok(Some(array_of(flat))),
+        Ok(None) => Ok(None),
+        Err(error) => Err(error),
+    }
 }
 
 /// A flat column as an array.
@@ -396,24 +429,34 @@ fn push_view<A: Allocator + Copy>(
     row: Row<'_>,
     buffer: &mut Vec<u8, A>,
 ) -> VortexResult<Option<View>> {
-    let start = buffer.len();
     match (kind, row.value) {
-        (_, Value::Null) if !row.valid => return Ok(Some(View::default())),
         (VarBinKind::Utf8, Value::Text(quoted)) => match text_of(alloc, quoted)? {
-            Some(text) => buffer.extend_from_slice(text.as_bytes())?,
-            None => return Ok(None),
+            Some(text) => push_stored(text.into_bytes(), buffer),
+            None => Ok(None),
         },
         (VarBinKind::Binary, Value::Bytes(digits)) => match bytes_of(alloc, digits)? {
-            Some(bytes) => buffer.extend_from_slice(&bytes)?,
-            None => return Ok(None),
+            Some(bytes) => push_stored(bytes, buffer),
+            None => Ok(None),
         },
-        _ => return Ok(None),
+        (_, Value::Null) if !row.valid => Ok(Some(View::default())),
+        _ => Ok(None),
     }
-    Ok(Some(View {
+}
+
+// Puts these bytes behind the buffer, and answers their view.
+fn push_stored<A: Allocator + Copy>(
+    bytes: Vec<u8, A>,
+    buffer: &mut Vec<u8, A>,
+) -> VortexResult<Option<View>> {
+    let view = View {
         buffer: 0,
-        start,
-        size: buffer.len().saturating_sub(start),
-    }))
+        start: buffer.len(),
+        size: bytes.len(),
+    };
+    let pushed = buffer.extend_from_slice(&bytes);
+    drop(bytes);
+    pushed?;
+    Ok(Some(view))
 }
 
 // What the parts of a column of lists are made from.
@@ -435,27 +478,43 @@ fn lists_of_rows<A: Allocator + Copy>(
     let Some(listed) = listed_rows(alloc, rows)? else {
         return Ok(None);
     };
-    let flags = dtype_of(element).nullability();
-    let Some(elements) = column_of_rows(alloc, element, flags, listed.elements.as_slice())? else {
+    let elements = elements_of(alloc, element, listed.elements.as_slice());
+    match both(listed, elements)? {
+        Some((listed, elements)) => {
+            let validity = both(elements, validity_of(alloc, nullability, rows));
+            lists_over(listed, validity, ctx)
+        }
+        None => Ok(None),
+    }
+}
+
+// The column of the elements of lists.
+fn elements_of<A: Allocator + Copy>(
+    alloc: A,
+    element: ElementDType,
+    rows: &[Row<'_>],
+) -> VortexResult<Option<Rc<FlatColumn<A>, A>>> {
+    let nullability = dtype_of(element).nullability();
+    match column_of_rows(alloc, element, nullability, rows)? {
+        Some(elements) => Ok(Some(Rc::new(alloc, elements)?)),
+        None => Ok(None),
+    }
+}
+
+// The lists over these elements, with this validity.
+fn lists_over<A: Allocator + Copy>(
+    listed: Listed<'_, A>,
+    parts: VortexResult<Option<(Rc<FlatColumn<A>, A>, Validity<A>)>>,
+    ctx: &mut ExecutionCtx<A>,
+) -> VortexResult<Option<ArrayRef<A>>> {
+    let Some((listed, (elements, validity))) = both(listed, parts)? else {
         return Ok(None);
     };
-    let elements = Rc::new(alloc, elements)?;
-    match validity_of(alloc, nullability, rows) {
-        Ok(Some(validity)) => {
-            let (offsets, sizes) = (indices_of(listed.offsets), indices_of(listed.sizes));
-            let validity = row_validity(validity);
-            let lists = ListViewArray::try_new(elements, offsets, sizes, validity, ctx);
-            Ok(Some(boxed_lists(lists, alloc)?))
-        }
-        Ok(None) => {
-            drop(elements);
-            Ok(None)
-        }
-        Err(error) => {
-            drop(elements);
-            Err(error)
-        }
-    }
+    let (offsets, sizes) = (indices_of(listed.offsets), indices_of(listed.sizes));
+    drop(listed.elements);
+    let lists = ListViewArray::try_new(elements, offsets, sizes, row_validity(validity), ctx);
+    let lists = boxed_lists(lists, *ctx.allocator())?;
+    Ok(Some(lists))
 }
 
 /// The column of the lists that were made, with memory for its box from `alloc`.
@@ -471,28 +530,42 @@ fn listed_rows<'a, A: Allocator + Copy>(
     alloc: A,
     rows: &[Row<'a>],
 ) -> VortexResult<Option<Listed<'a, A>>> {
-    let mut elements = Vec::new(alloc);
-    let mut offsets = Vec::new(alloc);
-    let mut sizes = Vec::new(alloc);
-    for row in rows {
-        let start = elements.len();
-        match (row.valid, row.value) {
-            (true, Value::List(listed)) => {
-                if !read_elements(listed, &mut elements)? {
-                    return Ok(None);
-                }
+    let mut listed = Listed {
+        elements: Vec::new(alloc),
+        offsets: Vec::new(alloc),
+        sizes: Vec::new(alloc),
+    };
+    let read = listed.push_rows(rows);
+    kept_if(read, listed)
+}
+
+impl<'a, A: Allocator + Copy> Listed<'a, A> {
+    // Puts the rows behind, and answers whether each of them is a list or null.
+    fn push_rows(&mut self, rows: &[Row<'a>]) -> VortexResult<bool> {
+        for row in rows {
+            if !self.push_elements(*row)? {
+                return Ok(false);
             }
-            (false, Value::Null) => {}
-            _ => return Ok(None),
         }
-        offsets.push(start as u64)?;
-        sizes.push(elements.len().saturating_sub(start) as u64)?;
+        Ok(true)
     }
-    Ok(Some(Listed {
-        elements,
-        offsets,
-        sizes,
-    }))
+
+    // Puts the row behind, and answers whether it is a list or null.
+    fn push_elements(&mut self, row: Row<'a>) -> VortexResult<bool> {
+        let start = self.elements.len();
+        let read = match (row.valid, row.value) {
+            (true, Value::List(listed)) => read_elements(listed, &mut self.elements),
+            (false, Value::Null) => Ok(true),
+            _ => Ok(false),
+        };
+        if !read? {
+            return Ok(false);
+        }
+        self.offsets.push(start as u64)?;
+        self.sizes
+            .push(self.elements.len().saturating_sub(start) as u64)?;
+        Ok(true)
+    }
 }
 
 // A flat column of these numbers, for offsets and sizes.

@@ -14,7 +14,7 @@ use crate::session::{crate_thresholds, set_kernels, set_thresholds};
 use crate::values::Value;
 use column_base::VortexResult;
 use std::alloc::Allocator;
-use vector_report::{Report, read_line};
+use vector_report::{Line, Report, read_line};
 use vortex_runend::{
     ArrayRef, ConstantArray, DType, ExecutionCtx, RunEndArraySlotsExt, VortexError,
 };
@@ -23,17 +23,45 @@ use vortex_runend::{
 pub fn run_lines<'a>(text: &str, bench: &mut Bench<'a>) -> VortexResult<Report<Heap<'a>>>
     ensures only { IsOkUnless result VortexError.OutOfMemory }
 {
-    let ample = *bench.ctx.allocator();
-    let mut report = Report::new(ample);
-    for (before, line) in text.lines().enumerate() {
-        let Some(line) = read_line(line) else {
-            continue;
-        };
-        let answer = bench.answer(line.request)?;
-        report.count(before, line.expected, answer.as_str())?;
+    let mut report = Report::new(*bench.ctx.allocator());
+    match count_lines(text, bench, &mut report) {
+        Ok(()) => Ok(report),
+        Err(error) => {
+            drop(report);
+            Err(error)
+        }
     }
-    report.total()?;
-    Ok(report)
+}
+
+// Runs all lines, and counts their answers.
+fn count_lines<'a>(
+    text: &str,
+    bench: &mut Bench<'a>,
+    report: &mut Report<Heap<'a>>,
+) -> VortexResult<()>
+    ensures only { IsOkUnless result VortexError.OutOfMemory }
+{
+    for (before, line) in text.lines().enumerate() {
+        if let Some(line) = read_line(line) {
+            count_line(before, line, bench, report)?;
+        }
+    }
+    report.total()
+}
+
+// Runs the line that comes behind so many others, and counts its answer.
+fn count_line<'a>(
+    before: usize,
+    line: Line<'_>,
+    bench: &mut Bench<'a>,
+    report: &mut Report<Heap<'a>>,
+) -> VortexResult<()>
+    ensures only { IsOkUnless result VortexError.OutOfMemory }
+{
+    let answer = bench.answer(line.request)?;
+    let counted = report.count(before, line.expected, answer.as_str());
+    drop(answer);
+    counted
 }
 
 impl<'a> Bench<'a> {
@@ -47,11 +75,8 @@ impl<'a> Bench<'a> {
             Some(request) => self.reply(request),
             None => Ok(Reply::Bad),
         };
-        match reply {
-            Ok(reply) => reply_text(ample, reply),
-            Err(VortexError::OutOfMemory) => Err(VortexError::OutOfMemory),
-            Err(error) => reply_text(ample, Reply::Refused(error)),
-        }
+        drop(words);
+        answer_text(ample, reply)
     }
 
     fn reply(&mut self, request: Request<'_>) -> VortexResult<Reply<Heap<'a>>> {
@@ -61,20 +86,9 @@ impl<'a> Bench<'a> {
             Request::Make(name, plain) => make(name, plain, columns, ctx),
             Request::Call(name, call) => settle(name, call, columns, ctx),
             Request::Refuse(name, call) => self.refuse(name, call),
-            Request::Look(name, look) => match columns.get(name) {
-                Some(column) => looked_at(*ctx.allocator(), column, look),
-                None => Ok(Reply::Bad),
-            },
-            Request::Kernels(kernels) => {
-                set_kernels(kernels, ctx);
-                Ok(Reply::Done)
-            }
-            Request::Thresholds(thresholds) => {
-                set_thresholds(thresholds, ctx);
-                Ok(Reply::Done)
-            }
-            Request::CrateThresholds => {
-                set_thresholds(crate_thresholds(), ctx);
+            Request::Look(name, look) => look_at(name, look, columns, *ctx.allocator()),
+            _ => {
+                set(request, ctx);
                 Ok(Reply::Done)
             }
         }
@@ -82,19 +96,74 @@ impl<'a> Bench<'a> {
 
     // Makes the call with memory refused in turn, and then with ample memory.
     fn refuse(&mut self, name: &str, call: reader::Call<'_>) -> VortexResult<Reply<Heap<'a>>> {
-        let ample = *self.ctx.allocator();
-        let suffix = match refused_in_turn(name, call, self)? {
-            Some(Found::Memory) => " memory",
-            Some(Found::Nothing) => " none",
-            Some(Found::Broken(request)) => {
-                return Ok(Reply::Says(format!(in ample; "broken at {request}")?));
-            }
-            None => return Ok(Reply::Bad),
-        };
+        match refused_in_turn(name, call, self)? {
+            Some(Found::Memory) => self.settle_with(" memory", name, call),
+            Some(Found::Nothing) => self.settle_with(" none", name, call),
+            Some(Found::Broken(request)) => broken_at(*self.ctx.allocator(), request),
+            None => Ok(Reply::Bad),
+        }
+    }
+
+    // Makes the call with ample memory, and puts this behind its reply.
+    fn settle_with(
+        &mut self,
+        suffix: &str,
+        name: &str,
+        call: reader::Call<'_>,
+    ) -> VortexResult<Reply<Heap<'a>>> {
         let reply = settle(name, call, &mut self.columns, &mut self.ctx)?;
-        let mut text = reply_text(ample, reply)?;
-        text.push_str(suffix)?;
-        Ok(Reply::Says(text))
+        with_suffix(*self.ctx.allocator(), reply, suffix)
+    }
+}
+
+fn broken_at<A: Allocator + Copy>(alloc: A, request: u64) -> VortexResult<Reply<A>> {
+    Ok(Reply::Says(format!(in alloc; "broken at {request}")?))
+}
+
+fn with_suffix<A: Allocator + Copy>(
+    alloc: A,
+    reply: Reply<A>,
+    suffix: &str,
+) -> VortexResult<Reply<A>> {
+    let mut text = reply_text(alloc, reply)?;
+    text.push_str(suffix)?;
+    Ok(Reply::Says(text))
+}
+
+// Sets what the request sets.
+fn set<A: Allocator + Copy>(request: Request<'_>, ctx: &mut ExecutionCtx<A>) {
+    match request {
+        Request::Kernels(kernels) => set_kernels(kernels, ctx),
+        Request::Thresholds(thresholds) => set_thresholds(thresholds, ctx),
+        Request::CrateThresholds => set_thresholds(crate_thresholds(), ctx),
+        _ => {}
+    }
+}
+
+// What of the column of this name is looked at.
+fn look_at<A: Allocator + Copy>(
+    name: &str,
+    look: Look,
+    columns: &Columns<A>,
+    alloc: A,
+) -> VortexResult<Reply<A>> {
+    match columns.get(name) {
+        Some(column) => looked_at(alloc, column, look),
+        None => Ok(Reply::Bad),
+    }
+}
+
+// The text of a reply, or of the refusal of one.
+fn answer_text<A: Allocator + Copy>(
+    alloc: A,
+    reply: VortexResult<Reply<A>>,
+) -> VortexResult<String<A>>
+    ensures only { IsOkUnless result VortexError.OutOfMemory }
+{
+    match reply {
+        Ok(reply) => reply_text(alloc, reply),
+        Err(VortexError::OutOfMemory) => Err(VortexError::OutOfMemory),
+        Err(error) => reply_text(alloc, Reply::Refused(error)),
     }
 }
 
@@ -147,14 +216,23 @@ fn made<A: Allocator + Copy>(
         Plain::Raw(dtype, validity, words) => raw_of_words(alloc, dtype, validity, words),
         Plain::Invalid(dtype, count) => invalid_column(alloc, dtype, count),
         Plain::Constant(dtype, value, count) => constant_of(alloc, dtype, value, count),
-        Plain::Ends(name) => match columns.get(name) {
-            Some(ArrayRef::RunEnd(runs)) => copied(runs.ends(), ctx),
-            _ => Ok(None),
-        },
-        Plain::Values(name) => match columns.get(name) {
-            Some(ArrayRef::RunEnd(runs)) => copied(runs.values(), ctx),
-            _ => Ok(None),
-        },
+        Plain::Ends(name) | Plain::Values(name) => part_of_runs(plain, name, columns, ctx),
+    }
+}
+
+// A copy of the ends, or of the values, of the run column of this name.
+fn part_of_runs<A: Allocator + Copy>(
+    plain: Plain<'_>,
+    name: &str,
+    columns: &Columns<A>,
+    ctx: &mut ExecutionCtx<A>,
+) -> VortexResult<Option<ArrayRef<A>>> {
+    let Some(ArrayRef::RunEnd(runs)) = columns.get(name) else {
+        return Ok(None);
+    };
+    match plain {
+        Plain::Ends(_) => copied(runs.ends(), ctx),
+        _ => copied(runs.values(), ctx),
     }
 }
 

@@ -3,7 +3,7 @@ use crate::calls::{Call, Maker, Task};
 use crate::columns::Columns;
 use crate::flats::{bits_of_word, flat_column, flat_of, row_validity, scalar_of};
 use crate::reader::{self, Lists, Record, Runs, Views};
-use crate::values::{Value, bytes_of, bytes_of_words, read_count, read_value};
+use crate::values::{Value, both, bytes_of, bytes_of_words, read_count, read_value};
 use bytes::Bytes;
 use column_base::VortexResult;
 use runend_commands::Command;
@@ -20,22 +20,36 @@ pub fn prepare<A: Allocator + Copy>(
     ctx: &mut ExecutionCtx<A>,
 ) -> VortexResult<Option<Call<A>>> {
     match call {
-        reader::Call::Command(command) => match prepared_command(command, columns, ctx)? {
-            Some(command) => on_copy(name, Task::Command(command), columns, ctx),
-            None => Ok(None),
-        },
+        reader::Call::Command(command) => commanded_copy(name, command, columns, ctx),
         reader::Call::Row(index) => on_copy(name, Task::Row(index), columns, ctx),
         reader::Call::Probe(index) => on_copy(name, Task::Probe(index), columns, ctx),
         reader::Call::Validity => on_copy(name, Task::Validity, columns, ctx),
         reader::Call::Meta => on_copy(name, Task::Meta, columns, ctx),
-        reader::Call::Read(words) => match bytes_of_words(*ctx.allocator(), words)? {
-            Some(bytes) => Ok(Some(Call::Read(bytes))),
-            None => Ok(None),
-        },
+        reader::Call::Read(words) => prepared_read(*ctx.allocator(), words),
         _ => match prepared_maker(call, columns, ctx)? {
             Some(maker) => Ok(Some(Call::Make(maker))),
             None => Ok(None),
         },
+    }
+}
+
+fn prepared_read<A: Allocator + Copy>(alloc: A, words: &[&str]) -> VortexResult<Option<Call<A>>> {
+    match bytes_of_words(alloc, words)? {
+        Some(bytes) => Ok(Some(Call::Read(bytes))),
+        None => Ok(None),
+    }
+}
+
+// The command on a copy of the column of this name.
+fn commanded_copy<A: Allocator + Copy>(
+    name: &str,
+    command: reader::Command<'_>,
+    columns: &Columns<A>,
+    ctx: &mut ExecutionCtx<A>,
+) -> VortexResult<Option<Call<A>>> {
+    match prepared_command(command, columns, ctx)? {
+        Some(command) => on_copy(name, Task::Command(command), columns, ctx),
+        None => Ok(None),
     }
 }
 
@@ -249,17 +263,7 @@ fn beside_copy<A: Allocator + Copy>(
     columns: &Columns<A>,
     ctx: &mut ExecutionCtx<A>,
 ) -> VortexResult<Option<(ArrayRef<A>, ArrayRef<A>)>> {
-    match copy_of(second, columns, ctx) {
-        Ok(Some(second)) => Ok(Some((first, second))),
-        Ok(None) => {
-            drop(first);
-            Ok(None)
-        }
-        Err(error) => {
-            drop(first);
-            Err(error)
-        }
-    }
+    both(first, copy_of(second, columns, ctx))
 }
 
 // The ends, and a copy of the values.
@@ -296,19 +300,14 @@ fn prepared_lists<A: Allocator + Copy>(
     columns: &Columns<A>,
     ctx: &mut ExecutionCtx<A>,
 ) -> VortexResult<Option<Maker<A>>> {
-    let Some((elements, validity)) = elements_and_validity(lists, columns, ctx)? else {
+    let Some(over) = elements_and_validity(lists, columns, ctx)? else {
         return Ok(None);
     };
-    match copies_of(lists.offsets, lists.sizes, columns, ctx) {
-        Ok(Some((offsets, sizes))) => Ok(Some(Maker::Lists(elements, offsets, sizes, validity))),
-        Ok(None) => {
-            drop((elements, validity));
-            Ok(None)
+    match both(over, copies_of(lists.offsets, lists.sizes, columns, ctx))? {
+        Some(((elements, validity), (offsets, sizes))) => {
+            Ok(Some(Maker::Lists(elements, offsets, sizes, validity)))
         }
-        Err(error) => {
-            drop((elements, validity));
-            Err(error)
-        }
+        None => Ok(None),
     }
 }
 
@@ -317,20 +316,31 @@ fn elements_and_validity<A: Allocator + Copy>(
     columns: &Columns<A>,
     ctx: &mut ExecutionCtx<A>,
 ) -> VortexResult<Option<(Rc<FlatColumn<A>, A>, RowValidity<A>)>> {
-    let Some(elements) = copy_of(lists.elements, columns, ctx)?.and_then(flat_of) else {
-        return Ok(None);
-    };
-    let elements = Rc::new(*ctx.allocator(), elements)?;
-    match list_validity(lists.validity, columns, ctx) {
-        Ok(Some(validity)) => Ok(Some((elements, validity))),
-        Ok(None) => {
-            drop(elements);
-            Ok(None)
-        }
-        Err(error) => {
-            drop(elements);
-            Err(error)
-        }
+    match elements_of(lists.elements, columns, ctx)? {
+        Some(elements) => both(elements, list_validity(lists.validity, columns, ctx)),
+        None => Ok(None),
+    }
+}
+
+// A copy of the column of this name, where it is flat.
+fn elements_of<A: Allocator + Copy>(
+    name: &str,
+    columns: &Columns<A>,
+    ctx: &mut ExecutionCtx<A>,
+) -> VortexResult<Option<Rc<FlatColumn<A>, A>>> {
+    match copy_of(name, columns, ctx)? {
+        Some(array) => shared_flat(*ctx.allocator(), array),
+        None => Ok(None),
+    }
+}
+
+fn shared_flat<A: Allocator + Copy>(
+    alloc: A,
+    array: ArrayRef<A>,
+) -> VortexResult<Option<Rc<FlatColumn<A>, A>>> {
+    match flat_of(array) {
+        Some(elements) => Ok(Some(Rc::new(alloc, elements)?)),
+        None => Ok(None),
     }
 }
 
@@ -356,10 +366,19 @@ fn list_validity<A: Allocator + Copy>(
     columns: &Columns<A>,
     ctx: &mut ExecutionCtx<A>,
 ) -> VortexResult<Option<RowValidity<A>>> {
-    if let Some(validity) = read_validity(*ctx.allocator(), word)? {
-        return Ok(Some(row_validity(validity)));
+    match read_validity(*ctx.allocator(), word)? {
+        Some(validity) => Ok(Some(row_validity(validity))),
+        None => validity_of_runs(word, columns, ctx),
     }
-    match copy_of(word, columns, ctx)? {
+}
+
+// The run column of this name, as a validity.
+fn validity_of_runs<A: Allocator + Copy>(
+    name: &str,
+    columns: &Columns<A>,
+    ctx: &mut ExecutionCtx<A>,
+) -> VortexResult<Option<RowValidity<A>>> {
+    match copy_of(name, columns, ctx)? {
         Some(array) => Ok(validity_in(array)),
         None => Ok(None),
     }
@@ -400,11 +419,8 @@ fn views_and_buffers<A: Allocator + Copy>(
     alloc: A,
     line: Views<'_>,
 ) -> VortexResult<Option<(Vec<View, A>, Vec<Bytes<A>, A>)>> {
-    let Some(views) = read_views(alloc, line.views)? else {
-        return Ok(None);
-    };
-    match read_buffers(alloc, line.buffers)? {
-        Some(buffers) => Ok(Some((views, buffers))),
+    match read_views(alloc, line.views)? {
+        Some(views) => both(views, read_buffers(alloc, line.buffers)),
         None => Ok(None),
     }
 }

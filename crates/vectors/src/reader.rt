@@ -172,11 +172,16 @@ pub fn read_request<'a>(words: &'a [&'a str]) -> Option<Request<'a>> {
     match *first {
         "kernels" => Some(Request::Kernels(read_kernels(rest)?)),
         "thresholds" => read_thresholds(rest),
-        "refuse" => match read_done(rest)? {
-            Request::Call(name, call) => Some(Request::Refuse(name, call)),
-            _ => None,
-        },
+        "refuse" => read_refused(rest),
         _ => read_done(words),
+    }
+}
+
+// The call that these words ask, with memory refused in turn first.
+fn read_refused<'a>(words: &'a [&'a str]) -> Option<Request<'a>> {
+    match read_done(words)? {
+        Request::Call(name, call) => Some(Request::Refuse(name, call)),
+        _ => None,
     }
 }
 
@@ -190,31 +195,60 @@ fn read_done<'a>(words: &'a [&'a str]) -> Option<Request<'a>> {
 
 // What these words ask of the column that the first of them names.
 fn read_on_column<'a>(words: &'a [&'a str]) -> Option<Request<'a>> {
-    let (name, rest) = words.split_first()?;
-    let name = read_name(name)?;
-    let (verb, rest) = rest.split_first()?;
-    if *verb == "=" {
-        return read_maker(name, rest);
+    let [name, verb, rest @ ..] = words else {
+        return None;
+    };
+    if !is_name(name) {
+        return None;
     }
+    match *verb {
+        "=" => read_maker(name, rest),
+        _ => read_verb(name, verb, rest),
+    }
+}
+
+// A look at the column of this name, or a call on it.
+fn read_verb<'a>(name: &'a str, verb: &str, words: &'a [&'a str]) -> Option<Request<'a>> {
     match read_look(verb) {
-        Some(look) if rest.is_empty() => Some(Request::Look(name, look)),
+        Some(look) if words.is_empty() => Some(Request::Look(name, look)),
         Some(_) => None,
-        None => Some(Request::Call(name, read_call(verb, rest)?)),
+        None => called(name, read_call(verb, words)),
+    }
+}
+
+// The call on the column of this name, or which makes it.
+fn called<'a>(name: &'a str, call: Option<Call<'a>>) -> Option<Request<'a>> {
+    match call {
+        Some(call) => Some(Request::Call(name, call)),
+        None => None,
     }
 }
 
 // The word, where it may name a column.
 fn read_name(word: &str) -> Option<&str> {
-    let (first, rest) = word.as_bytes().split_first()?;
+    if is_name(word) { Some(word) } else { None }
+}
+
+// May the word name a column?
+fn is_name(word: &str) -> bool {
+    let Some((first, rest)) = word.as_bytes().split_first() else {
+        return false;
+    };
     let named = first.is_ascii_lowercase()
         && rest.iter().all(|letter| letter.is_ascii_lowercase()
             || letter.is_ascii_digit()
             || *letter == b'_');
-    if named && !TAKEN.iter().any(|taken| *taken == word) {
-        Some(word)
-    } else {
-        None
-    }
+    named && !TAKEN.iter().any(|taken| *taken == word)
+}
+
+// The word, where it is the only one, and may name a column.
+fn only_name<'a>(words: &'a [&'a str]) -> Option<&'a str> {
+    read_name(only(words)?)
+}
+
+// The number of the word, where it is the only one.
+fn only_count(words: &[&str]) -> Option<usize> {
+    read_count(only(words)?)
 }
 
 fn read_look(verb: &str) -> Option<Look> {
@@ -229,12 +263,22 @@ fn read_look(verb: &str) -> Option<Look> {
 
 // A command on a column, or a look at it by a call.
 fn read_call<'a>(verb: &str, words: &'a [&'a str]) -> Option<Call<'a>> {
+    let Some((first, rest)) = words.split_first() else {
+        return read_alone(verb);
+    };
     match verb {
-        "row" => Some(Call::Row(read_count(only(words)?)?)),
-        "probe" => Some(Call::Probe(read_count(only(words)?)?)),
-        "validity" if words.is_empty() => Some(Call::Validity),
-        "meta" if words.is_empty() => Some(Call::Meta),
-        _ => Some(Call::Command(read_command(verb, words)?)),
+        "row" => Some(Call::Row(only_count(words)?)),
+        "probe" => Some(Call::Probe(only_count(words)?)),
+        _ => Some(Call::Command(read_command(verb, first, rest)?)),
+    }
+}
+
+// The call that is its verb alone.
+fn read_alone<'a>(verb: &str) -> Option<Call<'a>> {
+    match verb {
+        "validity" => Some(Call::Validity),
+        "meta" => Some(Call::Meta),
+        _ => Some(Call::Command(read_bare(verb)?)),
     }
 }
 
@@ -246,18 +290,20 @@ fn only<'a>(words: &'a [&'a str]) -> Option<&'a str> {
     }
 }
 
-fn read_command<'a>(verb: &str, words: &'a [&'a str]) -> Option<Command<'a>> {
-    let Some((first, rest)) = words.split_first() else {
-        return read_bare(verb);
-    };
+// The command of a verb and its words, of which one is the first.
+fn read_command<'a>(verb: &str, first: &'a str, rest: &'a [&'a str]) -> Option<Command<'a>> {
     match verb {
         "slice" => read_slice(first, rest),
-        "take" => Some(Command::Take(read_type(first)?, rest)),
-        "compare" => read_comparison(read_operator(first)?, rest),
+        "take" => read_take(first, rest),
+        "compare" => read_comparison(first, rest),
         "fill" => read_fill(first, rest),
         _ if rest.is_empty() => read_with_word(verb, first),
         _ => None,
     }
+}
+
+fn read_take<'a>(dtype: &str, rest: &'a [&'a str]) -> Option<Command<'a>> {
+    Some(Command::Take(read_type(dtype)?, rest))
 }
 
 // The command that is its verb alone.
@@ -286,7 +332,7 @@ fn read_with_word<'a>(verb: &str, word: &'a str) -> Option<Command<'a>> {
 }
 
 fn read_slice<'a>(start: &str, rest: &'a [&'a str]) -> Option<Command<'a>> {
-    let stop = read_count(only(rest)?)?;
+    let stop = only_count(rest)?;
     Some(Command::Slice(read_count(start)?, stop))
 }
 
@@ -296,16 +342,24 @@ fn read_fill<'a>(dtype: &str, rest: &'a [&'a str]) -> Option<Command<'a>> {
 }
 
 // A comparison with a named column, or with a value of a type.
-fn read_comparison<'a>(operator: CompareOperator, words: &'a [&'a str]) -> Option<Command<'a>> {
-    match words {
-        ["column", name] => Some(Command::CompareColumn(operator, read_name(name)?)),
-        [dtype, value] => Some(Command::CompareScalar(
-            operator,
-            read_type(dtype)?,
-            read_value(value)?,
-        )),
-        _ => None,
+fn read_comparison<'a>(operator: &str, words: &'a [&'a str]) -> Option<Command<'a>> {
+    let operator = read_operator(operator)?;
+    let [dtype, other] = words else {
+        return None;
+    };
+    if *dtype == "column" {
+        return Some(Command::CompareColumn(operator, read_name(other)?));
     }
+    compared_with(operator, dtype, other)
+}
+
+fn compared_with<'a>(
+    operator: CompareOperator,
+    dtype: &str,
+    value: &'a str,
+) -> Option<Command<'a>> {
+    let dtype = read_type(dtype)?;
+    Some(Command::CompareScalar(operator, dtype, read_value(value)?))
 }
 
 fn read_operator(word: &str) -> Option<CompareOperator> {
@@ -325,7 +379,7 @@ fn read_maker<'a>(name: &'a str, words: &'a [&'a str]) -> Option<Request<'a>> {
     let (maker, rest) = words.split_first()?;
     match read_plain(maker, rest) {
         Some(plain) => Some(Request::Make(name, plain)),
-        None => Some(Request::Call(name, read_made(maker, rest)?)),
+        None => called(name, read_made(maker, rest)),
     }
 }
 
@@ -335,8 +389,16 @@ fn read_plain<'a>(maker: &str, words: &'a [&'a str]) -> Option<Plain<'a>> {
         "raw" => read_raw(words),
         "invalid" => read_invalid(words),
         "constant" => read_constant(words),
-        "ends" => Some(Plain::Ends(read_name(only(words)?)?)),
-        "values" => Some(Plain::Values(read_name(only(words)?)?)),
+        _ => read_part(maker, words),
+    }
+}
+
+// A part of the run column of a name.
+fn read_part<'a>(part: &str, words: &'a [&'a str]) -> Option<Plain<'a>> {
+    let name = only_name(words)?;
+    match part {
+        "ends" => Some(Plain::Ends(name)),
+        "values" => Some(Plain::Values(name)),
         _ => None,
     }
 }
@@ -369,13 +431,21 @@ fn read_constant<'a>(words: &'a [&'a str]) -> Option<Plain<'a>> {
 
 fn read_made<'a>(maker: &str, words: &'a [&'a str]) -> Option<Call<'a>> {
     match maker {
-        "copy" => Some(Call::Copy(read_name(only(words)?)?)),
-        "encode" => Some(Call::Encode(read_name(only(words)?)?)),
         "runs" => read_window(words),
         "whole" => read_whole(words),
         "lists" => read_lists(words),
         "views" => read_views(words),
         "deserialize" => read_record(words),
+        _ => read_of_column(maker, words),
+    }
+}
+
+// The call that makes a column of the one of a name.
+fn read_of_column<'a>(maker: &str, words: &'a [&'a str]) -> Option<Call<'a>> {
+    let name = only_name(words)?;
+    match maker {
+        "copy" => Some(Call::Copy(name)),
+        "encode" => Some(Call::Encode(name)),
         _ => None,
     }
 }
@@ -397,10 +467,13 @@ fn read_lists<'a>(words: &'a [&'a str]) -> Option<Call<'a>> {
     let [elements, offsets, sizes, validity] = words else {
         return None;
     };
+    if !is_name(elements) || !is_name(offsets) || !is_name(sizes) {
+        return None;
+    }
     Some(Call::Lists(Lists {
-        elements: read_name(elements)?,
-        offsets: read_name(offsets)?,
-        sizes: read_name(sizes)?,
+        elements: *elements,
+        offsets: *offsets,
+        sizes: *sizes,
         validity: *validity,
     }))
 }
@@ -454,15 +527,28 @@ fn read_record<'a>(words: &'a [&'a str]) -> Option<Call<'a>> {
     let [dtype, length, parts @ ..] = words else {
         return None;
     };
-    let (bytes, [ends, values]) = split_at_slash(parts)? else {
+    let (dtype, length) = (read_type(dtype)?, read_count(length)?);
+    record_of(dtype, length, split_at_slash(parts)?)
+}
+
+// The record of these bytes, and the names of ends and values.
+fn record_of<'a>(
+    dtype: DType,
+    length: usize,
+    parts: (&'a [&'a str], &'a [&'a str]),
+) -> Option<Call<'a>> {
+    let (bytes, [ends, values]) = parts else {
         return None;
     };
+    if !is_name(ends) || !is_name(values) {
+        return None;
+    }
     Some(Call::Deserialize(Record {
-        dtype: read_type(dtype)?,
-        length: read_count(length)?,
+        dtype,
+        length,
         bytes,
-        ends: read_name(ends)?,
-        values: read_name(values)?,
+        ends: *ends,
+        values: *values,
     }))
 }
 
@@ -504,20 +590,41 @@ pub fn read_kernel(word: &str) -> Option<Kernel> {
 }
 
 fn read_thresholds<'a>(words: &'a [&'a str]) -> Option<Request<'a>> {
-    match words {
-        ["crate"] => Some(Request::CrateThresholds),
-        ["zero"] => Some(Request::Thresholds(Thresholds::default())),
-        [prefill, rows, factor, sorted, table, unsorted_min, unsorted] => {
-            Some(Request::Thresholds(Thresholds {
-                prefill_runs: read_count(prefill)?,
-                min_run_filter_rows: read_count(rows)?,
-                filter_factor: read_count(factor)?,
-                sorted_runs_per_index: read_count(sorted)?,
-                table_len_per_index: read_count(table)?,
-                unsorted_min_runs: read_count(unsorted_min)?,
-                unsorted_runs_per_index: read_count(unsorted)?,
-            }))
-        }
+    match only(words) {
+        Some(word) => named_thresholds(word),
+        None => Some(Request::Thresholds(thresholds_of(read_counts(words)?))),
+    }
+}
+
+fn named_thresholds<'a>(word: &str) -> Option<Request<'a>> {
+    match word {
+        "crate" => Some(Request::CrateThresholds),
+        "zero" => Some(Request::Thresholds(Thresholds::default())),
         _ => None,
+    }
+}
+
+// Seven numbers.
+fn read_counts(words: &[&str]) -> Option<[usize; 7]> {
+    if words.len() != 7 {
+        return None;
+    }
+    let mut counts = [0; 7];
+    for index in 0..7 {
+        counts[index] = read_count(words[index])?;
+    }
+    Some(counts)
+}
+
+// The thresholds of their numbers in order.
+fn thresholds_of(counts: [usize; 7]) -> Thresholds {
+    Thresholds {
+        prefill_runs: counts[0],
+        min_run_filter_rows: counts[1],
+        filter_factor: counts[2],
+        sorted_runs_per_index: counts[3],
+        table_len_per_index: counts[4],
+        unsorted_min_runs: counts[5],
+        unsorted_runs_per_index: counts[6],
     }
 }

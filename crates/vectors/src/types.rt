@@ -1,5 +1,5 @@
 //! Types as words.
-use crate::values::{read_count, read_number};
+use crate::values::{between, read_count, read_number};
 use column_base::{NativePType, VortexResult};
 use std::alloc::Allocator;
 use vortex_runend::{DType, DecimalDType, ElementDType, Nullability, PType};
@@ -7,7 +7,7 @@ use vortex_runend::{DType, DecimalDType, ElementDType, Nullability, PType};
 /// The type that a word names, with a question mark behind it where rows may be null.
 pub fn read_type(word: &str) -> Option<DType> {
     let (name, nullability) = split_mark(word);
-    match inner_of(name) {
+    match between(name, "list(", ')') {
         Some(inner) => Some(DType::List(read_single(inner)?, nullability)),
         None => Some(dtype_of(read_single(word)?)),
     }
@@ -39,17 +39,15 @@ fn split_mark(word: &str) -> (&str, Nullability) {
     }
 }
 
-// The type of the elements, of a name of lists.
-fn inner_of(name: &str) -> Option<&str> {
-    name.strip_prefix("list(")?.strip_suffix(')')
+fn read_decimal(name: &str) -> Option<DecimalDType> {
+    let (precision, scale) = between(name, "decimal(", ')')?.split_once(',')?;
+    decimal_of(read_count(precision)?, read_number(scale)?)
 }
 
-fn read_decimal(name: &str) -> Option<DecimalDType> {
-    let inner = name.strip_prefix("decimal(")?.strip_suffix(')')?;
-    let (precision, scale) = inner.split_once(',')?;
+fn decimal_of(precision: usize, scale: i128) -> Option<DecimalDType> {
     Some(DecimalDType {
-        precision: u8::try_from(read_count(precision)?).ok()?,
-        scale: i8::narrow(read_number(scale)?)?,
+        precision: u8::try_from(precision).ok()?,
+        scale: i8::narrow(scale)?,
     })
 }
 

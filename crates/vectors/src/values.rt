@@ -72,13 +72,18 @@ fn read_marked(word: &str) -> Option<Value<'_>> {
     if let Some(digits) = word.strip_prefix('x') {
         return Some(Value::Bytes(digits));
     }
-    if let Some(quoted) = word.strip_prefix('"') {
-        return Some(Value::Text(quoted.strip_suffix('"')?));
+    if let Some(quoted) = between(word, "\"", '"') {
+        return Some(Value::Text(quoted));
     }
-    if let Some(listed) = word.strip_prefix('[') {
-        return Some(Value::List(listed.strip_suffix(']')?));
+    if let Some(listed) = between(word, "[", ']') {
+        return Some(Value::List(listed));
     }
     Some(Value::Number(read_number(word)?))
+}
+
+/// What stands between the one and the other, at the ends of the word.
+pub fn between<'a>(word: &'a str, before: &str, behind: char) -> Option<&'a str> {
+    word.strip_prefix(before)?.strip_suffix(behind)
 }
 
 /// The row that a word writes: a value, `null`, or null over a stored value.
@@ -156,15 +161,53 @@ fn push_element<'a, A: Allocator + Copy>(
     let Some(bytes) = bytes else {
         return Ok(false);
     };
-    let Ok(word) = str::from_utf8(bytes) else {
-        return Ok(false);
-    };
+    match str::from_utf8(bytes) {
+        Ok(word) => push_row(word, rows),
+        Err(_) => Ok(false),
+    }
+}
+
+/// Puts the row that a word writes behind the rows, and answers whether it writes one.
+pub fn push_row<'a, A: Allocator + Copy>(
+    word: &'a str,
+    rows: &mut Vec<Row<'a>, A>,
+) -> VortexResult<bool> {
     match read_row(word) {
         Some(row) => {
             rows.push(row)?;
             Ok(true)
         }
         None => Ok(false),
+    }
+}
+
+/// The value, where it could be read.
+pub fn kept_if<T: Drop>(read: VortexResult<bool>, value: T) -> VortexResult<Option<T>> {
+    match read {
+        Ok(true) => Ok(Some(value)),
+        Ok(false) => {
+            drop(value);
+            Ok(None)
+        }
+        Err(error) => {
+            drop(value);
+            Err(error)
+        }
+    }
+}
+
+/// The two, where there is a second.
+pub fn both<T: Drop, U>(first: T, second: VortexResult<Option<U>>) -> VortexResult<Option<(T, U)>> {
+    match second {
+        Ok(Some(second)) => Ok(Some((first, second))),
+        Ok(None) => {
+            drop(first);
+            Ok(None)
+        }
+        Err(error) => {
+            drop(first);
+            Err(error)
+        }
     }
 }
 

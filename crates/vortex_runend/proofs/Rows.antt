@@ -1,8 +1,7 @@
 -- Rows taken twice, and filled rows in a range.
-use Rattle.std.proofs.Common.{◌≡◌, [], ◌∷◌, ℕ, zero, suc, ℤ, pos, negsuc, List, Option, Some, None, get_or, length, map, ap, sym, refl, ◌∙◌}
+use Rattle.std.proofs.Common.{◌≡◌, [], ◌∷◌, ℕ, zero, suc, ℤ, pos, negsuc, List, Option, Some, None, refl}
 use Rattle.std.specs.Option.{option_or}
 use Rattle.column_base.specs.declared.error.VortexError.{VortexError}
-use Rattle.column_ops.specs.Fault.{first_fault}
 use Rattle.column_ops.specs.Take.{index_fault, take_fault, take_rows, taken_row}
 
 -- what is taken from taken rows is taken from the rows, at the index that is there

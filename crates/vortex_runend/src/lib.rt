@@ -1,6 +1,7 @@
 //! Run-end encoded columns, after the Rust crate `vortex-runend`: the laws, and the names of the crates below.
 #![tactic(auto)]
 
+pub mod compress;
 pub mod compute;
 pub mod laws;
 
@@ -9,12 +10,12 @@ pub use runend_array::{
     ArrayRef, BitBuffer, BitBufferMut, BoolArray, Canonical, ConstantArray, CountedEnds, DType,
     DecimalArray, DecimalDType, ElementDType, ExecutionCtx, FlatColumn, Kernel, ListViewArray,
     Mask, NativePType, Nullability, PType, PrimitiveArray, PrimitiveValues, RowValidity, RunEnd,
-    RunEndArray, RunEndArrayExt, RunEndArraySlotsExt, RunEndData, RunEndDataParts, RunEndProbe,
-    RunEndSlots, Scalar, ScalarValue, ScalarView, SetIndices, Thresholds, TrimmedEnds,
-    UnsignedPType, Validity, VarBinKind, VarBinViewArray, View, VortexError, VortexResult,
-    VortexSession, compress, decompress_bool, ops, trimmed_ends_iter, validity,
+    RunEndArray, RunEndArrayExt, RunEndArraySlotsExt, RunEndSlots, Scalar, ScalarValue, ScalarView,
+    SetIndices, Thresholds, TrimmedEnds, UnsignedPType, Validity, VarBinKind, VarBinViewArray,
+    View, VortexError, VortexResult, VortexSession, ops, trimmed_ends_iter,
 };
 pub use runend_commands::{Answer, Command, execute, execute_one};
 pub use runend_compute::initialize;
+pub use runend_decode::{RunEndData, RunEndDataParts, RunEndProbe, decompress_bool, validity};
 pub use runend_metadata::RunEndMetadata;
 pub use runend_record::{deserialize, serialize};

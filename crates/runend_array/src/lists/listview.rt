@@ -310,7 +310,7 @@ impl<A: Allocator + Copy> ListViewArray<A> {
     /// The rows that runs of these lists show, from row `offset` on, `count` many: lists over the same
     /// elements, with offsets, sizes and, where it is stored, validity in runs. Refused as
     /// `OutOfMemory` alone.
-    pub(crate) fn shown_by(
+    pub fn shown_by(
         &self,
         alloc: A,
         ends: &PrimitiveArray<A>,

@@ -6,30 +6,11 @@ ghost use Rattle.runend_array.specs.Column.{OfConstant, column_of_runs};
 ghost use Rattle.runend_array.specs.Lists.{ByRows};
 ghost use Rattle.runend_array.specs.RowFlags.{IsValidityForm, IsValidityOf, constant_validity};
 
-use crate::array::RunEndArray;
 use crate::array_ref::ArrayRef;
 use crate::constant::ConstantArray;
-use crate::session::ExecutionCtx;
 use crate::validities::RowValidity;
 use column_core::{Nullability, ScalarView, Validity, VortexError, VortexResult};
 use std::alloc::Allocator;
-
-/// Which rows of the column are valid, row by row; `NonNullable` exactly for values whose type has no
-/// null. The validity of the values is kept where it is `NonNullable`, `AllValid` or `AllInvalid`,
-/// else the answer is runs over the same ends and window, with flat values. Refused as `OutOfMemory`
-/// alone.
-pub fn validity<A: Allocator + Copy>(
-    array: &RunEndArray<A>,
-    ctx: &mut ExecutionCtx<A>,
-) -> VortexResult<RowValidity<A>>
-    ensures only { IsOkUnless result VortexError.OutOfMemory }
-    ensures rows { IfOk result (λ rows. IsValidityOf (column_of_runs array.now) (validity_of rows)) }
-    ensures form { IfOk result (λ rows. IsValidityForm (column_of_runs array.now) (validity_of rows)) }
-    ensures plain { IfOk result (λ rows. IsRowValidity rows) }
-    ensures session { ctx.new ≡ ctx.old }
-{
-    array.validity_in(*ctx.allocator())
-}
 
 /// A validity that is told row by row.
 pub(crate) fn told_by_rows<A: Allocator>(validity: Validity<A>) -> RowValidity<A>

@@ -5,44 +5,9 @@ use Rattle.runend_array.specs.Column.{Column, Runs, column_dtype, column_rows}
 use Rattle.runend_array.specs.SessionForm.{SessionForm}
 use Rattle.runend_select.specs.FilterForm.{AreSelectedRuns, IsSelectedForm, TakesDirectly}
 use Rattle.runend_select.proofs.Forms.{flat-selected, takes_directly-same}
+use Rattle.runend_select.proofs.ComputedRows.{ok_then}
 use Rattle.runend_select.proofs.PassedOn.{no_value, only_error}
 use Rattle.runend_select.proofs.filters.filter_bits.Goals as goal
-
-pub returns-then-takes_directly-clause-rows : goal.returns-then-takes_directly-clause-rows
-returns-then-takes_directly-clause-rows g c = ap column_rows c.in_ok-taken-2.ensures.form ∙ c.in_ok-taken.ensures.made.rows
-
-pub returns-then-takes_directly-clause-dtype : goal.returns-then-takes_directly-clause-dtype
-returns-then-takes_directly-clause-dtype g c = ap column_dtype c.in_ok-taken-2.ensures.form ∙ c.in_ok-taken.ensures.made.dtype
-
-pub returns-then-takes_directly-clause-form : goal.returns-then-takes_directly-clause-form
-returns-then-takes_directly-clause-form g c =
-    let array = c.args.array.now in
-    let bits = c.args.bits.now in
-    let own = c.args.ctx.now.thresholds in
-    let runs = c.len-runs.ensures ∙ ap (λ (column : Column). length (column_rows column)) c.values.ensures.form ∙ c.values.ensures.valid.paired in
-    let thresholds = c.thresholds-thresholds.ensures ∙ ap (λ (s : SessionForm). s.thresholds) c.session.ensures in
-    let same = takes_directly-same c.true_count.result c.len-runs.result c.thresholds-thresholds.result (count_by (λ bit. bit) bits) (length array.ends) own c.true_count.ensures runs thresholds in
-    let directly = TakesDirectly (count_by (λ bit. bit) bits) (length array.ends) own in
-    subst (λ (column : Column). IsSelectedForm directly array bits column) (sym c.in_ok-taken-2.ensures.form)
-    (flat-selected directly array bits (canonical_column c.in_ok-taken.taken) c.in_ok-taken.ensures.made.form (same.0 (c.takes_directly.ensures.0 c.if-takes_directly.true)))
-
-pub returns-clause-rows : goal.returns-clause-rows
-returns-clause-rows g c = rw c.in_ok-boxed.ensures.ok c.in_ok-kept.ensures.rows
-
-pub returns-clause-dtype : goal.returns-clause-dtype
-returns-clause-dtype g c = rw c.in_ok-boxed.ensures.ok c.in_ok-kept.ensures.dtype
-
-pub returns-clause-form : goal.returns-clause-form
-returns-clause-form g c =
-    let array = c.args.array.now in
-    let bits = c.args.bits.now in
-    let own = c.args.ctx.now.thresholds in
-    let runs = c.len-runs.ensures ∙ ap (λ (column : Column). length (column_rows column)) c.values.ensures.form ∙ c.values.ensures.valid.paired in
-    let thresholds = c.thresholds-thresholds.ensures ∙ ap (λ (s : SessionForm). s.thresholds) c.session.ensures in
-    let same = takes_directly-same c.true_count.result c.len-runs.result c.thresholds-thresholds.result (count_by (λ bit. bit) bits) (length array.ends) own c.true_count.ensures runs thresholds in (
-      (λ few. let yes = c.takes_directly.ensures.1 (same.1 few) in let no = c.if-takes_directly.false in cc),
-      subst (λ (part : Runs). AreSelectedRuns array bits part) (sym c.in_ok-boxed.ensures.ok) c.in_ok-kept.ensures.form,
-    )
 
 pub returns-in_err-taken-clause-only : goal.returns-in_err-taken-clause-only
 returns-in_err-taken-clause-only g c = only_error c.from_residual.result c.in_err-taken.field-0.0 _ c.from_residual.ensures.1 c.in_err-taken.ensures.only
@@ -56,18 +21,6 @@ returns-in_err-taken-clause-dtype g c = no_value _ c.from_residual.result c.from
 pub returns-in_err-taken-clause-form : goal.returns-in_err-taken-clause-form
 returns-in_err-taken-clause-form g c = no_value _ c.from_residual.result c.from_residual.ensures.0
 
-pub returns-in_err-taken-2-clause-only : goal.returns-in_err-taken-2-clause-only
-returns-in_err-taken-2-clause-only g c = only_error c.from_residual-in_err-taken-2.result c.in_err-taken-2.field-0.0 _ c.from_residual-in_err-taken-2.ensures.1 c.in_err-taken-2.ensures.only
-
-pub returns-in_err-taken-2-clause-rows : goal.returns-in_err-taken-2-clause-rows
-returns-in_err-taken-2-clause-rows g c = no_value _ c.from_residual-in_err-taken-2.result c.from_residual-in_err-taken-2.ensures.0
-
-pub returns-in_err-taken-2-clause-dtype : goal.returns-in_err-taken-2-clause-dtype
-returns-in_err-taken-2-clause-dtype g c = no_value _ c.from_residual-in_err-taken-2.result c.from_residual-in_err-taken-2.ensures.0
-
-pub returns-in_err-taken-2-clause-form : goal.returns-in_err-taken-2-clause-form
-returns-in_err-taken-2-clause-form g c = no_value _ c.from_residual-in_err-taken-2.result c.from_residual-in_err-taken-2.ensures.0
-
 pub returns-in_err-kept-clause-only : goal.returns-in_err-kept-clause-only
 returns-in_err-kept-clause-only g c = only_error c.from_residual-in_err-kept.result c.in_err-kept.field-0.0 _ c.from_residual-in_err-kept.ensures.1 c.in_err-kept.ensures.only
 
@@ -80,11 +33,46 @@ returns-in_err-kept-clause-dtype g c = no_value _ c.from_residual-in_err-kept.re
 pub returns-in_err-kept-clause-form : goal.returns-in_err-kept-clause-form
 returns-in_err-kept-clause-form g c = no_value _ c.from_residual-in_err-kept.result c.from_residual-in_err-kept.ensures.0
 
-pub returns-in_err-boxed-clause-rows : goal.returns-in_err-boxed-clause-rows
-returns-in_err-boxed-clause-rows g c = no_value _ c.from_residual-in_err-boxed.result c.from_residual-in_err-boxed.ensures.0
+pub returns-then-takes_directly-clause-only : goal.returns-then-takes_directly-clause-only
+returns-then-takes_directly-clause-only g c = c.into_array.ensures.only
 
-pub returns-in_err-boxed-clause-dtype : goal.returns-in_err-boxed-clause-dtype
-returns-in_err-boxed-clause-dtype g c = no_value _ c.from_residual-in_err-boxed.result c.from_residual-in_err-boxed.ensures.0
+pub returns-then-takes_directly-clause-rows : goal.returns-then-takes_directly-clause-rows
+returns-then-takes_directly-clause-rows g c =
+    ok_then c.into_array.result _ _ (λ array same. ap column_rows same ∙ c.in_ok-taken.ensures.made.rows) c.into_array.ensures.form
 
-pub returns-in_err-boxed-clause-form : goal.returns-in_err-boxed-clause-form
-returns-in_err-boxed-clause-form g c = no_value _ c.from_residual-in_err-boxed.result c.from_residual-in_err-boxed.ensures.0
+pub returns-then-takes_directly-clause-dtype : goal.returns-then-takes_directly-clause-dtype
+returns-then-takes_directly-clause-dtype g c =
+    ok_then c.into_array.result _ _ (λ array same. ap column_dtype same ∙ c.in_ok-taken.ensures.made.dtype) c.into_array.ensures.form
+
+pub returns-then-takes_directly-clause-form : goal.returns-then-takes_directly-clause-form
+returns-then-takes_directly-clause-form g c =
+    let array = c.args.array.now in
+    let bits = c.args.bits.now in
+    let own = c.args.ctx.now.thresholds in
+    let runs = c.len-runs.ensures ∙ ap (λ (column : Column). length (column_rows column)) c.values.ensures.form ∙ c.values.ensures.valid.paired in
+    let thresholds = c.thresholds-thresholds.ensures ∙ ap (λ (s : SessionForm). s.thresholds) c.session.ensures in
+    let same = takes_directly-same c.true_count.result c.len-runs.result c.thresholds-thresholds.result (count_by (λ bit. bit) bits) (length array.ends) own c.true_count.ensures runs thresholds in
+    let directly = TakesDirectly (count_by (λ bit. bit) bits) (length array.ends) own in
+    let taken = flat-selected directly array bits (canonical_column c.in_ok-taken.taken) c.in_ok-taken.ensures.made.form (same.0 (c.takes_directly.ensures.0 c.if-takes_directly.true)) in
+    ok_then c.into_array.result _ _ (λ made is. subst (λ (column : Column). IsSelectedForm directly array bits column) (sym is) taken) c.into_array.ensures.form
+
+pub returns-clause-only : goal.returns-clause-only
+returns-clause-only g c = c.boxed_runs.ensures.only
+
+pub returns-clause-rows : goal.returns-clause-rows
+returns-clause-rows g c = ok_then c.boxed_runs.result _ _ (λ boxed same. ap column_rows same ∙ c.in_ok-kept.ensures.rows) c.boxed_runs.ensures.form
+
+pub returns-clause-dtype : goal.returns-clause-dtype
+returns-clause-dtype g c = ok_then c.boxed_runs.result _ _ (λ boxed same. ap column_dtype same ∙ c.in_ok-kept.ensures.dtype) c.boxed_runs.ensures.form
+
+pub returns-clause-form : goal.returns-clause-form
+returns-clause-form g c =
+    let array = c.args.array.now in
+    let bits = c.args.bits.now in
+    let own = c.args.ctx.now.thresholds in
+    let runs = c.len-runs.ensures ∙ ap (λ (column : Column). length (column_rows column)) c.values.ensures.form ∙ c.values.ensures.valid.paired in
+    let thresholds = c.thresholds-thresholds.ensures ∙ ap (λ (s : SessionForm). s.thresholds) c.session.ensures in
+    let same = takes_directly-same c.true_count.result c.len-runs.result c.thresholds-thresholds.result (count_by (λ bit. bit) bits) (length array.ends) own c.true_count.ensures runs thresholds in
+    let directly = TakesDirectly (count_by (λ bit. bit) bits) (length array.ends) own in
+    let not : ¬ directly = λ few. let yes = c.takes_directly.ensures.1 (same.1 few) in let no = c.if-takes_directly.false in cc in
+    ok_then c.boxed_runs.result _ _ (λ boxed is. subst (λ (column : Column). IsSelectedForm directly array bits column) (sym is) (not, c.in_ok-kept.ensures.form)) c.boxed_runs.ensures.form

@@ -1,25 +1,15 @@
 use Rattle.std.proofs.Common.{◌∙◌, sym}
 use Rattle.runend_array.specs.Column.{column_of_runs, column_rows, column_dtype}
 use Rattle.runend_codec.proofs.RunRows.{length-run_rows}
+use Rattle.runend_select.proofs.ComputedRows.{ok_then}
 use Rattle.runend_select.proofs.KeptColumn.{take_dtype-required}
 use Rattle.runend_select.proofs.SetPlaces.{bounds-places, take_rows-places}
 use Rattle.runend_select.proofs.PassedOn.{no_value, only_error}
 use Rattle.runend_select.proofs.filters.taken_directly.Goals as goal
 
-pub taken_rows-requires-clause-in_bounds : goal.taken_rows-requires-clause-in_bounds
-taken_rows-requires-clause-in_bounds g c =
+pub taken_rows-taken-requires-clause-in_bounds : goal.taken_rows-taken-requires-clause-in_bounds
+taken_rows-taken-requires-clause-in_bounds g c =
     bounds-places c.args.bits.now c.args.array.now.count c.as_slice.result.now c.requires.masked (c.as_slice.ensures.value ∙ c.in_ok-places.ensures.places)
-
-pub returns-clause-made : goal.returns-clause-made
-returns-clause-made g c =
-    let array = c.args.array.now in
-    let made = c.in_ok-taken.ensures.made in
-    let long = c.requires.masked ∙ sym (length-run_rows array.ends (column_rows array.values) array.offset array.count) in
-    record {
-      rows = made.rows ∙ take_rows-places c.args.bits.now (column_rows (column_of_runs array)) c.as_slice.result.now long (c.as_slice.ensures.value ∙ c.in_ok-places.ensures.places);
-      dtype = made.dtype ∙ take_dtype-required (column_dtype array.values);
-      form = made.form;
-    }
 
 pub returns-in_err-places-clause-only : goal.returns-in_err-places-clause-only
 returns-in_err-places-clause-only g c = only_error c.from_residual.result c.in_err-places.field-0.0 _ c.from_residual.ensures.1 c.in_err-places.ensures.only
@@ -27,8 +17,16 @@ returns-in_err-places-clause-only g c = only_error c.from_residual.result c.in_e
 pub returns-in_err-places-clause-made : goal.returns-in_err-places-clause-made
 returns-in_err-places-clause-made g c = no_value _ c.from_residual.result c.from_residual.ensures.0
 
-pub returns-in_err-taken-clause-only : goal.returns-in_err-taken-clause-only
-returns-in_err-taken-clause-only g c = only_error c.from_residual-in_err-taken.result c.in_err-taken.field-0.0 _ c.from_residual-in_err-taken.ensures.1 c.in_err-taken.ensures.only
+pub returns-clause-only : goal.returns-clause-only
+returns-clause-only g c = c.taken_rows-taken.ensures.only
 
-pub returns-in_err-taken-clause-made : goal.returns-in_err-taken-clause-made
-returns-in_err-taken-clause-made g c = no_value _ c.from_residual-in_err-taken.result c.from_residual-in_err-taken.ensures.0
+pub returns-clause-made : goal.returns-clause-made
+returns-clause-made g c =
+    let array = c.args.array.now in
+    let long = c.requires.masked ∙ sym (length-run_rows array.ends (column_rows array.values) array.offset array.count) in
+    ok_then c.taken_rows-taken.result _ _
+    (λ taken made. record {
+      rows = made.rows ∙ take_rows-places c.args.bits.now (column_rows (column_of_runs array)) c.as_slice.result.now long (c.as_slice.ensures.value ∙ c.in_ok-places.ensures.places);
+      dtype = made.dtype ∙ take_dtype-required (column_dtype array.values);
+      form = made.form;
+    }) c.taken_rows-taken.ensures.made

@@ -6,6 +6,3 @@ returns-in_err-ends-clause-only g c = only_error c.from_residual.result c.in_err
 
 pub returns-in_err-ends-clause-form : goal.returns-in_err-ends-clause-form
 returns-in_err-ends-clause-form g c = no_value _ c.from_residual.result c.from_residual.ensures.0
-
-pub returns-in_err-boxed-clause-form : goal.returns-in_err-boxed-clause-form
-returns-in_err-boxed-clause-form g c = no_value _ c.from_residual-in_err-boxed.result c.from_residual-in_err-boxed.ensures.0

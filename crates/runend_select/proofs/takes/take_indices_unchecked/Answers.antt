@@ -1,11 +1,13 @@
-use Rattle.std.proofs.Common.{refl, length}
+use Rattle.std.proofs.Common.{◌∙◌, ap, length, refl, subst, sym}
 use Rattle.column_base.specs.Validity.{form_of}
 use Rattle.column_base.specs.ValidityForm.{flags}
 use Rattle.runend_array.specs.Canonical.{canonical_column}
-use Rattle.runend_array.specs.Column.{column_dtype, column_of_runs, column_rows}
+use Rattle.runend_array.specs.Column.{Column, column_dtype, column_of_runs, column_rows}
 use Rattle.runend_codec.proofs.RunRows.{length-run_rows}
 use Rattle.runend_positions.specs.Indices.{optional_indices}
+use Rattle.runend_select.specs.TakeForm.{IsTakeForm}
 use Rattle.runend_select.proofs.AllNull.{all_null, flat-taken, not_all_null, null_dtype, null_rows}
+use Rattle.runend_select.proofs.ComputedRows.{ok_then}
 use Rattle.runend_select.proofs.PassedOn.{no_value, only_error}
 use Rattle.runend_select.proofs.takes.take_indices_unchecked.Goals as goal
 
@@ -26,12 +28,6 @@ taken_rows-requires-clause-in_bounds g c =
     let array = c.args.array.now in
     rw (length-run_rows array.ends (column_rows array.values) array.offset array.count) at c.requires.in_bounds
 
-pub returns-clause-form : goal.returns-clause-form
-returns-clause-form g c =
-    let indices = optional_indices g.T.NativePType.number c.args.indices.now (flags (form_of c.args.validity.now) (length c.args.indices.now)) in
-    let not = not_all_null g.T.NativePType.number c.args.indices.now (form_of c.args.validity.now) c.requires.fits (λ h. let yes = c.are_all_null.ensures.1 h in let no = c.if-are_all_null.false in cc) in
-    rw c.in_ok-taken-2.ensures.form (flat-taken indices (canonical_column c.in_ok-taken.taken) c.in_ok-taken.ensures.made.form not)
-
 pub returns-in_err-taken-clause-only : goal.returns-in_err-taken-clause-only
 returns-in_err-taken-clause-only g c = only_error c.from_residual.result c.in_err-taken.field-0.0 _ c.from_residual.ensures.1 c.in_err-taken.ensures.only
 
@@ -44,14 +40,18 @@ returns-in_err-taken-clause-dtype g c = no_value _ c.from_residual.result c.from
 pub returns-in_err-taken-clause-form : goal.returns-in_err-taken-clause-form
 returns-in_err-taken-clause-form g c = no_value _ c.from_residual.result c.from_residual.ensures.0
 
-pub returns-in_err-taken-2-clause-only : goal.returns-in_err-taken-2-clause-only
-returns-in_err-taken-2-clause-only g c = only_error c.from_residual-in_err-taken-2.result c.in_err-taken-2.field-0.0 _ c.from_residual-in_err-taken-2.ensures.1 c.in_err-taken-2.ensures.only
+pub returns-clause-only : goal.returns-clause-only
+returns-clause-only g c = c.into_array.ensures.only
 
-pub returns-in_err-taken-2-clause-rows : goal.returns-in_err-taken-2-clause-rows
-returns-in_err-taken-2-clause-rows g c = no_value _ c.from_residual-in_err-taken-2.result c.from_residual-in_err-taken-2.ensures.0
+pub returns-clause-rows : goal.returns-clause-rows
+returns-clause-rows g c = ok_then c.into_array.result _ _ (λ array same. ap column_rows same ∙ c.in_ok-taken.ensures.made.rows) c.into_array.ensures.form
 
-pub returns-in_err-taken-2-clause-dtype : goal.returns-in_err-taken-2-clause-dtype
-returns-in_err-taken-2-clause-dtype g c = no_value _ c.from_residual-in_err-taken-2.result c.from_residual-in_err-taken-2.ensures.0
+pub returns-clause-dtype : goal.returns-clause-dtype
+returns-clause-dtype g c = ok_then c.into_array.result _ _ (λ array same. ap column_dtype same ∙ c.in_ok-taken.ensures.made.dtype) c.into_array.ensures.form
 
-pub returns-in_err-taken-2-clause-form : goal.returns-in_err-taken-2-clause-form
-returns-in_err-taken-2-clause-form g c = no_value _ c.from_residual-in_err-taken-2.result c.from_residual-in_err-taken-2.ensures.0
+pub returns-clause-form : goal.returns-clause-form
+returns-clause-form g c =
+    let indices = optional_indices g.T.NativePType.number c.args.indices.now (flags (form_of c.args.validity.now) (length c.args.indices.now)) in
+    let not = not_all_null g.T.NativePType.number c.args.indices.now (form_of c.args.validity.now) c.requires.fits (λ h. let yes = c.are_all_null.ensures.1 h in let no = c.if-are_all_null.false in cc) in
+    let taken = flat-taken indices (canonical_column c.in_ok-taken.taken) c.in_ok-taken.ensures.made.form not in
+    ok_then c.into_array.result _ _ (λ array same. subst (λ (column : Column). IsTakeForm indices column) (sym same) taken) c.into_array.ensures.form

@@ -1,14 +1,17 @@
-use Rattle.std.proofs.Common.{◌∙◌, Option, length, map, subst, sym, inl}
+use Rattle.std.proofs.Common.{◌∙◌, ℤ, List, Option, ap, length, map, subst, sym}
 use Rattle.column_base.specs.declared.error.VortexError.{VortexError}
 use Rattle.column_base.specs.Validity.{form_of}
 use Rattle.column_core.specs.PrimitiveForm.{optional_numbers, primitive_with}
 use Rattle.column_core.specs.Refusal.{IsErrorFor}
-use Rattle.column_ops.specs.Take.{take_fault}
+use Rattle.column_ops.specs.Take.{take_fault, take_rows}
 use Rattle.column_ops.proofs.IndexPositions.{refused-passed_on}
 use Rattle.runend_array.specs.Column.{column_of_runs, column_rows}
 use Rattle.runend_codec.proofs.RunRows.{length-run_rows}
-use Rattle.runend_select.proofs.CheckedIndices.{AreInBounds-checked, same-fault}
-use Rattle.runend_select.proofs.PassedOn.{no_value}
+use Rattle.runend_array.specs.Array.{column_of}
+use Rattle.runend_select.specs.TakeForm.{IsTakeForm}
+use Rattle.runend_select.proofs.CheckedIndices.{AreInBounds-checked, same-fault, same-indices}
+use Rattle.runend_select.proofs.ComputedRows.{ok_then}
+use Rattle.runend_select.proofs.PassedOn.{no_value, refused_by_none}
 use Rattle.runend_select.proofs.takes.take_native.Goals as goal
 
 pub returns-in_err-check_indices-clause-refused : goal.returns-in_err-check_indices-clause-refused
@@ -20,12 +23,6 @@ returns-in_err-check_indices-clause-refused g c =
     let fault = take_fault (optional_numbers (primitive_with g.T.NativePType.PTYPE (map g.T.NativePType.number c.args.indices.now) (form_of c.args.validity.now))) (length (column_rows (column_of_runs array))) in
     refused-passed_on fault error c.from_residual.result c.from_residual.ensures.1
     (subst (λ (f : Option VortexError). IsErrorFor f error) same c.in_err-check_indices.ensures)
-
-pub returns-clause-refused : goal.returns-clause-refused
-returns-clause-refused g c =
-    let array = c.args.array.now in
-    let counted = c.len.ensures ∙ sym (length-run_rows array.ends (column_rows array.values) array.offset array.count) in
-    sym (same-fault g.T.NativePType.PTYPE g.T.NativePType.number c.args.indices.now (form_of c.args.validity.now) c.len.result (length (column_rows (column_of_runs array))) counted) ∙ c.in_ok-check_indices.ensures
 
 pub take_indices_unchecked-requires-clause-in_bounds : goal.take_indices_unchecked-requires-clause-in_bounds
 take_indices_unchecked-requires-clause-in_bounds g c =
@@ -42,19 +39,25 @@ returns-in_err-check_indices-clause-dtype g c = no_value _ c.from_residual.resul
 pub returns-in_err-check_indices-clause-form : goal.returns-in_err-check_indices-clause-form
 returns-in_err-check_indices-clause-form g c = no_value _ c.from_residual.result c.from_residual.ensures.0
 
-pub returns-in_err-taken-clause-rows : goal.returns-in_err-taken-clause-rows
-returns-in_err-taken-clause-rows g c = no_value _ c.from_residual-in_err-taken.result c.from_residual-in_err-taken.ensures.0
-
-pub returns-in_err-taken-clause-dtype : goal.returns-in_err-taken-clause-dtype
-returns-in_err-taken-clause-dtype g c = no_value _ c.from_residual-in_err-taken.result c.from_residual-in_err-taken.ensures.0
-
-pub returns-in_err-taken-clause-form : goal.returns-in_err-taken-clause-form
-returns-in_err-taken-clause-form g c = no_value _ c.from_residual-in_err-taken.result c.from_residual-in_err-taken.ensures.0
-
 pub take_indices_unchecked-requires-clause-fits : goal.take_indices_unchecked-requires-clause-fits
 take_indices_unchecked-requires-clause-fits g c = c.requires.fits
 
-pub returns-in_err-taken-clause-refused : goal.returns-in_err-taken-clause-refused
-returns-in_err-taken-clause-refused g c =
-    let fault = take_fault (optional_numbers (primitive_with g.T.NativePType.PTYPE (map g.T.NativePType.number c.args.indices.now) (form_of c.args.validity.now))) (length (column_rows (column_of_runs c.args.array.now))) in
-    refused-passed_on fault c.in_err-taken.field-0.0 c.from_residual-in_err-taken.result c.from_residual-in_err-taken.ensures.1 (inl c.in_err-taken.ensures.only)
+pub returns-clause-refused : goal.returns-clause-refused
+returns-clause-refused g c =
+    let array = c.args.array.now in
+    let counted = c.len.ensures ∙ sym (length-run_rows array.ends (column_rows array.values) array.offset array.count) in
+    let same = same-fault g.T.NativePType.PTYPE g.T.NativePType.number c.args.indices.now (form_of c.args.validity.now) c.len.result (length (column_rows (column_of_runs array))) counted in
+    refused_by_none _ c.take_indices_unchecked.result (sym same ∙ c.in_ok-check_indices.ensures) c.take_indices_unchecked.ensures.only
+
+pub returns-clause-rows : goal.returns-clause-rows
+returns-clause-rows g c =
+    let same = same-indices g.T.NativePType.PTYPE g.T.NativePType.number c.args.indices.now (form_of c.args.validity.now) in
+    ok_then c.take_indices_unchecked.result _ _ (λ taken is. is ∙ ap (take_rows (column_rows (column_of_runs c.args.array.now))) same) c.take_indices_unchecked.ensures.rows
+
+pub returns-clause-dtype : goal.returns-clause-dtype
+returns-clause-dtype g c = c.take_indices_unchecked.ensures.dtype
+
+pub returns-clause-form : goal.returns-clause-form
+returns-clause-form g c =
+    let same = same-indices g.T.NativePType.PTYPE g.T.NativePType.number c.args.indices.now (form_of c.args.validity.now) in
+    ok_then c.take_indices_unchecked.result _ _ (λ taken form. subst (λ (indices : List (Option ℤ)). IsTakeForm indices (column_of taken)) same form) c.take_indices_unchecked.ensures.form

@@ -1,0 +1,87 @@
+//! The lines of rows and of forms, without their line feeds.
+use column_base::{DType, Nullability, VortexError, VortexResult};
+use script_answers::{is_null_or_number, push_word};
+use script_text::name_of;
+use std::alloc::Allocator;
+use vortex_runend::{
+    ArrayRef, ConstantArray, RunEndArray, RunEndArrayExt, RunEndArraySlotsExt, ScalarView,
+};
+
+/// The line `rows V ..` of all rows. Refused as `Unsupported` where a row is neither null nor a whole
+/// number, and as `OutOfMemory`.
+pub fn rows_line<A: Allocator + Copy>(alloc: A, array: &ArrayRef<A>) -> VortexResult<String<A>> {
+    let mut line = String::from_str(alloc, "rows")?;
+    push_rows(&mut line, array)?;
+    Ok(line)
+}
+
+/// The line of the form of a column: `flat TYPE V ..`, `const TYPE V length N`, or `runs TYPE ETYPE
+/// offset N length N ends e .. values V ..`. Refused as `Unsupported` where rows are no whole
+/// numbers, and as `OutOfMemory`.
+pub fn form_line<A: Allocator + Copy>(alloc: A, array: &ArrayRef<A>) -> VortexResult<String<A>> {
+    let mut line = String::new(alloc);
+    match array {
+        ArrayRef::Constant(constant) => push_constant(&mut line, constant)?,
+        ArrayRef::RunEnd(runs) => push_runs(&mut line, runs)?,
+        _ => {
+            line.push_str("flat")?;
+            push_type(&mut line, array.dtype())?;
+            push_rows(&mut line, array)?;
+        }
+    }
+    Ok(line)
+}
+
+// The type as a word, behind a space.
+fn push_type<A: Allocator + Copy>(line: &mut String<A>, dtype: DType) -> VortexResult<()> {
+    let DType::Primitive(ptype, nullability) = dtype else {
+        return Err(VortexError::Unsupported);
+    };
+    line.push_str(" ")?;
+    line.push_str(name_of(ptype))?;
+    if nullability == Nullability::Nullable {
+        line.push_str("?")?;
+    }
+    Ok(())
+}
+
+// The row as a word, behind a space. Refused as `Unsupported` where it is neither null nor a whole number.
+fn push_row<A: Allocator + Copy>(line: &mut String<A>, row: ScalarView<'_, A>) -> VortexResult<()> {
+    if !is_null_or_number(row) {
+        return Err(VortexError::Unsupported);
+    }
+    push_word(line, row)?;
+    Ok(())
+}
+
+// A word for each row, each behind a space.
+fn push_rows<A: Allocator + Copy>(line: &mut String<A>, array: &ArrayRef<A>) -> VortexResult<()> {
+    for index in 0..array.len() {
+        push_row(line, array.scalar_at(index)?)?;
+    }
+    Ok(())
+}
+
+fn push_constant<A: Allocator + Copy>(
+    line: &mut String<A>,
+    constant: &ConstantArray<A>,
+) -> VortexResult<()> {
+    line.push_str("const")?;
+    push_type(line, constant.dtype())?;
+    push_row(line, constant.scalar().view())?;
+    let length = constant.len();
+    write!(line, " length {length}")?;
+    Ok(())
+}
+
+fn push_runs<A: Allocator + Copy>(line: &mut String<A>, runs: &RunEndArray<A>) -> VortexResult<()> {
+    line.push_str("runs")?;
+    push_type(line, runs.dtype())?;
+    push_type(line, runs.ends().dtype())?;
+    let offset = runs.offset();
+    let length = runs.len();
+    write!(line, " offset {offset} length {length} ends")?;
+    push_rows(line, runs.ends())?;
+    line.push_str(" values")?;
+    push_rows(line, runs.values())
+}
