@@ -4,7 +4,6 @@ ghost use Rattle.column_base.specs.Mask.{mask_bits};
 ghost use Rattle.column_base.specs.Types.{nullability_of, with_nullability as dtype_with};
 ghost use Rattle.column_base.specs.ValidityForm.{HasLength, flags, nullability_in};
 ghost use Rattle.column_base.specs.Validity.{form_of};
-ghost use Rattle.column_core.specs.FlatColumn.{leaf_of};
 ghost use Rattle.column_core.specs.Leaf.{leaf_dtype, single_rows};
 ghost use Rattle.column_core.specs.Optionals.{optionals};
 ghost use Rattle.column_ops.specs.Filter.{filter_rows};
@@ -12,90 +11,44 @@ ghost use Rattle.column_ops.specs.Nullable.{either_nullable};
 ghost use Rattle.column_ops.specs.Take.{ArePositions, position_numbers, take_rows};
 ghost use Rattle.runend_array.specs.Array.{dtype_of, rows};
 ghost use Rattle.runend_array.specs.Canonical.{canonical_column};
-ghost use Rattle.runend_array.specs.Column.{column_dtype, column_rows};
+ghost use Rattle.runend_array.specs.Column.{OfLeaf, column_dtype, column_rows};
 ghost use Rattle.runend_select.specs.Computed.{IsComputedAs};
 
 use crate::list_values::{select_lists, take_lists};
-use column_core::{
-    BoolArray, DecimalArray, FlatColumn, Mask, PrimitiveArray, Validity, VarBinViewArray,
-    VortexError, VortexResult,
-};
+use column_core::{FlatColumn, Mask, Validity, VortexError, VortexResult};
 use column_ops::ColumnOps;
 use runend_array::{ArrayRef, Canonical};
 use std::alloc::Allocator;
 
-// Columns that are stored row by row.
-trait FlatForm<A: Allocator + Copy>: ColumnOps<A> {
-    // The same column, as one of any type.
-    fn into_flat(self) -> FlatColumn<A>
-        ensures { leaf_of result ≡ Self.leaf self };
-}
-
-impl<A: Allocator + Copy> FlatForm<A> for PrimitiveArray<A> {
-    fn into_flat(self) -> FlatColumn<A> {
-        FlatColumn::Primitive(self)
-    }
-}
-
-impl<A: Allocator + Copy> FlatForm<A> for BoolArray<A> {
-    fn into_flat(self) -> FlatColumn<A> {
-        FlatColumn::Bool(self)
-    }
-}
-
-impl<A: Allocator + Copy> FlatForm<A> for DecimalArray<A> {
-    fn into_flat(self) -> FlatColumn<A> {
-        FlatColumn::Decimal(self)
-    }
-}
-
-impl<A: Allocator + Copy> FlatForm<A> for VarBinViewArray<A> {
-    fn into_flat(self) -> FlatColumn<A> {
-        FlatColumn::VarBinView(self)
-    }
-}
-
-impl<A: Allocator + Copy> FlatForm<A> for FlatColumn<A> {
-    fn into_flat(self) -> FlatColumn<A> {
-        self
-    }
-}
-
 // The rows of a flat column at these positions, null for null.
-fn taken_at<C: FlatForm<A>, A: Allocator + Copy>(
+fn taken_at<C: ColumnOps<A>, A: Allocator + Copy>(
     alloc: A,
     column: &C,
     positions: &[u64],
     places: &Validity<A>,
-) -> VortexResult<Canonical<A>>
+) -> VortexResult<C>
     requires counted { HasLength (form_of places.now) (length positions.now) }
     requires within { ArePositions (optionals positions.now (flags (form_of places.now) (length positions.now))) (length (single_rows (C.leaf column.now))) }
     ensures only { IsOkUnless result VortexError.OutOfMemory }
     ensures made { IfOk result (λ taken. IsComputedAs
         (take_rows (single_rows (C.leaf column.now)) (position_numbers (optionals positions.now (flags (form_of places.now) (length positions.now)))))
         (dtype_with (leaf_dtype (C.leaf column.now)) (either_nullable (nullability_of (leaf_dtype (C.leaf column.now))) (nullability_in (form_of places.now))))
-        (canonical_column taken)) }
+        (OfLeaf (C.leaf taken))) }
 {
-    match column.take_at(alloc, positions, places) {
-        Ok(taken) => Ok(Canonical::Flat(taken.into_flat())),
-        Err(error) => Err(error),
-    }
+    column.take_at(alloc, positions, places)
 }
 
 // The rows of a flat column at which the mask is true.
-fn selected_by<C: FlatForm<A>, A: Allocator + Copy>(
+fn selected_by<C: ColumnOps<A>, A: Allocator + Copy>(
     alloc: A,
     column: &C,
     mask: &Mask<A>,
-) -> VortexResult<Canonical<A>>
+) -> VortexResult<C>
     requires masked { length (mask_bits mask.now) ≡ length (single_rows (C.leaf column.now)) }
     ensures only { IsOkUnless result VortexError.OutOfMemory }
-    ensures made { IfOk result (λ kept. IsComputedAs (filter_rows (mask_bits mask.now) (single_rows (C.leaf column.now))) (leaf_dtype (C.leaf column.now)) (canonical_column kept)) }
+    ensures made { IfOk result (λ kept. IsComputedAs (filter_rows (mask_bits mask.now) (single_rows (C.leaf column.now))) (leaf_dtype (C.leaf column.now)) (OfLeaf (C.leaf kept))) }
 {
-    match column.filter(alloc, mask) {
-        Ok(kept) => Ok(Canonical::Flat(kept.into_flat())),
-        Err(error) => Err(error),
-    }
+    column.filter(alloc, mask)
 }
 
 // The rows of a column, flat.
@@ -123,11 +76,14 @@ fn take_flat<A: Allocator + Copy>(
         (canonical_column taken)) }
 {
     match values {
-        Canonical::Flat(flat) => taken_at(alloc, flat, positions, places),
-        Canonical::List(lists) => match take_lists(alloc, lists, positions, places) {
-            Ok(taken) => Ok(Canonical::List(taken)),
-            Err(error) => Err(error),
-        },
+        Canonical::Flat(flat) => {
+            let taken = taken_at(alloc, flat, positions, places)?;
+            Ok(Canonical::Flat(taken))
+        }
+        Canonical::List(lists) => {
+            let taken = take_lists(alloc, lists, positions, places)?;
+            Ok(Canonical::List(taken))
+        }
     }
 }
 
@@ -142,11 +98,14 @@ fn select_flat<A: Allocator + Copy>(
     ensures made { IfOk result (λ kept. IsComputedAs (filter_rows (mask_bits mask.now) (column_rows (canonical_column values.now))) (column_dtype (canonical_column values.now)) (canonical_column kept)) }
 {
     match values {
-        Canonical::Flat(flat) => selected_by(alloc, flat, mask),
-        Canonical::List(lists) => match select_lists(alloc, lists, mask) {
-            Ok(kept) => Ok(Canonical::List(kept)),
-            Err(error) => Err(error),
-        },
+        Canonical::Flat(flat) => {
+            let kept = selected_by(alloc, flat, mask)?;
+            Ok(Canonical::Flat(kept))
+        }
+        Canonical::List(lists) => {
+            let kept = select_lists(alloc, lists, mask)?;
+            Ok(Canonical::List(kept))
+        }
     }
 }
 
@@ -204,14 +163,26 @@ pub(crate) fn take_values<A: Allocator + Copy>(
         (canonical_column taken)) }
 {
     match values {
-        ArrayRef::Primitive(array) => taken_at(alloc, array, positions, places),
-        ArrayRef::Bool(array) => taken_at(alloc, array, positions, places),
-        ArrayRef::Decimal(array) => taken_at(alloc, array, positions, places),
-        ArrayRef::VarBinView(array) => taken_at(alloc, array, positions, places),
-        ArrayRef::ListView(lists) => match take_lists(alloc, lists, positions, places) {
-            Ok(taken) => Ok(Canonical::List(taken)),
-            Err(error) => Err(error),
-        },
+        ArrayRef::Primitive(array) => {
+            let taken = taken_at(alloc, array, positions, places)?;
+            Ok(Canonical::Flat(FlatColumn::Primitive(taken)))
+        }
+        ArrayRef::Bool(array) => {
+            let taken = taken_at(alloc, array, positions, places)?;
+            Ok(Canonical::Flat(FlatColumn::Bool(taken)))
+        }
+        ArrayRef::Decimal(array) => {
+            let taken = taken_at(alloc, array, positions, places)?;
+            Ok(Canonical::Flat(FlatColumn::Decimal(taken)))
+        }
+        ArrayRef::VarBinView(array) => {
+            let taken = taken_at(alloc, array, positions, places)?;
+            Ok(Canonical::Flat(FlatColumn::VarBinView(taken)))
+        }
+        ArrayRef::ListView(lists) => {
+            let taken = take_lists(alloc, lists, positions, places)?;
+            Ok(Canonical::List(taken))
+        }
         _ => take_flattened(alloc, values, positions, places),
     }
 }
@@ -227,14 +198,26 @@ pub(crate) fn select_values<A: Allocator + Copy>(
     ensures made { IfOk result (λ kept. IsComputedAs (filter_rows (mask_bits mask.now) (rows values.now)) (dtype_of values.now) (canonical_column kept)) }
 {
     match values {
-        ArrayRef::Primitive(array) => selected_by(alloc, array, mask),
-        ArrayRef::Bool(array) => selected_by(alloc, array, mask),
-        ArrayRef::Decimal(array) => selected_by(alloc, array, mask),
-        ArrayRef::VarBinView(array) => selected_by(alloc, array, mask),
-        ArrayRef::ListView(lists) => match select_lists(alloc, lists, mask) {
-            Ok(kept) => Ok(Canonical::List(kept)),
-            Err(error) => Err(error),
-        },
+        ArrayRef::Primitive(array) => {
+            let kept = selected_by(alloc, array, mask)?;
+            Ok(Canonical::Flat(FlatColumn::Primitive(kept)))
+        }
+        ArrayRef::Bool(array) => {
+            let kept = selected_by(alloc, array, mask)?;
+            Ok(Canonical::Flat(FlatColumn::Bool(kept)))
+        }
+        ArrayRef::Decimal(array) => {
+            let kept = selected_by(alloc, array, mask)?;
+            Ok(Canonical::Flat(FlatColumn::Decimal(kept)))
+        }
+        ArrayRef::VarBinView(array) => {
+            let kept = selected_by(alloc, array, mask)?;
+            Ok(Canonical::Flat(FlatColumn::VarBinView(kept)))
+        }
+        ArrayRef::ListView(lists) => {
+            let kept = select_lists(alloc, lists, mask)?;
+            Ok(Canonical::List(kept))
+        }
         _ => select_flattened(alloc, values, mask),
     }
 }
