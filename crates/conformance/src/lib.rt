@@ -21,8 +21,6 @@ mod kinds;
 #[cfg(test)]
 mod lists;
 #[cfg(test)]
-mod lookups;
-#[cfg(test)]
 mod memory;
 #[cfg(test)]
 mod parts;
@@ -50,3 +48,5 @@ mod texts;
 mod trials;
 #[cfg(test)]
 mod typed;
+#[cfg(test)]
+mod usage;

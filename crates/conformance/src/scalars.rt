@@ -1,5 +1,5 @@
-//! A scalar, cloned and made of what a row shows, and scalars of two types.
-use std::alloc::{Allocator, Global};
+//! A scalar, cloned and made of what a row shows.
+use std::alloc::Allocator;
 use std::process::Abort;
 use std::test::Fail;
 use vortex_runend::{DType, Nullability, Scalar, ScalarValue, VortexResult};
@@ -20,17 +20,5 @@ fn clones_equal_their_scalars(rt: HostRuntime) -> Result<(), Fail> {
     let copy = Scalar::of_view(rt.alloc(), scalar.dtype(), scalar.view());
     assert_same(&rt, copy, &scalar);
     drop(scalar);
-    Ok(())
-}
-
-fn null_of(dtype: DType) -> VortexResult<Scalar<Global>> {
-    Scalar::try_new(dtype, None)
-}
-
-#[test]
-fn nulls_of_two_types_differ(rt: HostRuntime) -> Result<(), Fail> {
-    let truth = null_of(DType::Bool(Nullability::Nullable))?;
-    let text = null_of(DType::Utf8(Nullability::Nullable))?;
-    assert!(rt; !(truth == text));
     Ok(())
 }

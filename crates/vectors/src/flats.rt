@@ -1,7 +1,8 @@
 //! Flat columns of the values that words write.
+use crate::line_error::{LineError, LineResult};
 use crate::types::{dtype_of, single_of};
 use crate::values::{
-    NULL_ROW, Row, Value, both, bytes_of, kept_if, push_row, read_bits, read_elements, text_of,
+    NULL_ROW, Row, Value, both, bytes_of, kept, push_row, read_bits, read_elements, text_of,
 };
 use bytes::Bytes;
 use column_base::VortexResult;
@@ -13,40 +14,35 @@ use vortex_runend::{
     PrimitiveValues, RowValidity, Scalar, ScalarValue, Validity, VarBinKind, VarBinViewArray, View,
 };
 
-/// The rows that the words write, or `None` where a word writes none.
+/// The rows that the words write. Bad where a word writes none.
 pub fn read_rows<'a, A: Allocator + Copy>(
     alloc: A,
     words: &[&'a str],
-) -> VortexResult<Option<Vec<Row<'a>, A>>> {
+) -> LineResult<Vec<Row<'a>, A>> {
     let mut rows = Vec::new(alloc);
     let read = push_rows(words, &mut rows);
-    kept_if(read, rows)
+    kept(read, rows)
 }
 
-// Puts the rows that the words write behind the rows, and answers whether each word writes one.
+// Puts the rows that the words write behind the rows.
 fn push_rows<'a, A: Allocator + Copy>(
     words: &[&'a str],
     rows: &mut Vec<Row<'a>, A>,
-) -> VortexResult<bool> {
+) -> LineResult<()> {
     for word in words {
-        if !push_row(word, rows)? {
-            return Ok(false);
-        }
+        push_row(word, rows)?;
     }
-    Ok(true)
+    Ok(())
 }
 
-/// The flat column of these rows, with the validity made from its bits, or `None` where a row is none
-/// of the type.
+/// The flat column of these rows, with the validity made from its bits. Bad where a row is none of the
+/// type.
 pub fn flat_column<A: Allocator + Copy>(
     dtype: DType,
     words: &[&str],
     ctx: &mut ExecutionCtx<A>,
-) -> VortexResult<Option<ArrayRef<A>>> {
-    let alloc = *ctx.allocator();
-    let Some(rows) = read_rows(alloc, words)? else {
-        return Ok(None);
-    };
+) -> LineResult<ArrayRef<A>> {
+    let rows = read_rows(*ctx.allocator(), words)?;
     let made = array_of_rows(dtype, rows.as_slice(), ctx);
     drop(rows);
     made
@@ -56,41 +52,37 @@ fn array_of_rows<A: Allocator + Copy>(
     dtype: DType,
     rows: &[Row<'_>],
     ctx: &mut ExecutionCtx<A>,
-) -> VortexResult<Option<ArrayRef<A>>> {
+) -> LineResult<ArrayRef<A>> {
     if let DType::List(element, nullability) = dtype {
         return lists_of_rows(element, nullability, rows, ctx);
     }
     match single_of(dtype) {
         Some(element) => {
             let alloc = *ctx.allocator();
-            array_in(column_of_rows(alloc, element, dtype.nullability(), rows))
+            let flat = column_of_rows(alloc, element, dtype.nullability(), rows)?;
+            Ok(array_of(flat))
         }
-        None => Ok(None),
+        None => Err(LineError::Bad),
     }
 }
 
-/// The flat column of what the words store, with this validity, or `None` where the validity is none
-/// of the type, or a word is no stored whole number, decimal or truth value of it. Refused as
-/// `try_new` is.
+/// The flat column of what the words store, with this validity. Bad where the validity is none of the
+/// type, or a word is no stored whole number, decimal or truth value of it. Refused as `try_new` is.
 pub fn raw_column<A: Allocator + Copy>(
     alloc: A,
     dtype: DType,
     validity: Validity<A>,
     words: &[&str],
-) -> VortexResult<Option<ArrayRef<A>>> {
+) -> LineResult<ArrayRef<A>> {
     let Some(element) = raw_element(dtype, validity.nullability()) else {
         drop(validity);
-        return Ok(None);
+        return Err(LineError::Bad);
     };
     match read_rows(alloc, words) {
-        Ok(Some(rows)) => {
+        Ok(rows) => {
             let array = raw_of_rows(alloc, element, rows.as_slice(), validity);
             drop(rows);
             array
-        }
-        Ok(None) => {
-            drop(validity);
-            Ok(None)
         }
         Err(error) => {
             drop(validity);
@@ -110,61 +102,54 @@ fn raw_element(dtype: DType, nullability: Nullability) -> Option<ElementDType> {
     }
 }
 
-// The flat column of what the rows store, with this validity, or `None` where one is null.
+// The flat column of what the rows store, with this validity. Bad where one is null.
 fn raw_of_rows<A: Allocator + Copy>(
     alloc: A,
     element: ElementDType,
     rows: &[Row<'_>],
     validity: Validity<A>,
-) -> VortexResult<Option<ArrayRef<A>>> {
+) -> LineResult<ArrayRef<A>> {
     if rows.iter().any(|row| !row.valid) {
         drop(validity);
-        return Ok(None);
+        return Err(LineError::Bad);
     }
-    array_in(stored_column(alloc, element, rows, validity))
+    let flat = stored_column(alloc, element, rows, validity)?;
+    Ok(array_of(flat))
 }
 
-/// So many rows that are null by a validity which says that all are, or `None` for a type without null
-/// and for lists.
+/// So many rows that are null by a validity which says that all are. Bad for a type without null and for
+/// lists.
 pub fn invalid_column<A: Allocator + Copy>(
     alloc: A,
     dtype: DType,
     count: usize,
-) -> VortexResult<Option<ArrayRef<A>>> {
-    let Some(element) = single_of(dtype) else {
-        return Ok(None);
-    };
-    if dtype.nullability() == Nullability::NonNullable {
-        return Ok(None);
+) -> LineResult<ArrayRef<A>> {
+    match single_of(dtype) {
+        Some(element) if dtype.nullability() == Nullability::Nullable => {
+            let rows = vec![in alloc; NULL_ROW; count]?;
+            let flat = stored_column(alloc, element, rows.as_slice(), Validity::AllInvalid);
+            drop(rows);
+            Ok(array_of(flat?))
+        }
+        _ => Err(LineError::Bad),
     }
-    let rows = vec![in alloc; NULL_ROW; count]?;
-    let made = stored_column(alloc, element, rows.as_slice(), Validity::AllInvalid);
-    drop(rows);
-    array_in(made)
 }
 
-/// The scalar of a value, or `None` where the value is one that no scalar has. Refused as
-/// `Scalar::try_new` is.
+/// The scalar of a value. Bad where the value is one that no scalar has. Refused as `Scalar::try_new` is.
 pub fn scalar_of<A: Allocator + Copy>(
     alloc: A,
     dtype: DType,
     value: Value<'_>,
-) -> VortexResult<Option<Scalar<A>>> {
+) -> LineResult<Scalar<A>> {
     let value = match value {
         Value::Null => None,
         Value::Truth(truth) => Some(ScalarValue::Bool(truth)),
         Value::Number(number) => Some(number_value(dtype, number)),
-        Value::Text(quoted) => match text_of(alloc, quoted)? {
-            Some(text) => Some(ScalarValue::Utf8(text)),
-            None => return Ok(None),
-        },
-        Value::Bytes(digits) => match bytes_of(alloc, digits)? {
-            Some(bytes) => Some(ScalarValue::Binary(bytes)),
-            None => return Ok(None),
-        },
-        Value::List(_) => return Ok(None),
+        Value::Text(quoted) => Some(ScalarValue::Utf8(text_of(alloc, quoted)?)),
+        Value::Bytes(digits) => Some(ScalarValue::Binary(bytes_of(alloc, digits)?)),
+        Value::List(_) => return Err(LineError::Bad),
     };
-    Ok(Some(Scalar::try_new(dtype, value)?))
+    Ok(Scalar::try_new(dtype, value)?)
 }
 
 // The number as a value of the type, else as one of whichever type has it.
@@ -182,30 +167,16 @@ fn number_value<A: Allocator + Copy>(dtype: DType, number: i128) -> ScalarValue<
     }
 }
 
-/// The bits of a word of 0 and 1, where `-` is none.
-pub fn bits_of_word<A: Allocator + Copy>(
-    alloc: A,
-    word: &str,
-) -> VortexResult<Option<BitBuffer<A>>> {
+/// The bits of a word of 0 and 1, where `-` is none. Bad where it has another letter.
+pub fn bits_of_word<A: Allocator + Copy>(alloc: A, word: &str) -> LineResult<BitBuffer<A>> {
     let Some(digits) = read_bits(word) else {
-        return Ok(None);
+        return Err(LineError::Bad);
     };
     let mut bits = BitBufferMut::with_capacity(alloc, digits.len())?;
     for digit in digits {
         bits.append(*digit == b'1')?;
     }
-    Ok(Some(bits.freeze()))
-}
-
-// The flat column as an array, where there is one.
-fn array_in<A: Allocator>(
-    flat: VortexResult<Option<FlatColumn<A>>>,
-) -> VortexResult<Option<ArrayRef<A>>> {
-    match flat {
-        Ok(Some(flat)) => Ok(Some(array_of(flat))),
-        Ok(None) => Ok(None),
-        Err(error) => Err(error),
-    }
+    Ok(bits.freeze())
 }
 
 /// A flat column as an array.
@@ -229,23 +200,21 @@ pub fn flat_of<A: Allocator>(array: ArrayRef<A>) -> Option<FlatColumn<A>> {
     }
 }
 
-// The validity of the rows, made from its bits, or `None` for null in a type without.
+// The validity of the rows, made from its bits. Bad for null in a type without.
 fn validity_of<A: Allocator + Copy>(
     alloc: A,
     nullability: Nullability,
     rows: &[Row<'_>],
-) -> VortexResult<Option<Validity<A>>> {
+) -> LineResult<Validity<A>> {
     let mut valid = BitBufferMut::with_capacity(alloc, rows.len())?;
     for row in rows {
         valid.append(row.valid)?;
     }
     let bits = valid.freeze();
     match nullability {
-        Nullability::Nullable => Ok(Some(Validity::from_bits(bits))),
-        Nullability::NonNullable if bits.true_count() == rows.len() => {
-            Ok(Some(Validity::NonNullable))
-        }
-        Nullability::NonNullable => Ok(None),
+        Nullability::Nullable => Ok(Validity::from_bits(bits)),
+        Nullability::NonNullable if bits.true_count() == rows.len() => Ok(Validity::NonNullable),
+        Nullability::NonNullable => Err(LineError::Bad),
     }
 }
 
@@ -255,11 +224,9 @@ fn column_of_rows<A: Allocator + Copy>(
     element: ElementDType,
     nullability: Nullability,
     rows: &[Row<'_>],
-) -> VortexResult<Option<FlatColumn<A>>> {
-    match validity_of(alloc, nullability, rows)? {
-        Some(validity) => stored_column(alloc, element, rows, validity),
-        None => Ok(None),
-    }
+) -> LineResult<FlatColumn<A>> {
+    let validity = validity_of(alloc, nullability, rows)?;
+    stored_column(alloc, element, rows, validity)
 }
 
 // What rows store, beside their validity.
@@ -295,13 +262,9 @@ fn stored_column<A: Allocator + Copy>(
     element: ElementDType,
     rows: &[Row<'_>],
     validity: Validity<A>,
-) -> VortexResult<Option<FlatColumn<A>>> {
+) -> LineResult<FlatColumn<A>> {
     match stored_of(alloc, element, rows) {
-        Ok(Some(stored)) => Ok(Some(stored.with(validity)?)),
-        Ok(None) => {
-            drop(validity);
-            Ok(None)
-        }
+        Ok(stored) => Ok(stored.with(validity)?),
         Err(error) => {
             drop(validity);
             Err(error)
@@ -313,7 +276,7 @@ fn stored_of<A: Allocator + Copy>(
     alloc: A,
     element: ElementDType,
     rows: &[Row<'_>],
-) -> VortexResult<Option<Stored<A>>> {
+) -> LineResult<Stored<A>> {
     match element {
         ElementDType::Bool(_) => truths_of(alloc, rows),
         ElementDType::Primitive(ptype, _) => numbers_of(alloc, ptype, rows),
@@ -323,15 +286,15 @@ fn stored_of<A: Allocator + Copy>(
     }
 }
 
-fn truths_of<A: Allocator + Copy>(alloc: A, rows: &[Row<'_>]) -> VortexResult<Option<Stored<A>>> {
+fn truths_of<A: Allocator + Copy>(alloc: A, rows: &[Row<'_>]) -> LineResult<Stored<A>> {
     let mut bits = BitBufferMut::with_capacity(alloc, rows.len())?;
     for row in rows {
         match stored_truth(*row) {
             Some(truth) => bits.append(truth)?,
-            None => return Ok(None),
+            None => return Err(LineError::Bad),
         }
     }
-    Ok(Some(Stored::Truths(bits.freeze())))
+    Ok(Stored::Truths(bits.freeze()))
 }
 
 // The truth value that a row of truth values stores.
@@ -347,7 +310,7 @@ fn numbers_of<A: Allocator + Copy>(
     alloc: A,
     ptype: PType,
     rows: &[Row<'_>],
-) -> VortexResult<Option<Stored<A>>> {
+) -> LineResult<Stored<A>> {
     match ptype {
         PType::U8 => natives_of::<u8, A>(alloc, rows),
         PType::U16 => natives_of::<u16, A>(alloc, rows),
@@ -363,15 +326,15 @@ fn numbers_of<A: Allocator + Copy>(
 fn natives_of<T: NativePType, A: Allocator + Copy>(
     alloc: A,
     rows: &[Row<'_>],
-) -> VortexResult<Option<Stored<A>>> {
+) -> LineResult<Stored<A>> {
     let mut items = Vec::new(alloc);
     for row in rows {
         match stored_native::<T>(*row) {
             Some(item) => items.push(item)?,
-            None => return Ok(None),
+            None => return Err(LineError::Bad),
         }
     }
-    Ok(Some(Stored::Numbers(T::wrap(items))))
+    Ok(Stored::Numbers(T::wrap(items)))
 }
 
 // The number that a row of numbers stores, where it is one of the type.
@@ -383,15 +346,15 @@ fn decimals_of<A: Allocator + Copy>(
     alloc: A,
     decimal: DecimalDType,
     rows: &[Row<'_>],
-) -> VortexResult<Option<Stored<A>>> {
+) -> LineResult<Stored<A>> {
     let mut numbers = Vec::new(alloc);
     for row in rows {
         match stored_number(*row) {
             Some(number) => numbers.push(number)?,
-            None => return Ok(None),
+            None => return Err(LineError::Bad),
         }
     }
-    Ok(Some(Stored::Decimals(numbers, decimal)))
+    Ok(Stored::Decimals(numbers, decimal))
 }
 
 // The number that a row of numbers stores.
@@ -408,18 +371,15 @@ fn views_of<A: Allocator + Copy>(
     alloc: A,
     kind: VarBinKind,
     rows: &[Row<'_>],
-) -> VortexResult<Option<Stored<A>>> {
+) -> LineResult<Stored<A>> {
     let mut views = Vec::new(alloc);
     let mut bytes = Vec::new(alloc);
     for row in rows {
-        match push_view(alloc, kind, *row, &mut bytes)? {
-            Some(view) => views.push(view)?,
-            None => return Ok(None),
-        }
+        views.push(push_view(alloc, kind, *row, &mut bytes)?)?;
     }
     let mut buffers = Vec::new(alloc);
     buffers.push(Bytes::copy_from_slice(alloc, &bytes)?)?;
-    Ok(Some(Stored::Views(views, buffers, kind)))
+    Ok(Stored::Views(views, buffers, kind))
 }
 
 // Puts the text or the bytes of the row behind the buffer, and answers their view.
@@ -428,18 +388,16 @@ fn push_view<A: Allocator + Copy>(
     kind: VarBinKind,
     row: Row<'_>,
     buffer: &mut Vec<u8, A>,
-) -> VortexResult<Option<View>> {
+) -> LineResult<View> {
     match (kind, row.value) {
-        (VarBinKind::Utf8, Value::Text(quoted)) => match text_of(alloc, quoted)? {
-            Some(text) => push_stored(text.into_bytes(), buffer),
-            None => Ok(None),
-        },
-        (VarBinKind::Binary, Value::Bytes(digits)) => match bytes_of(alloc, digits)? {
-            Some(bytes) => push_stored(bytes, buffer),
-            None => Ok(None),
-        },
-        (_, Value::Null) if !row.valid => Ok(Some(View::default())),
-        _ => Ok(None),
+        (VarBinKind::Utf8, Value::Text(quoted)) => {
+            push_stored(text_of(alloc, quoted)?.into_bytes(), buffer)
+        }
+        (VarBinKind::Binary, Value::Bytes(digits)) => {
+            push_stored(bytes_of(alloc, digits)?, buffer)
+        }
+        (_, Value::Null) if !row.valid => Ok(View::default()),
+        _ => Err(LineError::Bad),
     }
 }
 
@@ -447,7 +405,7 @@ fn push_view<A: Allocator + Copy>(
 fn push_stored<A: Allocator + Copy>(
     bytes: Vec<u8, A>,
     buffer: &mut Vec<u8, A>,
-) -> VortexResult<Option<View>> {
+) -> LineResult<View> {
     let view = View {
         buffer: 0,
         start: buffer.len(),
@@ -456,7 +414,7 @@ fn push_stored<A: Allocator + Copy>(
     let pushed = buffer.extend_from_slice(&bytes);
     drop(bytes);
     pushed?;
-    Ok(Some(view))
+    Ok(view)
 }
 
 // What the parts of a column of lists are made from.
@@ -473,19 +431,13 @@ fn lists_of_rows<A: Allocator + Copy>(
     nullability: Nullability,
     rows: &[Row<'_>],
     ctx: &mut ExecutionCtx<A>,
-) -> VortexResult<Option<ArrayRef<A>>> {
+) -> LineResult<ArrayRef<A>> {
     let alloc = *ctx.allocator();
-    let Some(listed) = listed_rows(alloc, rows)? else {
-        return Ok(None);
-    };
+    let listed = listed_rows(alloc, rows)?;
     let elements = elements_of(alloc, element, listed.elements.as_slice());
-    match both(listed, elements)? {
-        Some((listed, elements)) => {
-            let validity = both(elements, validity_of(alloc, nullability, rows));
-            lists_over(listed, validity, ctx)
-        }
-        None => Ok(None),
-    }
+    let (listed, elements) = both(listed, elements)?;
+    let parts = both(elements, validity_of(alloc, nullability, rows));
+    lists_over(listed, parts, ctx)
 }
 
 // The column of the elements of lists.
@@ -493,28 +445,23 @@ fn elements_of<A: Allocator + Copy>(
     alloc: A,
     element: ElementDType,
     rows: &[Row<'_>],
-) -> VortexResult<Option<Rc<FlatColumn<A>, A>>> {
+) -> LineResult<Rc<FlatColumn<A>, A>> {
     let nullability = dtype_of(element).nullability();
-    match column_of_rows(alloc, element, nullability, rows)? {
-        Some(elements) => Ok(Some(Rc::new(alloc, elements)?)),
-        None => Ok(None),
-    }
+    let elements = column_of_rows(alloc, element, nullability, rows)?;
+    Ok(Rc::new(alloc, elements)?)
 }
 
 // The lists over these elements, with this validity.
 fn lists_over<A: Allocator + Copy>(
     listed: Listed<'_, A>,
-    parts: VortexResult<Option<(Rc<FlatColumn<A>, A>, Validity<A>)>>,
+    parts: LineResult<(Rc<FlatColumn<A>, A>, Validity<A>)>,
     ctx: &mut ExecutionCtx<A>,
-) -> VortexResult<Option<ArrayRef<A>>> {
-    let Some((listed, (elements, validity))) = both(listed, parts)? else {
-        return Ok(None);
-    };
+) -> LineResult<ArrayRef<A>> {
+    let (listed, (elements, validity)) = both(listed, parts)?;
     let (offsets, sizes) = (indices_of(listed.offsets), indices_of(listed.sizes));
     drop(listed.elements);
     let lists = ListViewArray::try_new(elements, offsets, sizes, row_validity(validity), ctx);
-    let lists = boxed_lists(lists, *ctx.allocator())?;
-    Ok(Some(lists))
+    Ok(boxed_lists(lists, *ctx.allocator())?)
 }
 
 /// The column of the lists that were made, with memory for its box from `alloc`.
@@ -525,46 +472,38 @@ pub fn boxed_lists<A: Allocator + Copy>(
     Ok(ArrayRef::ListView(Box::new(alloc, made?)?))
 }
 
-// The elements of all rows, and where those of each row lie.
-fn listed_rows<'a, A: Allocator + Copy>(
-    alloc: A,
-    rows: &[Row<'a>],
-) -> VortexResult<Option<Listed<'a, A>>> {
+// The elements of all rows, and where those of each row lie. Bad where a row is no list.
+fn listed_rows<'a, A: Allocator + Copy>(alloc: A, rows: &[Row<'a>]) -> LineResult<Listed<'a, A>> {
     let mut listed = Listed {
         elements: Vec::new(alloc),
         offsets: Vec::new(alloc),
         sizes: Vec::new(alloc),
     };
     let read = listed.push_rows(rows);
-    kept_if(read, listed)
+    kept(read, listed)
 }
 
 impl<'a, A: Allocator + Copy> Listed<'a, A> {
-    // Puts the rows behind, and answers whether each of them is a list or null.
-    fn push_rows(&mut self, rows: &[Row<'a>]) -> VortexResult<bool> {
+    // Puts the rows behind, each a list or null.
+    fn push_rows(&mut self, rows: &[Row<'a>]) -> LineResult<()> {
         for row in rows {
-            if !self.push_elements(*row)? {
-                return Ok(false);
-            }
+            self.push_elements(*row)?;
         }
-        Ok(true)
+        Ok(())
     }
 
-    // Puts the row behind, and answers whether it is a list or null.
-    fn push_elements(&mut self, row: Row<'a>) -> VortexResult<bool> {
+    // Puts the row behind, a list or null.
+    fn push_elements(&mut self, row: Row<'a>) -> LineResult<()> {
         let start = self.elements.len();
-        let read = match (row.valid, row.value) {
-            (true, Value::List(listed)) => read_elements(listed, &mut self.elements),
-            (false, Value::Null) => Ok(true),
-            _ => Ok(false),
-        };
-        if !read? {
-            return Ok(false);
+        match (row.valid, row.value) {
+            (true, Value::List(listed)) => read_elements(listed, &mut self.elements)?,
+            (false, Value::Null) => {}
+            _ => return Err(LineError::Bad),
         }
         self.offsets.push(start as u64)?;
         self.sizes
             .push(self.elements.len().saturating_sub(start) as u64)?;
-        Ok(true)
+        Ok(())
     }
 }
 

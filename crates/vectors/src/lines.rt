@@ -6,18 +6,16 @@ use crate::bench::{Bench, Heap};
 use crate::calls::{Outcome, Reply};
 use crate::columns::Columns;
 use crate::flats::{flat_column, invalid_column, raw_column, scalar_of};
-use crate::prepare::{copied, prepare, read_validity};
+use crate::line_error::{LineError, LineResult};
+use crate::prepare::{prepare, read_validity};
 use crate::printer::{push_dtype, push_form, push_refusal, push_rows, push_stored};
 use crate::reader::{self, Look, Plain, Request, read_request};
 use crate::refuse::{Found, refused_in_turn};
 use crate::session::{crate_thresholds, set_kernels, set_thresholds};
-use crate::values::Value;
 use column_base::VortexResult;
 use std::alloc::Allocator;
 use vector_report::{Line, Report, read_line};
-use vortex_runend::{
-    ArrayRef, ConstantArray, DType, ExecutionCtx, RunEndArraySlotsExt, VortexError,
-};
+use vortex_runend::{ArrayRef, ConstantArray, ExecutionCtx, RunEndArraySlotsExt, VortexError};
 
 /// Runs all lines, and reports which of them are not answered as they expect.
 pub fn run_lines<'a>(text: &str, bench: &mut Bench<'a>) -> VortexResult<Report<Heap<'a>>>
@@ -73,13 +71,13 @@ impl<'a> Bench<'a> {
         let words: Vec<&str, Heap<'a>> = request.split(' ').collect(ample)?;
         let reply = match read_request(words.as_slice()) {
             Some(request) => self.reply(request),
-            None => Ok(Reply::Bad),
+            None => Err(LineError::Bad),
         };
         drop(words);
         answer_text(ample, reply)
     }
 
-    fn reply(&mut self, request: Request<'_>) -> VortexResult<Reply<Heap<'a>>> {
+    fn reply(&mut self, request: Request<'_>) -> LineResult<Reply<Heap<'a>>> {
         let columns = &mut self.columns;
         let ctx = &mut self.ctx;
         match request {
@@ -95,12 +93,11 @@ impl<'a> Bench<'a> {
     }
 
     // Makes the call with memory refused in turn, and then with ample memory.
-    fn refuse(&mut self, name: &str, call: reader::Call<'_>) -> VortexResult<Reply<Heap<'a>>> {
+    fn refuse(&mut self, name: &str, call: reader::Call<'_>) -> LineResult<Reply<Heap<'a>>> {
         match refused_in_turn(name, call, self)? {
-            Some(Found::Memory) => self.settle_with(" memory", name, call),
-            Some(Found::Nothing) => self.settle_with(" none", name, call),
-            Some(Found::Broken(request)) => broken_at(*self.ctx.allocator(), request),
-            None => Ok(Reply::Bad),
+            Found::Memory => self.settle_with(" memory", name, call),
+            Found::Nothing => self.settle_with(" none", name, call),
+            Found::Broken(request) => broken_at(*self.ctx.allocator(), request),
         }
     }
 
@@ -110,13 +107,13 @@ impl<'a> Bench<'a> {
         suffix: &str,
         name: &str,
         call: reader::Call<'_>,
-    ) -> VortexResult<Reply<Heap<'a>>> {
+    ) -> LineResult<Reply<Heap<'a>>> {
         let reply = settle(name, call, &mut self.columns, &mut self.ctx)?;
         with_suffix(*self.ctx.allocator(), reply, suffix)
     }
 }
 
-fn broken_at<A: Allocator + Copy>(alloc: A, request: u64) -> VortexResult<Reply<A>> {
+fn broken_at<A: Allocator + Copy>(alloc: A, request: u64) -> LineResult<Reply<A>> {
     Ok(Reply::Says(format!(in alloc; "broken at {request}")?))
 }
 
@@ -124,7 +121,7 @@ fn with_suffix<A: Allocator + Copy>(
     alloc: A,
     reply: Reply<A>,
     suffix: &str,
-) -> VortexResult<Reply<A>> {
+) -> LineResult<Reply<A>> {
     let mut text = reply_text(alloc, reply)?;
     text.push_str(suffix)?;
     Ok(Reply::Says(text))
@@ -146,24 +143,25 @@ fn look_at<A: Allocator + Copy>(
     look: Look,
     columns: &Columns<A>,
     alloc: A,
-) -> VortexResult<Reply<A>> {
+) -> LineResult<Reply<A>> {
     match columns.get(name) {
         Some(column) => looked_at(alloc, column, look),
-        None => Ok(Reply::Bad),
+        None => Err(LineError::Bad),
     }
 }
 
-// The text of a reply, or of the refusal of one.
+// The text of a reply, or of what stands in its place.
 fn answer_text<A: Allocator + Copy>(
     alloc: A,
-    reply: VortexResult<Reply<A>>,
+    reply: LineResult<Reply<A>>,
 ) -> VortexResult<String<A>>
     ensures only { IsOkUnless result VortexError.OutOfMemory }
 {
     match reply {
         Ok(reply) => reply_text(alloc, reply),
-        Err(VortexError::OutOfMemory) => Err(VortexError::OutOfMemory),
-        Err(error) => reply_text(alloc, Reply::Refused(error)),
+        Err(LineError::Bad) => reply_text(alloc, Reply::Bad),
+        Err(LineError::Refused(VortexError::OutOfMemory)) => Err(VortexError::OutOfMemory),
+        Err(LineError::Refused(error)) => reply_text(alloc, Reply::Refused(error)),
     }
 }
 
@@ -195,27 +193,28 @@ fn make<A: Allocator + Copy>(
     plain: Plain<'_>,
     columns: &mut Columns<A>,
     ctx: &mut ExecutionCtx<A>,
-) -> VortexResult<Reply<A>> {
-    match made(plain, columns, ctx)? {
-        Some(column) => {
-            columns.put(name, column)?;
-            Ok(Reply::Done)
-        }
-        None => Ok(Reply::Bad),
-    }
+) -> LineResult<Reply<A>> {
+    let column = made(plain, columns, ctx)?;
+    columns.put(name, column)?;
+    Ok(Reply::Done)
 }
 
 fn made<A: Allocator + Copy>(
     plain: Plain<'_>,
     columns: &Columns<A>,
     ctx: &mut ExecutionCtx<A>,
-) -> VortexResult<Option<ArrayRef<A>>> {
+) -> LineResult<ArrayRef<A>> {
     let alloc = *ctx.allocator();
     match plain {
         Plain::Flat(dtype, words) => flat_column(dtype, words, ctx),
-        Plain::Raw(dtype, validity, words) => raw_of_words(alloc, dtype, validity, words),
+        Plain::Raw(dtype, validity, words) => {
+            raw_column(alloc, dtype, read_validity(alloc, validity)?, words)
+        }
         Plain::Invalid(dtype, count) => invalid_column(alloc, dtype, count),
-        Plain::Constant(dtype, value, count) => constant_of(alloc, dtype, value, count),
+        Plain::Constant(dtype, value, count) => {
+            let scalar = scalar_of(alloc, dtype, value)?;
+            Ok(ArrayRef::Constant(ConstantArray::new(scalar, count)))
+        }
         Plain::Ends(name) | Plain::Values(name) => part_of_runs(plain, name, columns, ctx),
     }
 }
@@ -226,40 +225,15 @@ fn part_of_runs<A: Allocator + Copy>(
     name: &str,
     columns: &Columns<A>,
     ctx: &mut ExecutionCtx<A>,
-) -> VortexResult<Option<ArrayRef<A>>> {
+) -> LineResult<ArrayRef<A>> {
     let Some(ArrayRef::RunEnd(runs)) = columns.get(name) else {
-        return Ok(None);
+        return Err(LineError::Bad);
     };
-    match plain {
-        Plain::Ends(_) => copied(runs.ends(), ctx),
-        _ => copied(runs.values(), ctx),
-    }
-}
-
-// The flat column of what the words store, with the validity of a word.
-fn raw_of_words<A: Allocator + Copy>(
-    alloc: A,
-    dtype: DType,
-    validity: &str,
-    words: &[&str],
-) -> VortexResult<Option<ArrayRef<A>>> {
-    match read_validity(alloc, validity)? {
-        Some(validity) => raw_column(alloc, dtype, validity, words),
-        None => Ok(None),
-    }
-}
-
-// So many rows of one value.
-fn constant_of<A: Allocator + Copy>(
-    alloc: A,
-    dtype: DType,
-    value: Value<'_>,
-    count: usize,
-) -> VortexResult<Option<ArrayRef<A>>> {
-    match scalar_of(alloc, dtype, value)? {
-        Some(scalar) => Ok(Some(ArrayRef::Constant(ConstantArray::new(scalar, count)))),
-        None => Ok(None),
-    }
+    let part = match plain {
+        Plain::Ends(_) => runs.ends(),
+        _ => runs.values(),
+    };
+    Ok(part.try_clone(ctx)?)
 }
 
 // Makes the call, and keeps the column that it makes or leaves, unless it is refused.
@@ -268,15 +242,14 @@ fn settle<A: Allocator + Copy>(
     call: reader::Call<'_>,
     columns: &mut Columns<A>,
     ctx: &mut ExecutionCtx<A>,
-) -> VortexResult<Reply<A>>
+) -> LineResult<Reply<A>>
     ensures kept { IfOk result (λ reply. ChangesNothing reply → columns.new.named.items ≡ columns.old.named.items) }
     ensures unmade { OnErr result (columns.new.named.items ≡ columns.old.named.items) }
 {
     let ample = *ctx.allocator();
-    match prepare(name, call, columns, ctx)? {
-        Some(call) => keep(name, call.run(ctx, ample)?, columns),
-        None => Ok(Reply::Bad),
-    }
+    let call = prepare(name, call, columns, ctx)?;
+    let outcome = call.run(ctx, ample)?;
+    keep(name, outcome, columns)
 }
 
 // Keeps the column of an outcome, unless the call was refused.
@@ -284,7 +257,7 @@ fn keep<A: Allocator + Copy>(
     name: &str,
     outcome: Outcome<A>,
     columns: &mut Columns<A>,
-) -> VortexResult<Reply<A>>
+) -> LineResult<Reply<A>>
     ensures kept { IfOk result (λ reply. ChangesNothing reply → columns.new.named.items ≡ columns.old.named.items) }
     ensures unmade { OnErr result (columns.new.named.items ≡ columns.old.named.items) }
 {
@@ -293,7 +266,7 @@ fn keep<A: Allocator + Copy>(
         Ok(()) => Ok(reply),
         Err(error) => {
             drop(reply);
-            Err(error)
+            Err(error.into())
         }
     }
 }
@@ -326,10 +299,10 @@ fn looked_at<A: Allocator + Copy>(
     alloc: A,
     column: &ArrayRef<A>,
     look: Look,
-) -> VortexResult<Reply<A>> {
+) -> LineResult<Reply<A>> {
     let mut text = String::new(alloc);
     if !push_look(&mut text, column, look)? {
-        return Ok(Reply::Bad);
+        return Err(LineError::Bad);
     }
     if text.is_empty() {
         text.push_str("-")?;

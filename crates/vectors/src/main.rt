@@ -6,6 +6,7 @@ mod bench;
 mod calls;
 mod columns;
 mod flats;
+mod line_error;
 mod lines;
 mod prepare;
 mod printer;

@@ -5,6 +5,7 @@ ghost use Rattle.vectors.specs.Trials.{IsSame};
 use crate::bench::{Bench, Heap, Plan};
 use crate::calls::{Call, Outcome, Reply};
 use crate::columns::Columns;
+use crate::line_error::{LineError, LineResult};
 use crate::lines::reply_text;
 use crate::prepare::prepare;
 use crate::printer::push_form;
@@ -54,19 +55,17 @@ enum Tried {
 }
 
 /// Runs the call on copies, with the first, second, .. request for memory refused alone, and then with
-/// all of them from the first, second, .. on, each until a run meets no refusal. `None` where the line
+/// all of them from the first, second, .. on, each until a run meets no refusal. Bad where the line
 /// asks for something that there is not.
 pub fn refused_in_turn(
     name: &str,
     call: reader::Call<'_>,
     bench: &mut Bench<'_>,
-) -> VortexResult<Option<Found>> {
-    let Some(expected) = expected_of(name, call, &bench.columns, &mut bench.ctx)? else {
-        return Ok(None);
-    };
+) -> LineResult<Found> {
+    let expected = expected_of(name, call, &bench.columns, &mut bench.ctx)?;
     let found = found_in_turn(name, call, bench, &expected);
     drop(expected);
-    Ok(Some(found?))
+    found
 }
 
 // What comes of the call with each request refused alone, and then with all from each on.
@@ -75,7 +74,7 @@ fn found_in_turn<'a>(
     call: reader::Call<'_>,
     bench: &mut Bench<'a>,
     expected: &Expected<Heap<'a>>,
-) -> VortexResult<Found> {
+) -> LineResult<Found> {
     match refused_by(Plan::Only, name, call, bench, expected)? {
         Found::Broken(request) => Ok(Found::Broken(request)),
         alone => match refused_by(Plan::From, name, call, bench, expected)? {
@@ -85,31 +84,39 @@ fn found_in_turn<'a>(
     }
 }
 
-// What the call has to show, or `None` where the line asks for something that there is not.
+// What the call has to show. Bad where the line asks for something that there is not.
 fn expected_of<A: Allocator + Copy>(
     name: &str,
     call: reader::Call<'_>,
     columns: &Columns<A>,
     ctx: &mut ExecutionCtx<A>,
-) -> VortexResult<Option<Expected<A>>> {
-    let refused = shown_before(name, call, columns, *ctx.allocator())?;
-    match prepare(name, call, columns, ctx)? {
-        Some(call) => expected_by(refused, call, ctx),
-        None => Ok(None),
+) -> LineResult<Expected<A>> {
+    let ample = *ctx.allocator();
+    let refused = shown_before(name, call, columns, ample)?;
+    match served_by(name, call, columns, ctx) {
+        Ok(served) => Ok(Expected { refused, served }),
+        Err(error) => {
+            drop(refused);
+            Err(error)
+        }
     }
 }
 
-fn expected_by<A: Allocator + Copy>(
-    refused: Shown<A>,
-    call: Call<A>,
+// What the call shows with ample memory.
+fn served_by<A: Allocator + Copy>(
+    name: &str,
+    call: reader::Call<'_>,
+    columns: &Columns<A>,
     ctx: &mut ExecutionCtx<A>,
-) -> VortexResult<Option<Expected<A>>> {
+) -> LineResult<Shown<A>> {
     let ample = *ctx.allocator();
+    let call = prepare(name, call, columns, ctx)?;
     let outcome = call.run(ctx, ample)?;
-    match shown_behind(ample, outcome)? {
-        Some(served) => Ok(Some(Expected { refused, served })),
-        None => Ok(None),
+    if let Reply::Bad = &outcome.reply {
+        drop(outcome);
+        return Err(LineError::Bad);
     }
+    Ok(shown_of(ample, outcome)?)
 }
 
 // What a call shows that memory is refused: the column that it is done to, as that is.
@@ -125,19 +132,6 @@ fn shown_before<A: Allocator + Copy>(
     }
     let answer = reply_text(ample, Reply::Refused(VortexError::OutOfMemory))?;
     Ok(Shown { answer, form })
-}
-
-// What an outcome shows, unless there is not what the line asks for.
-fn shown_behind<A: Allocator + Copy>(
-    ample: A,
-    outcome: Outcome<A>,
-) -> VortexResult<Option<Shown<A>>> {
-    if let Reply::Bad = &outcome.reply {
-        drop(outcome);
-        return Ok(None);
-    }
-    let shown = shown_of(ample, outcome)?;
-    Ok(Some(shown))
 }
 
 // What an outcome shows.
@@ -168,7 +162,7 @@ fn refused_by<'a>(
     call: reader::Call<'_>,
     bench: &mut Bench<'a>,
     expected: &Expected<Heap<'a>>,
-) -> VortexResult<Found> {
+) -> LineResult<Found> {
     let mut found = Found::Nothing;
     for request in 1..u64::MAX {
         let heap = bench.heap(plan, request)?;
@@ -192,9 +186,11 @@ fn tried_with<'a>(
     call: reader::Call<'_>,
     bench: &mut Bench<'a>,
     expected: &Expected<Heap<'a>>,
-) -> VortexResult<Tried> {
-    let Some(call) = prepare(name, call, &bench.columns, &mut bench.ctx)? else {
-        return Ok(Tried::Wrong);
+) -> LineResult<Tried> {
+    let call = match prepare(name, call, &bench.columns, &mut bench.ctx) {
+        Ok(call) => call,
+        Err(LineError::Bad) => return Ok(Tried::Wrong),
+        Err(error) => return Err(error),
     };
     let mut ctx = ExecutionCtx::new(copy_of(bench.ctx.session()), heap);
     tried_on(call, &mut ctx, *bench.ctx.allocator(), expected)
@@ -206,7 +202,7 @@ fn tried_on<A: Allocator + Copy>(
     ctx: &mut ExecutionCtx<A>,
     ample: A,
     expected: &Expected<A>,
-) -> VortexResult<Tried> {
+) -> LineResult<Tried> {
     let outcome = call.run(ctx, ample)?;
     let answered = matches!(&outcome.reply, Reply::Refused(VortexError::OutOfMemory));
     let shown = shown_of(ample, outcome)?;

@@ -3,7 +3,7 @@ ghost use Rattle.std.specs.Prelude.{◌<◌, ◌^◌};
 ghost use Rattle.std.specs.Option.{SomeIff};
 ghost use Rattle.std.specs.Str.Parse.{IsNumeral, digits_value};
 
-use column_base::VortexResult;
+use crate::line_error::{LineError, LineResult};
 use hex::FromHexError;
 use std::alloc::Allocator;
 use std::str;
@@ -107,14 +107,14 @@ pub fn read_row(word: &str) -> Option<Row<'_>> {
     }
 }
 
-/// Puts the elements that stand between the brackets of a list behind the rows, and answers
-/// whether all of them are values.
+/// Puts the elements that stand between the brackets of a list behind the rows. Bad where one of them is
+/// no value.
 pub fn read_elements<'a, A: Allocator + Copy>(
     listed: &'a str,
     rows: &mut Vec<Row<'a>, A>,
-) -> VortexResult<bool> {
+) -> LineResult<()> {
     if listed.is_empty() {
-        return Ok(true);
+        return Ok(());
     }
     let bytes = listed.as_bytes();
     let mut start = 0;
@@ -122,9 +122,7 @@ pub fn read_elements<'a, A: Allocator + Copy>(
     for index in 0..bytes.len() {
         quotes = quotes.behind(bytes[index]);
         if bytes[index] == b',' && quotes == Quotes::Outside {
-            if !push_element(bytes.get(start..index), rows)? {
-                return Ok(false);
-            }
+            push_element(bytes.get(start..index), rows)?;
             start = index + 1;
         }
     }
@@ -153,42 +151,38 @@ impl Quotes {
     }
 }
 
-// Puts the element of these bytes behind the rows, and answers whether it is a value.
+// Puts the element of these bytes behind the rows. Bad where they are no value.
 fn push_element<'a, A: Allocator + Copy>(
     bytes: Option<&'a [u8]>,
     rows: &mut Vec<Row<'a>, A>,
-) -> VortexResult<bool> {
+) -> LineResult<()> {
     let Some(bytes) = bytes else {
-        return Ok(false);
+        return Err(LineError::Bad);
     };
     match str::from_utf8(bytes) {
         Ok(word) => push_row(word, rows),
-        Err(_) => Ok(false),
+        Err(_) => Err(LineError::Bad),
     }
 }
 
-/// Puts the row that a word writes behind the rows, and answers whether it writes one.
+/// Puts the row that a word writes behind the rows. Bad where it writes none.
 pub fn push_row<'a, A: Allocator + Copy>(
     word: &'a str,
     rows: &mut Vec<Row<'a>, A>,
-) -> VortexResult<bool> {
+) -> LineResult<()> {
     match read_row(word) {
         Some(row) => {
             rows.push(row)?;
-            Ok(true)
+            Ok(())
         }
-        None => Ok(false),
+        None => Err(LineError::Bad),
     }
 }
 
-/// The value, where it could be read.
-pub fn kept_if<T: Drop>(read: VortexResult<bool>, value: T) -> VortexResult<Option<T>> {
+/// The value, where it could be read whole.
+pub fn kept<T: Drop>(read: LineResult<()>, value: T) -> LineResult<T> {
     match read {
-        Ok(true) => Ok(Some(value)),
-        Ok(false) => {
-            drop(value);
-            Ok(None)
-        }
+        Ok(()) => Ok(value),
         Err(error) => {
             drop(value);
             Err(error)
@@ -197,13 +191,9 @@ pub fn kept_if<T: Drop>(read: VortexResult<bool>, value: T) -> VortexResult<Opti
 }
 
 /// The two, where there is a second.
-pub fn both<T: Drop, U>(first: T, second: VortexResult<Option<U>>) -> VortexResult<Option<(T, U)>> {
+pub fn both<T: Drop, U>(first: T, second: LineResult<U>) -> LineResult<(T, U)> {
     match second {
-        Ok(Some(second)) => Ok(Some((first, second))),
-        Ok(None) => {
-            drop(first);
-            Ok(None)
-        }
+        Ok(second) => Ok((first, second)),
         Err(error) => {
             drop(first);
             Err(error)
@@ -211,8 +201,8 @@ pub fn both<T: Drop, U>(first: T, second: VortexResult<Option<U>>) -> VortexResu
     }
 }
 
-/// The text that stands between quotes, or `None` where it has an escape that is none.
-pub fn text_of<A: Allocator + Copy>(alloc: A, quoted: &str) -> VortexResult<Option<String<A>>> {
+/// The text that stands between quotes. Bad where it has an escape that is none.
+pub fn text_of<A: Allocator + Copy>(alloc: A, quoted: &str) -> LineResult<String<A>> {
     let mut text = String::new(alloc);
     let mut escaped = false;
     for letter in quoted.chars() {
@@ -226,12 +216,15 @@ pub fn text_of<A: Allocator + Copy>(alloc: A, quoted: &str) -> VortexResult<Opti
             plain_letter(letter)
         };
         let Some(meant) = meant else {
-            return Ok(None);
+            return Err(LineError::Bad);
         };
         text.push(meant)?;
         escaped = false;
     }
-    Ok(if escaped { None } else { Some(text) })
+    if escaped {
+        return Err(LineError::Bad);
+    }
+    Ok(text)
 }
 
 // The letter that a letter behind a backslash stands for.
@@ -250,48 +243,40 @@ fn plain_letter(letter: char) -> Option<char> {
     if letter == '"' { None } else { Some(letter) }
 }
 
-/// The bytes of these hexadecimal digits, or `None` where they are none.
-pub fn bytes_of<A: Allocator + Copy>(alloc: A, digits: &str) -> VortexResult<Option<Vec<u8, A>>> {
+/// The bytes of these hexadecimal digits. Bad where they are none.
+pub fn bytes_of<A: Allocator + Copy>(alloc: A, digits: &str) -> LineResult<Vec<u8, A>> {
     match hex::decode(alloc, digits) {
-        Ok(bytes) => Ok(Some(bytes)),
-        Err(FromHexError::OutOfMemory) => Err(VortexError::OutOfMemory),
-        Err(_) => Ok(None),
+        Ok(bytes) => Ok(bytes),
+        Err(FromHexError::OutOfMemory) => Err(LineError::Refused(VortexError::OutOfMemory)),
+        Err(_) => Err(LineError::Bad),
     }
 }
 
-/// The bytes of these words, two hexadecimal digits each, or `None` where a word is none of a byte. The
-/// word of no bytes is `-`.
-pub fn bytes_of_words<A: Allocator + Copy>(
-    alloc: A,
-    words: &[&str],
-) -> VortexResult<Option<Vec<u8, A>>> {
+/// The bytes of these words, two hexadecimal digits each. Bad where a word is none of a byte. The word of no
+/// bytes is `-`.
+pub fn bytes_of_words<A: Allocator + Copy>(alloc: A, words: &[&str]) -> LineResult<Vec<u8, A>> {
     match words {
-        ["-"] => Ok(Some(Vec::new(alloc))),
-        [] => Ok(None),
+        ["-"] => Ok(Vec::new(alloc)),
+        [] => Err(LineError::Bad),
         _ => bytes_of_each(alloc, words),
     }
 }
 
 // A byte of each word.
-fn bytes_of_each<A: Allocator + Copy>(
-    alloc: A,
-    words: &[&str],
-) -> VortexResult<Option<Vec<u8, A>>> {
+fn bytes_of_each<A: Allocator + Copy>(alloc: A, words: &[&str]) -> LineResult<Vec<u8, A>> {
     let mut bytes = Vec::new(alloc);
     for word in words {
-        match byte_of(alloc, word)? {
-            Some(byte) => bytes.push(byte)?,
-            None => return Ok(None),
-        }
+        bytes.push(byte_of(alloc, word)?)?;
     }
-    Ok(Some(bytes))
+    Ok(bytes)
 }
 
 // The byte of two hexadecimal digits.
-fn byte_of<A: Allocator + Copy>(alloc: A, word: &str) -> VortexResult<Option<u8>> {
-    match bytes_of(alloc, word)? {
-        Some(bytes) if bytes.len() == 1 => Ok(bytes.first().copied()),
-        _ => Ok(None),
+fn byte_of<A: Allocator + Copy>(alloc: A, word: &str) -> LineResult<u8> {
+    let bytes = bytes_of(alloc, word)?;
+    match bytes.as_slice() {
+        [byte] => Ok(*byte),
+        _ => Err(LineError::Bad),
     }
 }
 
