@@ -21,6 +21,8 @@ mod kinds;
 #[cfg(test)]
 mod lists;
 #[cfg(test)]
+mod lookups;
+#[cfg(test)]
 mod memory;
 #[cfg(test)]
 mod parts;
