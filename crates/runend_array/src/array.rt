@@ -27,7 +27,8 @@ use column_core::{
     BitBuffer, BitBufferMut, DType, Nullability, PrimitiveArray, ScalarView, VortexError,
     VortexResult,
 };
-use runend_codec::{RunWriter, last_end_of, validate_ends};
+use runend_codec::{last_end_of, validate_ends};
+use runend_decode::RunWriter;
 use std::alloc::Allocator;
 use std::marker::Model;
 use std::ops::Range;

@@ -19,7 +19,7 @@ use column_core::{
     BoolArray, DType, DecimalArray, FlatColumn, PrimitiveArray, ScalarView, VarBinViewArray,
     VortexError, VortexResult,
 };
-use runend_codec::{decode_numbers, decode_truths};
+use runend_decode::{decode_numbers, decode_truths};
 use std::alloc::Allocator;
 
 /// A column in one of its forms: flat, lists, one value in each row, or run-end encoded.

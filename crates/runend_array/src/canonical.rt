@@ -18,7 +18,7 @@ use bytes::Bytes;
 use column_core::{
     DecimalArray, FlatColumn, PrimitiveArray, VarBinViewArray, View, VortexError, VortexResult,
 };
-use runend_codec::{decode_flat, decode_rows};
+use runend_decode::{decode_flat, decode_rows};
 use std::alloc::Allocator;
 
 /// An array in a flat form: rows that are stored one by one, or lists.

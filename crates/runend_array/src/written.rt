@@ -31,7 +31,7 @@ use column_core::{
     NativePType, Nullability, PType, PrimitiveArray, PrimitiveValues, Scalar, ScalarView, Validity,
     VarBinKind, VarBinViewArray, View, VortexError, VortexResult,
 };
-use runend_codec::{copies_of, no_null};
+use runend_decode::{copies_of, no_null};
 use std::alloc::Allocator;
 use std::rc::Rc;
 

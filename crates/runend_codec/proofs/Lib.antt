@@ -19,12 +19,7 @@ pub mod FlatColumns
 pub mod DecodedLeaves
 pub mod WrittenConstants
 pub mod SlicedRuns
-pub mod RunEnds
 pub mod TypedRows
-pub mod TrimmedItems
 pub mod VisibleRuns
 pub mod VisibleLaws
-pub mod Blocks
 pub mod ValidRuns
-pub mod Marked
-pub mod BitRuns

@@ -1,11 +1,9 @@
 pub mod Window
-pub mod BitRunsForm
 pub mod Cover
 pub mod WindowFault
 pub mod Ends
 pub mod Encoding
 pub mod Decoding
-pub mod RunWriterForm
 pub mod RunEnds
 pub mod Trimmed
 pub mod Visible

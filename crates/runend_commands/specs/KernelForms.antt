@@ -9,7 +9,7 @@ use Rattle.runend_array.specs.SessionForm.{SessionForm, is_registered_in}
 use Rattle.runend_array.specs.declared.array_ref.ArrayRef.{ArrayRef}
 use Rattle.runend_array.specs.declared.session.Kernel.{Kernel}
 use Rattle.runend_array.specs.declared.session.Kernel.TheVariants as kernel
-use Rattle.runend_compute.specs.SliceForm.{IsSliceForm}
+use Rattle.runend_column.specs.SliceForm.{IsSliceForm}
 use Rattle.runend_select.specs.FilterForm.{IsFilterForm}
 use Rattle.runend_select.specs.TakeForm.{IsTakeForm}
 use Rattle.runend_map.specs.Codes.{keeps_runs}

@@ -1,12 +1,18 @@
-//! What is read of run columns and of their parts: the decoders, single rows, the validity, and the data beside the slots.
+//! The decoders of flat columns, and the writers of rows and bits on which they stand: each run's value is repeated up
+//! to where the run reaches in the window.
 #![tactic(auto)]
 
-pub mod compress;
-mod data;
-pub mod decompress_bool;
-mod probe;
-mod valid_rows;
+mod bit_runs;
+mod decode;
+mod decode_bool;
+mod flat;
+mod run_writer;
+mod typed;
+mod typed_bool;
 
-pub use data::{RunEndData, RunEndDataParts};
-pub use probe::RunEndProbe;
-pub use valid_rows::validity;
+pub use decode::{decode_numbers, decode_rows, decode_validity, reach_of};
+pub use decode_bool::decode_truths;
+pub use flat::{decode_flat, has_nulls_alone};
+pub use run_writer::{RunWriter, copies_of};
+pub use typed::{decode_typed_numbers, no_null, no_value};
+pub use typed_bool::{decode_typed_bits, masks_all};

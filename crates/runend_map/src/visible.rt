@@ -18,8 +18,8 @@ use runend_array::{
     ArrayRef, Canonical, ExecutionCtx, RunEnd, RunEndArray, RunEndArrayExt, RunEndArraySlotsExt,
     array_of,
 };
-use runend_codec::decode_flat;
-use runend_decode::decompress_bool::runend_decode_bools;
+use runend_column::decompress_bool::runend_decode_bools;
+use runend_decode::decode_flat;
 use std::alloc::Allocator;
 use std::ops::Range;
 

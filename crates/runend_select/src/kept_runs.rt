@@ -15,7 +15,7 @@ use column_core::{
     Validity, VortexError, VortexResult,
 };
 use runend_array::ExecutionCtx;
-use runend_codec::reach_of;
+use runend_decode::reach_of;
 use std::alloc::Allocator;
 
 /// Which runs have a row that the mask selects, and the ends of these runs among the selected rows:

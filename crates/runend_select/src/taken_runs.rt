@@ -23,7 +23,7 @@ use column_core::{
 use runend_array::{
     ArrayRef, Canonical, RunEndArray, RunEndArrayExt, RunEndArraySlotsExt, Thresholds,
 };
-use runend_codec::copies_of;
+use runend_decode::copies_of;
 use runend_positions::{TakeThresholds, physical_indices};
 use std::alloc::Allocator;
 

@@ -1,13 +1,13 @@
 //! Flat columns of the values that words write.
-use crate::line_error::{LineError, LineResult};
-use crate::types::{dtype_of, single_of};
-use crate::values::{
-    NULL_ROW, Row, Value, both, bytes_of, kept, push_row, read_bits, read_elements, text_of,
-};
 use bytes::Bytes;
 use column_base::VortexResult;
 use std::alloc::Allocator;
 use std::rc::Rc;
+use vector_words::types::{dtype_of, single_of};
+use vector_words::values::{
+    NULL_ROW, Row, Value, both, bytes_of, kept, push_row, read_bits, read_elements, text_of,
+};
+use vector_words::{LineError, LineResult};
 use vortex_runend::{
     ArrayRef, BitBuffer, BitBufferMut, BoolArray, DType, DecimalArray, DecimalDType, ElementDType,
     ExecutionCtx, FlatColumn, ListViewArray, NativePType, Nullability, PType, PrimitiveArray,

@@ -6,15 +6,15 @@ use crate::bench::{Bench, Heap};
 use crate::calls::{Outcome, Reply};
 use crate::columns::Columns;
 use crate::flats::{flat_column, invalid_column, raw_column, scalar_of};
-use crate::line_error::{LineError, LineResult};
 use crate::prepare::{prepare, read_validity};
 use crate::printer::{push_dtype, push_form, push_refusal, push_rows, push_stored};
-use crate::reader::{self, Look, Plain, Request, read_request};
 use crate::refuse::{Found, refused_in_turn};
 use crate::session::{crate_thresholds, set_kernels, set_thresholds};
 use column_base::VortexResult;
 use std::alloc::Allocator;
 use vector_report::{Line, Report, read_line};
+use vector_words::reader::{self, Look, Plain, Request, read_request};
+use vector_words::{LineError, LineResult};
 use vortex_runend::{ArrayRef, ConstantArray, ExecutionCtx, RunEndArraySlotsExt, VortexError};
 
 /// Runs all lines, and reports which of them are not answered as they expect.

@@ -6,15 +6,11 @@ mod bench;
 mod calls;
 mod columns;
 mod flats;
-mod line_error;
 mod lines;
 mod prepare;
 mod printer;
-mod reader;
 mod refuse;
 mod session;
-mod types;
-mod values;
 
 use bench::Bench;
 use bumpalo::Bump;

@@ -2,13 +2,13 @@
 use crate::calls::{Call, Maker, Task};
 use crate::columns::Columns;
 use crate::flats::{bits_of_word, flat_column, flat_of, row_validity, scalar_of};
-use crate::line_error::{LineError, LineResult};
-use crate::reader::{self, Lists, Record, Runs, Views};
-use crate::values::{Value, both, bytes_of, bytes_of_words, read_count, read_value};
 use bytes::Bytes;
 use runend_commands::Command;
 use std::alloc::Allocator;
 use std::rc::Rc;
+use vector_words::reader::{self, Lists, Record, Runs, Views};
+use vector_words::values::{Value, both, bytes_of, bytes_of_words, read_count, read_value};
+use vector_words::{LineError, LineResult};
 use vortex_runend::{ArrayRef, ExecutionCtx, FlatColumn, Mask, RowValidity, Validity, View};
 
 /// The call on copies of the columns that it names. Bad where one does not stand, or a word is none that

@@ -2,9 +2,9 @@
 ghost use Rattle.std.specs.Prelude.{IsOkUnless};
 ghost use Rattle.runend_metadata.specs.EndsType.{IsEndsTypeNumber};
 
-use crate::types::push_type;
 use column_base::{VortexError, VortexResult};
 use std::alloc::Allocator;
+use vector_words::types::push_type;
 use vortex_runend::{
     ArrayRef, BitBuffer, DType, FlatColumn, ListViewArray, Nullability, PrimitiveValues,
     RowValidity, RunEndArray, RunEndArrayExt, RunEndArraySlotsExt, RunEndMetadata, ScalarView,

@@ -5,14 +5,13 @@ ghost use Rattle.vectors.specs.Trials.{IsSame};
 use crate::bench::{Bench, Heap, Plan};
 use crate::calls::{Call, Outcome, Reply};
 use crate::columns::Columns;
-use crate::line_error::{LineError, LineResult};
 use crate::lines::reply_text;
 use crate::prepare::prepare;
 use crate::printer::push_form;
-use crate::reader;
 use crate::session::copy_of;
 use column_base::VortexResult;
 use std::alloc::Allocator;
+use vector_words::{LineError, LineResult, reader};
 use vortex_runend::{ArrayRef, ExecutionCtx, VortexError};
 
 /// What came of a call with requests for memory refused.

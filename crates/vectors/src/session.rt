@@ -1,6 +1,6 @@
 //! Sessions as lines set them.
-use crate::reader::{Kernels, read_kernel};
 use std::alloc::Allocator;
+use vector_words::reader::{Kernels, read_kernel};
 use vortex_runend::{ExecutionCtx, Kernel, Thresholds, VortexSession, initialize};
 
 /// Every kernel.

@@ -1,7 +1,7 @@
 //! The kernels of run columns, and the strategies by which a take finds its runs.
 
 pub use runend_aggregate::{is_constant, is_sorted, min_max, sum};
-pub use runend_compute::slice;
+pub use runend_column::slice;
 pub use runend_map::{
     CompareOperator, cast, compare, fill_null, map_rows, map_rows_bool, take_from,
 };

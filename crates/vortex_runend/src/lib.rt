@@ -14,8 +14,9 @@ pub use runend_array::{
     SetIndices, Thresholds, TrimmedEnds, UnsignedPType, Validity, VarBinKind, VarBinViewArray,
     View, VortexError, VortexResult, VortexSession, ops, trimmed_ends_iter,
 };
+pub use runend_column::{
+    RunEndData, RunEndDataParts, RunEndProbe, decompress_bool, deserialize, initialize, serialize,
+    validity,
+};
 pub use runend_commands::{Answer, Command, execute, execute_one};
-pub use runend_compute::initialize;
-pub use runend_decode::{RunEndData, RunEndDataParts, RunEndProbe, decompress_bool, validity};
 pub use runend_metadata::RunEndMetadata;
-pub use runend_record::{deserialize, serialize};

@@ -3,7 +3,7 @@ ghost use Rattle.std.specs.Prelude.{◌≡◌, length, slice_range, IfOk};
 ghost use Rattle.column_core.specs.Refusal.{range_fault, IsRefusedBy};
 ghost use Rattle.runend_array.specs.Array.{column_of, dtype_of, rows};
 ghost use Rattle.runend_array.specs.declared.session.Kernel.TheVariants.{Slice as slice_kernel};
-ghost use Rattle.runend_compute.specs.SliceForm.{IsSliceForm};
+ghost use Rattle.runend_column.specs.SliceForm.{IsSliceForm};
 ghost use Rattle.runend_commands.specs.KernelForms.{HasKernel, OnRuns};
 ghost use Rattle.runend_commands.specs.Outcomes.{IsOutcome};
 ghost use Rattle.runend_commands.specs.Parts.{IsPlainPart};
@@ -14,7 +14,7 @@ use crate::steps::kernel_runs::runs_for;
 use crate::steps::part::part_of;
 use column_core::VortexResult;
 use runend_array::{ArrayRef, ExecutionCtx, Kernel};
-use runend_compute::slice;
+use runend_column::slice;
 use std::alloc::Allocator;
 use std::ops::Range;
 

@@ -1,0 +1,4 @@
+pub mod Data
+pub mod Fault
+pub mod Record
+pub mod SliceForm

@@ -1,0 +1,5 @@
+pub mod RunEnds
+pub mod TrimmedItems
+pub mod Blocks
+pub mod Marked
+pub mod BitRuns

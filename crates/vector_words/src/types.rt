@@ -1,0 +1,162 @@
+//! Types as words.
+use crate::values::{between, read_count, read_number};
+use column_base::{
+    DType, DecimalDType, ElementDType, NativePType, Nullability, PType, VortexResult,
+};
+use std::alloc::Allocator;
+
+/// The type that a word names, with a question mark behind it where rows may be null.
+pub fn read_type(word: &str) -> Option<DType> {
+    let (name, nullability) = split_mark(word);
+    match between(name, "list(", ')') {
+        Some(inner) => Some(DType::List(read_single(inner)?, nullability)),
+        None => Some(dtype_of(read_single(word)?)),
+    }
+}
+
+/// The type that a word names, which is no list.
+pub fn read_single(word: &str) -> Option<ElementDType> {
+    let (name, nullability) = split_mark(word);
+    match name {
+        "bool" => Some(ElementDType::Bool(nullability)),
+        "utf8" => Some(ElementDType::Utf8(nullability)),
+        "binary" => Some(ElementDType::Binary(nullability)),
+        _ => read_numeric(name, nullability),
+    }
+}
+
+fn read_numeric(name: &str, nullability: Nullability) -> Option<ElementDType> {
+    match read_ptype(name) {
+        Some(ptype) => Some(ElementDType::Primitive(ptype, nullability)),
+        None => Some(ElementDType::Decimal(read_decimal(name)?, nullability)),
+    }
+}
+
+// The name before the question mark, if there is one.
+fn split_mark(word: &str) -> (&str, Nullability) {
+    match word.strip_suffix('?') {
+        Some(name) => (name, Nullability::Nullable),
+        None => (word, Nullability::NonNullable),
+    }
+}
+
+fn read_decimal(name: &str) -> Option<DecimalDType> {
+    let (precision, scale) = between(name, "decimal(", ')')?.split_once(',')?;
+    decimal_of(read_count(precision)?, read_number(scale)?)
+}
+
+fn decimal_of(precision: usize, scale: i128) -> Option<DecimalDType> {
+    Some(DecimalDType {
+        precision: u8::try_from(precision).ok()?,
+        scale: i8::narrow(scale)?,
+    })
+}
+
+fn read_ptype(name: &str) -> Option<PType> {
+    match name {
+        "u8" => Some(PType::U8),
+        "u16" => Some(PType::U16),
+        "u32" => Some(PType::U32),
+        "u64" => Some(PType::U64),
+        "i8" => Some(PType::I8),
+        "i16" => Some(PType::I16),
+        "i32" => Some(PType::I32),
+        "i64" => Some(PType::I64),
+        _ => None,
+    }
+}
+
+/// The type of rows that are of the type of an element.
+pub fn dtype_of(element: ElementDType) -> DType {
+    match element {
+        ElementDType::Bool(nullability) => DType::Bool(nullability),
+        ElementDType::Primitive(ptype, nullability) => DType::Primitive(ptype, nullability),
+        ElementDType::Decimal(decimal, nullability) => DType::Decimal(decimal, nullability),
+        ElementDType::Utf8(nullability) => DType::Utf8(nullability),
+        ElementDType::Binary(nullability) => DType::Binary(nullability),
+    }
+}
+
+/// The type of elements that are of the type of these rows, unless that is lists.
+pub fn single_of(dtype: DType) -> Option<ElementDType> {
+    match dtype {
+        DType::Bool(nullability) => Some(ElementDType::Bool(nullability)),
+        DType::Primitive(ptype, nullability) => Some(ElementDType::Primitive(ptype, nullability)),
+        DType::Decimal(decimal, nullability) => Some(ElementDType::Decimal(decimal, nullability)),
+        DType::Utf8(nullability) => Some(ElementDType::Utf8(nullability)),
+        DType::Binary(nullability) => Some(ElementDType::Binary(nullability)),
+        DType::List(_, _) => None,
+    }
+}
+
+/// Puts the name of the type behind the text.
+pub fn push_type<A: Allocator + Copy>(text: &mut String<A>, dtype: DType) -> VortexResult<()> {
+    if let DType::List(element, nullability) = dtype {
+        text.push_str("list(")?;
+        push_single(text, element)?;
+        return push_marked(text, ")", nullability);
+    }
+    match single_of(dtype) {
+        Some(element) => push_single(text, element),
+        None => Ok(()),
+    }
+}
+
+fn push_single<A: Allocator + Copy>(
+    text: &mut String<A>,
+    element: ElementDType,
+) -> VortexResult<()> {
+    match element {
+        ElementDType::Bool(nullability) => push_marked(text, "bool", nullability),
+        ElementDType::Primitive(ptype, nullability) => {
+            push_marked(text, name_of(ptype), nullability)
+        }
+        ElementDType::Decimal(decimal, nullability) => push_decimal(text, decimal, nullability),
+        ElementDType::Utf8(nullability) => push_marked(text, "utf8", nullability),
+        ElementDType::Binary(nullability) => push_marked(text, "binary", nullability),
+    }
+}
+
+// A name, and the question mark where rows may be null.
+fn push_marked<A: Allocator + Copy>(
+    text: &mut String<A>,
+    name: &str,
+    nullability: Nullability,
+) -> VortexResult<()> {
+    text.push_str(name)?;
+    push_mark(text, nullability)
+}
+
+fn push_decimal<A: Allocator + Copy>(
+    text: &mut String<A>,
+    decimal: DecimalDType,
+    nullability: Nullability,
+) -> VortexResult<()> {
+    let precision = decimal.precision;
+    let scale = decimal.scale;
+    write!(text, "decimal({precision},{scale})")?;
+    push_mark(text, nullability)
+}
+
+fn push_mark<A: Allocator + Copy>(
+    text: &mut String<A>,
+    nullability: Nullability,
+) -> VortexResult<()> {
+    if nullability == Nullability::Nullable {
+        text.push_str("?")?;
+    }
+    Ok(())
+}
+
+fn name_of(ptype: PType) -> &'static str {
+    match ptype {
+        PType::U8 => "u8",
+        PType::U16 => "u16",
+        PType::U32 => "u32",
+        PType::U64 => "u64",
+        PType::I8 => "i8",
+        PType::I16 => "i16",
+        PType::I32 => "i32",
+        PType::I64 => "i64",
+    }
+}
