@@ -1,20 +1,21 @@
 -- Buffers of bits that are written run by run: what is written, and the background behind it.
-use Rattle.std.proofs.Common.{◌≡◌, ◌+◌, ◌-◌, ◌<◌, ◌≤◌, ◌∙◌, ℕ, zero, suc, List, [], ◌∷◌, ◌++◌, Bool, true, false, Some, cond, length, take, drop, refl, sym, ap, arith, add-one, length-append}
-use Rattle.std.specs.Prelude.{count_by, replicate, unwrap_or}
+use Rattle.std.proofs.Common.{◌≡◌, ◌+◌, ◌-◌, ◌<◌, ◌≤◌, ◌∙◌, ℕ, zero, suc, List, [], ◌∷◌, ◌++◌, Bool, true, false, Some, cond, length, take, drop, refl, sym, ap, arith, rules, add-one, length-append}
+use Rattle.std.specs.Prelude.{◌*◌, ◌↔◌, IsTrue, count_by, replicate, unwrap_or}
 use Rattle.std.specs.List.{slice_get}
 use Rattle.std.proofs.Math.Bool.{beq, not}
 use Rattle.std.proofs.Math.Seq.{take-append_seam, drop-append_seam, take-append-add, drop-append-add, take-length, drop-length}
-use Rattle.std.proofs.lemmas.List.{length-map, length-take-le, length-replicate, take-append-drop, drop-replicate, take-replicate}
+use Rattle.std.proofs.lemmas.List.{length-map, length-take-le, length-replicate, take-append-drop, drop-replicate, take-replicate, drop-drop, drop_all}
 use Rattle.std.proofs.lemmas.List.Sums.{sum_by-cons}
 use Rattle.column_core.specs.Optionals.{optionals}
 use Rattle.column_core.proofs.OptionalRows.{length-optionals}
-use Rattle.runend_decode.specs.BitRunsForm.{IsOverBackground}
+use Rattle.runend_decode.specs.BitRunsForm.{IsOverBackground, background_of}
 use Rattle.runend_codec.specs.Encoding.{blanked}
 
 -- the buffer with copies of a bit written up to `end`
 pub record Extended (old bits : List Bool) (written end : ℕ) (bit background : Bool) : Type 0 where
   pub over : IsOverBackground bits end background
   pub rows : take end bits ≡ take written old ++ replicate (end - length (take written old)) bit
+  pub left : drop end bits ≡ drop (end - length (take written old)) (drop written old)
 
 -- nothing is behind the last bit
 over-all : (bits : List Bool) (end : ℕ) (background : Bool) → length bits ≡ end → IsOverBackground bits end background
@@ -37,15 +38,27 @@ length-copies old written end bit within more =
     let added = length-replicate (end - length rows) bit in
     (long, omega (arith, length-append rows (replicate (end - length rows) bit)))
 
+-- what is left behind a later place
+left-later : (old : List Bool) (written end : ℕ) → written ≤ length old → written < end → drop end old ≡ drop (end - length (take written old)) (drop written old)
+left-later old written end within more =
+    let long = length-take-le written old within in
+    let place : written + (end - length (take written old)) ≡ end = omega arith in
+    ap (λ n. drop n old) (sym place) ∙ sym (drop-drop (end - length (take written old)) written old)
+
 -- the written bits alone, and the copies appended
-pub Extended-append : (old bits : List Bool) (written end : ℕ) (bit background : Bool) → IsOverBackground old written background → written < end
+pub Extended-append : (old bits : List Bool) (written end : ℕ) (bit background : Bool) → IsOverBackground old written background → written < end → length old < end
     → bits ≡ take written old ++ replicate (end - written) bit → Extended old bits written end bit background
-Extended-append old bits written end bit background over more is =
+Extended-append old bits written end bit background over more past is =
     let rows = take written old in
     let longs = length-copies old written end bit over.within more in
     let same : bits ≡ rows ++ replicate (end - length rows) bit = is ∙ ap (λ n. rows ++ replicate (end - n) bit) (sym longs.0) in
     let long : length bits ≡ end = ap length same ∙ longs.1 in
-    record { over = over-all bits end background long; rows = take-all bits end long ∙ same }
+    let none : drop end bits ≡ drop end old = drop_all end bits (omega arith) ∙ sym (drop_all end old (omega arith)) in
+    record {
+      over = over-all bits end background long;
+      rows = take-all bits end long ∙ same;
+      left = none ∙ left-later old written end over.within more;
+    }
 
 -- the buffer is what is written and the background
 split : (bits : List Bool) (written : ℕ) (background : Bool) → IsOverBackground bits written background → bits ≡ take written bits ++ replicate (length bits - written) background
@@ -84,6 +97,7 @@ Extended-kept bits written end bit background over more within same =
     record {
       over = record { within = within; behind = behind-later bits written end background over more within };
       rows = shown ∙ ap (λ b. rows ++ replicate k b) (sym same);
+      left = left-later bits written end over.within more;
     }
 
 -- a bit that does not differ from the other is the other
@@ -115,6 +129,7 @@ Extended-filled old bits written end bit background over more within is =
     record {
       over = record { within = omega arith; behind = past ∙ behind ∙ ap (λ n. replicate n background) size };
       rows = seam;
+      left = past ∙ left-later old written end over.within more;
     }
 
 -- one bit more is counted if it is true
@@ -174,3 +189,12 @@ pub count-of_nulls : (bits marks : List Bool) (n : ℕ) → marks ≡ replicate 
     → 0 ≡ count_by (λ b. b) (blanked false (optionals bits marks))
 count-of_nulls bits marks n alike paired =
     sym (ap (λ ms. count_by (λ b. b) (blanked false (optionals bits ms))) (marks-alike bits marks n false alike paired) ∙ count-none bits)
+
+-- below the threshold nothing is prefilled
+pub background_of-few : (runs : List Bool) (rows threshold : ℕ) → length runs < threshold → background_of runs rows threshold ≡ []
+background_of-few runs rows threshold few = search rules
+
+-- from the threshold on the bit of most runs is
+pub background_of-most : (runs : List Bool) (rows threshold : ℕ) (bit : Bool) → threshold ≤ length runs → (IsTrue bit ↔ (length runs < 2 * count_by (λ b. b) runs))
+    → background_of runs rows threshold ≡ replicate rows bit
+background_of-most runs rows threshold bit most is = search rules

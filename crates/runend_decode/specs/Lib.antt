@@ -1,2 +1,3 @@
 pub mod BitRunsForm
+pub mod Blocks
 pub mod RunWriterForm

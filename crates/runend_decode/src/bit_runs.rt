@@ -1,7 +1,8 @@
 //! Bits that are written run by run, one behind the other or over the bit of most runs.
-ghost use Rattle.std.specs.Prelude.{◌≡◌, ◌*◌, ◌-◌, ◌<◌, ◌↔◌, ◌++◌, [], IsTrue, Some, IfOk, IsOkUnless, OnErr, OnOk, count_by, false, length, replicate, slice_get};
+ghost use Rattle.std.specs.Prelude.{◌≡◌, ◌*◌, ◌-◌, ◌<◌, ◌↔◌, ◌++◌, [], IsTrue, Some, IfOk, IsOkUnless, OnErr, OnOk, count_by, drop, false, length, replicate, slice_get};
 ghost use Rattle.column_core.specs.Optionals.{optionals};
 ghost use Rattle.runend_codec.specs.Encoding.{blanked};
+ghost use Rattle.runend_decode.specs.BitRunsForm.{background_of};
 
 use column_core::{BitBuffer, BitBufferMut, VortexError, VortexResult};
 use std::alloc::Allocator;
@@ -17,12 +18,12 @@ pub struct BitRuns<A: Allocator> {
 }
 
 impl<A: Allocator> Model for BitRuns<A> {
-    ghost use Rattle.std.specs.Prelude.{List, Bool, take};
-    ghost use Rattle.runend_decode.specs.BitRunsForm.{IsOverBackground};
+    ghost use Rattle.std.specs.Prelude.{drop, take};
+    ghost use Rattle.runend_decode.specs.BitRunsForm.{BitRunsForm, IsOverBackground};
 
-    ghost Value = { List Bool };
+    ghost Value = { BitRunsForm };
 
-    ghost view = { λ runs. take runs.written runs.bits };
+    ghost view = { λ runs. record { written = take runs.written runs.bits; prefilled = drop runs.written runs.bits } };
 
     ghost invariant = { λ runs. IsOverBackground runs.bits runs.written runs.background };
 }
@@ -31,7 +32,7 @@ impl<A: Allocator + Copy> BitRuns<A> {
     /// No bits, and room for `count` bits, which are appended. Refused as `OutOfMemory` alone.
     pub fn with_room(alloc: A, count: usize) -> VortexResult<Self>
         ensures only { IsOkUnless result VortexError.OutOfMemory }
-        ensures empty { IfOk result (λ runs. runs ≡ []) }
+        ensures empty { IfOk result (λ runs. runs ≡ record { written = []; prefilled = [] }) }
     {
         Ok(BitRuns {
             bits: BitBufferMut::with_capacity(alloc, count)?,
@@ -44,7 +45,7 @@ impl<A: Allocator + Copy> BitRuns<A> {
     /// `OutOfMemory` alone.
     pub fn prefilled(alloc: A, background: bool, count: usize) -> VortexResult<Self>
         ensures only { IsOkUnless result VortexError.OutOfMemory }
-        ensures empty { IfOk result (λ runs. runs ≡ []) }
+        ensures start { IfOk result (λ runs. runs ≡ record { written = []; prefilled = replicate count background }) }
     {
         Ok(BitRuns {
             bits: BitBufferMut::full(alloc, background, count)?,
@@ -54,11 +55,13 @@ impl<A: Allocator + Copy> BitRuns<A> {
     }
 
     /// Puts `bit` behind the last bit as often as it takes for `end` bits. Takes no memory up to the
-    /// count of bits that there is room for. Refused as `OutOfMemory` alone, and then the bits stay.
+    /// count of bits that there is room for. The background that is left is what stands behind `end`.
+    /// Refused as `OutOfMemory` alone, and then the bits stay and the background is gone.
     #[inline(always)]
     pub fn repeat_to(&mut self, bit: bool, end: usize) -> VortexResult<()>
-        ensures ok { OnOk result (self.new ≡ self.old ++ replicate (end - length self.old) bit) }
-        ensures err { OnErr result (self.new ≡ self.old) }
+        ensures ok { OnOk result (self.new.written ≡ self.old.written ++ replicate (end - length self.old.written) bit) }
+        ensures left { OnOk result (self.new.prefilled ≡ drop (end - length self.old.written) self.old.prefilled) }
+        ensures err { OnErr result (self.new ≡ record { written = self.old.written; prefilled = [] }) }
         ensures only { IsOkUnless result VortexError.OutOfMemory }
     {
         if end <= self.written {
@@ -77,7 +80,7 @@ impl<A: Allocator + Copy> BitRuns<A> {
 
     /// The bits that were written. Takes no memory.
     pub fn finish(self) -> BitBuffer<A>
-        ensures { result ≡ self }
+        ensures { result ≡ self.written }
     {
         let mut bits = self.bits;
         bits.truncate(self.written);
@@ -85,8 +88,8 @@ impl<A: Allocator + Copy> BitRuns<A> {
     }
 }
 
-/// No bits yet, of rows that show the bits of these runs. From `prefill_runs` runs on the rows start as the
-/// bit of most runs; below, the room is empty at first. Refused as `OutOfMemory` alone.
+/// No bits yet, of `count` rows that show the bits of these runs. From `prefill_runs` runs on each row starts
+/// as the bit of most runs, false on a tie; below, the room is empty at first. Refused as `OutOfMemory` alone.
 pub fn start_over<A: Allocator + Copy>(
     alloc: A,
     bits: &BitBuffer<A>,
@@ -94,7 +97,7 @@ pub fn start_over<A: Allocator + Copy>(
     prefill_runs: usize,
 ) -> VortexResult<BitRuns<A>>
     ensures only { IsOkUnless result VortexError.OutOfMemory }
-    ensures empty { IfOk result (λ runs. runs ≡ []) }
+    ensures start { IfOk result (λ runs. runs ≡ record { written = []; prefilled = background_of bits.now count prefill_runs }) }
 {
     if bits.len() < prefill_runs {
         return BitRuns::with_room(alloc, count);

@@ -1,5 +1,7 @@
 //! Rows that are written run by run, into room that is taken at first.
 ghost use Rattle.std.specs.Prelude.{◌≡◌, ◌+◌, ◌-◌, ◌≤◌, ◌++◌, [], length, replicate, vec_capacity, vec_len, IfOk, IsOkUnless};
+ghost use Rattle.std.specs.Mem.{type_size};
+ghost use Rattle.runend_decode.specs.Blocks.{block_items};
 
 use column_core::{VortexError, VortexResult};
 use std::alloc::Allocator;
@@ -9,14 +11,17 @@ use std::mem::size_of_val;
 // The most items of a block.
 const LARGEST_BLOCK: usize = 32;
 
-// How many items are written at once: few stores, and no more than most short runs have.
+// How many items are written at once: few stores, and no more than most short runs have. Large items are
+// written one by one.
 fn block_of<T: Copy>(value: &T) -> usize
-    ensures { result ≤ 32 }
+    ensures items { result ≡ block_items (type_size T.row) }
+    ensures largest { result ≤ 32 }
 {
     match size_of_val(value) {
         1 => LARGEST_BLOCK,
         2 => 16,
-        _ => 8,
+        size if size <= 64 => 8,
+        _ => 0,
     }
 }
 
@@ -32,16 +37,15 @@ fn append_copies<T: Copy + Drop, A: Allocator>(items: &mut Vec<T, A>, value: T, 
     }
 }
 
-// The same of a block, by one copy where its size is a usual one.
+// The same of a block, by one copy unless it has no items.
 #[inline(always)]
 fn append_block<T: Copy + Drop, A: Allocator>(items: &mut Vec<T, A>, value: T, block: usize)
-    requires { vec_len items.old + block ≤ vec_capacity items.old }
+    requires room { vec_len items.old + block ≤ vec_capacity items.old }
+    requires sized { block ≡ block_items (type_size T.row) }
     ensures items { items.new.items ≡ items.old.items ++ replicate block value }
     ensures capacity { vec_capacity items.old ≤ vec_capacity items.new }
 {
-    if 64 < size_of_val(&value) {
-        append_copies(items, value, block);
-    } else if block == 8 {
+    if block == 8 {
         let _ = items.extend_from_slice(&[value; 8]);
     } else if block == 16 {
         let _ = items.extend_from_slice(&[value; 16]);
@@ -63,6 +67,7 @@ fn append_short<T: Copy + Drop, A: Allocator>(
 )
     requires short { count ≤ block }
     requires room { vec_len items.old + block ≤ vec_capacity items.old }
+    requires sized { block ≡ block_items (type_size T.row) }
     ensures items { items.new.items ≡ items.old.items ++ replicate count value }
     ensures capacity { vec_capacity items.old ≤ vec_capacity items.new }
 {

@@ -9,6 +9,7 @@ ghost use Rattle.runend_codec.specs.RunEnds.{AreRunEnds, Fills, FitsMask, masked
 ghost use Rattle.column_core.specs.Computed.{HasRowIfAllNull};
 ghost use Rattle.column_base.specs.declared.dtype.DType.TheVariants as column;
 ghost use Rattle.runend_codec.specs.Encoding.{HasNullsAlone, blanked};
+ghost use Rattle.runend_decode.specs.BitRunsForm.{background_of};
 
 use crate::bit_runs::{BitRuns, count_marked, is_majority, start_over};
 use crate::typed::{next_end, no_null, no_value};
@@ -61,8 +62,8 @@ fn count_masked<A: Allocator>(values: &BitBuffer<A>, mask: &Mask<A>) -> usize
     }
 }
 
-// No bits yet. From `prefill_runs` runs on the rows start as the bit of most runs under the mask, so that
-// only the other runs are written.
+// No bits yet, of `count` rows. From `prefill_runs` runs on each row starts as the bit of most runs under the
+// mask, false on a tie, so that only the other runs are written.
 fn start_bits<A: Allocator + Copy>(
     alloc: A,
     values: &BitBuffer<A>,
@@ -72,7 +73,10 @@ fn start_bits<A: Allocator + Copy>(
 ) -> VortexResult<BitRuns<A>>
     requires masked { length (mask_bits mask.now) ≡ length values.now }
     ensures only { IsOkUnless result VortexError.OutOfMemory }
-    ensures empty { IfOk result (λ runs. runs ≡ []) }
+    ensures start { IfOk result (λ runs. runs ≡ record {
+      written = [];
+      prefilled = background_of (blanked false (optionals values.now (mask_bits mask.now))) count prefill_runs;
+    }) }
 {
     if values.len() < prefill_runs {
         return BitRuns::with_room(alloc, count);
@@ -89,7 +93,7 @@ fn start_flags<A: Allocator + Copy>(
     prefill_runs: usize,
 ) -> VortexResult<BitRuns<A>>
     ensures only { IsOkUnless result VortexError.OutOfMemory }
-    ensures empty { IfOk result (λ runs. runs ≡ []) }
+    ensures start { IfOk result (λ runs. runs ≡ record { written = []; prefilled = background_of (mask_bits mask.now) count prefill_runs }) }
 {
     if mask.len() < prefill_runs {
         return BitRuns::with_room(alloc, count);

@@ -16,8 +16,8 @@ loop-run-preserved g c =
     let stored = blanked false (optionals c.args.values.now marks) in
     let run = c.loop-run.run in
     let reach = c.reach_of-reach.result in
-    let rows = c.loop-run.rows in
-    let flags = c.loop-run.flags in
+    let rows = c.loop-run.rows.written in
+    let flags = c.loop-run.flags.written in
     let within : run < length ends = omega (arith, length-naturals number c.args.ends.now) in
     let copies : reach - length rows ≡ min (slice_index ends run - c.args.offset) c.args.count - length rows = omega (arith, c.reach_of-reach.ensures) in
     let marked : reach - length flags ≡ min (slice_index ends run - c.args.offset) c.args.count - length flags = omega (arith, c.reach_of-reach.ensures) in
@@ -37,7 +37,7 @@ returns-clause-bits g c =
     let paired = length-blanked false c.args.values.now (ByBits marks) c.requires.fits in
     let all : c.loop-run.run ≡ length ends = omega arith in
     rw c.finish.ensures
-    (Decoded-all ends (blanked false (optionals c.args.values.now marks)) c.args.offset c.args.count c.loop-run.run c.loop-run.rows c.requires.window (omega arith) all c.loop-run.invariant.rows)
+    (Decoded-all ends (blanked false (optionals c.args.values.now marks)) c.args.offset c.args.count c.loop-run.run c.loop-run.rows.written c.requires.window (omega arith) all c.loop-run.invariant.rows)
 
 pub returns-clause-flags : goal.returns-clause-flags
 returns-clause-flags g c =
@@ -46,4 +46,4 @@ returns-clause-flags g c =
     let long = length-naturals number c.args.ends.now in
     let all : c.loop-run.run ≡ length ends = omega arith in
     rw c.finish-2.ensures
-    (Decoded-all ends c.args.marks.now c.args.offset c.args.count c.loop-run.run c.loop-run.flags c.requires.window (c.requires.fits ∙ c.requires.paired ∙ sym long) all c.loop-run.invariant.flags)
+    (Decoded-all ends c.args.marks.now c.args.offset c.args.count c.loop-run.run c.loop-run.flags.written c.requires.window (c.requires.fits ∙ c.requires.paired ∙ sym long) all c.loop-run.invariant.flags)

@@ -9,6 +9,6 @@ abbrev pub invariant-loop-run : goal.invariant-loop-run
 invariant-loop-run g l =
     let ends = map unsigned_abs (map g.E.NativePType.number l.ends) in
     record {
-      rows : Decoded ends (blanked false (optionals l.values l.marks)) l.offset l.count l.run l.rows;
-      flags : Decoded ends l.marks l.offset l.count l.run l.flags;
+      rows : Decoded ends (blanked false (optionals l.values l.marks)) l.offset l.count l.run l.rows.written;
+      flags : Decoded ends l.marks l.offset l.count l.run l.flags.written;
     }

@@ -7,5 +7,5 @@ abbrev pub invariant-loop-run : goal.invariant-loop-run
 invariant-loop-run g l =
     record {
       can : g.I.Iterator.can_next l.run_ends;
-      bits : (ends : List ℕ) → AreRunEnds g.I.Iterator.next_gives l.initial.run_ends (length l.values) l.count ends → Pulled g.I.Iterator.next_gives l.run_ends ends l.values l.run l.bits;
+      bits : (ends : List ℕ) → AreRunEnds g.I.Iterator.next_gives l.initial.run_ends (length l.values) l.count ends → Pulled g.I.Iterator.next_gives l.run_ends ends l.values l.run l.bits.written;
     }

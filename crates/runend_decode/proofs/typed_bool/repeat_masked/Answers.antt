@@ -8,7 +8,7 @@ use Rattle.runend_decode.proofs.typed_bool.repeat_masked.Goals as goal
 pub next_end-end-requires-clause-more : goal.next_end-end-requires-clause-more
 next_end-end-requires-clause-more g c after =
     let given = c.requires.ends in
-    Pulled-more g.I.Iterator.next_gives c.args.run_ends c.loop-run.run_ends after (length c.args.values.now) c.args.count given.0 (mask_bits c.args.mask.now) c.loop-run.run c.loop-run.flags
+    Pulled-more g.I.Iterator.next_gives c.args.run_ends c.loop-run.run_ends after (length c.args.values.now) c.args.count given.0 (mask_bits c.args.mask.now) c.loop-run.run c.loop-run.flags.written
     given.1 (omega arith) (c.loop-run.invariant.flags given.0 given.1)
 
 pub loop-run-preserved : goal.loop-run-preserved
@@ -21,11 +21,11 @@ loop-run-preserved g c =
     record {
       can = c.next_end-end.ensures.can;
       bits = λ ends given. rw c.in_ok-repeat_to.ensures.ok
-          (Pulled-next g.I.Iterator.next_gives c.args.run_ends c.loop-run.run_ends c.next_end-end.new.run_ends runs c.args.count ends items run c.loop-run.bits end
-          c.bit_at.result (end - length c.loop-run.bits) given (omega arith) c.next_end-end.ensures.gives c.bit_at.ensures refl (c.loop-run.invariant.bits ends given));
+          (Pulled-next g.I.Iterator.next_gives c.args.run_ends c.loop-run.run_ends c.next_end-end.new.run_ends runs c.args.count ends items run c.loop-run.bits.written end
+          c.bit_at.result (end - length c.loop-run.bits.written) given (omega arith) c.next_end-end.ensures.gives c.bit_at.ensures refl (c.loop-run.invariant.bits ends given));
       flags = λ ends given. rw c.in_ok-repeat_to-2.ensures.ok
-          (Pulled-next g.I.Iterator.next_gives c.args.run_ends c.loop-run.run_ends c.next_end-end.new.run_ends runs c.args.count ends marks run c.loop-run.flags end
-          c.value.result (end - length c.loop-run.flags) given (omega arith) c.next_end-end.ensures.gives c.value.ensures refl (c.loop-run.invariant.flags ends given));
+          (Pulled-next g.I.Iterator.next_gives c.args.run_ends c.loop-run.run_ends c.next_end-end.new.run_ends runs c.args.count ends marks run c.loop-run.flags.written end
+          c.value.result (end - length c.loop-run.flags.written) given (omega arith) c.next_end-end.ensures.gives c.value.ensures refl (c.loop-run.invariant.flags ends given));
     }
 
 pub returns-clause-bits : goal.returns-clause-bits

@@ -11,7 +11,7 @@ invariant-loop-run g l =
     record {
       can : g.I.Iterator.can_next l.run_ends;
       bits : (ends : List ℕ) → AreRunEnds g.I.Iterator.next_gives l.initial.run_ends (length l.values) l.count ends
-          → Pulled g.I.Iterator.next_gives l.run_ends ends (blanked false (optionals l.values (mask_bits l.mask))) l.run l.bits;
+          → Pulled g.I.Iterator.next_gives l.run_ends ends (blanked false (optionals l.values (mask_bits l.mask))) l.run l.bits.written;
       flags : (ends : List ℕ) → AreRunEnds g.I.Iterator.next_gives l.initial.run_ends (length l.values) l.count ends
-          → Pulled g.I.Iterator.next_gives l.run_ends ends (mask_bits l.mask) l.run l.flags;
+          → Pulled g.I.Iterator.next_gives l.run_ends ends (mask_bits l.mask) l.run l.flags.written;
     }

@@ -11,7 +11,7 @@ invariant_of-self-2 g c =
     elim c.if-end-len.branch [
       | then-end-len+in_ok-append_n w ↦
           rw w.self-inside-is
-          (Extended-append old.bits w.append_n.new.self old.written end bit old.background c.self.invariant c.if-end-self.false
+          (Extended-append old.bits w.append_n.new.self old.written end bit old.background c.self.invariant c.if-end-self.false (omega arith)
           (w.in_ok-append_n.ensures.ok ∙ ap (λ bs. bs ++ replicate (end - old.written) bit) w.truncate.ensures)).over
       | else-end-len+then-bit-self w ↦
           rw w.self-inside-is
@@ -29,7 +29,7 @@ returns-clause-ok g c =
     elim c.if-end-len.branch [
       | then-end-len+in_ok-append_n w ↦
           rw (w.self-inside-is, ← c.self.view_is)
-          (Extended-append old.bits w.append_n.new.self old.written end bit old.background c.self.invariant c.if-end-self.false
+          (Extended-append old.bits w.append_n.new.self old.written end bit old.background c.self.invariant c.if-end-self.false (omega arith)
           (w.in_ok-append_n.ensures.ok ∙ ap (λ bs. bs ++ replicate (end - old.written) bit) w.truncate.ensures)).rows
       | else-end-len+then-bit-self w ↦
           rw (w.self-inside-is, ← c.self.view_is)
@@ -37,4 +37,22 @@ returns-clause-ok g c =
       | else-end-len+else-bit-self w ↦
           rw (w.self-inside-is, ← c.self.view_is)
           (Extended-kept old.bits old.written end bit old.background c.self.invariant c.if-end-self.false (omega arith) (same-bit bit old.background w.if-bit-self.false)).rows
+    ]
+
+pub returns-clause-left : goal.returns-clause-left
+returns-clause-left g c =
+    let old = c.self.inside in
+    let end = c.args.end in
+    let bit = c.args.bit in
+    elim c.if-end-len.branch [
+      | then-end-len+in_ok-append_n w ↦
+          rw (w.self-inside-is, ← c.self.view_is)
+          (Extended-append old.bits w.append_n.new.self old.written end bit old.background c.self.invariant c.if-end-self.false (omega arith)
+          (w.in_ok-append_n.ensures.ok ∙ ap (λ bs. bs ++ replicate (end - old.written) bit) w.truncate.ensures)).left
+      | else-end-len+then-bit-self w ↦
+          rw (w.self-inside-is, ← c.self.view_is)
+          (Extended-filled old.bits w.fill_range.new.self old.written end bit old.background c.self.invariant c.if-end-self.false (omega arith) w.fill_range.ensures).left
+      | else-end-len+else-bit-self w ↦
+          rw (w.self-inside-is, ← c.self.view_is)
+          (Extended-kept old.bits old.written end bit old.background c.self.invariant c.if-end-self.false (omega arith) (same-bit bit old.background w.if-bit-self.false)).left
     ]
