@@ -1,19 +1,20 @@
 -- Rows that are written along the runs, each run once.
-use Rattle.std.proofs.Common.{◌≡◌, ℕ, ◌+◌, ◌-◌, ◌<◌, ◌≤◌, List, [], ◌++◌, Some, length, map, min, replicate, slice_index, sym, subst, ◌∙◌, ap, arith, inl, inr, length-append}
+use Rattle.std.proofs.Common.{◌≡◌, ℕ, ◌+◌, ◌-◌, ◌<◌, ◌≤◌, IsTrue, List, [], ◌++◌, Some, false, length, map, min, replicate, slice_index, refl, sym, subst, ◌∙◌, ap, arith, inl, inr, length-append}
 use Rattle.std.proofs.lemmas.Bool.{cases_lt}
 use Rattle.std.proofs.lemmas.List.{length-replicate}
 use Rattle.std.proofs.lemmas.List.FromFn.{length-map-range_with_len}
 use Rattle.std.proofs.lemmas.Option.{slice_get-get_or}
 use Rattle.std.specs.List.{slice_get, range_with_len}
 use Rattle.std.specs.List.Sorted.{IsStrictlyIncreasing}
-use Rattle.std.specs.Prelude.{get_or, slice_range}
+use Rattle.std.specs.Prelude.{get_or, slice_index_or, slice_range}
 use Rattle.column_base.proofs.Ranges.{length-slice_range, get_or-slice_range}
-use Rattle.runend_codec.specs.Window.{run_at}
+use Rattle.runend_codec.specs.Window.{IsWindow, run_at}
 use Rattle.runend_codec.proofs.Lists.{equal_by_slice_get, slice_get-append, slice_get-append_copies, slice_get-replicate}
 use Rattle.runend_codec.proofs.Places.{run_at-beyond}
-use Rattle.runend_codec.proofs.RunAt.{run_at-le, run_at-le-run_at}
+use Rattle.runend_codec.proofs.RunAt.{ends_past, run_at-le, run_at-le-length, run_at-le-run_at, run_of_row_within}
 use Rattle.runend_array.specs.Column.{Column, OfLeaf, OfConstant, OfLists, OfRuns, IsPlainIndex, end_numbers, index_of, leaf_ends}
-use Rattle.runend_array.specs.Lists.{ByRows, ByRuns, Index, IsFlagRunUpTo, IsRunUpTo, PlainIndex, RowValidityForm, RunIndex, index_at, index_count}
+use Rattle.column_base.specs.ValidityForm.{NeverNull, NoneNull, AllNull, ByBits}
+use Rattle.runend_array.specs.Lists.{ByRows, ByRuns, Index, IsFlagRunUpTo, IsRunUpTo, IsWithinElements, Lists, PlainIndex, RowValidityForm, RunIndex, flag_stop, index_at, index_count, index_stop, row_flag_at, run_stop}
 use Rattle.runend_array.proofs.ListSlice.{slice_get-made_from}
 
 -- the rows from `start` on that the runs before `run` show, of `count` at most, where `shown` tells what a run shows: the row behind them is in no run before
@@ -104,32 +105,81 @@ plain_numbers (OfConstant constant) start stop plain ordered within = absurd pla
 plain_numbers (OfLists lists) start stop plain ordered within = absurd plain
 plain_numbers (OfRuns ends_type ends values offset count) start stop plain ordered within = absurd plain
 
--- at the first run the search for any row may start, and where it may for a row, it may for the next one
+-- at the first run the search for any row may start, and where it may for a row, it may for a later one
 pub first_run-up_to : (index : Index) (i : ℕ) → IsRunUpTo index 0 i
 first_run-up_to (PlainIndex numbers) i = tt
 first_run-up_to (RunIndex ends_type ends numbers offset count) i = omega arith
 
-pub run-up_to_next : (index : Index) (run i : ℕ) → IsRunUpTo index run i → IsRunUpTo index run (i + 1)
-run-up_to_next (PlainIndex numbers) run i before = tt
-run-up_to_next (RunIndex ends_type ends numbers offset count) run i before =
-    let later = run_at-le-run_at ends (offset + i) (offset + (i + 1)) (omega arith) in
+pub run-up_to_later : (index : Index) (run i j : ℕ) → i ≤ j → IsRunUpTo index run i → IsRunUpTo index run j
+run-up_to_later (PlainIndex numbers) run i j order before = tt
+run-up_to_later (RunIndex ends_type ends numbers offset count) run i j order before =
+    let later = run_at-le-run_at ends (offset + i) (offset + j) (omega arith) in
     omega arith
 
 pub first_run-up_to_flag : (form : RowValidityForm) (i : ℕ) → IsFlagRunUpTo form 0 i
 first_run-up_to_flag (ByRows form) i = tt
 first_run-up_to_flag (ByRuns ends_type ends bits offset count) i = omega arith
 
-pub run-up_to_next_flag : (form : RowValidityForm) (run i : ℕ) → IsFlagRunUpTo form run i → IsFlagRunUpTo form run (i + 1)
-run-up_to_next_flag (ByRows form) run i before = tt
-run-up_to_next_flag (ByRuns ends_type ends bits offset count) run i before =
-    let later = run_at-le-run_at ends (offset + i) (offset + (i + 1)) (omega arith) in
+pub run-up_to_later_flag : (form : RowValidityForm) (run i j : ℕ) → i ≤ j → IsFlagRunUpTo form run i → IsFlagRunUpTo form run j
+run-up_to_later_flag (ByRows form) run i j order before = tt
+run-up_to_later_flag (ByRuns ends_type ends bits offset count) run i j order before =
+    let later = run_at-le-run_at ends (offset + i) (offset + j) (omega arith) in
     omega arith
 
--- what holds of each place before one, and there, holds up to it
-pub each_up_to : {P Q : ℕ → Type 0} (n : ℕ) → ((k : ℕ) → k < n → P k → Q k) → (P n → Q n) → (k : ℕ) → k < n + 1 → P k → Q k
-each_up_to {P} {Q} n before here k h p = elim (cases_lt k n) [
-  | inl less ↦ before k less p
+-- how many rows of a window the runs up to that of a row reach is where the rows of this run end
+pub run_stop-reached : (ends : List ℕ) (offset count i run reach : ℕ) → run ≡ run_at ends (offset + i) → reach ≡ min (slice_index ends run - (offset + 0)) (count - 0)
+    → reach ≡ run_stop ends offset count i
+run_stop-reached ends offset count i run reach found reached =
+    let end = ap (slice_index ends) found in
+    omega (arith, reached, end)
+
+-- and that is past the row
+pub run_stop-past : (ends : List ℕ) (offset count i : ℕ) → IsWindow ends offset count → i < count → i < run_stop ends offset count i
+run_stop-past ends offset count i window within =
+    let past = ends_past ends (offset + i) (run_of_row_within ends offset count i window within) in
+    omega (arith, past)
+
+-- up to where the run of a row ends, the rows from it on are in this run
+run_at-stays : (ends : List ℕ) (offset count i k : ℕ) → i ≤ k → k < run_stop ends offset count i → run_at ends (offset + k) ≡ run_at ends (offset + i)
+run_at-stays ends offset count i k from below =
+    let later = run_at-le-run_at ends (offset + i) (offset + k) (omega arith) in
+    elim (cases_lt (run_at ends (offset + i)) (length ends)) [
+      | inl within ↦
+          let past = run_at-le ends (offset + k) (run_at ends (offset + i)) within (omega arith) in
+          omega arith
+      | inr none ↦
+          let most = run_at-le-length ends (offset + k) in
+          omega arith
+    ]
+
+-- up to where the stretch of a row ends, the rows from it on have its number
+index_at-stays : (index : Index) (i k : ℕ) → i ≤ k → k < index_stop index i → index_at index k ≡ index_at index i
+index_at-stays (PlainIndex numbers) i k from below =
+    let same : k ≡ i = omega arith in
+    ap (slice_index numbers) same
+index_at-stays (RunIndex ends_type ends numbers offset count) i k from below = ap (slice_index numbers) (run_at-stays ends offset count i k from below)
+
+-- and its flag
+row_flag_at-stays : (form : RowValidityForm) (rows i k : ℕ) → i ≤ k → k < flag_stop form rows i → row_flag_at form k ≡ row_flag_at form i
+row_flag_at-stays (ByRows NeverNull) rows i k from below = refl
+row_flag_at-stays (ByRows NoneNull) rows i k from below = refl
+row_flag_at-stays (ByRows AllNull) rows i k from below = refl
+row_flag_at-stays (ByRows (ByBits bits)) rows i k from below =
+    let same : k ≡ i = omega arith in
+    ap (λ (n : ℕ). slice_index_or bits n false) same
+row_flag_at-stays (ByRuns ends_type ends bits offset count) rows i k from below =
+    ap (λ (n : ℕ). slice_index_or bits n false) (run_at-stays ends offset count i k from below)
+
+-- where the valid rows before one lie within the elements, and so does that one if it is valid, so do those before the nearest end of its three stretches
+pub within-stretch : (lists : Lists) (rows i : ℕ) → ((k : ℕ) → k < i → IsTrue (row_flag_at lists.validity k) → IsWithinElements lists k)
+    → (IsTrue (row_flag_at lists.validity i) → IsWithinElements lists i) → (k : ℕ) → k < min (min (flag_stop lists.validity rows i) (index_stop lists.offsets i)) (index_stop lists.sizes i)
+    → IsTrue (row_flag_at lists.validity k) → IsWithinElements lists k
+within-stretch lists rows i before here k below valid = elim (cases_lt k i) [
+  | inl less ↦ before k less valid
   | inr from ↦
-      let same : n ≡ k = omega arith in
-      subst (λ (i : ℕ). P i → Q i) same here p
+      let flag = row_flag_at-stays lists.validity rows i k from (omega arith) in
+      let offset = index_at-stays lists.offsets i k from (omega arith) in
+      let size = index_at-stays lists.sizes i k from (omega arith) in
+      let first = here (subst IsTrue flag valid) in
+      omega (arith, offset, size, first)
 ]

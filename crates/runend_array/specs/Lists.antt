@@ -1,12 +1,12 @@
 -- What a column of lists is: for each row where its elements start and how many there are.
-use Rattle.std.specs.Prelude.{◌≡◌, ℕ, ◌+◌, ◌<◌, ◌≤◌, List, length, map, ⊤, Option, None, Some, Bool, false, cond, IsTrue, max, slice_index, slice_index_or, slice_range}
+use Rattle.std.specs.Prelude.{◌≡◌, ℕ, ◌+◌, ◌-◌, ◌<◌, ◌≤◌, List, length, map, ⊤, Option, None, Some, Bool, false, cond, IsTrue, max, min, slice_index, slice_index_or, slice_range}
 use Rattle.std.specs.List.{range_with_len}
 use Rattle.column_base.specs.declared.dtype.PType.{PType}
 use Rattle.column_base.specs.declared.dtype.Nullability.{Nullability}
 use Rattle.column_base.specs.declared.dtype.Nullability.TheVariants.{Nullable}
 use Rattle.column_base.specs.declared.dtype.DType.{DType}
 use Rattle.column_base.specs.declared.dtype.DType.TheVariants as column
-use Rattle.column_base.specs.ValidityForm.{ValidityForm, HasLength, flag_at, nullability_in}
+use Rattle.column_base.specs.ValidityForm.{ValidityForm, NeverNull, NoneNull, AllNull, ByBits, HasLength, flag_at, nullability_in}
 use Rattle.column_core.specs.Value.{Value, Items, element_of}
 use Rattle.column_core.specs.Leaf.{Leaf, leaf_rows, leaf_dtype}
 use Rattle.runend_codec.specs.Window.{run_at}
@@ -35,6 +35,15 @@ abbrev pub IsRunUpTo : Index → ℕ → ℕ → Type 0
 IsRunUpTo (PlainIndex numbers) run i = ⊤
 IsRunUpTo (RunIndex ends_type ends numbers offset count) run i = run ≤ run_at ends (offset + i)
 
+-- where the rows of the run of a row end, among those of a window
+abbrev pub run_stop : List ℕ → ℕ → ℕ → ℕ → ℕ
+run_stop ends offset count i = min (slice_index ends (run_at ends (offset + i)) - offset) count
+
+-- where the stretch of a row ends: in numbers one by one it is that row alone, in runs the rest of its run
+abbrev pub index_stop : Index → ℕ → ℕ
+index_stop (PlainIndex numbers) i = i + 1
+index_stop (RunIndex ends_type ends numbers offset count) i = run_stop ends offset count i
+
 -- which rows are valid: told row by row, or by runs over flat flags
 pub data RowValidityForm : Type 0 where
   ByRows : ValidityForm → RowValidityForm
@@ -49,6 +58,14 @@ row_flag_at (ByRuns ends_type ends bits offset count) i = slice_index_or bits (r
 abbrev pub IsFlagRunUpTo : RowValidityForm → ℕ → ℕ → Type 0
 IsFlagRunUpTo (ByRows form) run i = ⊤
 IsFlagRunUpTo (ByRuns ends_type ends bits offset count) run i = run ≤ run_at ends (offset + i)
+
+-- where the stretch of a row ends, of so many rows: that row alone where there is a bit for each row, the rest of its run in runs, and else all rows from it on
+abbrev pub flag_stop : RowValidityForm → ℕ → ℕ → ℕ
+flag_stop (ByRows NeverNull) rows i = rows
+flag_stop (ByRows NoneNull) rows i = rows
+flag_stop (ByRows AllNull) rows i = rows
+flag_stop (ByRows (ByBits bits)) rows i = i + 1
+flag_stop (ByRuns ends_type ends bits offset count) rows i = run_stop ends offset count i
 
 -- the flags of so many rows
 abbrev pub row_flags_of : RowValidityForm → ℕ → List Bool

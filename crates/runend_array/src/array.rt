@@ -7,6 +7,7 @@ ghost use Rattle.runend_codec.specs.Ends.{IsEndsType, ends_of};
 ghost use Rattle.column_core.specs.ScalarView.{sees, IsViewOf};
 ghost use Rattle.runend_array.specs.Array.{IsRowValidity, column_of, dtype_of, rows, validity_of};
 ghost use Rattle.runend_array.specs.RowFlags.{IsValidityForm, IsValidityOf};
+ghost use Rattle.runend_array.specs.Lists.{run_stop};
 ghost use Rattle.runend_codec.specs.Window.{IsWindow, run_at, last_end};
 ghost use Rattle.runend_array.specs.Column.{AreParts, AreRuns, IsPlainEnds, IsPlainIndex, IsPlainTruths, OfLeaf, Runs, column_dtype, column_of_runs, column_rows, end_numbers, end_ptype, runs_of, truths_of};
 ghost use Rattle.runend_array.specs.Canonical.{IsFlatPart, canonical_column};
@@ -18,7 +19,7 @@ use crate::array_ref::{ArrayRef, out_of_bounds};
 use crate::canonical::Canonical;
 use crate::compress::runend_encode;
 use crate::lists::{
-    is_plain_index, is_plain_truths, plain_number_at, plain_truth_at, validity_in_runs,
+    Stretch, is_plain_index, is_plain_truths, plain_number_at, plain_truth_at, validity_in_runs,
 };
 use crate::session::ExecutionCtx;
 use crate::validities::RowValidity;
@@ -492,30 +493,41 @@ impl<A: Allocator + Copy> RunEndArray<A> {
         ops::run_from(&self.ends, run, self.offset + index)
     }
 
-    /// The number in a row of a run column over flat u64 without null, and in `run` its run, sought
-    /// from `run` on: that of an earlier row, or the first.
-    pub(crate) fn number_from(&self, run: &mut usize, index: usize) -> u64
+    /// The number in a row of a run column over flat u64 without null, up to where the run of this row
+    /// ends; and in `run` this run, sought from `run` on: that of an earlier row, or the first.
+    pub(crate) fn number_from(&self, run: &mut usize, index: usize) -> Stretch<u64>
         requires plain { IsPlainIndex self.now.values }
         requires within { index < self.now.count }
         requires before { run.old ≤ run_at self.now.ends (self.now.offset + index) }
-        ensures number { result ≡ slice_index (end_numbers self.now.values) (run_at self.now.ends (self.now.offset + index)) }
+        ensures number { result.value ≡ slice_index (end_numbers self.now.values) (run_at self.now.ends (self.now.offset + index)) }
+        ensures stop { result.stop ≡ run_stop self.now.ends self.now.offset self.now.count index }
+        ensures within { index < result.stop }
         ensures run { run.new ≡ run_at self.now.ends (self.now.offset + index) }
     {
         *run = self.run_from(*run, index);
-        plain_number_at(&self.values, *run)
+        Stretch {
+            value: plain_number_at(&self.values, *run),
+            stop: self.reach_of(*run, 0, self.length),
+        }
     }
 
-    /// The truth value in a row of a run column over flat truth values without null, and in `run` its
-    /// run, sought from `run` on: that of an earlier row, or the first.
-    pub(crate) fn truth_from(&self, run: &mut usize, index: usize) -> bool
+    /// The truth value in a row of a run column over flat truth values without null, up to where the
+    /// run of this row ends; and in `run` this run, sought from `run` on: that of an earlier row, or the
+    /// first.
+    pub(crate) fn truth_from(&self, run: &mut usize, index: usize) -> Stretch<bool>
         requires plain { IsPlainTruths self.now.values }
         requires within { index < self.now.count }
         requires before { run.old ≤ run_at self.now.ends (self.now.offset + index) }
-        ensures truth { result ≡ slice_index_or (truths_of self.now.values) (run_at self.now.ends (self.now.offset + index)) false }
+        ensures truth { result.value ≡ slice_index_or (truths_of self.now.values) (run_at self.now.ends (self.now.offset + index)) false }
+        ensures stop { result.stop ≡ run_stop self.now.ends self.now.offset self.now.count index }
+        ensures within { index < result.stop }
         ensures run { run.new ≡ run_at self.now.ends (self.now.offset + index) }
     {
         *run = self.run_from(*run, index);
-        plain_truth_at(&self.values, *run)
+        Stretch {
+            value: plain_truth_at(&self.values, *run),
+            stop: self.reach_of(*run, 0, self.length),
+        }
     }
 
     // How many of the rows from `start` to `stop - 1` are in the runs up to this one.

@@ -3,8 +3,10 @@ mod index;
 mod listview;
 mod runs;
 mod slice;
+mod stretch;
 mod take;
 
 pub(crate) use index::{is_plain_index, is_plain_truths, plain_number_at, plain_truth_at};
 pub use listview::ListViewArray;
 pub(crate) use runs::validity_in_runs;
+pub(crate) use stretch::Stretch;

@@ -33,9 +33,10 @@ impl<'a, A: Allocator + Copy> RunEndProbe<'a, A> {
         RunEndProbe { array }
     }
 
-    /// The row at `index`, borrowed from the column. Refused as `OutOfBounds`, with the index and the
-    /// number of rows, exactly from that number on. Takes no memory.
-    pub fn execute_scalar(&self, index: usize) -> VortexResult<ScalarView<'_, A>>
+    /// The row at `index`, borrowed from the column and not from the probe, which may go first. Refused
+    /// as `OutOfBounds`, with the index and the number of rows, exactly from that number on. Takes no
+    /// memory.
+    pub fn execute_scalar(&self, index: usize) -> VortexResult<ScalarView<'a, A>>
         ensures row { IfOk result (λ view. slice_get (column_rows (column_of_runs self.now)) index ≡ Some (sees view)) }
         ensures of_type { IfOk result (λ view. IsViewOf (column_dtype self.now.values) view) }
         ensures refused { IsErrOf result (VortexError.OutOfBounds (pos index) self.now.count) ↔ (self.now.count ≤ index) }

@@ -2,9 +2,10 @@
 ghost use Rattle.std.specs.Prelude.{◌≡◌, ◌<◌, ◌≤◌, ◌↔◌, IfOk, IsOkUnless, IsTrue, length, slice_index, slice_index_or, slice_range, false};
 ghost use Rattle.runend_array.specs.Array.{column_of};
 ghost use Rattle.runend_array.specs.Column.{IsIndex, IsPlainIndex, IsPlainTruths, end_numbers, index_of, truths_of};
-ghost use Rattle.runend_array.specs.Lists.{IsRunUpTo, index_at as number_in_row, index_count};
+ghost use Rattle.runend_array.specs.Lists.{IsRunUpTo, index_at as number_in_row, index_count, index_stop};
 
 use crate::array_ref::ArrayRef;
+use crate::lists::stretch::Stretch;
 use column_core::{DType, Nullability, PType, PrimitiveValues, VortexError, VortexResult};
 use std::alloc::Allocator;
 
@@ -116,21 +117,30 @@ pub(crate) fn index_at<A: Allocator + Copy>(column: &ArrayRef<A>, index: usize) 
     }
 }
 
-/// The offset or size at `index`; of runs, with its run in `run`, sought from `run` on: that of an
-/// earlier row, or the first.
+/// The offset or size at `index`: of a flat column that row alone, of runs up to where the run of the
+/// row ends, and then with this run in `run`, sought from `run` on: that of an earlier row, or the
+/// first.
 pub(crate) fn index_from<A: Allocator + Copy>(
     column: &ArrayRef<A>,
     run: &mut usize,
     index: usize,
-) -> u64
+) -> Stretch<u64>
     requires index { IsIndex (column_of column.now) }
     requires within { index < index_count (index_of (column_of column.now)) }
     requires before { IsRunUpTo (index_of (column_of column.now)) run.old index }
-    ensures number { result ≡ number_in_row (index_of (column_of column.now)) index }
+    ensures number { result.value ≡ number_in_row (index_of (column_of column.now)) index }
+    ensures stop { result.stop ≡ index_stop (index_of (column_of column.now)) index }
+    ensures within { index < result.stop }
     ensures before { IsRunUpTo (index_of (column_of column.now)) run.new index }
 {
     match column {
-        ArrayRef::Primitive(_) => plain_number_at(column, index),
+        ArrayRef::Primitive(numbers) => {
+            prove!(index < numbers.len());
+            Stretch {
+                value: plain_number_at(column, index),
+                stop: index + 1,
+            }
+        }
         ArrayRef::RunEnd(runs) => runs.number_from(run, index),
         _ => unreachable!(),
     }

@@ -100,7 +100,8 @@ fn is_within(offset: u64, size: u64, count: usize) -> bool
     offset <= count && size <= count - offset
 }
 
-// The first valid row that does not lie within `count` elements. Runs are walked beside the rows.
+// The first valid row that does not lie within the elements. A step is a stretch of rows in which
+// offset, size and validity stay the same, so rows in runs take as many steps as there are runs.
 fn first_outside<A: Allocator + Copy>(
     elements: &FlatColumn<A>,
     offsets: &ArrayRef<A>,
@@ -119,14 +120,15 @@ fn first_outside<A: Allocator + Copy>(
     let mut flag_run = 0;
     let mut offset_run = 0;
     let mut size_run = 0;
-    for row in 0..rows {
-        if validity.valid_from(&mut flag_run, row, rows) {
-            let offset = index_from(offsets, &mut offset_run, row);
-            let size = index_from(sizes, &mut size_run, row);
-            if !is_within(offset, size, count) {
-                return Some(row);
-            }
+    let mut row = 0;
+    while row < rows {
+        let flag = validity.valid_from(&mut flag_run, row, rows);
+        let offset = index_from(offsets, &mut offset_run, row);
+        let size = index_from(sizes, &mut size_run, row);
+        if flag.value && !is_within(offset.value, size.value, count) {
+            return Some(row);
         }
+        row = flag.stop.min(offset.stop).min(size.stop);
     }
     None
 }

@@ -2,9 +2,10 @@
 ghost use Rattle.std.specs.Prelude.{◌≡◌, ◌<◌, ◌↔◌, IsTrue, IfOk, IsOkUnless};
 ghost use Rattle.runend_array.specs.Array.{validity_of, IsRowValidity};
 ghost use Rattle.runend_array.specs.Fault.{rows_told};
-ghost use Rattle.runend_array.specs.Lists.{HasRows, IsFlagRunUpTo, row_flag_at, row_nullability};
+ghost use Rattle.runend_array.specs.Lists.{HasRows, IsFlagRunUpTo, flag_stop, row_flag_at, row_nullability};
 
 use crate::array::RunEndArray;
+use crate::lists::Stretch;
 use column_core::{BitBuffer, Nullability, VortexError, VortexResult};
 use std::alloc::Allocator;
 
@@ -75,22 +76,36 @@ impl<A: Allocator + Copy> RowValidity<A> {
         }
     }
 
-    /// Is the row at `index` there, of `count` rows? Of runs, with its run in `run`, sought from `run`
-    /// on: that of an earlier row, or the first.
-    pub(crate) fn valid_from(&self, run: &mut usize, index: usize, count: usize) -> bool
+    /// Is the row at `index` there, of `count` rows? Of bits that row alone, of runs up to where the run
+    /// of the row ends, and else all rows. Of runs, with this run in `run`, sought from `run` on: that
+    /// of an earlier row, or the first.
+    pub(crate) fn valid_from(&self, run: &mut usize, index: usize, count: usize) -> Stretch<bool>
         requires plain { IsRowValidity self.now }
         requires counted { HasRows (validity_of self.now) count }
         requires within { index < count }
         requires before { IsFlagRunUpTo (validity_of self.now) run.old index }
-        ensures flag { result ≡ row_flag_at (validity_of self.now) index }
+        ensures flag { result.value ≡ row_flag_at (validity_of self.now) index }
+        ensures stop { result.stop ≡ flag_stop (validity_of self.now) count index }
+        ensures within { index < result.stop }
         ensures before { IsFlagRunUpTo (validity_of self.now) run.new index }
     {
-        let _ = count;
         match self {
-            RowValidity::NonNullable => true,
-            RowValidity::AllValid => true,
-            RowValidity::AllInvalid => false,
-            RowValidity::Bits(bits) => bits.value(index),
+            RowValidity::NonNullable => Stretch {
+                value: true,
+                stop: count,
+            },
+            RowValidity::AllValid => Stretch {
+                value: true,
+                stop: count,
+            },
+            RowValidity::AllInvalid => Stretch {
+                value: false,
+                stop: count,
+            },
+            RowValidity::Bits(bits) => Stretch {
+                value: bits.value(index),
+                stop: index + 1,
+            },
             RowValidity::Runs(runs) => runs.truth_from(run, index),
         }
     }

@@ -1,4 +1,4 @@
-use Rattle.std.proofs.Common.{ℕ, ◌<◌, IsTrue}
+use Rattle.std.proofs.Common.{ℕ, ◌-◌, ◌<◌, IsTrue}
 use Rattle.runend_array.specs.Array.{column_of, lists_of, validity_of}
 use Rattle.runend_array.specs.Column.{index_of}
 use Rattle.runend_array.specs.Lists.{IsFlagRunUpTo, IsRunUpTo, IsWithinElements, row_flag_at}
@@ -12,3 +12,6 @@ invariant-loop-row g l = record {
   offset_run : IsRunUpTo (index_of (column_of l.offsets)) l.offset_run l.row;
   size_run : IsRunUpTo (index_of (column_of l.sizes)) l.size_run l.row;
 }
+
+abbrev pub decreases-loop-row : goal.decreases-loop-row
+decreases-loop-row g l = l.rows - l.row
