@@ -15,9 +15,9 @@ use Rattle.column_ops.specs.Fill.{same_kind}
 use Rattle.column_order.proofs.RowRanges.{length-single_rows}
 use Rattle.runend_codec.specs.Window.{run_rows}
 use Rattle.runend_array.specs.Column.{AreRuns, Column, Runs, column_dtype, column_of_runs, column_rows, plain_of}
-use Rattle.runend_map.specs.VisibleForm.{visible_ends, visible_values, window_start}
+use Rattle.runend_visible.specs.VisibleForm.{visible_ends, visible_values, window_start}
 use Rattle.runend_map.proofs.FirstFaults.{visible_fault}
-use Rattle.runend_map.proofs.KeptRows.{visible_rows}
+use Rattle.runend_visible.proofs.VisibleWindow.{visible_rows}
 
 and_false : (b : Bool) → (b && false) ≡ false
 and_false true = refl

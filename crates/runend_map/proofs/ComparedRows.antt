@@ -6,12 +6,14 @@ use Rattle.std.proofs.lemmas.List.Elements.{All-nil, All-cons, All-head, All-tai
 use Rattle.column_base.specs.declared.dtype.DType.{DType}
 use Rattle.column_base.specs.declared.error.VortexError.{VortexError}
 use Rattle.column_base.specs.declared.error.VortexError.TheVariants.{OutOfMemory}
+use Rattle.column_core.specs.BoolForm.{BoolForm}
+use Rattle.column_core.specs.Computed.{IsComputedLeaf}
 use Rattle.column_core.specs.Refusal.{IsRefusedBy}
-use Rattle.column_core.specs.Leaf.{Leaf, leaf_dtype, leaf_rows, single_rows}
+use Rattle.column_core.specs.Leaf.{Leaf, OfTruths, leaf_dtype, leaf_rows, single_rows}
 use Rattle.column_core.specs.Value.{FlatValue, Single, Value}
 use Rattle.column_order.specs.CompareFault.{compare_column_fault}
 use Rattle.column_order.proofs.RowRanges.{length-single_rows}
-use Rattle.column_order.specs.Comparing.{compare_rows, compare_with, compared}
+use Rattle.column_order.specs.Comparing.{IsStoredComparison, compare_rows, compare_with, compared}
 use Rattle.column_order.specs.declared.operator.CompareOperator.{CompareOperator}
 use Rattle.column_order.proofs.WrittenTruths.{compare_rows-copies}
 use Rattle.runend_codec.specs.Encoding.{HasNullsAlone}
@@ -22,8 +24,8 @@ use Rattle.runend_codec.proofs.VisibleRuns.{first_le_last_visible, length-visibl
 use Rattle.runend_codec.proofs.VisibleLaws.{all_rows}
 use Rattle.runend_array.specs.Column.{AreRuns, Column, Constant, OfConstant, OfLeaf, OfLists, OfRuns, Runs, column_dtype, column_of_runs, column_rows}
 use Rattle.runend_array.specs.Encoding.{IsDecodedForm}
-use Rattle.runend_map.specs.VisibleForm.{visible_ends, visible_values, window_start}
-use Rattle.runend_map.proofs.KeptRows.{visible_rows}
+use Rattle.runend_visible.specs.VisibleForm.{visible_ends, visible_values, window_start}
+use Rattle.runend_visible.proofs.VisibleWindow.{visible_rows}
 use Rattle.runend_map.proofs.OneKind.{only_memory}
 
 -- null compared is null
@@ -130,3 +132,7 @@ pub own_rows : (r : Runs) (values rows : List (Option Value)) → AreRuns r → 
     → rows ≡ run_rows (visible_ends r) values (window_start r.count r.offset) r.count → rows ≡ column_rows (column_of_runs r)
 own_rows r values rows runs same rows_are =
     rows_are ∙ ap (λ (xs : List (Option Value)). run_rows (visible_ends r) xs (window_start r.count r.offset) r.count) same ∙ visible_rows r runs
+
+-- what a comparison stores is as a call computes it
+pub stored_computed : (truths : BoolForm) → IsStoredComparison truths → IsComputedLeaf (OfTruths truths)
+stored_computed truths stored = record { blanked = stored.blank; normal = stored.normal; some = stored.some }

@@ -6,6 +6,7 @@ use Rattle.column_base.specs.declared.dtype.DType.{DType}
 use Rattle.column_base.specs.declared.dtype.DType.TheVariants as column
 use Rattle.column_base.specs.declared.error.VortexError.TheVariants.{NullFill, TypeMismatch, Unsupported}
 use Rattle.column_core.specs.Value.{FlatValue, IsLists, Single, Value}
+use Rattle.column_core.specs.Computed.{IsComputedLeaf}
 use Rattle.column_core.specs.Leaf.{Leaf, leaf_dtype, leaf_rows, single_rows}
 use Rattle.column_core.specs.ScalarForm.{ScalarForm}
 use Rattle.column_ops.specs.Computed.{IsMade}
@@ -13,7 +14,7 @@ use Rattle.column_ops.specs.Fill.{fill_dtype, fill_fault, fill_rows, is_list, sa
 use Rattle.column_order.proofs.RowRanges.{length-single_rows}
 use Rattle.runend_codec.specs.Window.{run_rows}
 use Rattle.runend_array.specs.Column.{AreRuns, Runs, column_dtype, column_of_runs, column_rows}
-use Rattle.runend_map.specs.VisibleForm.{visible_ends, visible_values, window_start}
+use Rattle.runend_visible.specs.VisibleForm.{visible_ends, visible_values, window_start}
 use Rattle.runend_map.proofs.KeptRows.{mapped_rows, single-filled}
 
 null_refused : (lists same : Bool) → ¬ (cond lists (Some Unsupported) (cond same (Some NullFill) (Some TypeMismatch)) ≡ None)
@@ -68,6 +69,10 @@ module _ (values filled : Leaf) (scalar : ScalarForm) (none : fill_fault (leaf_d
     (made : IfSome scalar.value (λ value. IsMade (fill_rows (leaf_rows values) value) (fill_dtype (leaf_dtype values)) filled)) where
   abbrev made_by : (v : FlatValue) × (scalar.value ≡ Some v) × IsMade (fill_rows (leaf_rows values) v) (fill_dtype (leaf_dtype values)) filled
   made_by = filling (leaf_dtype values) scalar (λ value. IsMade (fill_rows (leaf_rows values) value) (fill_dtype (leaf_dtype values)) filled) none made
+
+  -- in the form that a call computes
+  pub flat_computed : IsComputedLeaf filled
+  flat_computed = made_by.2.computed
 
   -- the same of rows that are written one by one
   pub flat_dtype : (dtype : DType) → leaf_dtype values ≡ dtype → leaf_dtype filled ≡ fill_dtype dtype

@@ -1,53 +1,16 @@
 -- Rows of the visible runs, and what is made of their values one by one.
-use Rattle.std.proofs.Common.{◌≡◌, ℕ, ◌+◌, ◌-◌, ◌<◌, zero, suc, List, [], ◌∷◌, Option, Some, None, length, map, refl, sym, ap, ◌∙◌, arith}
-use Rattle.std.specs.Prelude.{slice_range, option_map, IfOk, Result, Ok, Err}
+use Rattle.std.proofs.Common.{◌≡◌, ℕ, ◌+◌, ◌<◌, List, [], ◌∷◌, Option, Some, None, length, map, refl, sym, ap, ◌∙◌, arith}
+use Rattle.std.specs.Prelude.{option_map, IfOk, Result, Ok, Err}
 use Rattle.std.proofs.lemmas.List.{ext_get_or, length-map, get_or-map}
 use Rattle.std.proofs.lemmas.List.FromFn.{get_or-map-range_with_len}
 use Rattle.column_core.specs.Value.{FlatValue, Single, Value}
 use Rattle.column_ops.specs.Fill.{fill_rows}
-use Rattle.runend_codec.specs.Visible.{visible}
 use Rattle.runend_codec.specs.Window.{run_at, run_rows, IsWindow}
 use Rattle.runend_codec.proofs.RunAt.{run_of_row_within}
 use Rattle.runend_codec.proofs.RunRows.{length-run_rows}
-use Rattle.runend_codec.proofs.SlicedRuns.{slice_range-none, IsWindow-of_none}
-use Rattle.runend_codec.proofs.VisibleRuns.{visible_is}
-use Rattle.runend_codec.proofs.VisibleLaws.{length-visible_ends, rows_of_visible, window_of_visible}
 use Rattle.runend_array.specs.Column.{AreRuns, Runs, column_of_runs, column_rows}
-use Rattle.runend_map.specs.VisibleForm.{visible_ends, visible_values, window_start}
-
--- no rows have no visible items
-pub visible-none : {B : Type 0} (ends : List ℕ) (offset count : ℕ) (items : List B) → count ≡ 0 → slice_range items 0 0 ≡ visible ends offset count items
-visible-none ends offset zero items none = slice_range-none items 0 0 refl
-visible-none ends offset (suc n) items none = absurd (omega arith)
-
--- the items between the run of the first row and that of the last
-pub visible-between : {B : Type 0} (ends : List ℕ) (offset count : ℕ) (items : List B) (start stop : ℕ) → 0 < count
-    → start ≡ run_at ends (offset + 0) → stop ≡ run_at ends (offset + count - 1) + 1 → slice_range items start stop ≡ visible ends offset count items
-visible-between ends offset count items start stop some first last =
-    let place : offset + 0 ≡ offset = omega arith in
-    let from : start ≡ run_at ends offset = first ∙ ap (run_at ends) place in
-    ap (λ (k : ℕ). slice_range items k stop) from ∙ ap (λ (k : ℕ). slice_range items (run_at ends offset) k) last ∙ sym (visible_is ends offset count items some)
-
--- the visible runs are a window over as many rows
-window_at : (ends : List ℕ) (offset count : ℕ) → IsWindow ends offset count → IsWindow (visible ends offset count ends) (window_start count offset) count
-window_at ends offset zero window = IsWindow-of_none
-window_at ends offset (suc n) window = window_of_visible ends offset (suc n) window (omega arith)
-
-pub visible_window : (r : Runs) → AreRuns r → IsWindow (visible_ends r) (window_start r.count r.offset) r.count
-visible_window r runs = window_at r.ends r.offset r.count runs.window
-
--- with a value for each
-pub visible_paired : (r : Runs) → AreRuns r → length (visible_values r) ≡ length (visible_ends r)
-visible_paired r runs = length-visible_ends r.ends (column_rows r.values) r.offset r.count runs.window runs.paired
-
--- and they show the same rows
-rows_at : {B : Type 0} (ends : List ℕ) (values : List (Option B)) (offset count : ℕ) → IsWindow ends offset count → length values ≡ length ends
-    → run_rows (visible ends offset count ends) (visible ends offset count values) (window_start count offset) count ≡ run_rows ends values offset count
-rows_at ends values offset zero window paired = refl
-rows_at ends values offset (suc n) window paired = rows_of_visible ends values offset (suc n) window paired (omega arith)
-
-pub visible_rows : (r : Runs) → AreRuns r → run_rows (visible_ends r) (visible_values r) (window_start r.count r.offset) r.count ≡ column_rows (column_of_runs r)
-visible_rows r runs = rows_at r.ends (column_rows r.values) r.offset r.count runs.window runs.paired
+use Rattle.runend_visible.specs.VisibleForm.{visible_ends, visible_values, window_start}
+use Rattle.runend_visible.proofs.VisibleWindow.{visible_paired, visible_rows, visible_window}
 
 -- what is made of each value shows what is made of each row
 pub run_rows-map : {B C : Type 0} (f : Option B → Option C) (ends : List ℕ) (values : List (Option B)) (offset count : ℕ) → IsWindow ends offset count → length values ≡ length ends

@@ -7,3 +7,4 @@ pub mod KeptRows
 pub mod OneKind
 pub mod OwedRows
 pub mod PassedOn
+pub mod TakenForms

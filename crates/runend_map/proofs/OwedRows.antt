@@ -2,17 +2,19 @@
 use Rattle.std.proofs.Common.{◌≡◌, ℕ, ℤ, ◌+◌, ◌<◌, suc, List, [], ◌∷◌, ◌++◌, Bool, true, false, Option, Some, None, length, map, take, refl, sym, ap, subst, ◌∙◌, arith, get_or}
 use Rattle.std.specs.Prelude.{Contains, is_some, option_map, slice_get, unwrap_or, if◌then◌else◌}
 use Rattle.std.specs.List.{All, AllZip}
+use Rattle.std.proofs.lemmas.Bool.{false≢true}
 use Rattle.std.proofs.lemmas.List.{length-map, get_or-map, map_more, take_more}
 use Rattle.std.proofs.lemmas.List.Elements.{AllZip-get_or}
 use Rattle.std.proofs.lemmas.List.FromFn.{get_or-map-range_with_len}
 use Rattle.std.proofs.lemmas.Option.{slice_get_within}
 use Rattle.std.proofs.lemmas.Slice.Zip.{AllZip-long, all_zipped_more}
-use Rattle.column_base.specs.ValidityForm.{ValidityForm, flags}
+use Rattle.column_base.specs.ValidityForm.{AllNull, IsNormal, ValidityForm, flags}
 use Rattle.column_base.specs.declared.dtype.PType.{PType}
 use Rattle.column_base.specs.declared.dtype.DType.{DType}
 use Rattle.column_base.specs.declared.dtype.DType.TheVariants as column
 use Rattle.column_base.specs.declared.error.VortexError.TheVariants.{TypeMismatch}
-use Rattle.column_core.specs.Optionals.{optionals}
+use Rattle.column_core.specs.Computed.{AreComputed}
+use Rattle.column_core.specs.Optionals.{AreBlankAtNulls, optionals}
 use Rattle.column_core.specs.Value.{FlatValue, IsLists, Number, Single, Value}
 use Rattle.column_core.specs.Leaf.{Leaf, leaf_rows, single_rows}
 use Rattle.column_order.proofs.RowRanges.{get_or-read, length-single_rows}
@@ -25,8 +27,8 @@ use Rattle.runend_array.specs.SessionForm.{SessionForm, is_registered_in}
 use Rattle.runend_array.specs.declared.session.Kernel.TheVariants.{ScalarFn}
 use Rattle.runend_map.specs.Asked.{HasValidRuns, IsAsked, answered_rows, asked_rows}
 use Rattle.runend_map.specs.Owed.{IsMappedForm, IsMappedRuns, IsOwed, MayAsk, is_native, native_fault, number_row}
-use Rattle.runend_map.specs.VisibleForm.{visible_ends, visible_values, window_start}
-use Rattle.runend_map.proofs.KeptRows.{visible_paired, visible_rows, visible_window}
+use Rattle.runend_visible.specs.VisibleForm.{visible_ends, visible_values, window_start}
+use Rattle.runend_visible.proofs.VisibleWindow.{visible_paired, visible_rows, visible_window}
 
 -- one answer more
 pub zipped_next : {X Y : Type 0} (R : X → Y → Type 0) (xs : List X) (k : ℕ) (x : X) (y : Y) (ys zs : List Y) → slice_get xs k ≡ Some x → AllZip R (take k xs) ys → R x y → zs ≡ ys ++ y ∷ []
@@ -72,6 +74,27 @@ written_rows {T} {X} value number blank rows items form bits items_are flagged b
     ap (λ (bs : List Bool). map (option_map (λ (v : FlatValue). Single v)) (map (option_map value) (optionals items bs))) marks
     ∙ ap (λ (xs : List X). map (option_map (λ (v : FlatValue). Single v)) (map (option_map value) (optionals xs (map is_some rows)))) each
     ∙ shown_items value number blank rows
+
+-- under null stands the item of the blank one
+blank_items : {T X : Type 0} (number : T → X) (blank : T) (rows : List (Option T)) → AreBlankAtNulls (number blank) (map (λ (row : Option T). number (unwrap_or row blank)) rows) (map is_some rows)
+blank_items number blank [] = tt
+blank_items number blank (None ∷ rows) = ((λ null. refl), blank_items number blank rows)
+blank_items number blank (Some s ∷ rows) = ((λ null. absurd (false≢true (sym null))), blank_items number blank rows)
+
+-- items, and flags as they come of bits, are as a call computes them
+pub written_computed : {T X : Type 0} (number : T → X) (blank : T) (none : X) (rows : List (Option T)) (items : List X) (form : ValidityForm) (bits : List Bool) → number blank ≡ none
+    → items ≡ map number (map (λ (row : Option T). unwrap_or row blank) rows) → flags form (length bits) ≡ bits → bits ≡ map is_some rows → IsNormal form → (form ≡ AllNull → 0 < length bits)
+    → AreComputed none items form
+written_computed {T} {X} number blank none rows items form bits zeroth items_are flagged bits_are normal some =
+    let each : items ≡ map (λ (row : Option T). number (unwrap_or row blank)) rows = items_are ∙ twice number (λ (row : Option T). unwrap_or row blank) rows in
+    let long : length items ≡ length bits = ap length each ∙ length-map rows (λ (row : Option T). number (unwrap_or row blank)) ∙ sym (ap length bits_are ∙ length-map rows is_some) in
+    let marks : flags form (length items) ≡ map is_some rows = ap (flags form) long ∙ flagged ∙ bits_are in
+    record {
+      blanked = subst (AreBlankAtNulls none items) (sym marks) (subst (λ (xs : List X). AreBlankAtNulls none xs (map is_some rows)) (sym each)
+          (subst (λ (b : X). AreBlankAtNulls b (map (λ (row : Option T). number (unwrap_or row blank)) rows) (map is_some rows)) zeroth (blank_items number blank rows)));
+      normal = normal;
+      some = λ null. subst (λ (n : ℕ). 0 < n) (sym long) (some null);
+    }
 
 -- the rows of whole numbers, from their items
 native_rows : {S : Type 0} (number : S → ℤ) (items : List S) (bits : List Bool)

@@ -1,16 +1,12 @@
 -- Refusals that are passed on, and what is known of a branch.
-use Rattle.std.proofs.Common.{◌≡◌, ◌∙◌, ◌-◌, ◌<◌, ℕ, zero, suc, false, List, length, refl, arith}
+use Rattle.std.proofs.Common.{◌≡◌, ◌∙◌, ◌-◌, false, List, length, refl, arith}
 use Rattle.std.specs.Prelude.{Result, Ok, Err, IfOk, IsErr, IsErrAnd, IsOkUnless, slice_range}
 use Rattle.std.proofs.lemmas.List.{take_all}
 use Rattle.column_base.specs.declared.dtype.DType.{DType}
 use Rattle.column_base.specs.declared.dtype.DType.TheVariants as column
 use Rattle.column_base.specs.declared.dtype.Nullability.{Nullability}
 use Rattle.column_base.specs.declared.dtype.PType.{PType}
-use Rattle.column_core.specs.Value.{IsLists}
-use Rattle.runend_array.specs.Column.{Column, IsFlat, Runs}
 use Rattle.runend_map.specs.Codes.{keeps_runs}
-use Rattle.runend_map.specs.Owed.{IsMappedRuns}
-use Rattle.runend_map.specs.VisibleForm.{window_start}
 
 -- nothing is asked of the value of a refusal
 pub no_value : {T E : Type 0} (P : T → Type 0) (result : Result T E) → IsErr result → IfOk result P
@@ -21,11 +17,6 @@ no_value P (Err error) refused = tt
 pub only_error : {T E : Type 0} (result : Result T E) (error one : E) → IsErrAnd result (λ e. e ≡ error) → error ≡ one → IsOkUnless result one
 only_error (Ok value) error one passed same = tt
 only_error (Err other) error one passed same = passed ∙ same
-
--- the window over visible runs begins where it began, unless it has no rows
-pub start_of_rows : (count offset : ℕ) → ¬ (count ≡ 0) → offset ≡ window_start count offset
-start_of_rows zero offset some = absurd (some refl)
-start_of_rows (suc n) offset some = refl
 
 -- only runs over whole numbers and truth values are kept
 pub others_lose : (dtype : DType) → ((n : Nullability) → ¬ (dtype ≡ column.Bool n)) → ((t : PType) (n : Nullability) → ¬ (dtype ≡ column.Primitive t n)) → false ≡ keeps_runs dtype
@@ -39,17 +30,3 @@ others_lose (column.List e n) truths numbers = refl
 -- the range of all items
 pub whole_range : {X : Type 0} (xs : List X) → slice_range xs 0 (length xs) ≡ xs
 whole_range xs = take_all (length xs - 0) xs (omega arith)
-
--- there is a row where there are not none
-pub some_rows : (count : ℕ) → ¬ (count ≡ 0) → 0 < count
-some_rows zero some = absurd (some refl)
-some_rows (suc n) some = omega arith
-
--- over lists no runs are kept
-pub lists_flat : (dtype : DType) (r : Runs) (mapped : Column) → IsLists dtype → IsFlat mapped → IsMappedRuns (keeps_runs dtype) r mapped
-lists_flat (column.Bool n) r mapped lists flat = absurd lists
-lists_flat (column.Primitive t n) r mapped lists flat = absurd lists
-lists_flat (column.Decimal d n) r mapped lists flat = flat
-lists_flat (column.Utf8 n) r mapped lists flat = flat
-lists_flat (column.Binary n) r mapped lists flat = flat
-lists_flat (column.List e n) r mapped lists flat = flat

@@ -7,10 +7,11 @@ use Rattle.column_base.specs.declared.dtype.DType.TheVariants as column
 use Rattle.column_base.specs.declared.error.VortexError.{VortexError}
 use Rattle.column_base.specs.declared.error.VortexError.TheVariants.{TypeMismatch}
 use Rattle.column_core.specs.Value.{Number, Single, Truth, Value}
-use Rattle.runend_array.specs.Column.{Column, OfLeaf, OfConstant, OfLists, OfRuns, IsFlat, Runs, runs_with}
+use Rattle.runend_array.specs.Column.{Column, OfLeaf, OfConstant, OfLists, OfRuns, Runs, runs_with}
+use Rattle.runend_array.specs.Encoding.{IsComputedFlat}
 use Rattle.runend_array.specs.SessionForm.{SessionForm, is_registered_in}
 use Rattle.runend_array.specs.declared.session.Kernel.TheVariants.{ScalarFn}
-use Rattle.runend_map.specs.VisibleForm.{IsOverVisibleRuns}
+use Rattle.runend_visible.specs.VisibleForm.{IsOverVisibleRuns}
 
 -- an optional native value, whose number is known, as a row
 abbrev pub number_row : {S : Type 0} → (S → ℤ) → Option S → Option Value
@@ -45,15 +46,15 @@ is_native ptype (column.List e n) = false
 abbrev pub native_fault : PType → DType → Option VortexError
 native_fault ptype dtype = if is_native ptype dtype then None else Some TypeMismatch
 
--- the visible runs are kept, or not
+-- the visible runs are kept, or the answers are flat as a call computes them
 abbrev pub IsMappedRuns : Bool → Runs → Column → Type 0
 IsMappedRuns true runs mapped = IsOverVisibleRuns runs mapped
-IsMappedRuns false runs mapped = IsFlat mapped
+IsMappedRuns false runs mapped = IsComputedFlat mapped
 
 -- a run column keeps its visible runs where scalar functions are registered; else the answers are flat
 abbrev pub IsMappedForm : SessionForm → Column → Column → Type 0
-IsMappedForm session (OfLeaf leaf) mapped = IsFlat mapped
-IsMappedForm session (OfConstant constant) mapped = IsFlat mapped
-IsMappedForm session (OfLists lists) mapped = IsFlat mapped
+IsMappedForm session (OfLeaf leaf) mapped = IsComputedFlat mapped
+IsMappedForm session (OfConstant constant) mapped = IsComputedFlat mapped
+IsMappedForm session (OfLists lists) mapped = IsComputedFlat mapped
 IsMappedForm session (OfRuns ends_type ends values offset count) mapped =
     IsMappedRuns (is_registered_in session ScalarFn) (runs_with ends_type ends values offset count) mapped

@@ -6,6 +6,7 @@ ghost use Rattle.column_base.specs.declared.dtype.Nullability.TheVariants.{Nulla
 ghost use Rattle.column_base.specs.ValidityForm.{HasLength, flags};
 ghost use Rattle.column_base.specs.Validity.{form_of};
 ghost use Rattle.column_core.specs.BoolForm.{bool_dtype};
+ghost use Rattle.column_core.specs.Computed.{IsComputed, IsComputedLeaf};
 ghost use Rattle.column_core.specs.Leaf.{OfNumbers, OfTruths, single_rows};
 ghost use Rattle.column_core.specs.Optionals.{optionals};
 ghost use Rattle.column_core.specs.PrimitiveForm.{primitive_dtype};
@@ -105,6 +106,7 @@ pub(crate) fn column_of_numbers<T: NativePType, A: Allocator + Copy>(
     ensures only { IsOkUnless result VortexError.OutOfMemory }
     ensures rows { IfOk result (λ array. single_rows (OfNumbers array) ≡ map (number_row T.number) rows.now) }
     ensures dtype { IfOk result (λ array. primitive_dtype array ≡ column.Primitive T.PTYPE Nullable) }
+    ensures computed { IfOk result IsComputed }
 {
     let items = items_of(alloc, rows, T::default())?;
     let flags = flags_of(alloc, rows)?;
@@ -120,6 +122,7 @@ pub(crate) fn column_of_truths<A: Allocator + Copy>(
     ensures only { IsOkUnless result VortexError.OutOfMemory }
     ensures rows { IfOk result (λ array. single_rows (OfTruths array) ≡ map truth_row rows.now) }
     ensures dtype { IfOk result (λ array. bool_dtype array ≡ column.Bool Nullable) }
+    ensures computed { IfOk result (λ array. IsComputedLeaf (OfTruths array)) }
 {
     let bits = bits_of(alloc, rows)?;
     let flags = flags_of(alloc, rows)?;

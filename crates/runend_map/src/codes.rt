@@ -1,5 +1,6 @@
 //! Run columns of codes, and what their dictionaries have for them.
 ghost use Rattle.std.specs.Prelude.{◌≡◌, true, length, map, IfOk, IsOkUnless};
+ghost use Rattle.column_core.specs.Computed.{IsComputedLeaf};
 ghost use Rattle.column_core.specs.FlatColumn.{leaf_of};
 ghost use Rattle.column_core.specs.Leaf.{leaf_dtype, leaf_rows, single_rows};
 ghost use Rattle.column_core.specs.PrimitiveForm.{optional_numbers, primitive_dtype};
@@ -11,13 +12,14 @@ ghost use Rattle.runend_codec.specs.Window.{run_rows};
 ghost use Rattle.runend_array.specs.Array.{column_of, dtype_of, rows};
 ghost use Rattle.runend_array.specs.Column.{AreRuns, column_dtype, column_of_runs, column_rows, plain_of};
 ghost use Rattle.runend_map.specs.Codes.{keeps_runs};
-ghost use Rattle.runend_map.specs.Owed.{IsMappedRuns};
-ghost use Rattle.runend_map.specs.VisibleForm.{visible_ends, visible_values as values_of_visible, window_start};
+ghost use Rattle.runend_map.specs.TakenForm.{IsTakenForm};
+ghost use Rattle.runend_visible.specs.VisibleForm.{visible_ends, visible_values as values_of_visible, window_start};
 
-use crate::visible::{over_visible_runs, shown_rows, visible_values};
+use crate::visible::shown_rows;
 use column_core::{DType, FlatColumn, PrimitiveArray, VortexError, VortexResult, is_number_type};
 use column_ops::ColumnOps;
 use runend_array::{ArrayRef, ExecutionCtx, RunEndArray, RunEndArrayExt, array_of};
+use runend_visible::{over_runs, visible_values};
 use std::alloc::Allocator;
 
 // Is it a type over whose values runs of codes are kept?
@@ -57,13 +59,14 @@ fn placed<A: Allocator + Copy>(
     alloc: A,
 ) -> VortexResult<ArrayRef<A>>
     requires paired { length (leaf_rows (leaf_of taken)) ≡ length (values_of_visible codes.now) }
+    requires computed { IsComputedLeaf (leaf_of taken) }
     ensures only { IsOkUnless result VortexError.OutOfMemory }
     ensures rows { IfOk result (λ part. rows part ≡ run_rows (visible_ends codes.now) (single_rows (leaf_of taken)) (window_start codes.now.count codes.now.offset) codes.now.count) }
     ensures dtype { IfOk result (λ part. dtype_of part ≡ leaf_dtype (leaf_of taken)) }
-    ensures form { IfOk result (λ part. IsMappedRuns kept codes.now (column_of part)) }
+    ensures form { IfOk result (λ part. IsTakenForm kept (leaf_dtype (leaf_of taken)) codes.now (column_of part)) }
 {
     if kept {
-        let part = over_visible_runs(codes, taken, alloc)?;
+        let part = over_runs(codes, taken, alloc)?;
         Ok(part)
     } else {
         let flat = shown_rows(codes, taken, alloc)?;
@@ -72,8 +75,10 @@ fn placed<A: Allocator + Copy>(
 }
 
 /// The dictionary's row for each code, null for null, in a type with null where the dictionary's or the codes'
-/// has: of a dictionary of whole numbers or truth values a run column of the visible runs, with flat values,
-/// else a flat column. Only codes of visible runs are looked at.
+/// has. Of a dictionary of whole numbers it is a run column in least form: no run is hidden, neighbours differ
+/// (null equal to null), the offset is 0 and the last end the length; of one of truth values it is a run column
+/// of the visible runs; both have flat values and ends of the same type. Of any other it is a flat column.
+/// Only codes of visible runs are looked at.
 ///
 /// Refused as `TypeMismatch` unless the codes are whole numbers; then as `OutOfBounds`, with the code and the
 /// number of rows of the dictionary, at the first code that is no null and is negative or not below that
@@ -86,7 +91,7 @@ pub(crate) fn take_from_flat<A: Allocator + Copy>(
     ensures refused { IsRefusedBy (code_fault (plain_of (column_of_runs codes.now)) (length (leaf_rows (leaf_of dictionary.now)))) result }
     ensures rows { IfOk result (λ taken. rows taken ≡ code_rows (single_rows (leaf_of dictionary.now)) (column_rows (column_of_runs codes.now))) }
     ensures dtype { IfOk result (λ taken. dtype_of taken ≡ take_dtype (leaf_dtype (leaf_of dictionary.now)) (column_dtype codes.now.values)) }
-    ensures form { IfOk result (λ taken. IsMappedRuns (keeps_runs (leaf_dtype (leaf_of dictionary.now))) codes.now (column_of taken)) }
+    ensures form { IfOk result (λ taken. IsTakenForm (keeps_runs (leaf_dtype (leaf_of dictionary.now))) (leaf_dtype (leaf_of dictionary.now)) codes.now (column_of taken)) }
     ensures session { ctx.new ≡ ctx.old }
 {
     if !is_number_type(codes.dtype()) {

@@ -4,6 +4,7 @@ ghost use Rattle.column_base.specs.declared.dtype.DType.TheVariants as column;
 ghost use Rattle.column_base.specs.declared.dtype.Nullability.TheVariants.{Nullable};
 ghost use Rattle.column_base.specs.Types.{nullability_of};
 ghost use Rattle.column_core.specs.BoolForm.{bool_dtype};
+ghost use Rattle.column_core.specs.Computed.{IsComputedLeaf};
 ghost use Rattle.column_core.specs.FlatColumn.{leaf_of};
 ghost use Rattle.column_core.specs.Leaf.{OfTruths, leaf_dtype, leaf_rows, single_rows};
 ghost use Rattle.column_core.specs.Refusal.{IsRefusedBy};
@@ -11,17 +12,18 @@ ghost use Rattle.column_core.specs.Value.{IsLists, MayBeNull, Single};
 ghost use Rattle.column_order.specs.CompareFault.{compare_column_fault, compare_scalar_fault};
 ghost use Rattle.column_order.specs.Comparing.{compare_dtype, compare_rows, compare_with};
 ghost use Rattle.runend_array.specs.Array.{column_of, dtype_of, rows};
-ghost use Rattle.runend_array.specs.Column.{IsFlat, OfConstant, column_dtype, column_of_runs, column_rows};
-ghost use Rattle.runend_array.specs.Encoding.{IsDecodedForm};
+ghost use Rattle.runend_array.specs.Column.{OfConstant, column_dtype, column_of_runs, column_rows};
+ghost use Rattle.runend_array.specs.Encoding.{IsComputedFlat, IsDecodedForm};
 ghost use Rattle.runend_map.specs.ComparisonForm.{IsComparisonForm, IsNullConstant};
 
 use crate::decoded::flat_rows;
-use crate::visible::{shown_rows, shown_truths, visible_values};
+use crate::visible::{shown_rows, shown_truths};
 use column_core::{
     BoolArray, DType, FlatColumn, Nullability, Scalar, ScalarView, VortexError, VortexResult,
 };
 use column_order::{CompareOperator, FlatOrder, column_fault};
 use runend_array::{ArrayRef, ConstantArray, ExecutionCtx, RunEndArray, RunEndArrayExt};
+use runend_visible::visible_values;
 use std::alloc::Allocator;
 
 // Why a column is not compared with another one.
@@ -91,6 +93,7 @@ fn compare_flat<A: Allocator + Copy>(
     ensures only { IsOkUnless result VortexError.OutOfMemory }
     ensures rows { IfOk result (λ truths. single_rows (OfTruths truths) ≡ compare_rows operator (single_rows (leaf_of left.now)) (rows right.now)) }
     ensures dtype { IfOk result (λ truths. bool_dtype truths ≡ compare_dtype (leaf_dtype (leaf_of left.now)) (dtype_of right.now)) }
+    ensures computed { IfOk result (λ truths. IsComputedLeaf (OfTruths truths)) }
 {
     let right = flat_rows(right, alloc)?;
     let truths = left.compare_column(alloc, operator, &right);
@@ -110,7 +113,7 @@ fn compare_beside<A: Allocator + Copy>(
     ensures only { IsOkUnless result VortexError.OutOfMemory }
     ensures rows { IfOk result (λ truths. rows truths ≡ compare_rows operator (column_rows (column_of_runs array.now)) (rows right.now)) }
     ensures dtype { IfOk result (λ truths. dtype_of truths ≡ compare_dtype (column_dtype array.now.values) (dtype_of right.now)) }
-    ensures form { IfOk result (λ truths. IsFlat (column_of truths)) }
+    ensures form { IfOk result (λ truths. IsComputedFlat (column_of truths)) }
     ensures session { ctx.new ≡ ctx.old }
 {
     let alloc = *ctx.allocator();

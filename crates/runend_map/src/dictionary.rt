@@ -1,5 +1,5 @@
 //! Rows of dictionaries of any form, taken by codes.
-ghost use Rattle.std.specs.Prelude.{◌≡◌, true, length, IfOk, IsOkUnless};
+ghost use Rattle.std.specs.Prelude.{◌≡◌, Err, true, false, length, IfOk, IsOkUnless};
 ghost use Rattle.column_core.specs.FlatColumn.{leaf_of};
 ghost use Rattle.column_core.specs.Leaf.{leaf_dtype, single_rows};
 ghost use Rattle.column_core.specs.PrimitiveForm.{optional_numbers, primitive_dtype};
@@ -8,16 +8,18 @@ ghost use Rattle.column_ops.specs.Cast.{is_numbers};
 ghost use Rattle.column_ops.specs.Codes.{code_fault, code_numbers, code_rows};
 ghost use Rattle.column_ops.specs.Nullable.{take_dtype};
 ghost use Rattle.runend_array.specs.Array.{column_of, dtype_of, rows};
-ghost use Rattle.runend_array.specs.Column.{IsFlat, column_dtype, column_of_runs, column_rows, plain_of};
+ghost use Rattle.runend_array.specs.Column.{column_dtype, column_of_runs, column_rows, plain_of};
+ghost use Rattle.runend_array.specs.Encoding.{IsComputedFlat};
 ghost use Rattle.runend_map.specs.Codes.{keeps_runs};
-ghost use Rattle.runend_map.specs.Owed.{IsMappedRuns};
+ghost use Rattle.runend_map.specs.TakenForm.{IsTakenForm};
 
 use crate::codes::take_from_flat;
 use crate::decoded::flat_rows;
-use crate::visible::{is_lists, shown_rows, visible_values};
+use crate::visible::{is_lists, shown_rows};
 use column_core::{FlatColumn, PrimitiveArray, VortexError, VortexResult, is_number_type};
 use runend_array::{ArrayRef, ExecutionCtx, RunEndArray, RunEndArrayExt};
 use runend_select::take_rows;
+use runend_visible::visible_values;
 use std::alloc::Allocator;
 
 // The codes of a flat column of whole numbers.
@@ -57,7 +59,7 @@ fn take_each<A: Allocator + Copy>(
     ensures refused { IsRefusedBy (code_fault (plain_of (column_of_runs codes.now)) (length (rows dictionary.now))) result }
     ensures rows { IfOk result (λ taken. rows taken ≡ code_rows (rows dictionary.now) (column_rows (column_of_runs codes.now))) }
     ensures dtype { IfOk result (λ taken. dtype_of taken ≡ take_dtype (dtype_of dictionary.now) (column_dtype codes.now.values)) }
-    ensures flat { IfOk result (λ taken. IsFlat (column_of taken)) }
+    ensures flat { IfOk result (λ taken. IsComputedFlat (column_of taken)) }
     ensures session { ctx.new ≡ ctx.old }
 {
     let alloc = *ctx.allocator();
@@ -68,11 +70,13 @@ fn take_each<A: Allocator + Copy>(
 }
 
 /// The dictionary's row for each code, null for null, in a type with null where the dictionary's or the codes'
-/// has: of a dictionary of whole numbers or truth values a run column of the visible runs, with flat values,
-/// else a flat column. The dictionary may be of any form and of any kind, and of the codes only those of
-/// visible runs are looked at.
+/// has. Of a dictionary of whole numbers it is a run column in least form: no run is hidden, neighbours differ
+/// (null equal to null), the offset is 0 and the last end the length; of one of truth values it is a run column
+/// of the visible runs; both have flat values and ends of the same type. Of any other it is a flat column.
+/// The dictionary may be of any form and of any kind, and of the codes only those of visible runs are looked
+/// at.
 ///
-/// Refused as `TypeMismatch` unless the codes are whole numbers, and that before any memory is taken; then as
+/// Refused as `TypeMismatch` unless the codes are whole numbers, however little memory there is; then as
 /// `OutOfBounds`, with the code and the number of rows of the dictionary, at the first code that is no null
 /// and is negative or not below that number; else as `OutOfMemory` alone.
 pub fn take_from<A: Allocator + Copy>(
@@ -81,9 +85,10 @@ pub fn take_from<A: Allocator + Copy>(
     ctx: &mut ExecutionCtx<A>,
 ) -> VortexResult<ArrayRef<A>>
     ensures refused { IsRefusedBy (code_fault (plain_of (column_of_runs codes.now)) (length (rows dictionary.now))) result }
+    ensures typed { is_numbers (column_dtype codes.now.values) ≡ false → result ≡ Err VortexError.TypeMismatch }
     ensures rows { IfOk result (λ taken. rows taken ≡ code_rows (rows dictionary.now) (column_rows (column_of_runs codes.now))) }
     ensures dtype { IfOk result (λ taken. dtype_of taken ≡ take_dtype (dtype_of dictionary.now) (column_dtype codes.now.values)) }
-    ensures form { IfOk result (λ taken. IsMappedRuns (keeps_runs (dtype_of dictionary.now)) codes.now (column_of taken)) }
+    ensures form { IfOk result (λ taken. IsTakenForm (keeps_runs (dtype_of dictionary.now)) (dtype_of dictionary.now) codes.now (column_of taken)) }
     ensures session { ctx.new ≡ ctx.old }
 {
     if !is_number_type(codes.dtype()) {
@@ -102,7 +107,7 @@ pub fn take_from<A: Allocator + Copy>(
 /// The dictionary's row for each code, null for null, flat, in a type with null where the dictionary's or the
 /// codes' has. Both may be of any form, and the dictionary of any kind.
 ///
-/// Refused as `TypeMismatch` unless the codes are whole numbers, and that before any memory is taken; then as
+/// Refused as `TypeMismatch` unless the codes are whole numbers, however little memory there is; then as
 /// `OutOfBounds`, with the code and the number of rows of the dictionary, at the first code that is no null
 /// and is negative or not below that number; else as `OutOfMemory` alone.
 pub fn take_from_rows<A: Allocator + Copy>(
@@ -111,9 +116,10 @@ pub fn take_from_rows<A: Allocator + Copy>(
     ctx: &mut ExecutionCtx<A>,
 ) -> VortexResult<ArrayRef<A>>
     ensures refused { IsRefusedBy (code_fault (plain_of (column_of codes.now)) (length (rows dictionary.now))) result }
+    ensures typed { is_numbers (dtype_of codes.now) ≡ false → result ≡ Err VortexError.TypeMismatch }
     ensures rows { IfOk result (λ taken. rows taken ≡ code_rows (rows dictionary.now) (rows codes.now)) }
     ensures dtype { IfOk result (λ taken. dtype_of taken ≡ take_dtype (dtype_of dictionary.now) (dtype_of codes.now)) }
-    ensures flat { IfOk result (λ taken. IsFlat (column_of taken)) }
+    ensures flat { IfOk result (λ taken. IsComputedFlat (column_of taken)) }
     ensures session { ctx.new ≡ ctx.old }
 {
     if !is_number_type(codes.dtype()) {

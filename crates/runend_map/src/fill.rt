@@ -5,16 +5,19 @@ ghost use Rattle.column_core.specs.Value.{Single};
 ghost use Rattle.column_ops.specs.Fill.{fill_dtype, fill_fault, fill_rows};
 ghost use Rattle.runend_array.specs.Array.{column_of, dtype_of, rows};
 ghost use Rattle.runend_array.specs.Column.{column_dtype, column_of_runs, column_rows};
-ghost use Rattle.runend_map.specs.VisibleForm.{IsOverVisibleRuns};
+ghost use Rattle.runend_visible.specs.LeastForm.{IsRunForm};
 
-use crate::visible::{is_lists, over_visible_runs, visible_values};
+use crate::visible::is_lists;
 use column_core::{Scalar, VortexError, VortexResult};
 use column_ops::ColumnOps;
 use runend_array::{ArrayRef, ExecutionCtx, RunEndArray, RunEndArrayExt};
+use runend_visible::{over_runs, visible_values};
 use std::alloc::Allocator;
 
 /// The rows with the scalar's value in place of each null, of the column's kind and without null: a run
-/// column of the visible runs, with flat values. Work is by visible runs.
+/// column with flat values and ends of the same type. Of whole numbers it is in least form: no run is hidden,
+/// neighbours differ, the offset is 0 and the last end the length. Of other types it has the visible runs.
+/// Work is by visible runs.
 ///
 /// Refused as `Unsupported` for lists; then as `TypeMismatch` for a scalar of another kind; then as
 /// `NullFill` for null; else as `OutOfMemory` alone.
@@ -26,7 +29,7 @@ pub fn fill_null<A: Allocator + Copy>(
     ensures refused { IsRefusedBy (fill_fault (column_dtype array.now.values) value.now) result }
     ensures rows { IfOk result (λ filled. IfSome value.now.value (λ flat. rows filled ≡ fill_rows (column_rows (column_of_runs array.now)) (Single flat))) }
     ensures dtype { IfOk result (λ filled. dtype_of filled ≡ fill_dtype (column_dtype array.now.values)) }
-    ensures form { IfOk result (λ filled. IsOverVisibleRuns array.now (column_of filled)) }
+    ensures form { IfOk result (λ filled. IsRunForm (fill_dtype (column_dtype array.now.values)) array.now (column_of filled)) }
     ensures session { ctx.new ≡ ctx.old }
 {
     if is_lists(array.dtype()) {
@@ -37,5 +40,5 @@ pub fn fill_null<A: Allocator + Copy>(
     let made = values.fill_null(alloc, value);
     drop(values);
     let filled = made?;
-    over_visible_runs(array, filled, alloc)
+    over_runs(array, filled, alloc)
 }

@@ -6,7 +6,8 @@ ghost use Rattle.column_core.specs.Value.{Single};
 ghost use Rattle.column_ops.specs.Cast.{cast_fault};
 ghost use Rattle.column_ops.specs.Fill.{fill_dtype, fill_fault, fill_rows as filled_rows};
 ghost use Rattle.runend_array.specs.Array.{column_of, dtype_of, rows};
-ghost use Rattle.runend_array.specs.Column.{IsFlat, plain_of};
+ghost use Rattle.runend_array.specs.Column.{plain_of};
+ghost use Rattle.runend_array.specs.Encoding.{IsComputedFlat};
 
 use crate::decoded::flat_rows;
 use crate::visible::is_lists;
@@ -26,7 +27,7 @@ pub fn fill_rows<A: Allocator + Copy>(
     ensures refused { IsRefusedBy (fill_fault (dtype_of array.now) value.now) result }
     ensures rows { IfOk result (λ filled. IfSome value.now.value (λ flat. rows filled ≡ filled_rows (rows array.now) (Single flat))) }
     ensures dtype { IfOk result (λ filled. dtype_of filled ≡ fill_dtype (dtype_of array.now)) }
-    ensures form { IfOk result (λ filled. IsFlat (column_of filled)) }
+    ensures form { IfOk result (λ filled. IsComputedFlat (column_of filled)) }
     ensures session { ctx.new ≡ ctx.old }
 {
     if is_lists(array.dtype()) {
@@ -51,7 +52,7 @@ pub fn cast_rows<A: Allocator + Copy>(
     ensures refused { IsRefusedBy (cast_fault (plain_of (column_of array.now)) dtype) result }
     ensures rows { IfOk result (λ cast. rows cast ≡ rows array.now) }
     ensures dtype { IfOk result (λ cast. dtype_of cast ≡ dtype) }
-    ensures form { IfOk result (λ cast. IsFlat (column_of cast)) }
+    ensures form { IfOk result (λ cast. IsComputedFlat (column_of cast)) }
     ensures session { ctx.new ≡ ctx.old }
 {
     if is_lists(array.dtype()) {

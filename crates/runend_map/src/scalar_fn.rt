@@ -3,6 +3,7 @@ ghost use Rattle.std.specs.Prelude.{◌≡◌, ◌↔◌, true, length, map, opt
 ghost use Rattle.std.specs.List.{AllZip};
 ghost use Rattle.column_base.specs.declared.dtype.DType.TheVariants as types;
 ghost use Rattle.column_base.specs.declared.dtype.Nullability.TheVariants.{Nullable};
+ghost use Rattle.column_core.specs.Computed.{IsComputedLeaf};
 ghost use Rattle.column_core.specs.FlatColumn.{leaf_of};
 ghost use Rattle.column_core.specs.Leaf.{leaf_dtype, leaf_rows, single_rows};
 ghost use Rattle.column_core.specs.Refusal.{IsRefusedBy};
@@ -13,9 +14,10 @@ ghost use Rattle.runend_map.specs.Owed.{IsMappedForm, IsOwed, MayAsk, is_native,
 
 use crate::answers::{answers, column_of_numbers, column_of_truths};
 use crate::decoded::flat_rows;
-use crate::visible::{over_visible_runs, shown_rows, visible_values};
+use crate::visible::shown_rows;
 use column_core::{DType, FlatColumn, NativePType, VortexError, VortexResult};
 use runend_array::{ArrayRef, ExecutionCtx, Kernel, array_of};
+use runend_visible::{over_visible_runs, visible_values};
 use std::alloc::Allocator;
 
 // Is it the type of these native numbers?
@@ -87,6 +89,7 @@ fn answered<A: Allocator + Copy>(
     ctx: &mut ExecutionCtx<A>,
 ) -> VortexResult<ArrayRef<A>>
     requires paired { length (leaf_rows (leaf_of answers)) ≡ length (asked_rows (column_of column.now)) }
+    requires computed { IsComputedLeaf (leaf_of answers) }
     ensures only { IsOkUnless result VortexError.OutOfMemory }
     ensures rows { IfOk result (λ mapped. rows mapped ≡ answered_rows (column_of column.now) (single_rows (leaf_of answers))) }
     ensures dtype { IfOk result (λ mapped. dtype_of mapped ≡ leaf_dtype (leaf_of answers)) }

@@ -26,8 +26,11 @@ fault_by : (mask rows : ℕ) (b : Bool) → (mask == rows) ≡ b → mask ≢ ro
 fault_by mask rows true is other = absurd (other ((Decides-eqb mask rows).0 is))
 fault_by mask rows false is other = refl
 
+pub fault_told : (mask rows x y : ℕ) → mask ≢ rows → x ≡ mask → y ≡ rows → filter_fault mask rows ≡ Some (MaskLength x y)
+fault_told mask rows x y other left right = fault_by mask rows (mask == rows) refl other ∙ (λ i. Some (MaskLength (sym left i) (sym right i)))
+
 pub fault_here : (mask rows x y : ℕ) → mask ≢ rows → x ≡ mask → y ≡ rows → IsErrorFor (filter_fault mask rows) (MaskLength x y)
-fault_here mask rows x y other left right = inr (fault_by mask rows (mask == rows) refl other ∙ (λ i. Some (MaskLength (sym left i) (sym right i))))
+fault_here mask rows x y other left right = inr (fault_told mask rows x y other left right)
 
 pub all_selected : {B : Type 0} (n : ℕ) (rows : List B) → n ≡ length rows → rows ≡ filter_rows (replicate n true) rows
 all_selected zero [] h = refl

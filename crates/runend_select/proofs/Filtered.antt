@@ -11,7 +11,8 @@ use Rattle.column_ops.specs.Filter.{filter_rows}
 use Rattle.runend_codec.specs.Window.{IsWindow, run_at, run_rows}
 use Rattle.runend_codec.proofs.RunRows.{length-run_rows}
 use Rattle.runend_select.specs.KeptRuns.{AreKept, selected_before}
-use Rattle.runend_select.proofs.Grown.{Grown, Grown-none, Grown-push, IsWindow-grown, run_rows-push}
+use Rattle.runend_select.proofs.Grown.{Grown, Grown-none, Grown-push, IsWindow-grown, AllHaveRows-grown, run_rows-push}
+use Rattle.runend_join.specs.Joined.{AllHaveRows}
 use Rattle.runend_select.proofs.KeptSoFar.{HasSelectedRow-counted, counted-HasSelectedRow}
 use Rattle.runend_select.proofs.Reached.{reached, reached-all, reached-le, run_at-reached}
 use Rattle.runend_select.proofs.Selected.{at_set, filter_rows-append, filter_rows-replicate, set_at, set_bits, set_bits-split, take-split}
@@ -162,6 +163,12 @@ module _ {B : Type 0} (ends : List ℕ) (values : List (Option B)) (offset count
       let small = window.small in
       let counted : set_bits (take (reached ends offset count (length ends)) bits) ≡ set_bits bits = ap set_bits (take_all (reached ends offset count (length ends)) bits (let e = all_rows in omega arith)) in
       rw (← counted) (IsWindow-grown kept_ends (filter_rows kept values) (set_bits (take (reached ends offset count (length ends)) bits)) (omega arith) whole.grown)
+
+  -- each kept run shows a row
+  pub AllHaveRows-filtered : AllHaveRows kept_ends 0 (set_bits bits)
+  AllHaveRows-filtered =
+      let counted : set_bits (take (reached ends offset count (length ends)) bits) ≡ set_bits bits = ap set_bits (take_all (reached ends offset count (length ends)) bits (let e = all_rows in omega arith)) in
+      rw (← counted) (AllHaveRows-grown kept_ends (filter_rows kept values) (set_bits (take (reached ends offset count (length ends)) bits)) whole.grown)
 
   -- the kept runs show the selected rows
   pub run_rows-filtered : run_rows kept_ends (filter_rows kept values) 0 (set_bits bits) ≡ filter_rows bits (run_rows ends values offset count)

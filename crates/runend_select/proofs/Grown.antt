@@ -5,6 +5,8 @@ use Rattle.std.proofs.lemmas.List.{ext_get_or, length-replicate, get_or_push, ge
 use Rattle.std.proofs.lemmas.List.FromFn.{length-map-range_with_len, get_or-map-range_with_len}
 use Rattle.std.specs.List.Sorted.{IsStrictlyIncreasing}
 use Rattle.runend_codec.specs.Window.{IsWindow, last_end, run_at, run_rows}
+use Rattle.runend_join.specs.Joined.{AllHaveRows}
+use Rattle.runend_join.proofs.Joining.{AllHaveRows-exact}
 use Rattle.runend_codec.proofs.RunAt.{run_at-here, run_at-past, run_at_is, run_at_within}
 
 -- runs that end at so many rows or before, the last of them there
@@ -14,6 +16,7 @@ pub record Grown {B : Type 0} (ends : List ℕ) (values : List (Option B)) (rows
   pub low : (j : ℕ) → j < length ends → slice_index ends j ≤ rows
   pub some : 0 < rows → 0 < length ends
   pub last : 0 < rows → rows ≤ last_end ends
+  pub filled : 0 < length ends → 0 < slice_index ends 0
 
 pub Grown-none : {B : Type 0} → Grown {B = B} [] [] 0
 Grown-none = record {
@@ -22,6 +25,7 @@ Grown-none = record {
   low = λ j h. absurd (omega arith);
   some = λ h. absurd (omega arith);
   last = λ h. absurd (omega arith);
+  filled = λ h. absurd (omega arith);
 }
 
 get_or-left : {A : Type 0} (xs ys : List A) (k : ℕ) (d : A) → k < length xs → get_or (xs ++ ys) k d ≡ get_or xs k d
@@ -51,6 +55,10 @@ Grown-push ends values rows more value some g =
       ];
       some = λ h. omega arith;
       last = λ h. rw (place, get_or-last ends (rows + more) (length ends) 0 refl) (omega arith);
+      filled = λ h. elim (cases_lt 0 (length ends)) [
+        | inl inside ↦ rw (get_or-left ends ((rows + more) ∷ []) 0 0 inside) (g.filled inside)
+        | inr empty ↦ rw (get_or-last ends (rows + more) 0 0 (omega arith)) (omega arith)
+      ];
     }
 
 -- a run that is pushed past a position changes no run of it
@@ -95,3 +103,19 @@ IsWindow-grown ends values rows small g = record {
   last = λ h. rw zero-add (g.last h);
   small = omega arith;
 }
+
+-- the last of them ends with the rows
+last_end-grown : {B : Type 0} (ends : List ℕ) (values : List (Option B)) (rows : ℕ) → Grown ends values rows → last_end ends ≡ rows
+last_end-grown [] values rows g =
+    let zero_end : last_end [] ≡ 0 = refl in
+    elim (cases_lt 0 rows) [ inl some ↦ absurd (let s = g.some some in omega arith) | inr nothing ↦ omega arith ]
+last_end-grown (end ∷ ends) values rows g =
+    let filled = g.filled (omega arith) in
+    let first = g.low 0 (omega arith) in
+    let last = g.last (omega arith) in
+    let low = g.low (length (end ∷ ends) - 1) (omega arith) in
+    omega arith
+
+-- and each shows a row
+pub AllHaveRows-grown : {B : Type 0} (ends : List ℕ) (values : List (Option B)) (rows : ℕ) → Grown ends values rows → AllHaveRows ends 0 rows
+AllHaveRows-grown ends values rows g = AllHaveRows-exact ends rows g.increasing g.filled (last_end-grown ends values rows g)

@@ -14,8 +14,9 @@ use Rattle.column_ops.specs.Nullable.{either_nullable}
 use Rattle.runend_array.specs.Column.{AreParts, AreRuns, Column, OfLeaf, Runs, column_rows}
 use Rattle.runend_codec.specs.Ends.{IsEndsType, ends_of}
 use Rattle.runend_codec.specs.Window.{run_rows}
+use Rattle.runend_join.specs.Joined.{AllHaveRows}
 use Rattle.runend_select.specs.KeptRuns.{AreKept}
-use Rattle.runend_select.proofs.Filtered.{IsWindow-filtered, paired-filtered, run_rows-filtered}
+use Rattle.runend_select.proofs.Filtered.{IsWindow-filtered, AllHaveRows-filtered, paired-filtered, run_rows-filtered}
 use Rattle.runend_select.proofs.Selected.{set_bits}
 
 -- the type of ends is unsigned
@@ -53,3 +54,6 @@ module _ (whole : Runs) (bits kept : List Bool) (kept_ends : PrimitiveForm) (val
 
   pub rows-kept : run_rows (ends_of kept_ends) (column_rows values) 0 count ≡ filter_rows bits (run_rows whole.ends (column_rows whole.values) whole.offset whole.count)
   rows-kept = rw (rows, counted) (run_rows-filtered whole.ends (column_rows whole.values) whole.offset whole.count bits kept (ends_of kept_ends) valid.window valid.paired long are)
+
+  pub filled-kept : AllHaveRows (ends_of kept_ends) 0 count
+  filled-kept = rw counted (AllHaveRows-filtered whole.ends (column_rows whole.values) whole.offset whole.count bits kept (ends_of kept_ends) valid.window valid.paired long are)

@@ -1,7 +1,6 @@
 pub mod Selected
 pub mod Reached
 pub mod KeptSoFar
-pub mod Fitting
 pub mod Grown
 pub mod Filtered
 pub mod ComputedRows
@@ -16,4 +15,5 @@ pub mod SelectLaws
 pub mod RowPositions
 pub mod Forms
 pub mod WholeRows
+pub mod LeastForms
 pub mod PassedOn

@@ -1,9 +1,10 @@
 -- Refusals that are passed on.
-use Rattle.std.proofs.Common.{◌≡◌, ◌∙◌, Option, None, inl}
-use Rattle.std.specs.Prelude.{Result, Ok, Err, IfOk, IsErr, IsErrAnd, IsOkUnless}
+use Rattle.std.proofs.Common.{◌≡◌, ◌∙◌, Option, None, Some, ap, inl, sym}
+use Rattle.std.specs.Prelude.{Result, Ok, Err, IfOk, IsErr, IsErrAnd, IsErrOf, IsOkUnless}
 use Rattle.column_base.specs.declared.error.VortexError.{VortexError}
 use Rattle.column_base.specs.declared.error.VortexError.TheVariants.{OutOfMemory}
 use Rattle.column_core.specs.Refusal.{IsRefusedBy}
+use Rattle.runend_select.specs.Told.{IsToldBy}
 
 -- nothing is asked of the value of a refusal
 pub no_value : {T E : Type 0} (P : T → Type 0) (result : Result T E) → IsErr result → IfOk result P
@@ -19,3 +20,19 @@ only_error (Err other) error one passed same = passed ∙ same
 pub refused_by_none : {T : Type 0} (fault : Option VortexError) (result : Result T VortexError) → fault ≡ None → IsOkUnless result OutOfMemory → IsRefusedBy fault result
 refused_by_none fault (Ok value) none only = none
 refused_by_none fault (Err error) none only = inl only
+
+-- a refusal by the fault exactly, that is passed on
+pub told-passed_on : {T : Type 0} (fault : Option VortexError) (error : VortexError) (result : Result T VortexError) → IsErrAnd result (λ e. e ≡ error) → fault ≡ Some error → IsToldBy fault result
+told-passed_on fault error (Ok value) passed is = absurd passed
+told-passed_on fault error (Err other) passed is = is ∙ ap Some (sym passed)
+
+same_error : (a b : VortexError) → ◌≡◌ {A = Option VortexError} (Some a) (Some b) → a ≡ b
+same_error a b same = cc
+
+-- the fault is what is told, and where there is none, nothing is asked
+pub first-told : {T : Type 0} (fault : Option VortexError) (result : Result T VortexError) → IsToldBy fault result → (error : VortexError) → fault ≡ Some error → IsErrOf result error
+first-told fault (Ok value) told error is = let never : ◌≡◌ {A = Option VortexError} None (Some error) = sym told ∙ is in absurd (cc)
+first-told fault (Err own) told error is = ap Err (same_error own error (sym told ∙ is))
+
+pub first-none : {T : Type 0} (fault : Option VortexError) (result : Result T VortexError) → fault ≡ None → (error : VortexError) → fault ≡ Some error → IsErrOf result error
+first-none fault result none error is = let never : ◌≡◌ {A = Option VortexError} None (Some error) = sym none ∙ is in absurd (cc)

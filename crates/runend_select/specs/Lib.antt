@@ -5,3 +5,5 @@ pub mod FilterForm
 pub mod TakeForm
 pub mod Laws
 pub mod Positions
+pub mod SessionPicks
+pub mod Told

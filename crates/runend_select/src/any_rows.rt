@@ -21,8 +21,8 @@ use std::alloc::Allocator;
 
 /// The rows of a column of any form at which the mask is true, in order and flat.
 ///
-/// Refused as `MaskLength`, with the mask's length and the number of rows, where they differ, and that
-/// before any memory is taken; else as `OutOfMemory` alone.
+/// Refused as `MaskLength`, with the mask's length and the number of rows, where they differ; else as
+/// `OutOfMemory` alone.
 pub fn filter_rows<A: Allocator + Copy>(
     array: &ArrayRef<A>,
     mask: &Mask<A>,

@@ -1,23 +1,26 @@
 //! Filters of run columns.
-ghost use Rattle.std.specs.Prelude.{[], ◌≡◌, ◌↔◌, IfOk, IsOkUnless, IsTrue, count_by, length};
+ghost use Rattle.std.specs.Prelude.{[], ◌≡◌, ◌↔◌, IfOk, IsErrOf, IsOkUnless, IsTrue, Some, count_by, length};
+ghost use Rattle.column_base.specs.declared.error.VortexError.{VortexError};
 ghost use Rattle.column_base.specs.Mask.{mask_bits};
+ghost use Rattle.column_core.specs.Kinds.{is_numbers};
 ghost use Rattle.column_core.specs.Refusal.{IsRefusedBy};
 ghost use Rattle.column_ops.specs.Filter.{filter_fault, filter_rows};
 ghost use Rattle.runend_array.specs.Array.{column_of, dtype_of, rows};
-ghost use Rattle.runend_array.specs.Canonical.{IsNormalFlat, canonical_column};
+ghost use Rattle.runend_array.specs.Canonical.{canonical_column};
 ghost use Rattle.runend_array.specs.Column.{column_dtype, column_of_runs, column_rows};
+ghost use Rattle.runend_array.specs.Encoding.{IsComputedFlat};
 ghost use Rattle.runend_select.specs.Computed.{IsComputedAs};
-ghost use Rattle.runend_select.specs.FilterForm.{AreSelectedRuns, HasNoRuns, IsFilterForm, IsSelectedForm, TakesDirectly};
+ghost use Rattle.runend_select.specs.FilterForm.{HasNoRuns, IsFilterForm, IsSelectedForm, IsWholeForm, TakesDirectly};
 
-use crate::kept_runs::filter_ends;
+use crate::kept_columns::{least_column, selected_runs};
 use crate::places::set_places;
-use crate::run_values::select_values;
 use crate::taken_runs::taken_rows;
-use column_core::{BitBuffer, Mask, Validity, VortexError, VortexResult};
+use column_core::{BitBuffer, Mask, Validity, VortexError, VortexResult, is_number_type};
 use runend_array::{
     ArrayRef, Canonical, ExecutionCtx, RunEnd, RunEndArray, RunEndArrayExt, RunEndArraySlotsExt,
     Thresholds,
 };
+use runend_visible::boxed_runs;
 use std::alloc::Allocator;
 
 // Are so few rows selected, of so many runs, that they are taken one by one?
@@ -33,78 +36,19 @@ fn takes_directly(selected: usize, runs: usize, thresholds: Thresholds) -> bool
 
 // The selected rows, taken one by one.
 fn taken_directly<A: Allocator + Copy>(
-    alloc: A,
     array: &RunEndArray<A>,
     bits: &BitBuffer<A>,
-    thresholds: Thresholds,
+    ctx: &mut ExecutionCtx<A>,
 ) -> VortexResult<Canonical<A>>
     requires masked { length bits.now ≡ array.now.count }
     ensures only { IsOkUnless result VortexError.OutOfMemory }
     ensures made { IfOk result (λ taken. IsComputedAs (filter_rows bits.now (column_rows (column_of_runs array.now))) (column_dtype array.now.values) (canonical_column taken)) }
+    ensures session { ctx.new ≡ ctx.old }
 {
-    let places = set_places(alloc, bits)?;
-    let taken = taken_rows(
-        alloc,
-        array,
-        places.as_slice(),
-        &Validity::NonNullable,
-        thresholds,
-    );
+    let places = set_places(*ctx.allocator(), bits)?;
+    let taken = taken_rows(array, places.as_slice(), &Validity::NonNullable, ctx);
     drop(places);
     taken
-}
-
-// The values at which the mask is true, as a column.
-fn kept_values<A: Allocator + Copy>(
-    alloc: A,
-    values: &ArrayRef<A>,
-    mask: &Mask<A>,
-) -> VortexResult<ArrayRef<A>>
-    requires masked { length (mask_bits mask.now) ≡ length (rows values.now) }
-    ensures only { IsOkUnless result VortexError.OutOfMemory }
-    ensures made { IfOk result (λ kept. IsComputedAs (filter_rows (mask_bits mask.now) (rows values.now)) (dtype_of values.now) (column_of kept)) }
-{
-    let kept = select_values(alloc, values, mask)?;
-    kept.into_array(alloc)
-}
-
-// The runs with a selected row.
-fn kept_column<A: Allocator + Copy>(
-    alloc: A,
-    array: &RunEndArray<A>,
-    bits: &BitBuffer<A>,
-) -> VortexResult<RunEndArray<A>>
-    requires masked { length bits.now ≡ array.now.count }
-    ensures only { IsOkUnless result VortexError.OutOfMemory }
-    ensures rows { IfOk result (λ kept. column_rows (column_of_runs kept) ≡ filter_rows bits.now (column_rows (column_of_runs array.now))) }
-    ensures dtype { IfOk result (λ kept. column_dtype kept.values ≡ column_dtype array.now.values) }
-    ensures form { IfOk result (λ kept. AreSelectedRuns array.now bits.now kept) }
-{
-    let ends = match array.ends() {
-        ArrayRef::Primitive(plain) => plain.values(),
-        _ => unreachable!(),
-    };
-    let (kept_ends, kept) = filter_ends(alloc, ends, array.offset(), array.len(), bits)?;
-    let values = kept_values(alloc, array.values(), &kept);
-    drop(kept);
-    let values = match values {
-        Ok(values) => values,
-        Err(error) => {
-            drop(kept_ends);
-            return Err(error);
-        }
-    };
-    let kept_ends = ArrayRef::Primitive(kept_ends);
-    Ok(RunEnd::new_unchecked(kept_ends, values, 0, bits.true_count()))
-}
-
-// Runs, as a column of any form.
-fn boxed_runs<A: Allocator + Copy>(alloc: A, runs: RunEndArray<A>) -> VortexResult<ArrayRef<A>>
-    ensures only { IsOkUnless result VortexError.OutOfMemory }
-    ensures form { IfOk result (λ boxed. column_of boxed ≡ column_of_runs runs) }
-{
-    let boxed = Box::new(alloc, runs)?;
-    Ok(ArrayRef::RunEnd(boxed))
 }
 
 // The rows at which the bits are true.
@@ -124,10 +68,10 @@ fn filter_bits<A: Allocator + Copy>(
     let thresholds = ctx.session().thresholds();
     let runs = array.values().len();
     if takes_directly(bits.true_count(), runs, thresholds) {
-        let taken = taken_directly(alloc, array, bits, thresholds)?;
+        let taken = taken_directly(array, bits, ctx)?;
         return taken.into_array(alloc);
     }
-    let kept = kept_column(alloc, array, bits)?;
+    let kept = selected_runs(alloc, array, bits)?;
     boxed_runs(alloc, kept)
 }
 
@@ -152,12 +96,29 @@ fn unchanged<A: Allocator + Copy>(
     boxed_runs(*ctx.allocator(), copy)
 }
 
+// All rows: of whole numbers in least form, of other types unchanged.
+fn all_rows<A: Allocator + Copy>(
+    array: &RunEndArray<A>,
+    ctx: &mut ExecutionCtx<A>,
+) -> VortexResult<ArrayRef<A>>
+    ensures only { IsOkUnless result VortexError.OutOfMemory }
+    ensures rows { IfOk result (λ all. rows all ≡ column_rows (column_of_runs array.now)) }
+    ensures dtype { IfOk result (λ all. dtype_of all ≡ column_dtype array.now.values) }
+    ensures form { IfOk result (λ all. IsWholeForm (is_numbers (column_dtype array.now.values)) array.now (column_of all)) }
+    ensures session { ctx.new ≡ ctx.old }
+{
+    if is_number_type(array.dtype()) {
+        return least_column(*ctx.allocator(), array);
+    }
+    unchanged(array, ctx)
+}
+
 // No rows of a column, flat.
 fn no_values<A: Allocator + Copy>(alloc: A, values: &ArrayRef<A>) -> VortexResult<ArrayRef<A>>
     ensures only { IsOkUnless result VortexError.OutOfMemory }
     ensures rows { IfOk result (λ none. column_rows (column_of none) ≡ []) }
     ensures dtype { IfOk result (λ none. column_dtype (column_of none) ≡ dtype_of values.now) }
-    ensures flat { IfOk result (λ none. IsNormalFlat (column_of none)) }
+    ensures flat { IfOk result (λ none. IsComputedFlat (column_of none)) }
 {
     let none = values.rows_between(alloc, 0, 0)?;
     none.into_array(alloc)
@@ -187,19 +148,22 @@ fn without_rows<A: Allocator + Copy>(
     boxed_runs(alloc, none)
 }
 
-/// The rows at which the mask is true, in order. Under `AllTrue` the column is unchanged, under
-/// `AllFalse` it has no runs and offset 0. Else the rows are taken one by one into a flat column, where
-/// few are selected by the session's thresholds, or the runs with a selected row are left, at offset 0
-/// and with flat values.
+/// The rows at which the mask is true, in order. Runs of whole numbers are left in least form: as few as
+/// can be, none hidden and no neighbours equal (null is equal to null), at offset 0, the last end the
+/// number of rows, with ends of the same type and flat values. Of other types the column is unchanged
+/// under `AllTrue`, has no runs and offset 0 under `AllFalse`, and else the runs with a selected row are
+/// left, at offset 0 and with flat values. Where few rows are selected by the session's thresholds, a
+/// mask of bits takes them one by one into a flat column.
 ///
-/// Refused as `MaskLength`, with the mask's length and the number of rows, where they differ, and that
-/// before any memory is taken; else as `OutOfMemory` alone.
+/// Refused as `MaskLength`, with the mask's length and the number of rows, exactly where they differ,
+/// however little memory there is; else as `OutOfMemory` alone.
 pub fn filter<A: Allocator + Copy>(
     array: &RunEndArray<A>,
     mask: &Mask<A>,
     ctx: &mut ExecutionCtx<A>,
 ) -> VortexResult<ArrayRef<A>>
     ensures refused { IsRefusedBy (filter_fault (length (mask_bits mask.now)) (length (column_rows (column_of_runs array.now)))) result }
+    ensures first { (error : VortexError) → filter_fault (length (mask_bits mask.now)) (length (column_rows (column_of_runs array.now))) ≡ Some error → IsErrOf result error }
     ensures rows { IfOk result (λ kept. rows kept ≡ filter_rows (mask_bits mask.now) (column_rows (column_of_runs array.now))) }
     ensures dtype { IfOk result (λ kept. dtype_of kept ≡ column_dtype array.now.values) }
     ensures form { IfOk result (λ kept. IsFilterForm ctx.old.thresholds array.now mask.now (column_of kept)) }
@@ -212,7 +176,7 @@ pub fn filter<A: Allocator + Copy>(
         });
     }
     match mask {
-        Mask::AllTrue(_) => unchanged(array, ctx),
+        Mask::AllTrue(_) => all_rows(array, ctx),
         Mask::AllFalse(_) => without_rows(array, ctx),
         Mask::Values(bits) => filter_bits(array, bits, ctx),
     }

@@ -3,10 +3,12 @@
 
 mod any_rows;
 mod filters;
+mod kept_columns;
 mod kept_runs;
 pub mod laws;
 mod list_values;
 mod places;
+mod positions;
 mod run_values;
 mod taken_runs;
 mod takes;
@@ -14,4 +16,5 @@ mod takes;
 pub use any_rows::{filter_rows, take_rows};
 pub use filters::filter;
 pub use kept_runs::filter_run_end_primitive;
+pub use positions::physical_indices;
 pub use takes::{take, take_indices_unchecked};

@@ -38,8 +38,8 @@ fn taken_at<C: ColumnOps<A>, A: Allocator + Copy>(
     column.take_at(alloc, positions, places)
 }
 
-// The rows of a flat column at which the mask is true.
-fn selected_by<C: ColumnOps<A>, A: Allocator + Copy>(
+/// The rows of a flat column at which the mask is true. Refused as `OutOfMemory` alone.
+pub(crate) fn selected_by<C: ColumnOps<A>, A: Allocator + Copy>(
     alloc: A,
     column: &C,
     mask: &Mask<A>,

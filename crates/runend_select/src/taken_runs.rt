@@ -14,6 +14,7 @@ ghost use Rattle.runend_positions.specs.Indices.{AreInBounds, optional_indices};
 ghost use Rattle.runend_select.specs.RunsOf.{AreRunsOf};
 ghost use Rattle.runend_select.specs.Computed.{IsComputedAs};
 
+use crate::positions::physical_indices;
 use crate::run_values::take_values;
 use column_base::match_each_unsigned;
 use column_core::{
@@ -21,10 +22,9 @@ use column_core::{
     VortexResult,
 };
 use runend_array::{
-    ArrayRef, Canonical, RunEndArray, RunEndArrayExt, RunEndArraySlotsExt, Thresholds,
+    ArrayRef, Canonical, ExecutionCtx, RunEndArray, RunEndArrayExt, RunEndArraySlotsExt,
 };
 use runend_decode::copies_of;
-use runend_positions::{TakeThresholds, physical_indices};
 use std::alloc::Allocator;
 
 // Which indices are valid, of so many.
@@ -48,30 +48,14 @@ fn mask_of<A: Allocator + Copy>(
     }
 }
 
-// The thresholds by which a strategy is picked.
-fn take_thresholds(thresholds: Thresholds) -> TakeThresholds
-    ensures sorted { result.sorted_runs_per_index ≡ thresholds.sorted_runs_per_index }
-    ensures table { result.table_len_per_index ≡ thresholds.table_len_per_index }
-    ensures unsorted { result.unsorted_runs_per_index ≡ thresholds.unsorted_runs_per_index }
-    ensures runs { result.unsorted_min_runs ≡ thresholds.unsorted_min_runs }
-{
-    TakeThresholds {
-        sorted_runs_per_index: thresholds.sorted_runs_per_index,
-        table_len_per_index: thresholds.table_len_per_index,
-        unsorted_min_runs: thresholds.unsorted_min_runs,
-        unsorted_runs_per_index: thresholds.unsorted_runs_per_index,
-    }
-}
-
 // The run of each valid index, of indices of `count` rows from position `offset` on.
 fn runs_by<E: UnsignedPType, T: NativePType, A: Allocator + Copy>(
-    alloc: A,
     ends: &[E],
     offset: usize,
     count: usize,
     indices: &[T],
     mask: &Mask<A>,
-    thresholds: TakeThresholds,
+    ctx: &mut ExecutionCtx<A>,
 ) -> VortexResult<Vec<u64, A>>
     requires window { IsWindow (map unsigned_abs (map E.number ends.now)) offset count }
     requires some { 0 < count }
@@ -79,28 +63,20 @@ fn runs_by<E: UnsignedPType, T: NativePType, A: Allocator + Copy>(
     requires in_bounds { AreInBounds (optional_indices T.number indices.now (mask_bits mask.now)) count }
     ensures only { IsOkUnless result VortexError.OutOfMemory }
     ensures runs { IfOk result (λ runs. AreRunsOf (map unsigned_abs (map E.number ends.now)) offset (optional_indices T.number indices.now (mask_bits mask.now)) runs.items) }
+    ensures session { ctx.new ≡ ctx.old }
 {
     let mut counted = CountedEnds::new(ends);
-    physical_indices(
-        &mut counted,
-        alloc,
-        offset,
-        count,
-        indices,
-        mask,
-        thresholds,
-    )
+    physical_indices(&mut counted, offset, count, indices, mask, ctx)
 }
 
 // The same for the ends of a buffer.
 fn runs_among<T: NativePType, A: Allocator + Copy>(
-    alloc: A,
     ends: &PrimitiveValues<A>,
     offset: usize,
     count: usize,
     indices: &[T],
     mask: &Mask<A>,
-    thresholds: TakeThresholds,
+    ctx: &mut ExecutionCtx<A>,
 ) -> VortexResult<Vec<u64, A>>
     requires unsigned { IsUnsigned (ptype_of ends.now) }
     requires window { IsWindow (map unsigned_abs (numbers ends.now)) offset count }
@@ -109,23 +85,25 @@ fn runs_among<T: NativePType, A: Allocator + Copy>(
     requires in_bounds { AreInBounds (optional_indices T.number indices.now (mask_bits mask.now)) count }
     ensures only { IsOkUnless result VortexError.OutOfMemory }
     ensures runs { IfOk result (λ runs. AreRunsOf (map unsigned_abs (numbers ends.now)) offset (optional_indices T.number indices.now (mask_bits mask.now)) runs.items) }
+    ensures session { ctx.new ≡ ctx.old }
 {
-    match_each_unsigned!(ends, items => runs_by(alloc, items.as_slice(), offset, count, indices, mask, thresholds), _ => unreachable!())
+    match_each_unsigned!(ends, items => runs_by(items.as_slice(), offset, count, indices, mask, ctx), _ => unreachable!())
 }
 
 // The run of each valid index.
 fn runs_of_indices<T: NativePType, A: Allocator + Copy>(
-    alloc: A,
     array: &RunEndArray<A>,
     indices: &[T],
     validity: &Validity<A>,
-    thresholds: Thresholds,
+    ctx: &mut ExecutionCtx<A>,
 ) -> VortexResult<Vec<u64, A>>
     requires fits { HasLength (form_of validity.now) (length indices.now) }
     requires in_bounds { AreInBounds (optional_indices T.number indices.now (flags (form_of validity.now) (length indices.now))) array.now.count }
     ensures only { IsOkUnless result VortexError.OutOfMemory }
     ensures runs { IfOk result (λ runs. AreRunsOf array.now.ends array.now.offset (optional_indices T.number indices.now (flags (form_of validity.now) (length indices.now))) runs.items) }
+    ensures session { ctx.new ≡ ctx.old }
 {
+    let alloc = *ctx.allocator();
     if array.is_empty() {
         // No index is valid.
         return copies_of(alloc, 0, indices.len());
@@ -135,27 +113,17 @@ fn runs_of_indices<T: NativePType, A: Allocator + Copy>(
         ArrayRef::Primitive(plain) => plain.values(),
         _ => unreachable!(),
     };
-    let picks = take_thresholds(thresholds);
-    let runs = runs_among(
-        alloc,
-        ends,
-        array.offset(),
-        array.len(),
-        indices,
-        &mask,
-        picks,
-    );
+    let runs = runs_among(ends, array.offset(), array.len(), indices, &mask, ctx);
     drop(mask);
     runs
 }
 
 /// The rows at the indices, null for null, in a flat form. Refused as `OutOfMemory` alone.
 pub(crate) fn taken_rows<T: NativePType, A: Allocator + Copy>(
-    alloc: A,
     array: &RunEndArray<A>,
     indices: &[T],
     validity: &Validity<A>,
-    thresholds: Thresholds,
+    ctx: &mut ExecutionCtx<A>,
 ) -> VortexResult<Canonical<A>>
     requires fits { HasLength (form_of validity.now) (length indices.now) }
     requires in_bounds { AreInBounds (optional_indices T.number indices.now (flags (form_of validity.now) (length indices.now))) array.now.count }
@@ -164,8 +132,10 @@ pub(crate) fn taken_rows<T: NativePType, A: Allocator + Copy>(
         (take_rows (column_rows (column_of_runs array.now)) (optional_indices T.number indices.now (flags (form_of validity.now) (length indices.now))))
         (dtype_with (column_dtype array.now.values) (either_nullable (nullability_of (column_dtype array.now.values)) (nullability_in (form_of validity.now))))
         (canonical_column taken)) }
+    ensures session { ctx.new ≡ ctx.old }
 {
-    let runs = runs_of_indices(alloc, array, indices, validity, thresholds)?;
+    let alloc = *ctx.allocator();
+    let runs = runs_of_indices(array, indices, validity, ctx)?;
     let taken = take_values(alloc, array.values(), runs.as_slice(), validity);
     drop(runs);
     taken

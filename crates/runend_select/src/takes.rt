@@ -1,5 +1,6 @@
 //! Rows of run columns at indices.
-ghost use Rattle.std.specs.Prelude.{◌≡◌, ◌↔◌, ◌<◌, None, Some, IfOk, IsOkUnless, IsTrue, Option, ℤ, count_by, length, map, slice_get};
+ghost use Rattle.std.specs.Prelude.{◌≡◌, ◌↔◌, ◌<◌, None, Some, IfOk, IsErrOf, IsOkUnless, IsTrue, Option, ℤ, count_by, length, map, slice_get};
+ghost use Rattle.column_base.specs.declared.error.VortexError.{VortexError};
 ghost use Rattle.column_base.specs.Types.{nullability_of, with_nullability as dtype_with};
 ghost use Rattle.column_base.specs.declared.dtype.Nullability.TheVariants.{Nullable};
 ghost use Rattle.column_base.specs.ValidityForm.{HasLength, flags, nullability_in};
@@ -12,6 +13,7 @@ ghost use Rattle.runend_array.specs.Array.{column_of, dtype_of, rows};
 ghost use Rattle.runend_array.specs.Column.{column_dtype, column_of_runs, column_rows};
 ghost use Rattle.runend_positions.specs.Indices.{AreInBounds, optional_indices};
 ghost use Rattle.runend_select.specs.TakeForm.{IsTakeForm};
+ghost use Rattle.runend_select.specs.Told.{IsToldBy};
 
 use crate::taken_runs::taken_rows;
 use column_base::match_each_native;
@@ -23,7 +25,7 @@ use std::alloc::Allocator;
 
 // Is it an index of one of `count` rows?
 fn check_index(index: i128, count: usize) -> VortexResult<()>
-    ensures { IsRefusedBy (index_fault count (Some index)) result }
+    ensures { IsToldBy (index_fault count (Some index)) result }
 {
     if index < 0 || index >= count as i128 {
         return Err(VortexError::OutOfBounds {
@@ -44,7 +46,7 @@ fn check_place<T: NativePType, A: Allocator>(
     requires there { place < length indices.now }
     requires fits { HasLength (form_of validity.now) (length indices.now) }
     ensures { (index : Option ℤ) × (slice_get (optional_indices T.number indices.now (flags (form_of validity.now) (length indices.now))) place ≡ Some index)
-        × IsRefusedBy (index_fault count index) result }
+        × IsToldBy (index_fault count index) result }
 {
     if validity.is_valid(place) {
         return check_index(indices[place].widen(), count);
@@ -60,7 +62,7 @@ fn check_indices<T: NativePType, A: Allocator>(
     count: usize,
 ) -> VortexResult<()>
     requires fits { HasLength (form_of validity.now) (length indices.now) }
-    ensures { IsRefusedBy (take_fault (optional_indices T.number indices.now (flags (form_of validity.now) (length indices.now))) count) result }
+    ensures { IsToldBy (take_fault (optional_indices T.number indices.now (flags (form_of validity.now) (length indices.now))) count) result }
 {
     for place in 0..indices.len() {
         check_place(indices, validity, place, count)?;
@@ -110,8 +112,7 @@ pub fn take_indices_unchecked<T: NativePType, A: Allocator + Copy>(
         return Ok(ArrayRef::Constant(nulls));
     }
     let alloc = *ctx.allocator();
-    let thresholds = ctx.session().thresholds();
-    let taken = taken_rows(alloc, array, indices, validity, thresholds)?;
+    let taken = taken_rows(array, indices, validity, ctx)?;
     taken.into_array(alloc)
 }
 
@@ -124,6 +125,7 @@ fn take_native<T: NativePType, A: Allocator + Copy>(
 ) -> VortexResult<ArrayRef<A>>
     requires fits { HasLength (form_of validity.now) (length indices.now) }
     ensures refused { IsRefusedBy (take_fault (optional_numbers (primitive_with T.PTYPE (map T.number indices.now) (form_of validity.now))) (length (column_rows (column_of_runs array.now)))) result }
+    ensures first { (error : VortexError) → take_fault (optional_numbers (primitive_with T.PTYPE (map T.number indices.now) (form_of validity.now))) (length (column_rows (column_of_runs array.now))) ≡ Some error → IsErrOf result error }
     ensures rows { IfOk result (λ taken. rows taken ≡ take_rows (column_rows (column_of_runs array.now)) (optional_numbers (primitive_with T.PTYPE (map T.number indices.now) (form_of validity.now)))) }
     ensures dtype { IfOk result (λ taken. dtype_of taken ≡ take_dtype (column_dtype array.now.values) (primitive_dtype (primitive_with T.PTYPE (map T.number indices.now) (form_of validity.now)))) }
     ensures form { IfOk result (λ taken. IsTakeForm (optional_numbers (primitive_with T.PTYPE (map T.number indices.now) (form_of validity.now))) (column_of taken)) }
@@ -137,13 +139,14 @@ fn take_native<T: NativePType, A: Allocator + Copy>(
 /// else flat. The type has null where the column's or the indices' has.
 ///
 /// Refused as `OutOfBounds`, with the index and the number of rows, at the first valid index that is
-/// negative or not below that number, and that before any memory is taken; else as `OutOfMemory` alone.
+/// negative or not below that number, however little memory there is; else as `OutOfMemory` alone.
 pub fn take<A: Allocator + Copy>(
     array: &RunEndArray<A>,
     indices: &PrimitiveArray<A>,
     ctx: &mut ExecutionCtx<A>,
 ) -> VortexResult<ArrayRef<A>>
     ensures refused { IsRefusedBy (take_fault (optional_numbers indices.now) (length (column_rows (column_of_runs array.now)))) result }
+    ensures first { (error : VortexError) → take_fault (optional_numbers indices.now) (length (column_rows (column_of_runs array.now))) ≡ Some error → IsErrOf result error }
     ensures rows { IfOk result (λ taken. rows taken ≡ take_rows (column_rows (column_of_runs array.now)) (optional_numbers indices.now)) }
     ensures dtype { IfOk result (λ taken. dtype_of taken ≡ take_dtype (column_dtype array.now.values) (primitive_dtype indices.now)) }
     ensures form { IfOk result (λ taken. IsTakeForm (optional_numbers indices.now) (column_of taken)) }

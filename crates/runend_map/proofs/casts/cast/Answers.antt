@@ -1,11 +1,14 @@
 use Rattle.std.proofs.Common.{◌∙◌, Option, inl, inr, sym, subst}
+use Rattle.column_base.specs.declared.dtype.DType.{DType}
 use Rattle.column_base.specs.declared.error.VortexError.{VortexError}
 use Rattle.column_core.specs.Refusal.{IsErrorFor}
 use Rattle.column_ops.specs.Cast.{cast_fault}
 use Rattle.column_ops.proofs.IndexPositions.{refused-passed_on}
 use Rattle.column_core.specs.FlatColumn.{leaf_of}
 use Rattle.column_core.specs.Value.{IsLists}
-use Rattle.runend_array.specs.Array.{rows}
+use Rattle.runend_array.specs.Array.{column_of, rows}
+use Rattle.std.specs.Prelude.{IfOk}
+use Rattle.runend_visible.specs.LeastForm.{IsRunForm}
 use Rattle.runend_array.specs.Column.{column_dtype, column_of_runs, column_rows, plain_of}
 use Rattle.runend_map.proofs.CastRows.{cast_count, cast_rows, lists_fault, same_fault}
 use Rattle.runend_map.proofs.KeptRows.{if_ok}
@@ -13,22 +16,23 @@ use Rattle.runend_map.proofs.OneKind.{no_fault}
 use Rattle.runend_map.proofs.PassedOn.{no_value}
 use Rattle.runend_map.proofs.casts.cast.Goals as goal
 
-pub over_visible_runs-requires : goal.over_visible_runs-requires
-over_visible_runs-requires g c = record {
+pub over_runs-requires : goal.over_runs-requires
+over_runs-requires g c = record {
   paired = cast_count c.args.array.now (leaf_of c.in_ok-values.values) c.in_ok-values.ensures.valid c.in_ok-values.ensures.rows (leaf_of c.in_ok-cast.cast) c.in_ok-cast.ensures.made.rows;
+  computed = c.in_ok-cast.ensures.made.computed;
 }
 
 pub returns-clause-rows : goal.returns-clause-rows
 returns-clause-rows g c =
-    if_ok c.over_visible_runs.result (λ cast rows_are.
+    if_ok c.over_runs.result (λ cast rows_are.
     cast_rows c.args.array.now (leaf_of c.in_ok-values.values) c.in_ok-values.ensures.valid c.in_ok-values.ensures.rows (leaf_of c.in_ok-cast.cast) (rows cast) c.in_ok-cast.ensures.made.rows
-    rows_are) c.over_visible_runs.ensures.rows
+    rows_are) c.over_runs.ensures.rows
 
 pub returns-clause-refused : goal.returns-clause-refused
 returns-clause-refused g c =
-    no_fault _ c.over_visible_runs.result
+    no_fault _ c.over_runs.result
     (sym (same_fault c.args.array.now (leaf_of c.in_ok-values.values) c.in_ok-values.ensures.valid c.in_ok-values.ensures.rows c.args.dtype c.in_ok-values.ensures.dtype) ∙ c.in_ok-cast.ensures.refused)
-    c.over_visible_runs.ensures.only
+    c.over_runs.ensures.only
 
 pub returns-in_err-cast-clause-refused : goal.returns-in_err-cast-clause-refused
 returns-in_err-cast-clause-refused g c =
@@ -52,10 +56,11 @@ pub visible_values-requires : goal.visible_values-requires
 visible_values-requires g c = record { single = λ lists. let yes = c.is_lists.ensures.1 (subst IsLists (sym c.dtype.ensures) lists) in let no = c.if-is_lists.false in cc }
 
 pub returns-clause-dtype : goal.returns-clause-dtype
-returns-clause-dtype g c = if_ok c.over_visible_runs.result (λ cast same. same ∙ c.in_ok-cast.ensures.made.dtype) c.over_visible_runs.ensures.dtype
+returns-clause-dtype g c = if_ok c.over_runs.result (λ cast same. same ∙ c.in_ok-cast.ensures.made.dtype) c.over_runs.ensures.dtype
 
 pub returns-clause-form : goal.returns-clause-form
-returns-clause-form g c = c.over_visible_runs.ensures.form
+returns-clause-form g c =
+    subst (λ (d : DType). IfOk c.over_runs.result (λ cast. IsRunForm d c.args.array.now (column_of cast))) c.in_ok-cast.ensures.made.dtype c.over_runs.ensures.form
 
 pub returns-in_err-values-clause-refused : goal.returns-in_err-values-clause-refused
 returns-in_err-values-clause-refused g c =

@@ -3,11 +3,11 @@ use Rattle.runend_array.specs.Column.{column_dtype, column_rows}
 use Rattle.runend_map.proofs.PassedOn.{no_value, only_error}
 use Rattle.runend_map.proofs.codes.placed.Goals as goal
 
-pub over_visible_runs-requires : goal.over_visible_runs-requires
-over_visible_runs-requires g c = c.requires
+pub over_runs-requires : goal.over_runs-requires
+over_runs-requires g c = record { paired = c.requires.paired; computed = c.requires.computed }
 
 pub shown_rows-requires : goal.shown_rows-requires
-shown_rows-requires g c = c.requires
+shown_rows-requires g c = record { paired = c.requires.paired }
 
 pub returns-in_ok-part-clause-rows : goal.returns-in_ok-part-clause-rows
 returns-in_ok-part-clause-rows g c = c.in_ok-part.ensures.rows
@@ -37,7 +37,7 @@ pub returns-in_ok-flat-clause-dtype : goal.returns-in_ok-flat-clause-dtype
 returns-in_ok-flat-clause-dtype g c = ap column_dtype c.array_of.ensures ∙ c.in_ok-flat.ensures.dtype
 
 pub returns-in_ok-flat-clause-form : goal.returns-in_ok-flat-clause-form
-returns-in_ok-flat-clause-form g c = rw (c.if-kept.false, c.array_of.ensures) tt
+returns-in_ok-flat-clause-form g c = rw (c.if-kept.false, c.array_of.ensures) c.in_ok-flat.ensures.computed
 
 pub returns-in_err-flat-clause-only : goal.returns-in_err-flat-clause-only
 returns-in_err-flat-clause-only g c =

@@ -1,14 +1,18 @@
-use Rattle.std.proofs.Common.{◌∙◌, Option, sym, ap, subst, length, inl}
+use Rattle.std.proofs.Common.{◌∙◌, Bool, Option, sym, ap, subst, length, inl}
+use Rattle.column_base.specs.declared.dtype.DType.{DType}
 use Rattle.column_base.specs.declared.error.VortexError.{VortexError}
 use Rattle.column_core.specs.FlatColumn.{leaf_of}
-use Rattle.column_core.specs.Leaf.{leaf_rows}
-use Rattle.column_core.specs.PrimitiveForm.{optional_numbers}
+use Rattle.column_core.specs.Leaf.{leaf_dtype, leaf_rows}
+use Rattle.column_core.specs.PrimitiveForm.{optional_numbers, primitive_dtype}
 use Rattle.column_core.specs.Refusal.{IsErrorFor}
 use Rattle.column_ops.specs.Cast.{is_numbers}
 use Rattle.column_ops.proofs.IndexPositions.{refused-passed_on}
-use Rattle.runend_array.specs.Array.{rows}
+use Rattle.runend_array.specs.Array.{column_of, rows}
 use Rattle.runend_array.specs.Column.{column_of_runs, plain_of}
 use Rattle.column_ops.specs.Codes.{code_fault}
+use Rattle.runend_map.specs.Codes.{keeps_runs}
+use Rattle.runend_map.specs.TakenForm.{IsTakenForm}
+use Rattle.runend_map.proofs.TakenForms.{taken_kind}
 use Rattle.runend_map.proofs.CodeRows.{same_fault, taken_count, taken_over}
 use Rattle.runend_map.proofs.KeptRows.{if_ok}
 use Rattle.runend_map.proofs.OneKind.{no_fault}
@@ -27,6 +31,7 @@ pub placed-requires : goal.placed-requires
 placed-requires g c = record {
   paired = taken_count c.args.codes.now (optional_numbers c.in_ok-indices.indices) c.in_ok-indices.ensures.valid c.in_ok-indices.ensures.codes (leaf_rows (leaf_of c.args.dictionary.now))
       (leaf_of c.in_ok-taken.taken) c.in_ok-taken.ensures.made.rows;
+  computed = c.in_ok-taken.ensures.made.computed;
 }
 
 pub returns-clause-refused : goal.returns-clause-refused
@@ -63,3 +68,13 @@ returns-in_err-taken-clause-form g c = no_value _ c.from_residual-in_err-taken.r
 
 pub returns-in_err-taken-clause-rows : goal.returns-in_err-taken-clause-rows
 returns-in_err-taken-clause-rows g c = no_value _ c.from_residual-in_err-taken.result c.from_residual-in_err-taken.ensures.0
+
+pub returns-clause-form : goal.returns-clause-form
+returns-clause-form g c =
+    let codes = c.args.codes.now in
+    let dictionary = leaf_dtype (leaf_of c.args.dictionary.now) in
+    let kept = c.is_kept_type.ensures ∙ ap keeps_runs c.dtype-2.ensures in
+    if_ok c.placed.result (λ taken form.
+    subst (λ (b : Bool). IsTakenForm b dictionary codes (column_of taken)) kept
+    (taken_kind c.is_kept_type.result dictionary (primitive_dtype c.in_ok-indices.indices) codes (column_of taken)
+    (subst (λ (d : DType). IsTakenForm c.is_kept_type.result d codes (column_of taken)) c.in_ok-taken.ensures.made.dtype form))) c.placed.ensures.form

@@ -1,18 +1,29 @@
-use Rattle.std.proofs.Common.{◌≡◌, ◌∙◌, length, sym, ap, inr, subst}
+use Rattle.std.proofs.Common.{◌≡◌, ◌∙◌, length, refl, sym, ap, inr, subst}
 use Rattle.std.specs.Prelude.{option_map}
 use Rattle.std.proofs.lemmas.List.{length-replicate}
 use Rattle.column_core.specs.ScalarForm.{ScalarForm}
 use Rattle.column_core.specs.Value.{FlatValue, Single}
 use Rattle.column_order.specs.Comparing.{compare_rows, compare_with, compare_dtype}
 use Rattle.runend_array.specs.declared.array_ref.ArrayRef.{ArrayRef}
+use Rattle.runend_array.specs.declared.array_ref.ArrayRef.TheVariants.{Constant}
 use Rattle.runend_codec.proofs.RunRows.{length-run_rows}
 use Rattle.runend_array.specs.Array.{dtype_of, rows, column_of}
 use Rattle.runend_array.specs.Column.{OfConstant, column_dtype, column_of_runs, column_rows, Column}
+use Rattle.runend_array.specs.Encoding.{IsComputedFlat}
 use Rattle.runend_map.proofs.ComparedRows.{constant_rows}
 use Rattle.runend_map.proofs.KeptRows.{if_ok}
 use Rattle.runend_map.proofs.OneKind.{no_column_fault, no_fault}
 use Rattle.runend_map.specs.ComparisonForm.{IsComparisonForm}
 use Rattle.runend_map.proofs.comparisons.compare.Goals as goal
+
+-- beside a column that is no constant the answers are flat
+beside_form : {A : Type 0} (right : ArrayRef A) (truths : Column) → ((constant : _) → ¬ (right ≡ Constant constant)) → IsComputedFlat truths → IsComparisonForm (column_of right) truths
+beside_form (Constant constant) truths other flat = absurd (other constant refl)
+beside_form right truths other flat = flat
+
+pub returns-in_default-right-clause-form : goal.returns-in_default-right-clause-form
+returns-in_default-right-clause-form g c =
+    if_ok c.compare_beside.result (λ truths flat. beside_form c.args.right.now (column_of truths) c.in_default-right.not-Constant flat) c.compare_beside.ensures.form
 
 pub returns-in-Some-clause-refused : goal.returns-in-Some-clause-refused
 returns-in-Some-clause-refused g c = rw length-run_rows (inr (sym c.fault_beside.ensures ∙ c.in-Some.is))

@@ -28,7 +28,7 @@ pub returns-clause-only : goal.returns-clause-only
 returns-clause-only g c = tt
 
 pub returns-clause-form : goal.returns-clause-form
-returns-clause-form g c = tt
+returns-clause-form g c = c.in_ok-truths.ensures.computed
 
 pub returns-clause-dtype : goal.returns-clause-dtype
 returns-clause-dtype g c =

@@ -4,7 +4,7 @@ use Rattle.column_core.specs.Leaf.{leaf_dtype, leaf_rows, single_rows}
 use Rattle.column_order.specs.CompareFault.{compare_column_fault}
 use Rattle.column_order.specs.Comparing.{compare_dtype, compare_rows}
 use Rattle.runend_array.specs.Array.{dtype_of, rows}
-use Rattle.runend_map.proofs.ComparedRows.{beside_fault, memory_alone}
+use Rattle.runend_map.proofs.ComparedRows.{beside_fault, memory_alone, stored_computed}
 use Rattle.runend_map.proofs.KeptRows.{if_ok}
 use Rattle.runend_map.proofs.OneKind.{no_column_fault, no_lists_beside}
 use Rattle.runend_map.proofs.PassedOn.{no_value, only_error}
@@ -30,6 +30,12 @@ returns-clause-rows g c =
 pub returns-clause-dtype : goal.returns-clause-dtype
 returns-clause-dtype g c =
     if_ok c.compare_column-truths.result (λ truths same. same ∙ ap (compare_dtype (leaf_dtype (leaf_of c.args.left.now))) c.in_ok-right.ensures.dtype) c.compare_column-truths.ensures.dtype
+
+pub returns-clause-computed : goal.returns-clause-computed
+returns-clause-computed g c = if_ok c.compare_column-truths.result (λ truths stored. stored_computed truths stored) c.compare_column-truths.ensures.stored
+
+pub returns-in_err-right-clause-computed : goal.returns-in_err-right-clause-computed
+returns-in_err-right-clause-computed g c = no_value _ c.from_residual.result c.from_residual.ensures.0
 
 pub returns-in_err-right-clause-dtype : goal.returns-in_err-right-clause-dtype
 returns-in_err-right-clause-dtype g c = no_value _ c.from_residual.result c.from_residual.ensures.0

@@ -1,4 +1,5 @@
-use Rattle.std.proofs.Common.{◌∙◌, Bool, ℕ, List, Option, Some, ap, cond, inl, inr, length, subst, sym}
+use Rattle.std.proofs.Common.{◌∙◌, Bool, ℕ, List, Option, Some, ap, cond, inl, inr, length, refl, subst, sym}
+use Rattle.std.proofs.lemmas.Bool.{false≢true}
 use Rattle.column_base.specs.declared.dtype.DType.{DType}
 use Rattle.column_base.specs.declared.error.VortexError.TheVariants.{TypeMismatch}
 use Rattle.column_core.specs.FlatColumn.{leaf_of}
@@ -12,10 +13,11 @@ use Rattle.column_ops.proofs.IndexPositions.{refused-passed_on}
 use Rattle.runend_array.specs.Array.{column_of, dtype_of, rows}
 use Rattle.runend_array.specs.Column.{column_dtype, column_of_runs, column_rows, plain_of}
 use Rattle.runend_map.specs.Codes.{keeps_runs}
-use Rattle.runend_map.specs.Owed.{IsMappedRuns}
+use Rattle.runend_map.specs.TakenForm.{IsTakenForm}
 use Rattle.runend_map.proofs.CodeRows.{as_many_rows}
+use Rattle.runend_map.proofs.TakenForms.{lists_taken}
 use Rattle.runend_map.proofs.KeptRows.{if_ok}
-use Rattle.runend_map.proofs.PassedOn.{lists_flat, no_value}
+use Rattle.runend_map.proofs.PassedOn.{no_value}
 use Rattle.runend_map.proofs.dictionary.take_from.Goals as goal
 
 pub returns-clause-refused : goal.returns-clause-refused
@@ -23,6 +25,9 @@ returns-clause-refused g c =
     let codes = plain_of (column_of_runs c.args.codes.now) in
     let same = as_many_rows (leaf_of c.in_ok-flat.flat) (rows c.args.dictionary.now) c.in_ok-flat.ensures.rows in
     subst (λ (n : ℕ). IsRefusedBy (code_fault codes n) c.take_from_flat-taken.result) same c.take_from_flat-taken.ensures.refused
+
+pub returns-clause-typed : goal.returns-clause-typed
+returns-clause-typed g c = λ other. absurd (false≢true (sym other ∙ sym (c.is_number_type.ensures ∙ ap is_numbers c.dtype.ensures) ∙ c.if-not-is_number_type.false))
 
 pub returns-clause-rows : goal.returns-clause-rows
 returns-clause-rows g c =
@@ -36,7 +41,7 @@ returns-clause-dtype g c =
 
 pub returns-clause-form : goal.returns-clause-form
 returns-clause-form g c =
-    if_ok c.take_from_flat-taken.result (λ taken form. subst (λ (d : DType). IsMappedRuns (keeps_runs d) c.args.codes.now (column_of taken)) c.in_ok-flat.ensures.dtype form)
+    if_ok c.take_from_flat-taken.result (λ taken form. subst (λ (d : DType). IsTakenForm (keeps_runs d) d c.args.codes.now (column_of taken)) c.in_ok-flat.ensures.dtype form)
     c.take_from_flat-taken.ensures.form
 
 pub returns-clause-session : goal.returns-clause-session
@@ -44,6 +49,9 @@ returns-clause-session g c = c.take_from_flat-taken.ensures.session
 
 pub returns-then-is_lists-clause-refused : goal.returns-then-is_lists-clause-refused
 returns-then-is_lists-clause-refused g c = c.take_each.ensures.refused
+
+pub returns-then-is_lists-clause-typed : goal.returns-then-is_lists-clause-typed
+returns-then-is_lists-clause-typed g c = λ other. absurd (false≢true (sym other ∙ sym (c.is_number_type.ensures ∙ ap is_numbers c.dtype.ensures) ∙ c.if-not-is_number_type.false))
 
 pub returns-then-is_lists-clause-rows : goal.returns-then-is_lists-clause-rows
 returns-then-is_lists-clause-rows g c = c.take_each.ensures.rows
@@ -54,7 +62,7 @@ returns-then-is_lists-clause-dtype g c = c.take_each.ensures.dtype
 pub returns-then-is_lists-clause-form : goal.returns-then-is_lists-clause-form
 returns-then-is_lists-clause-form g c =
     let lists = subst IsLists c.dtype-2.ensures (c.is_lists.ensures.0 c.if-is_lists.true) in
-    if_ok c.take_each.result (λ taken flat. lists_flat (dtype_of c.args.dictionary.now) c.args.codes.now (column_of taken) lists flat) c.take_each.ensures.flat
+    if_ok c.take_each.result (λ taken flat. lists_taken (dtype_of c.args.dictionary.now) c.args.codes.now (column_of taken) lists flat) c.take_each.ensures.flat
 
 pub take_each-requires : goal.take_each-requires
 take_each-requires g c = record { numbers = sym (c.is_number_type.ensures ∙ ap is_numbers c.dtype.ensures) ∙ c.if-not-is_number_type.false }
@@ -68,6 +76,7 @@ returns-then-not-is_number_type g c =
     let other = sym (c.is_number_type.ensures ∙ ap is_numbers c.dtype.ensures) ∙ c.if-not-is_number_type.true in
     record {
       refused = inr (ap (λ (b : Bool). cond b (take_fault (code_numbers (column_rows (column_of_runs c.args.codes.now))) count) (Some TypeMismatch)) other);
+      typed = λ _. refl;
       rows = tt;
       dtype = tt;
       form = tt;
@@ -78,6 +87,9 @@ pub returns-in_err-flat-clause-refused : goal.returns-in_err-flat-clause-refused
 returns-in_err-flat-clause-refused g c =
     refused-passed_on (code_fault (plain_of (column_of_runs c.args.codes.now)) (length (rows c.args.dictionary.now))) c.in_err-flat.field-0.0 c.from_residual.result c.from_residual.ensures.1
     (inl c.in_err-flat.ensures.only)
+
+pub returns-in_err-flat-clause-typed : goal.returns-in_err-flat-clause-typed
+returns-in_err-flat-clause-typed g c = λ other. absurd (false≢true (sym other ∙ sym (c.is_number_type.ensures ∙ ap is_numbers c.dtype.ensures) ∙ c.if-not-is_number_type.false))
 
 pub returns-in_err-flat-clause-rows : goal.returns-in_err-flat-clause-rows
 returns-in_err-flat-clause-rows g c = no_value _ c.from_residual.result c.from_residual.ensures.0

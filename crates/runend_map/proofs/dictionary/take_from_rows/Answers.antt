@@ -1,4 +1,5 @@
-use Rattle.std.proofs.Common.{◌∙◌, Bool, Some, ap, cond, inl, inr, length, sym}
+use Rattle.std.proofs.Common.{◌∙◌, Bool, Some, ap, cond, inl, inr, length, refl, sym}
+use Rattle.std.proofs.lemmas.Bool.{false≢true}
 use Rattle.column_base.specs.declared.error.VortexError.TheVariants.{TypeMismatch}
 use Rattle.column_ops.specs.Cast.{is_numbers}
 use Rattle.column_ops.specs.Codes.{code_fault, code_numbers}
@@ -15,6 +16,7 @@ returns-then-not-is_number_type g c =
     let other = sym (c.is_number_type.ensures ∙ ap is_numbers c.dtype.ensures) ∙ c.if-not-is_number_type.true in
     record {
       refused = inr (ap (λ (b : Bool). cond b (take_fault (code_numbers (rows c.args.codes.now)) count) (Some TypeMismatch)) other);
+      typed = λ _. refl;
       rows = tt;
       dtype = tt;
       flat = tt;
@@ -25,6 +27,12 @@ pub returns-in_err-flat-clause-refused : goal.returns-in_err-flat-clause-refused
 returns-in_err-flat-clause-refused g c =
     refused-passed_on (code_fault (plain_of (column_of c.args.codes.now)) (length (rows c.args.dictionary.now))) c.in_err-flat.field-0.0 c.from_residual.result c.from_residual.ensures.1
     (inl c.in_err-flat.ensures.only)
+
+pub returns-clause-typed : goal.returns-clause-typed
+returns-clause-typed g c = λ other. absurd (false≢true (sym other ∙ sym (c.is_number_type.ensures ∙ ap is_numbers c.dtype.ensures) ∙ c.if-not-is_number_type.false))
+
+pub returns-in_err-flat-clause-typed : goal.returns-in_err-flat-clause-typed
+returns-in_err-flat-clause-typed g c = λ other. absurd (false≢true (sym other ∙ sym (c.is_number_type.ensures ∙ ap is_numbers c.dtype.ensures) ∙ c.if-not-is_number_type.false))
 
 pub returns-in_err-flat-clause-rows : goal.returns-in_err-flat-clause-rows
 returns-in_err-flat-clause-rows g c = no_value _ c.from_residual.result c.from_residual.ensures.0

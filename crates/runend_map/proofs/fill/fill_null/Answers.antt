@@ -1,7 +1,9 @@
 use Rattle.std.proofs.Common.{◌∙◌, Option, ap, inl, inr, subst, sym}
 use Rattle.column_core.specs.FlatColumn.{leaf_of}
-use Rattle.runend_array.specs.Array.{rows}
-use Rattle.runend_map.proofs.FilledRows.{filled_count, filled_dtype, filled_rows, lists_refused}
+use Rattle.runend_array.specs.Array.{column_of, rows}
+use Rattle.std.specs.Prelude.{IfOk}
+use Rattle.runend_visible.specs.LeastForm.{IsRunForm}
+use Rattle.runend_map.proofs.FilledRows.{filled_count, filled_dtype, filled_rows, flat_computed, lists_refused}
 use Rattle.runend_map.proofs.KeptRows.{if_ok}
 use Rattle.column_base.specs.declared.dtype.DType.{DType}
 use Rattle.column_base.specs.declared.error.VortexError.{VortexError}
@@ -14,23 +16,24 @@ use Rattle.runend_map.proofs.OneKind.{no_fault}
 use Rattle.runend_map.proofs.PassedOn.{no_value}
 use Rattle.runend_map.proofs.fill.fill_null.Goals as goal
 
-pub over_visible_runs-requires : goal.over_visible_runs-requires
-over_visible_runs-requires g c = record {
+pub over_runs-requires : goal.over_runs-requires
+over_runs-requires g c = record {
   paired = filled_count c.args.array.now (leaf_of c.in_ok-values.values) (leaf_of c.in_ok-filled.filled) c.args.value.now c.in_ok-filled.ensures.refused c.in_ok-filled.ensures.made
       c.in_ok-values.ensures.rows;
+  computed = flat_computed (leaf_of c.in_ok-values.values) (leaf_of c.in_ok-filled.filled) c.args.value.now c.in_ok-filled.ensures.refused c.in_ok-filled.ensures.made;
 }
 
 pub returns-clause-rows : goal.returns-clause-rows
 returns-clause-rows g c =
-    if_ok c.over_visible_runs.result (λ filled rows_are.
+    if_ok c.over_runs.result (λ filled rows_are.
     filled_rows c.args.array.now (leaf_of c.in_ok-values.values) (leaf_of c.in_ok-filled.filled) c.args.value.now c.in_ok-filled.ensures.refused c.in_ok-filled.ensures.made
-    (rows filled) c.in_ok-values.ensures.valid c.in_ok-values.ensures.rows rows_are) c.over_visible_runs.ensures.rows
+    (rows filled) c.in_ok-values.ensures.valid c.in_ok-values.ensures.rows rows_are) c.over_runs.ensures.rows
 
 pub returns-clause-dtype : goal.returns-clause-dtype
 returns-clause-dtype g c =
-    if_ok c.over_visible_runs.result (λ filled same.
+    if_ok c.over_runs.result (λ filled same.
     same ∙ filled_dtype c.args.array.now (leaf_of c.in_ok-values.values) (leaf_of c.in_ok-filled.filled) c.args.value.now c.in_ok-filled.ensures.refused c.in_ok-filled.ensures.made
-    c.in_ok-values.ensures.dtype) c.over_visible_runs.ensures.dtype
+    c.in_ok-values.ensures.dtype) c.over_runs.ensures.dtype
 
 pub returns-then-is_lists : goal.returns-then-is_lists
 returns-then-is_lists g c =
@@ -54,10 +57,13 @@ returns-in_err-filled-clause-refused g c =
 
 pub returns-clause-refused : goal.returns-clause-refused
 returns-clause-refused g c =
-    no_fault _ c.over_visible_runs.result (sym (ap (λ (d : DType). fill_fault d c.args.value.now) c.in_ok-values.ensures.dtype) ∙ c.in_ok-filled.ensures.refused) c.over_visible_runs.ensures.only
+    no_fault _ c.over_runs.result (sym (ap (λ (d : DType). fill_fault d c.args.value.now) c.in_ok-values.ensures.dtype) ∙ c.in_ok-filled.ensures.refused) c.over_runs.ensures.only
 
 pub returns-clause-form : goal.returns-clause-form
-returns-clause-form g c = c.over_visible_runs.ensures.form
+returns-clause-form g c =
+    subst (λ (d : DType). IfOk c.over_runs.result (λ filled. IsRunForm d c.args.array.now (column_of filled)))
+    (filled_dtype c.args.array.now (leaf_of c.in_ok-values.values) (leaf_of c.in_ok-filled.filled) c.args.value.now c.in_ok-filled.ensures.refused c.in_ok-filled.ensures.made
+    c.in_ok-values.ensures.dtype) c.over_runs.ensures.form
 
 pub returns-in_err-filled-clause-dtype : goal.returns-in_err-filled-clause-dtype
 returns-in_err-filled-clause-dtype g c = no_value _ c.from_residual-in_err-filled.result c.from_residual-in_err-filled.ensures.0

@@ -44,7 +44,7 @@ pub returns-clause-dtype : goal.returns-clause-dtype
 returns-clause-dtype g c = ap column_dtype c.array_of.ensures ∙ c.in_ok-cast.ensures.made.dtype
 
 pub returns-clause-form : goal.returns-clause-form
-returns-clause-form g c = rw c.array_of.ensures tt
+returns-clause-form g c = rw c.array_of.ensures c.in_ok-cast.ensures.made.computed
 
 pub returns-in_err-cast-clause-dtype : goal.returns-in_err-cast-clause-dtype
 returns-in_err-cast-clause-dtype g c = no_value _ c.from_residual-in_err-cast.result c.from_residual-in_err-cast.ensures.0

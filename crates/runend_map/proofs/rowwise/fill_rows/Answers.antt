@@ -5,7 +5,7 @@ use Rattle.column_core.specs.Value.{Single, Value, IsLists}
 use Rattle.column_ops.specs.Fill.{fill_rows, fill_fault}
 use Rattle.runend_array.specs.Array.{dtype_of, rows}
 use Rattle.runend_array.specs.Column.{column_dtype, column_rows}
-use Rattle.runend_map.proofs.FilledRows.{flat_dtype, flat_filled, lists_refused}
+use Rattle.runend_map.proofs.FilledRows.{flat_computed, flat_dtype, flat_filled, lists_refused}
 use Rattle.column_base.specs.declared.dtype.DType.{DType}
 use Rattle.column_base.specs.declared.error.VortexError.{VortexError}
 use Rattle.column_core.specs.Refusal.{IsErrorFor}
@@ -47,7 +47,8 @@ pub returns-clause-refused : goal.returns-clause-refused
 returns-clause-refused g c = sym (ap (λ (d : DType). fill_fault d c.args.value.now) c.in_ok-flat.ensures.dtype) ∙ c.in_ok-filled.ensures.refused
 
 pub returns-clause-form : goal.returns-clause-form
-returns-clause-form g c = rw c.array_of.ensures tt
+returns-clause-form g c =
+    rw c.array_of.ensures (flat_computed (leaf_of c.in_ok-flat.flat) (leaf_of c.in_ok-filled.filled) c.args.value.now c.in_ok-filled.ensures.refused c.in_ok-filled.ensures.made)
 
 pub returns-in_err-filled-clause-dtype : goal.returns-in_err-filled-clause-dtype
 returns-in_err-filled-clause-dtype g c = no_value _ c.from_residual-in_err-filled.result c.from_residual-in_err-filled.ensures.0

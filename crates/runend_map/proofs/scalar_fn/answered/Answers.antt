@@ -1,12 +1,21 @@
-use Rattle.std.proofs.Common.{◌∙◌, sym, ap}
+use Rattle.std.proofs.Common.{◌≡◌, ◌∙◌, refl, sym, ap}
 use Rattle.runend_array.specs.Array.{column_of}
+use Rattle.runend_array.specs.Column.{Column}
+use Rattle.runend_array.specs.Encoding.{IsComputedFlat}
 use Rattle.runend_array.specs.SessionForm.{SessionForm, is_registered_in}
 use Rattle.runend_array.specs.declared.array_ref.ArrayRef.{ArrayRef}
+use Rattle.runend_array.specs.declared.array_ref.ArrayRef.TheVariants.{RunEnd}
 use Rattle.runend_array.specs.declared.session.Kernel.TheVariants.{ScalarFn}
+use Rattle.runend_map.specs.Owed.{IsMappedForm}
 use Rattle.runend_map.proofs.KeptRows.{if_ok}
 use Rattle.runend_map.proofs.OwedRows.{mapped_form}
 use Rattle.runend_map.proofs.PassedOn.{no_value, only_error}
 use Rattle.runend_map.proofs.scalar_fn.answered.Goals as goal
+
+-- answers to a column that is no run column are flat
+flat_answers : {A : Type 0} (array : ArrayRef A) (session : SessionForm) (mapped : Column) → ((runs : _) → ¬ (array ≡ RunEnd runs)) → IsComputedFlat mapped → IsMappedForm session (column_of array) mapped
+flat_answers (RunEnd runs) session mapped other flat = absurd (other runs refl)
+flat_answers array session mapped other flat = flat
 
 pub returns-then-is_registered-clause-form : goal.returns-then-is_registered-clause-form
 returns-then-is_registered-clause-form g c =
@@ -32,3 +41,7 @@ returns-in_err-flat-clause-only g c = only_error c.from_residual.result c.in_err
 
 pub returns-in_err-flat-clause-rows : goal.returns-in_err-flat-clause-rows
 returns-in_err-flat-clause-rows g c = no_value _ c.from_residual.result c.from_residual.ensures.0
+
+pub returns-in_default-clause-form : goal.returns-in_default-clause-form
+returns-in_default-clause-form g c =
+    flat_answers c.args.column.now c.args.ctx.now (column_of c.array_of.result) c.in_default.not-RunEnd (rw c.array_of.ensures c.requires.computed)

@@ -15,6 +15,7 @@ answered-requires g c = record {
   paired = answers_count (number_row g.S.NativePType.number) (number_row g.T.NativePType.number) (λ x y. g.F.Fn.post c.args.function.now (x, tt) y) (asked_rows (column_of c.args.column.now))
       (asked_rows (column_of c.args.column.now)) c.in_ok-answers.answers.items (OfNumbers c.in_ok-mapped.mapped) refl c.in_ok-answers.ensures.each
       (c.in_ok-mapped.ensures.rows ∙ ap (map (number_row g.T.NativePType.number)) c.as_slice.ensures.value);
+  computed = c.in_ok-mapped.ensures.computed;
 }
 
 pub returns-clause-rows : goal.returns-clause-rows

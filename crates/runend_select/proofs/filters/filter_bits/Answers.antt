@@ -1,9 +1,9 @@
 use Rattle.std.proofs.Common.{length, subst, sym, ap, ◌∙◌}
 use Rattle.std.specs.Prelude.{count_by}
 use Rattle.runend_array.specs.Canonical.{canonical_column}
-use Rattle.runend_array.specs.Column.{Column, Runs, column_dtype, column_rows}
+use Rattle.runend_array.specs.Column.{Column, column_dtype, column_rows}
 use Rattle.runend_array.specs.SessionForm.{SessionForm}
-use Rattle.runend_select.specs.FilterForm.{AreSelectedRuns, IsSelectedForm, TakesDirectly}
+use Rattle.runend_select.specs.FilterForm.{IsSelectedForm, TakesDirectly}
 use Rattle.runend_select.proofs.Forms.{flat-selected, takes_directly-same}
 use Rattle.runend_select.proofs.ComputedRows.{ok_then}
 use Rattle.runend_select.proofs.PassedOn.{no_value, only_error}

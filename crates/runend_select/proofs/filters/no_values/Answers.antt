@@ -1,7 +1,9 @@
 use Rattle.std.proofs.Common.{◌∙◌, ap, sym, subst}
-use Rattle.runend_array.specs.Canonical.{IsNormalFlat}
+use Rattle.runend_array.specs.Canonical.{canonical_column}
 use Rattle.runend_array.specs.Column.{column_dtype, column_rows}
+use Rattle.runend_array.specs.Encoding.{IsComputedFlat}
 use Rattle.runend_select.proofs.ComputedRows.{ok_then}
+use Rattle.runend_select.proofs.LeastForms.{computed_none}
 use Rattle.runend_select.proofs.PassedOn.{no_value, only_error}
 use Rattle.runend_select.proofs.filters.no_values.Goals as goal
 
@@ -27,4 +29,7 @@ pub returns-clause-dtype : goal.returns-clause-dtype
 returns-clause-dtype g c = ok_then c.into_array.result _ _ (λ array same. ap column_dtype same ∙ c.in_ok-none.ensures.part.dtype) c.into_array.ensures.form
 
 pub returns-clause-flat : goal.returns-clause-flat
-returns-clause-flat g c = ok_then c.into_array.result _ _ (λ array same. subst IsNormalFlat (sym same) c.in_ok-none.ensures.part.flat) c.into_array.ensures.form
+returns-clause-flat g c =
+    let part = c.in_ok-none.ensures.part in
+    let flat = computed_none (canonical_column c.in_ok-none.none) part.rows part.flat part.some in
+    ok_then c.into_array.result _ _ (λ array same. subst IsComputedFlat (sym same) flat) c.into_array.ensures.form

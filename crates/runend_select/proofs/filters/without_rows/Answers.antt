@@ -1,6 +1,6 @@
 use Rattle.std.proofs.Common.{subst, sym, ap, ◌∙◌}
-use Rattle.runend_array.specs.Canonical.{IsNormalFlat}
 use Rattle.runend_array.specs.Column.{Runs, column_dtype, column_rows}
+use Rattle.runend_array.specs.Encoding.{IsComputedFlat}
 use Rattle.runend_select.specs.FilterForm.{HasNoRuns}
 use Rattle.runend_select.proofs.ComputedRows.{ok_then}
 use Rattle.runend_select.proofs.PassedOn.{no_value, only_error}
@@ -32,7 +32,7 @@ returns-clause-form g c =
       ap (λ (r : Runs). r.ends_type) is ∙ c.in_ok-ends.ensures.typed,
       ap (λ (r : Runs). r.ends) is ∙ c.in_ok-ends.ensures.ends,
       ap (λ (r : Runs). column_rows r.values) is ∙ c.in-Ok.ensures.rows,
-      subst (λ (r : Runs). IsNormalFlat r.values) (sym is) c.in-Ok.ensures.flat,
+      subst (λ (r : Runs). IsComputedFlat r.values) (sym is) c.in-Ok.ensures.flat,
       ap (λ (r : Runs). r.offset) is,
       ap (λ (r : Runs). r.count) is,
     )) c.boxed_runs.ensures.form

@@ -1,7 +1,7 @@
 use Rattle.std.proofs.Common.{◌≡◌, ◌+◌, ◌<◌, List, map, length, arith, ap, ◌∙◌}
 use Rattle.std.specs.Prelude.{unsigned_abs, nat_lt}
 use Rattle.runend_codec.proofs.StoredNumbers.{length-naturals}
-use Rattle.runend_select.proofs.Fitting.{fits_below, naturals-push}
+use Rattle.runend_join.proofs.Fitting.{fits_below, naturals-push}
 use Rattle.runend_select.proofs.KeptSoFar.{AreKept-all, KeptSoFar-kept, KeptSoFar-none, KeptSoFar-skipped, passed-le, selected_counted, selected_within}
 use Rattle.runend_select.proofs.kept_runs.kept_runs.Goals as goal
 use Rattle.runend_select.proofs.kept_runs.kept_runs.Goals.{then-more-gt0+in_ok-push, else-more-gt0}

@@ -15,7 +15,7 @@ returns-then-index-lt0 c =
       | then-index-lt0-via-then-index-lt0 w ↦ let low = rw same at w.if-index-lt0.true in inl (omega (arith, ints, low))
       | then-index-lt0-via-else-index-lt0+then-index-count w ↦ let high = rw same at w.if-index-count.true in inr (omega (arith, ints, high))
     ] in
-    inr (index-outside index c.args.count outside ∙ ap (λ (i : ℤ). Some (OutOfBounds i c.args.count)) (sym same))
+    index-outside index c.args.count outside ∙ ap (λ (i : ℤ). Some (OutOfBounds i c.args.count)) (sym same)
 
 pub returns : goal.returns
 returns c =

@@ -1,7 +1,8 @@
-use Rattle.std.proofs.Common.{◌≡◌, ◌∙◌, ℤ, length, map, subst, sym, ap, pos}
-use Rattle.std.specs.Prelude.{IfOk}
+use Rattle.std.proofs.Common.{◌≡◌, ◌∙◌, ℤ, Some, length, map, subst, sym, ap, pos}
+use Rattle.std.specs.Prelude.{IfOk, IsErrOf}
 use Rattle.std.proofs.lemmas.List.{map-id}
 use Rattle.column_base.specs.declared.dtype.PType.TheVariants.{U8, U16, U32, U64, I8, I16, I32, I64}
+use Rattle.column_base.specs.declared.error.VortexError.{VortexError}
 use Rattle.column_base.specs.Numbers.{numbers, ptype_of}
 use Rattle.column_base.specs.Validity.{form_of}
 use Rattle.column_core.specs.PrimitiveForm.{PrimitiveForm, optional_numbers, primitive_dtype}
@@ -21,6 +22,14 @@ returns-in-U8-match_each_native-clause-refused g c =
     let shown = ap (map pos) c.as_slice.ensures.value ∙ sym (ap numbers arm) ∙ c.values.ensures.shows in
     let same = same-primitive U8 (map pos c.as_slice.result.now) (form_of c.validity-validity.result.now) c.args.indices.now typed shown c.validity-validity.ensures.form in
     subst (λ (p : PrimitiveForm). IsRefusedBy (take_fault (optional_numbers p) (length (column_rows (column_of_runs c.args.array.now)))) c.take_native.result) same c.take_native.ensures.refused
+
+pub returns-in-U8-match_each_native-clause-first : goal.returns-in-U8-match_each_native-clause-first
+returns-in-U8-match_each_native-clause-first g c =
+    let arm = c.in-U8-match_each_native.is in
+    let typed = sym (ap ptype_of arm) ∙ c.values.ensures.typed in
+    let shown = ap (map pos) c.as_slice.ensures.value ∙ sym (ap numbers arm) ∙ c.values.ensures.shows in
+    let same = same-primitive U8 (map pos c.as_slice.result.now) (form_of c.validity-validity.result.now) c.args.indices.now typed shown c.validity-validity.ensures.form in
+    subst (λ (p : PrimitiveForm). (error : VortexError) → take_fault (optional_numbers p) (length (column_rows (column_of_runs c.args.array.now))) ≡ Some error → IsErrOf c.take_native.result error) same c.take_native.ensures.first
 
 pub returns-in-U8-match_each_native-clause-rows : goal.returns-in-U8-match_each_native-clause-rows
 returns-in-U8-match_each_native-clause-rows g c =
@@ -54,6 +63,14 @@ returns-in-U16-match_each_native-clause-refused g c =
     let same = same-primitive U16 (map pos c.as_slice-2.result.now) (form_of c.validity-validity.result.now) c.args.indices.now typed shown c.validity-validity.ensures.form in
     subst (λ (p : PrimitiveForm). IsRefusedBy (take_fault (optional_numbers p) (length (column_rows (column_of_runs c.args.array.now)))) c.take_native-2.result) same c.take_native-2.ensures.refused
 
+pub returns-in-U16-match_each_native-clause-first : goal.returns-in-U16-match_each_native-clause-first
+returns-in-U16-match_each_native-clause-first g c =
+    let arm = c.in-U16-match_each_native.is in
+    let typed = sym (ap ptype_of arm) ∙ c.values.ensures.typed in
+    let shown = ap (map pos) c.as_slice-2.ensures.value ∙ sym (ap numbers arm) ∙ c.values.ensures.shows in
+    let same = same-primitive U16 (map pos c.as_slice-2.result.now) (form_of c.validity-validity.result.now) c.args.indices.now typed shown c.validity-validity.ensures.form in
+    subst (λ (p : PrimitiveForm). (error : VortexError) → take_fault (optional_numbers p) (length (column_rows (column_of_runs c.args.array.now))) ≡ Some error → IsErrOf c.take_native-2.result error) same c.take_native-2.ensures.first
+
 pub returns-in-U16-match_each_native-clause-rows : goal.returns-in-U16-match_each_native-clause-rows
 returns-in-U16-match_each_native-clause-rows g c =
     let arm = c.in-U16-match_each_native.is in
@@ -85,6 +102,14 @@ returns-in-U32-match_each_native-clause-refused g c =
     let shown = ap (map pos) c.as_slice-3.ensures.value ∙ sym (ap numbers arm) ∙ c.values.ensures.shows in
     let same = same-primitive U32 (map pos c.as_slice-3.result.now) (form_of c.validity-validity.result.now) c.args.indices.now typed shown c.validity-validity.ensures.form in
     subst (λ (p : PrimitiveForm). IsRefusedBy (take_fault (optional_numbers p) (length (column_rows (column_of_runs c.args.array.now)))) c.take_native-3.result) same c.take_native-3.ensures.refused
+
+pub returns-in-U32-match_each_native-clause-first : goal.returns-in-U32-match_each_native-clause-first
+returns-in-U32-match_each_native-clause-first g c =
+    let arm = c.in-U32-match_each_native.is in
+    let typed = sym (ap ptype_of arm) ∙ c.values.ensures.typed in
+    let shown = ap (map pos) c.as_slice-3.ensures.value ∙ sym (ap numbers arm) ∙ c.values.ensures.shows in
+    let same = same-primitive U32 (map pos c.as_slice-3.result.now) (form_of c.validity-validity.result.now) c.args.indices.now typed shown c.validity-validity.ensures.form in
+    subst (λ (p : PrimitiveForm). (error : VortexError) → take_fault (optional_numbers p) (length (column_rows (column_of_runs c.args.array.now))) ≡ Some error → IsErrOf c.take_native-3.result error) same c.take_native-3.ensures.first
 
 pub returns-in-U32-match_each_native-clause-rows : goal.returns-in-U32-match_each_native-clause-rows
 returns-in-U32-match_each_native-clause-rows g c =
@@ -118,6 +143,14 @@ returns-in-U64-match_each_native-clause-refused g c =
     let same = same-primitive U64 (map pos c.as_slice-4.result.now) (form_of c.validity-validity.result.now) c.args.indices.now typed shown c.validity-validity.ensures.form in
     subst (λ (p : PrimitiveForm). IsRefusedBy (take_fault (optional_numbers p) (length (column_rows (column_of_runs c.args.array.now)))) c.take_native-4.result) same c.take_native-4.ensures.refused
 
+pub returns-in-U64-match_each_native-clause-first : goal.returns-in-U64-match_each_native-clause-first
+returns-in-U64-match_each_native-clause-first g c =
+    let arm = c.in-U64-match_each_native.is in
+    let typed = sym (ap ptype_of arm) ∙ c.values.ensures.typed in
+    let shown = ap (map pos) c.as_slice-4.ensures.value ∙ sym (ap numbers arm) ∙ c.values.ensures.shows in
+    let same = same-primitive U64 (map pos c.as_slice-4.result.now) (form_of c.validity-validity.result.now) c.args.indices.now typed shown c.validity-validity.ensures.form in
+    subst (λ (p : PrimitiveForm). (error : VortexError) → take_fault (optional_numbers p) (length (column_rows (column_of_runs c.args.array.now))) ≡ Some error → IsErrOf c.take_native-4.result error) same c.take_native-4.ensures.first
+
 pub returns-in-U64-match_each_native-clause-rows : goal.returns-in-U64-match_each_native-clause-rows
 returns-in-U64-match_each_native-clause-rows g c =
     let arm = c.in-U64-match_each_native.is in
@@ -149,6 +182,14 @@ returns-in-I8-match_each_native-clause-refused g c =
     let shown = map-id c.as_slice-5.result.now ∙ c.as_slice-5.ensures.value ∙ sym (ap numbers arm) ∙ c.values.ensures.shows in
     let same = same-primitive I8 (map (λ (n : ℤ). n) c.as_slice-5.result.now) (form_of c.validity-validity.result.now) c.args.indices.now typed shown c.validity-validity.ensures.form in
     subst (λ (p : PrimitiveForm). IsRefusedBy (take_fault (optional_numbers p) (length (column_rows (column_of_runs c.args.array.now)))) c.take_native-5.result) same c.take_native-5.ensures.refused
+
+pub returns-in-I8-match_each_native-clause-first : goal.returns-in-I8-match_each_native-clause-first
+returns-in-I8-match_each_native-clause-first g c =
+    let arm = c.in-I8-match_each_native.is in
+    let typed = sym (ap ptype_of arm) ∙ c.values.ensures.typed in
+    let shown = map-id c.as_slice-5.result.now ∙ c.as_slice-5.ensures.value ∙ sym (ap numbers arm) ∙ c.values.ensures.shows in
+    let same = same-primitive I8 (map (λ (n : ℤ). n) c.as_slice-5.result.now) (form_of c.validity-validity.result.now) c.args.indices.now typed shown c.validity-validity.ensures.form in
+    subst (λ (p : PrimitiveForm). (error : VortexError) → take_fault (optional_numbers p) (length (column_rows (column_of_runs c.args.array.now))) ≡ Some error → IsErrOf c.take_native-5.result error) same c.take_native-5.ensures.first
 
 pub returns-in-I8-match_each_native-clause-rows : goal.returns-in-I8-match_each_native-clause-rows
 returns-in-I8-match_each_native-clause-rows g c =
@@ -182,6 +223,14 @@ returns-in-I16-match_each_native-clause-refused g c =
     let same = same-primitive I16 (map (λ (n : ℤ). n) c.as_slice-6.result.now) (form_of c.validity-validity.result.now) c.args.indices.now typed shown c.validity-validity.ensures.form in
     subst (λ (p : PrimitiveForm). IsRefusedBy (take_fault (optional_numbers p) (length (column_rows (column_of_runs c.args.array.now)))) c.take_native-6.result) same c.take_native-6.ensures.refused
 
+pub returns-in-I16-match_each_native-clause-first : goal.returns-in-I16-match_each_native-clause-first
+returns-in-I16-match_each_native-clause-first g c =
+    let arm = c.in-I16-match_each_native.is in
+    let typed = sym (ap ptype_of arm) ∙ c.values.ensures.typed in
+    let shown = map-id c.as_slice-6.result.now ∙ c.as_slice-6.ensures.value ∙ sym (ap numbers arm) ∙ c.values.ensures.shows in
+    let same = same-primitive I16 (map (λ (n : ℤ). n) c.as_slice-6.result.now) (form_of c.validity-validity.result.now) c.args.indices.now typed shown c.validity-validity.ensures.form in
+    subst (λ (p : PrimitiveForm). (error : VortexError) → take_fault (optional_numbers p) (length (column_rows (column_of_runs c.args.array.now))) ≡ Some error → IsErrOf c.take_native-6.result error) same c.take_native-6.ensures.first
+
 pub returns-in-I16-match_each_native-clause-rows : goal.returns-in-I16-match_each_native-clause-rows
 returns-in-I16-match_each_native-clause-rows g c =
     let arm = c.in-I16-match_each_native.is in
@@ -214,6 +263,14 @@ returns-in-I32-match_each_native-clause-refused g c =
     let same = same-primitive I32 (map (λ (n : ℤ). n) c.as_slice-7.result.now) (form_of c.validity-validity.result.now) c.args.indices.now typed shown c.validity-validity.ensures.form in
     subst (λ (p : PrimitiveForm). IsRefusedBy (take_fault (optional_numbers p) (length (column_rows (column_of_runs c.args.array.now)))) c.take_native-7.result) same c.take_native-7.ensures.refused
 
+pub returns-in-I32-match_each_native-clause-first : goal.returns-in-I32-match_each_native-clause-first
+returns-in-I32-match_each_native-clause-first g c =
+    let arm = c.in-I32-match_each_native.is in
+    let typed = sym (ap ptype_of arm) ∙ c.values.ensures.typed in
+    let shown = map-id c.as_slice-7.result.now ∙ c.as_slice-7.ensures.value ∙ sym (ap numbers arm) ∙ c.values.ensures.shows in
+    let same = same-primitive I32 (map (λ (n : ℤ). n) c.as_slice-7.result.now) (form_of c.validity-validity.result.now) c.args.indices.now typed shown c.validity-validity.ensures.form in
+    subst (λ (p : PrimitiveForm). (error : VortexError) → take_fault (optional_numbers p) (length (column_rows (column_of_runs c.args.array.now))) ≡ Some error → IsErrOf c.take_native-7.result error) same c.take_native-7.ensures.first
+
 pub returns-in-I32-match_each_native-clause-rows : goal.returns-in-I32-match_each_native-clause-rows
 returns-in-I32-match_each_native-clause-rows g c =
     let arm = c.in-I32-match_each_native.is in
@@ -245,6 +302,14 @@ returns-in-I64-match_each_native-clause-refused g c =
     let shown = map-id c.as_slice-8.result.now ∙ c.as_slice-8.ensures.value ∙ sym (ap numbers arm) ∙ c.values.ensures.shows in
     let same = same-primitive I64 (map (λ (n : ℤ). n) c.as_slice-8.result.now) (form_of c.validity-validity.result.now) c.args.indices.now typed shown c.validity-validity.ensures.form in
     subst (λ (p : PrimitiveForm). IsRefusedBy (take_fault (optional_numbers p) (length (column_rows (column_of_runs c.args.array.now)))) c.take_native-8.result) same c.take_native-8.ensures.refused
+
+pub returns-in-I64-match_each_native-clause-first : goal.returns-in-I64-match_each_native-clause-first
+returns-in-I64-match_each_native-clause-first g c =
+    let arm = c.in-I64-match_each_native.is in
+    let typed = sym (ap ptype_of arm) ∙ c.values.ensures.typed in
+    let shown = map-id c.as_slice-8.result.now ∙ c.as_slice-8.ensures.value ∙ sym (ap numbers arm) ∙ c.values.ensures.shows in
+    let same = same-primitive I64 (map (λ (n : ℤ). n) c.as_slice-8.result.now) (form_of c.validity-validity.result.now) c.args.indices.now typed shown c.validity-validity.ensures.form in
+    subst (λ (p : PrimitiveForm). (error : VortexError) → take_fault (optional_numbers p) (length (column_rows (column_of_runs c.args.array.now))) ≡ Some error → IsErrOf c.take_native-8.result error) same c.take_native-8.ensures.first
 
 pub returns-in-I64-match_each_native-clause-rows : goal.returns-in-I64-match_each_native-clause-rows
 returns-in-I64-match_each_native-clause-rows g c =

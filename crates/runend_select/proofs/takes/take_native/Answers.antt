@@ -1,8 +1,6 @@
-use Rattle.std.proofs.Common.{◌∙◌, ℤ, List, Option, ap, length, map, subst, sym}
-use Rattle.column_base.specs.declared.error.VortexError.{VortexError}
+use Rattle.std.proofs.Common.{◌∙◌, ℤ, List, Option, ap, inr, length, map, subst, sym}
 use Rattle.column_base.specs.Validity.{form_of}
 use Rattle.column_core.specs.PrimitiveForm.{optional_numbers, primitive_with}
-use Rattle.column_core.specs.Refusal.{IsErrorFor}
 use Rattle.column_ops.specs.Take.{take_fault, take_rows}
 use Rattle.column_ops.proofs.IndexPositions.{refused-passed_on}
 use Rattle.runend_array.specs.Column.{column_of_runs, column_rows}
@@ -11,7 +9,7 @@ use Rattle.runend_array.specs.Array.{column_of}
 use Rattle.runend_select.specs.TakeForm.{IsTakeForm}
 use Rattle.runend_select.proofs.CheckedIndices.{AreInBounds-checked, same-fault, same-indices}
 use Rattle.runend_select.proofs.ComputedRows.{ok_then}
-use Rattle.runend_select.proofs.PassedOn.{no_value, refused_by_none}
+use Rattle.runend_select.proofs.PassedOn.{first-none, first-told, no_value, refused_by_none, told-passed_on}
 use Rattle.runend_select.proofs.takes.take_native.Goals as goal
 
 pub returns-in_err-check_indices-clause-refused : goal.returns-in_err-check_indices-clause-refused
@@ -21,8 +19,22 @@ returns-in_err-check_indices-clause-refused g c =
     let counted = c.len.ensures ∙ sym (length-run_rows array.ends (column_rows array.values) array.offset array.count) in
     let same = same-fault g.T.NativePType.PTYPE g.T.NativePType.number c.args.indices.now (form_of c.args.validity.now) c.len.result (length (column_rows (column_of_runs array))) counted in
     let fault = take_fault (optional_numbers (primitive_with g.T.NativePType.PTYPE (map g.T.NativePType.number c.args.indices.now) (form_of c.args.validity.now))) (length (column_rows (column_of_runs array))) in
-    refused-passed_on fault error c.from_residual.result c.from_residual.ensures.1
-    (subst (λ (f : Option VortexError). IsErrorFor f error) same c.in_err-check_indices.ensures)
+    refused-passed_on fault error c.from_residual.result c.from_residual.ensures.1 (inr (sym same ∙ c.in_err-check_indices.ensures))
+
+pub returns-in_err-check_indices-clause-first : goal.returns-in_err-check_indices-clause-first
+returns-in_err-check_indices-clause-first g c =
+    let array = c.args.array.now in
+    let error = c.in_err-check_indices.field-0.0 in
+    let counted = c.len.ensures ∙ sym (length-run_rows array.ends (column_rows array.values) array.offset array.count) in
+    let same = same-fault g.T.NativePType.PTYPE g.T.NativePType.number c.args.indices.now (form_of c.args.validity.now) c.len.result (length (column_rows (column_of_runs array))) counted in
+    first-told _ c.from_residual.result (told-passed_on _ error c.from_residual.result c.from_residual.ensures.1 (sym same ∙ c.in_err-check_indices.ensures))
+
+pub returns-clause-first : goal.returns-clause-first
+returns-clause-first g c =
+    let array = c.args.array.now in
+    let counted = c.len.ensures ∙ sym (length-run_rows array.ends (column_rows array.values) array.offset array.count) in
+    let same = same-fault g.T.NativePType.PTYPE g.T.NativePType.number c.args.indices.now (form_of c.args.validity.now) c.len.result (length (column_rows (column_of_runs array))) counted in
+    first-none _ c.take_indices_unchecked.result (sym same ∙ c.in_ok-check_indices.ensures)
 
 pub take_indices_unchecked-requires-clause-in_bounds : goal.take_indices_unchecked-requires-clause-in_bounds
 take_indices_unchecked-requires-clause-in_bounds g c =

@@ -1,0 +1,4 @@
+pub mod Fitting
+pub mod Joining
+pub mod JoinedParts
+pub mod RunReads

@@ -1,0 +1,8 @@
+//! Runs of whole numbers in least form: equal neighbours are joined, so that the runs are the tight exact cover of
+//! their rows.
+#![tactic(auto)]
+
+mod join;
+mod joined;
+
+pub use join::join_runs;

@@ -1,0 +1,54 @@
+//! The runs of indices, by the strategy that a session picks.
+ghost use Rattle.std.specs.Prelude.{◌≡◌, ◌+◌, ◌<◌, ◌≤◌, IfOk, IsOkUnless, length as item_count};
+ghost use Rattle.column_base.specs.Mask.{mask_bits};
+ghost use Rattle.runend_codec.specs.Window.{IsWindow};
+ghost use Rattle.runend_positions.specs.declared.strategy.Strategy.{Strategy};
+ghost use Rattle.runend_positions.specs.Indices.{AreInBounds, optional_indices, valid_count};
+ghost use Rattle.runend_positions.specs.Pick.{IsPicked, answer_of, most_tests};
+ghost use Rattle.runend_select.specs.SessionPicks.{picks_of};
+
+use column_core::{CountedEnds, Mask, NativePType, UnsignedPType, VortexError, VortexResult};
+use runend_array::{ExecutionCtx, Thresholds};
+use runend_positions::TakeThresholds;
+use std::alloc::Allocator;
+
+// The thresholds by which a strategy is picked.
+fn take_thresholds(thresholds: Thresholds) -> TakeThresholds
+    ensures { result ≡ picks_of thresholds }
+{
+    TakeThresholds {
+        sorted_runs_per_index: thresholds.sorted_runs_per_index,
+        table_len_per_index: thresholds.table_len_per_index,
+        unsorted_min_runs: thresholds.unsorted_min_runs,
+        unsorted_runs_per_index: thresholds.unsorted_runs_per_index,
+    }
+}
+
+/// The run of each valid index among `length` rows, where `offset` is the position of row 0, by the
+/// strategy that the thresholds of the session pick. At a null index that is the run of row 0 out of a
+/// table, and else 0. It tests no more ends than the picked strategy; a table costs the tests that it
+/// takes to make it. Refused as `OutOfMemory` alone.
+pub fn physical_indices<E: UnsignedPType, T: NativePType, A: Allocator + Copy>(
+    ends: &mut CountedEnds<'_, E>,
+    offset: usize,
+    length: usize,
+    indices: &[T],
+    mask: &Mask<A>,
+    ctx: &mut ExecutionCtx<A>,
+) -> VortexResult<Vec<u64, A>>
+    requires window { IsWindow ends.old.ends offset length }
+    requires some { 0 < length }
+    requires masked { item_count (mask_bits mask.now) ≡ item_count indices.now }
+    requires in_bounds { AreInBounds (optional_indices T.number indices.now (mask_bits mask.now)) length }
+    ensures only { IsOkUnless result VortexError.OutOfMemory }
+    ensures picked { let places = optional_indices T.number indices.now (mask_bits mask.now) in (strategy : Strategy)
+        × IsPicked places (item_count ends.old.ends) length (picks_of ctx.old.thresholds) strategy
+        × IfOk result (λ runs. runs.items ≡ answer_of strategy ends.old.ends offset places)
+        × (ends.new.tests ≤ ends.old.tests + most_tests strategy (valid_count places) (item_count ends.old.ends) length) }
+    ensures same { ends.new.ends ≡ ends.old.ends }
+    ensures session { ctx.new ≡ ctx.old }
+{
+    let alloc = *ctx.allocator();
+    let picks = take_thresholds(ctx.session().thresholds());
+    runend_positions::physical_indices(ends, alloc, offset, length, indices, mask, picks)
+}

@@ -1,0 +1,4 @@
+pub mod LeastRuns
+pub mod OverVisible
+pub mod PassedOn
+pub mod VisibleWindow

@@ -1,0 +1,2 @@
+pub mod LeastForm
+pub mod VisibleForm

@@ -1,0 +1,9 @@
+//! The visible runs of a run column, for kernels: their ends and values taken out, and run columns made over them,
+//! of whole numbers in least form.
+#![tactic(auto)]
+
+mod over;
+mod visible;
+
+pub use over::{boxed_runs, least_runs, over_least_runs, over_runs, over_visible_runs};
+pub use visible::{ends_of_visible, visible_offset, visible_runs, visible_values};

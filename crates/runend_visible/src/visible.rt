@@ -1,0 +1,78 @@
+//! Which runs of a run column are visible, and their ends and values.
+ghost use Rattle.std.specs.Prelude.{◌≡◌, ◌≤◌, length, slice_range, IfOk, IsOkUnless};
+ghost use Rattle.column_core.specs.FlatColumn.{leaf_of};
+ghost use Rattle.column_core.specs.Leaf.{leaf_dtype, single_rows};
+ghost use Rattle.column_core.specs.PrimitiveForm.{primitive_dtype};
+ghost use Rattle.column_core.specs.Value.{IsLists};
+ghost use Rattle.runend_codec.specs.Ends.{IsEndsType, ends_of};
+ghost use Rattle.runend_codec.specs.Window.{IsWindow};
+ghost use Rattle.runend_array.specs.Column.{AreRuns, column_dtype, column_rows};
+ghost use Rattle.runend_join.specs.Joined.{AllHaveRows};
+ghost use Rattle.runend_visible.specs.VisibleForm.{visible_ends, visible_values as values_of_visible, window_start};
+
+use column_core::{FlatColumn, PrimitiveArray, VortexError, VortexResult};
+use runend_array::{Canonical, RunEndArray, RunEndArrayExt, RunEndArraySlotsExt};
+use std::alloc::Allocator;
+use std::ops::Range;
+
+/// The visible runs: from the run of the first row to one past that of the last, and `0..0` where there is no
+/// row.
+pub fn visible_runs<A: Allocator + Copy>(array: &RunEndArray<A>) -> Range<usize>
+    ensures ordered { result.start ≤ result.end }
+    ensures in_bounds { result.end ≤ length array.now.ends }
+    ensures ends { slice_range array.now.ends result.start result.end ≡ visible_ends array.now }
+    ensures values { slice_range (column_rows array.now.values) result.start result.end ≡ values_of_visible array.now }
+    ensures valid { AreRuns array.now }
+{
+    let _ = array.ends();
+    if array.is_empty() {
+        return 0..0;
+    }
+    array.runs_of_rows(0, array.len())
+}
+
+/// Where the window over the visible runs begins, in rows: at the column's offset, and at 0 where there is no
+/// row.
+pub fn visible_offset<A: Allocator + Copy>(array: &RunEndArray<A>) -> usize
+    ensures { result ≡ window_start array.now.count array.now.offset }
+{
+    if array.is_empty() { 0 } else { array.offset() }
+}
+
+/// The ends of the visible runs, of the same type, in memory of their own. Each of these runs shows a row.
+/// Refused as `OutOfMemory` alone.
+pub fn ends_of_visible<A: Allocator + Copy>(
+    array: &RunEndArray<A>,
+    alloc: A,
+) -> VortexResult<PrimitiveArray<A>>
+    ensures only { IsOkUnless result VortexError.OutOfMemory }
+    ensures plain { IfOk result (λ ends. IsEndsType (primitive_dtype ends)) }
+    ensures ends { IfOk result (λ ends. ends_of ends ≡ visible_ends array.now) }
+    ensures typed { IfOk result (λ ends. ends.ptype ≡ array.now.ends_type) }
+    ensures window { IsWindow (visible_ends array.now) (window_start array.now.count array.now.offset) array.now.count }
+    ensures paired { length (values_of_visible array.now) ≡ length (visible_ends array.now) }
+    ensures shown { AllHaveRows (visible_ends array.now) (window_start array.now.count array.now.offset) array.now.count }
+    ensures counted { IfOk result (λ ends. length ends.numbers ≡ length (visible_ends array.now)) }
+{
+    let runs = visible_runs(array);
+    array.ends_between(alloc, runs.start, runs.end)
+}
+
+/// The values of the visible runs, one for each, as a flat column in memory of its own. Refused as
+/// `OutOfMemory` alone.
+pub fn visible_values<A: Allocator + Copy>(
+    array: &RunEndArray<A>,
+    alloc: A,
+) -> VortexResult<FlatColumn<A>>
+    requires single { ¬ IsLists (column_dtype array.now.values) }
+    ensures only { IsOkUnless result VortexError.OutOfMemory }
+    ensures rows { IfOk result (λ values. single_rows (leaf_of values) ≡ values_of_visible array.now) }
+    ensures dtype { IfOk result (λ values. leaf_dtype (leaf_of values) ≡ column_dtype array.now.values) }
+    ensures valid { AreRuns array.now }
+{
+    let runs = visible_runs(array);
+    match array.values().rows_between(alloc, runs.start, runs.end)? {
+        Canonical::Flat(values) => Ok(values),
+        Canonical::List(_) => unreachable!(),
+    }
+}
