@@ -1,6 +1,6 @@
 -- The visible runs of a column of whole numbers, written out, are the numbers of its rows.
 use Rattle.std.proofs.Common.{◌≡◌, ℕ, zero, suc, ◌+◌, ◌-◌, ◌<◌, ◌≤◌, ℤ, List, [], ◌∷◌, ◌++◌, Option, Some, None, length, map, min, replicate, slice_index, refl, sym, subst, ◌∙◌, ap, arith, append_assoc, add-one}
-use Rattle.std.specs.Prelude.{slice_get, slice_index_or, option_map}
+use Rattle.std.specs.Prelude.{All, slice_get, slice_index_or, option_map}
 use Rattle.std.proofs.lemmas.List.{length-map}
 use Rattle.std.proofs.lemmas.Option.{slice_get-get_or, slice_get-map}
 use Rattle.column_core.specs.Value.{Value}
@@ -15,7 +15,7 @@ use Rattle.runend_codec.proofs.ShownRuns.{equal_from_Covers}
 use Rattle.runend_array.specs.Column.{Runs, AreRuns, column_of_runs, column_rows}
 use Rattle.runend_aggregate.specs.ShownRuns.{first_visible, stop_visible, rows_before, rows_showing, runs_from, visible_runs}
 
-append-nil : {X : Type 0} (xs : List X) → xs ≡ xs ++ []
+pub append-nil : {X : Type 0} (xs : List X) → xs ≡ xs ++ []
 append-nil [] = refl
 append-nil (x ∷ xs) = ap (λ ys. x ∷ ys) (append-nil xs)
 
@@ -155,3 +155,17 @@ count-visible_runs r k place at within =
     let got = get-runs_from r.ends (map number_in (column_rows r.values)) r.offset r.count first (stop_visible r.ends r.offset r.count - first) k (omega arith) in
     ap (option_map (λ (shown : Option ℤ × ℕ). shown.1)) got
     ∙ ap (λ (j : ℕ). Some (rows_showing r.ends r.offset r.count j)) (sym at)
+
+abbrev count_in : Option (Option ℤ × ℕ) → ℕ
+count_in None = 0
+count_in (Some shown) = shown.1
+
+-- each visible run is shown by some row
+pub shown-visible_runs : (r : Runs) → AreRuns r → All (λ (shown : Option ℤ × ℕ). 0 < shown.1) (visible_runs r)
+shown-visible_runs r runs k default within =
+    let first = first_visible r.ends r.offset r.count in
+    let stop = stop_visible r.ends r.offset r.count in
+    let long = length-visible_runs r in
+    let got = get-runs_from r.ends (map number_in (column_rows r.values)) r.offset r.count first (stop - first) k (omega arith) in
+    let some = showing_some r.ends r.offset r.count (first + k) runs.window (omega arith) (omega arith) in
+    subst (λ (shown : Option (Option ℤ × ℕ)). 0 < count_in shown) (sym got ∙ slice_get-get_or (visible_runs r) k default within) some

@@ -4,18 +4,17 @@ use Rattle.std.specs.Prelude.{All, Contains, IfNone, IfSome, IsTrue, slice_range
 use Rattle.std.specs.List.{AllAdjacentBelow}
 use Rattle.std.specs.Ordering.{is_le, is_lt}
 use Rattle.std.specs.declared.cmp.Ordering.{Ordering}
-use Rattle.std.proofs.lemmas.Cmp.{tied_itself}
 use Rattle.column_base.proofs.Ranges.{length-slice_range}
 use Rattle.column_core.specs.Value.{Value}
 use Rattle.column_order.specs.Order.{row_cmp}
 use Rattle.column_order.specs.OrderFacts.{IsConstant, IsSorted, IsFurthest}
-use Rattle.column_order.proofs.OrderLaws.{row_total}
 use Rattle.runend_codec.specs.Visible.{visible}
 use Rattle.runend_codec.proofs.RunRows.{length-run_rows}
 use Rattle.runend_codec.proofs.SlicedRuns.{slice_range-none}
 use Rattle.runend_codec.proofs.VisibleLaws.{all_rows, same_values, sorted, strictly_sorted}
 use Rattle.runend_array.specs.Column.{Column, Runs, AreRuns, column_of_runs, column_rows}
 use Rattle.runend_aggregate.specs.ShownRuns.{first_visible, stop_visible}
+use Rattle.runend_aggregate.proofs.SameRows.{not_above, not_below}
 
 -- the values of the visible runs, as a range of all values
 abbrev pub visible_values : Runs → List (Option Value)
@@ -58,13 +57,6 @@ furthest_row side r row runs h = record {
   among = (among r row runs).1 h.among;
   none_past = λ other has some. h.none_past other ((among r other runs).0 has) some;
 }
-
--- a row is not above itself, nor below
-not_above : (row : Option Value) → IsTrue (is_le (row_cmp row row))
-not_above row = ap is_le (tied_itself row_total row)
-
-not_below : (row : Option Value) → ¬ IsTrue (is_lt (row_cmp row row))
-not_below row h = let e : is_lt (row_cmp row row) ≡ false = ap is_lt (tied_itself row_total row) in cc
 
 abbrev step : Option Value → Option Value → Type 0
 step a b = IsTrue (is_le (row_cmp a b))

@@ -1,8 +1,9 @@
 -- The visible runs of a run column: those that some row of its window shows, in order.
-use Rattle.std.specs.Prelude.{ℕ, zero, suc, ◌+◌, ◌-◌, ℤ, List, [], ◌∷◌, Option, None, map, min, slice_index, slice_index_or}
+use Rattle.std.specs.Prelude.{◌≡◌, ℕ, zero, suc, ◌+◌, ◌-◌, ℤ, pos, List, [], ◌∷◌, Option, None, Some, map, min, option_map, slice_index, slice_index_or}
+use Rattle.column_core.specs.Value.{Single}
 use Rattle.column_sums.specs.SumAnswer.{number_in}
 use Rattle.runend_codec.specs.Window.{run_at}
-use Rattle.runend_array.specs.Column.{Runs, column_rows}
+use Rattle.runend_array.specs.Column.{Constant, Runs, column_rows}
 
 -- the run of the first row of a window; where there is no row, 0
 abbrev pub first_visible : List ℕ → ℕ → ℕ → ℕ
@@ -34,3 +35,17 @@ abbrev pub visible_runs : Runs → List (Option ℤ × ℕ)
 visible_runs r =
     let first = first_visible r.ends r.offset r.count in
     runs_from r.ends (map number_in (column_rows r.values)) r.offset r.count first (stop_visible r.ends r.offset r.count - first)
+
+-- a run of so many rows, or none where there is no row
+abbrev pub one_run : Option ℤ → ℕ → List (Option ℤ × ℕ)
+one_run value zero = []
+one_run value (suc n) = (value, suc n) ∷ []
+
+-- the runs of a constant of whole numbers: one of all its rows
+abbrev pub constant_runs : Constant → List (Option ℤ × ℕ)
+constant_runs constant = one_run (number_in (option_map Single constant.value)) constant.count
+
+-- runs that end at 3, 6, 8 and 12, and show 4, null, 4 and 5
+pub record AreFourRuns (r : Runs) : Type 0 where
+  pub ends : r.ends ≡ 3 ∷ 6 ∷ 8 ∷ 12 ∷ []
+  pub numbers : map number_in (column_rows r.values) ≡ Some (pos 4) ∷ None ∷ Some (pos 4) ∷ Some (pos 5) ∷ []

@@ -1,15 +1,21 @@
 //! Aggregates over run columns: sums, the least and the greatest row, and whether rows are constant or
 //! sorted. Each looks at the visible runs alone, and what it answers over runs is what its definition
-//! answers over rows.
+//! answers over rows. A constant column is one run of all its rows, and has the same aggregates.
 #![tactic(auto)]
 
+mod constant_sums;
+mod constants;
 mod extremes;
+mod four_runs;
 mod order;
 mod rows;
 mod sums;
 mod visible;
 
 pub use column_sums::{SignedSum, SumAnswer, SumValue, UnsignedSum};
+pub use constant_sums::sum_of_constant;
+pub use constants::{is_constant_of_constant, is_sorted_of_constant, min_max_of_constant};
 pub use extremes::min_max;
+pub use four_runs::{sum_in_four_runs, sum_of_four_runs};
 pub use order::{is_constant, is_sorted};
 pub use sums::{sum, sum_signed_runs, sum_unsigned_runs};

@@ -1,7 +1,7 @@
 //! Sums of the rows of a run column, run by run.
-ghost use Rattle.std.specs.Prelude.{◌≡◌, ◌≢◌, ◌+◌, ◌++◌, ◌-◌, ◌≤◌, ◌<◌, Err, IfOk, IsOk, length, map, pos};
+ghost use Rattle.std.specs.Prelude.{◌≡◌, ◌≢◌, ◌+◌, ◌++◌, ◌-◌, ◌≤◌, ◌<◌, All, Err, IfOk, IsOk, length, map, pos};
 ghost use Rattle.column_core.specs.Refusal.{IsRefusedBy};
-ghost use Rattle.column_sums.specs.RunSum.{calls_of, valid_runs};
+ghost use Rattle.column_sums.specs.RunSum.{calls_of, rows_of_runs, valid_runs};
 ghost use Rattle.column_sums.specs.SumAnswer.{IsSumAnswer, number_in, sum_fault};
 ghost use Rattle.column_sums.specs.SumRange.{SignedRange, UnsignedRange};
 ghost use Rattle.runend_array.specs.Column.{column_dtype, column_of_runs, column_rows};
@@ -91,6 +91,8 @@ pub fn sum_signed_runs<A: Allocator + Copy>(
     ensures answer { IfOk result (IsSumAnswer (column_dtype array.now.values) (column_rows (column_of_runs array.now))) }
     ensures calls { sum.new.calls ≡ sum.old.calls ++ calls_of SignedRange (visible_runs array.now) }
     ensures few { length sum.new.calls ≤ length sum.old.calls + length (valid_runs (visible_runs array.now)) }
+    ensures rows { rows_of_runs (visible_runs array.now) ≡ map number_in (column_rows (column_of_runs array.now)) }
+    ensures shown { All (λ run. 0 < run.1) (visible_runs array.now) }
     ensures session { ctx.new ≡ ctx.old }
 {
     let _ = &ctx;
@@ -117,6 +119,8 @@ pub fn sum_unsigned_runs<A: Allocator + Copy>(
     ensures answer { IfOk result (IsSumAnswer (column_dtype array.now.values) (column_rows (column_of_runs array.now))) }
     ensures calls { sum.new.calls ≡ sum.old.calls ++ calls_of UnsignedRange (visible_runs array.now) }
     ensures few { length sum.new.calls ≤ length sum.old.calls + length (valid_runs (visible_runs array.now)) }
+    ensures rows { rows_of_runs (visible_runs array.now) ≡ map number_in (column_rows (column_of_runs array.now)) }
+    ensures shown { All (λ run. 0 < run.1) (visible_runs array.now) }
     ensures session { ctx.new ≡ ctx.old }
 {
     let _ = &ctx;

@@ -1,5 +1,5 @@
 -- Rows whose nulls are filled, where the scalar fills.
-use Rattle.std.proofs.Common.{◌≡◌, ◌∙◌, List, Option, None, Ok, Err, sym, ap}
+use Rattle.std.proofs.Common.{◌≡◌, ◌∙◌, List, Option, Ok, Err, sym, ap}
 use Rattle.std.specs.Prelude.{IfOk, IfSome, Result}
 use Rattle.column_base.specs.declared.dtype.DType.{DType}
 use Rattle.column_base.specs.declared.error.VortexError.{VortexError}

@@ -1,5 +1,5 @@
 -- What the encoding of a flat column is to the column.
-use Rattle.std.proofs.Common.{◌≡◌, ◌∙◌, ◌<◌, arith, zero, suc, ℕ, length, refl, sym, subst, inl, inr}
+use Rattle.std.proofs.Common.{◌≡◌, ◌∙◌, arith, zero, suc, ℕ, length, refl, sym, subst, inl, inr}
 use Rattle.std.specs.Prelude.{None}
 use Rattle.column_base.specs.ValidityForm.{ValidityForm, NeverNull, NoneNull, AllNull, ByBits, HasLength}
 use Rattle.column_core.specs.PrimitiveForm.{PrimitiveForm}

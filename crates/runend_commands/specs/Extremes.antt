@@ -1,11 +1,18 @@
 -- The least and the greatest row of a column, and the scalars that they are answered as.
 use Rattle.std.specs.Prelude.{◌≡◌, All, Option, None, Some, option_map}
 use Rattle.column_base.specs.declared.dtype.DType.{DType}
+use Rattle.column_base.specs.declared.dtype.DType.TheVariants as column
 use Rattle.column_core.specs.ScalarForm.{ScalarForm}
 use Rattle.column_core.specs.ScalarView.{sees}
 use Rattle.column_core.specs.Value.{PlainColumn, Single, Value}
 use Rattle.column_core.specs.declared.view.ScalarView.{ScalarView}
 use Rattle.column_order.specs.OrderFacts.{IsGreatest, IsLeast}
+
+-- a type of texts or of bytes: a copy of such a value takes memory, and one of any other value takes none
+abbrev pub HasBytes : DType → Type 0
+HasBytes (column.Utf8 n) = Unit {0}
+HasBytes (column.Binary n) = Unit {0}
+HasBytes t = ⊥
 
 -- what a scalar shows in a row
 abbrev pub shown : ScalarForm → Option Value

@@ -5,7 +5,7 @@ ghost use Rattle.column_ops.specs.Cast.{cast_fault};
 ghost use Rattle.runend_array.specs.Array.{column_of, dtype_of, rows};
 ghost use Rattle.runend_array.specs.Column.{IsFlat};
 ghost use Rattle.runend_array.specs.declared.session.Kernel.TheVariants.{Cast as cast_kernel};
-ghost use Rattle.runend_map.specs.VisibleForm.{IsOverVisibleRuns};
+ghost use Rattle.runend_visible.specs.LeastForm.{IsRunForm};
 ghost use Rattle.runend_commands.specs.KernelForms.{HasKernel, OnRuns};
 ghost use Rattle.runend_commands.specs.Meaning.{plain};
 ghost use Rattle.runend_commands.specs.Outcomes.{IsOutcome};
@@ -41,7 +41,7 @@ fn rows_in<A: Allocator + Copy>(
     ensures rows { IfOk result (λ cast. rows cast ≡ rows column.now) }
     ensures dtype { IfOk result (λ cast. dtype_of cast ≡ dtype) }
     ensures kernel { HasKernel ctx.old cast_kernel (column_of column.now) → OnRuns (column_of column.now)
-        (λ runs. IfOk result (λ cast. IsOverVisibleRuns runs (column_of cast))) }
+        (λ runs. IfOk result (λ cast. IsRunForm dtype runs (column_of cast))) }
     ensures otherwise { ¬ HasKernel ctx.old cast_kernel (column_of column.now) → IfOk result (λ cast. IsFlat (column_of cast)) }
     ensures session { ctx.new ≡ ctx.old }
 {

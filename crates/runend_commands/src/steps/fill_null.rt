@@ -5,7 +5,7 @@ ghost use Rattle.column_ops.specs.Fill.{fill_dtype, fill_fault};
 ghost use Rattle.runend_array.specs.Array.{column_of, dtype_of, rows};
 ghost use Rattle.runend_array.specs.Column.{IsFlat};
 ghost use Rattle.runend_array.specs.declared.session.Kernel.TheVariants.{FillNull as fill_kernel};
-ghost use Rattle.runend_map.specs.VisibleForm.{IsOverVisibleRuns};
+ghost use Rattle.runend_visible.specs.LeastForm.{IsRunForm};
 ghost use Rattle.runend_commands.specs.KernelForms.{HasKernel, OnRuns};
 ghost use Rattle.runend_commands.specs.Meaning.{rows_filled};
 ghost use Rattle.runend_commands.specs.Outcomes.{IsOutcome};
@@ -41,7 +41,7 @@ fn filled_rows<A: Allocator + Copy>(
     ensures rows { IfOk result (λ filled. rows filled ≡ rows_filled (rows column.now) value.now.value) }
     ensures dtype { IfOk result (λ filled. dtype_of filled ≡ fill_dtype (dtype_of column.now)) }
     ensures kernel { HasKernel ctx.old fill_kernel (column_of column.now) → OnRuns (column_of column.now)
-        (λ runs. IfOk result (λ filled. IsOverVisibleRuns runs (column_of filled))) }
+        (λ runs. IfOk result (λ filled. IsRunForm (fill_dtype (dtype_of column.now)) runs (column_of filled))) }
     ensures otherwise { ¬ HasKernel ctx.old fill_kernel (column_of column.now) → IfOk result (λ filled. IsFlat (column_of filled)) }
     ensures session { ctx.new ≡ ctx.old }
 {

@@ -7,17 +7,17 @@ ghost use Rattle.column_order.specs.OrderFacts as order;
 ghost use Rattle.runend_aggregate.specs.OrderFault.{order_fault};
 ghost use Rattle.runend_array.specs.Array.{column_of, dtype_of, rows};
 ghost use Rattle.runend_array.specs.declared.session.Kernel.TheVariants.{IsConstant as constant_kernel};
-ghost use Rattle.runend_commands.specs.KernelForms.{HasKernel};
+ghost use Rattle.runend_commands.specs.KernelForms.{HasAggregateKernel};
 ghost use Rattle.runend_commands.specs.Outcomes.{IsOutcome};
 ghost use Rattle.runend_commands.specs.declared.command.Command.TheVariants.{IsConstant};
 
 use crate::command::Answer;
 use crate::steps::Outcome;
 use crate::steps::flat_rows::flat_rows;
-use crate::steps::kernel_runs::runs_for;
+use crate::steps::kernel_runs::{constant_for, runs_for};
 use column_core::{FlatColumn, VortexError, VortexResult};
 use column_order::FlatOrder;
-use runend_aggregate::is_constant;
+use runend_aggregate::{is_constant, is_constant_of_constant};
 use runend_array::{ArrayRef, ExecutionCtx, Kernel};
 use std::alloc::Allocator;
 
@@ -40,18 +40,19 @@ fn are_rows_equal<A: Allocator + Copy>(
 ) -> VortexResult<bool>
     ensures refused { IsRefusedBy (order_fault (dtype_of column.now)) result }
     ensures answer { IfOk result (λ constant. IsTrue constant ↔ order.IsConstant (rows column.now)) }
-    ensures kernel { HasKernel ctx.old constant_kernel (column_of column.now) → result ≢ Err VortexError.OutOfMemory }
+    ensures kernel { HasAggregateKernel ctx.old constant_kernel (column_of column.now) → result ≢ Err VortexError.OutOfMemory }
     ensures session { ctx.new ≡ ctx.old }
 {
-    match runs_for(column, Kernel::IsConstant, ctx) {
-        Some(runs) => is_constant(runs, ctx),
-        None => {
-            let flat = flat_rows(column, ctx)?;
-            let constant = is_flat_constant(&flat);
-            drop(flat);
-            Ok(constant)
-        }
+    if let Some(runs) = runs_for(column, Kernel::IsConstant, ctx) {
+        return is_constant(runs, ctx);
     }
+    if let Some(constant) = constant_for(column, Kernel::IsConstant, ctx) {
+        return is_constant_of_constant(constant);
+    }
+    let flat = flat_rows(column, ctx)?;
+    let constant = is_flat_constant(&flat);
+    drop(flat);
+    Ok(constant)
 }
 
 // The same of all rows of a flat column.

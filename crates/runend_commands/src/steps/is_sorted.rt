@@ -7,17 +7,17 @@ ghost use Rattle.column_order.specs.OrderFacts as order;
 ghost use Rattle.runend_aggregate.specs.OrderFault.{order_fault};
 ghost use Rattle.runend_array.specs.Array.{column_of, dtype_of, rows};
 ghost use Rattle.runend_array.specs.declared.session.Kernel.TheVariants.{IsSorted as sorted_kernel};
-ghost use Rattle.runend_commands.specs.KernelForms.{HasKernel};
+ghost use Rattle.runend_commands.specs.KernelForms.{HasAggregateKernel};
 ghost use Rattle.runend_commands.specs.Outcomes.{IsOutcome};
 ghost use Rattle.runend_commands.specs.declared.command.Command.TheVariants.{IsSorted};
 
 use crate::command::Answer;
 use crate::steps::Outcome;
 use crate::steps::flat_rows::flat_rows;
-use crate::steps::kernel_runs::runs_for;
+use crate::steps::kernel_runs::{constant_for, runs_for};
 use column_core::{FlatColumn, VortexError, VortexResult};
 use column_order::FlatOrder;
-use runend_aggregate::is_sorted;
+use runend_aggregate::{is_sorted, is_sorted_of_constant};
 use runend_array::{ArrayRef, ExecutionCtx, Kernel};
 use std::alloc::Allocator;
 
@@ -42,18 +42,19 @@ fn are_rows_sorted<A: Allocator + Copy>(
 ) -> VortexResult<bool>
     ensures refused { IsRefusedBy (order_fault (dtype_of column.now)) result }
     ensures answer { IfOk result (λ sorted. IsTrue sorted ↔ order.IsSorted strict (rows column.now)) }
-    ensures kernel { HasKernel ctx.old sorted_kernel (column_of column.now) → result ≢ Err VortexError.OutOfMemory }
+    ensures kernel { HasAggregateKernel ctx.old sorted_kernel (column_of column.now) → result ≢ Err VortexError.OutOfMemory }
     ensures session { ctx.new ≡ ctx.old }
 {
-    match runs_for(column, Kernel::IsSorted, ctx) {
-        Some(runs) => is_sorted(runs, strict, ctx),
-        None => {
-            let flat = flat_rows(column, ctx)?;
-            let sorted = is_flat_sorted(&flat, strict);
-            drop(flat);
-            Ok(sorted)
-        }
+    if let Some(runs) = runs_for(column, Kernel::IsSorted, ctx) {
+        return is_sorted(runs, strict, ctx);
     }
+    if let Some(constant) = constant_for(column, Kernel::IsSorted, ctx) {
+        return is_sorted_of_constant(constant, strict);
+    }
+    let flat = flat_rows(column, ctx)?;
+    let sorted = is_flat_sorted(&flat, strict);
+    drop(flat);
+    Ok(sorted)
 }
 
 // The same of all rows of a flat column.

@@ -1,14 +1,14 @@
 //! Which columns a kernel serves.
 ghost use Rattle.std.specs.Prelude.{◌≡◌, MatchOption};
 ghost use Rattle.runend_array.specs.Array.{column_of};
-ghost use Rattle.runend_array.specs.Column.{column_of_runs};
-ghost use Rattle.runend_commands.specs.KernelForms.{HasKernel};
+ghost use Rattle.runend_array.specs.Column.{OfConstant, column_of_runs};
+ghost use Rattle.runend_commands.specs.KernelForms.{HasConstantKernel, HasKernel};
 
-use runend_array::{ArrayRef, ExecutionCtx, Kernel, RunEndArray};
+use runend_array::{ArrayRef, ConstantArray, ExecutionCtx, Kernel, RunEndArray};
 use std::alloc::Allocator;
 
 /// The run column that the kernel is to serve, or `None` where the column is no run column or the
-/// kernel is not registered: then the column is served row by row.
+/// kernel is not registered.
 pub fn runs_for<'a, A: Allocator + Copy>(
     column: &'a ArrayRef<A>,
     kernel: Kernel,
@@ -20,6 +20,23 @@ pub fn runs_for<'a, A: Allocator + Copy>(
 {
     match column {
         ArrayRef::RunEnd(runs) if ctx.session().is_registered(kernel) => Some(runs),
+        _ => None,
+    }
+}
+
+/// The constant that the kernel of an aggregate is to serve, as one run of all its rows, or `None` where
+/// the column is no constant or the kernel is not registered.
+pub fn constant_for<'a, A: Allocator + Copy>(
+    column: &'a ArrayRef<A>,
+    kernel: Kernel,
+    ctx: &ExecutionCtx<A>,
+) -> Option<&'a ConstantArray<A>>
+    ensures { MatchOption result
+        (¬ HasConstantKernel ctx.now kernel (column_of column.now))
+        (λ constant. HasConstantKernel ctx.now kernel (column_of column.now) × (column_of column.now ≡ OfConstant constant.now)) }
+{
+    match column {
+        ArrayRef::Constant(constant) if ctx.session().is_registered(kernel) => Some(constant),
         _ => None,
     }
 }

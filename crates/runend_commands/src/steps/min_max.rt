@@ -1,12 +1,15 @@
 //! The command MinMax.
-ghost use Rattle.std.specs.Prelude.{◌≡◌, IfOk, IfSome, IsOkUnless};
+ghost use Rattle.std.specs.Prelude.{◌≡◌, ◌≢◌, Err, IfOk, IfSome, IsOk, IsOkUnless, option_map};
 ghost use Rattle.column_core.specs.Refusal.{IsRefusedBy};
-ghost use Rattle.column_core.specs.ScalarView.{IsViewOf};
-ghost use Rattle.column_core.specs.Value.{IsLists};
+ghost use Rattle.column_core.specs.Scalar.{IsScalarOf, flat_of};
+ghost use Rattle.column_core.specs.ScalarView.{IsViewOf, sees};
+ghost use Rattle.column_core.specs.Value.{IsLists, Single};
 ghost use Rattle.runend_aggregate.specs.OrderFault.{order_fault};
-ghost use Rattle.runend_array.specs.Array.{dtype_of};
-ghost use Rattle.runend_array.specs.Column.{column_dtype, column_of_runs, plain_of};
-ghost use Rattle.runend_commands.specs.Extremes.{AreCopiesOf, AreExtremesIfAny};
+ghost use Rattle.runend_array.specs.Array.{column_of, dtype_of};
+ghost use Rattle.runend_array.specs.Column.{OfConstant, column_dtype, column_of_runs, plain_of};
+ghost use Rattle.runend_array.specs.declared.session.Kernel.TheVariants.{MinMax as min_max_kernel};
+ghost use Rattle.runend_commands.specs.Extremes.{AreCopiesOf, AreExtremesIfAny, HasBytes, IsCopyOf};
+ghost use Rattle.runend_commands.specs.KernelForms.{HasAggregateKernel};
 ghost use Rattle.runend_commands.specs.Meaning.{plain};
 ghost use Rattle.runend_commands.specs.Outcomes.{IsOutcome};
 ghost use Rattle.runend_commands.specs.declared.command.Command.TheVariants.{MinMax};
@@ -14,11 +17,11 @@ ghost use Rattle.runend_commands.specs.declared.command.Command.TheVariants.{Min
 use crate::command::Answer;
 use crate::steps::Outcome;
 use crate::steps::flat_rows::flat_rows;
-use crate::steps::kernel_runs::runs_for;
-use column_core::{DType, Scalar, ScalarView, VortexError, VortexResult};
+use crate::steps::kernel_runs::{constant_for, runs_for};
+use column_core::{DType, Scalar, ScalarValue, ScalarView, VortexError, VortexResult};
 use column_order::FlatOrder;
-use runend_aggregate::min_max;
-use runend_array::{ArrayRef, ExecutionCtx, Kernel, RunEndArray, RunEndArrayExt};
+use runend_aggregate::{min_max, min_max_of_constant};
+use runend_array::{ArrayRef, ConstantArray, ExecutionCtx, Kernel, RunEndArray, RunEndArrayExt};
 use std::alloc::Allocator;
 
 /// The least and the greatest row that are not null.
@@ -40,12 +43,16 @@ fn extremes_of<A: Allocator + Copy>(
 ) -> VortexResult<Option<(Scalar<A>, Scalar<A>)>>
     ensures refused { IsRefusedBy (order_fault (dtype_of column.now)) result }
     ensures extremes { IfOk result (AreExtremesIfAny (plain column.now)) }
+    ensures kernel { ¬ HasBytes (dtype_of column.now) → HasAggregateKernel ctx.old min_max_kernel (column_of column.now) → result ≢ Err VortexError.OutOfMemory }
     ensures session { ctx.new ≡ ctx.old }
 {
-    match runs_for(column, Kernel::MinMax, ctx) {
-        Some(runs) => extremes_of_runs(runs, ctx),
-        None => extremes_row_by_row(column, ctx),
+    if let Some(runs) = runs_for(column, Kernel::MinMax, ctx) {
+        return extremes_of_runs(runs, ctx);
     }
+    if let Some(constant) = constant_for(column, Kernel::MinMax, ctx) {
+        return extremes_of_constant(constant, ctx);
+    }
+    extremes_row_by_row(column, ctx)
 }
 
 // The two rows of a run column, found by the kernel.
@@ -56,10 +63,25 @@ fn extremes_of_runs<A: Allocator + Copy>(
 ) -> VortexResult<Option<(Scalar<A>, Scalar<A>)>>
     ensures refused { IsRefusedBy (order_fault (column_dtype runs.now.values)) result }
     ensures extremes { IfOk result (AreExtremesIfAny (plain_of (column_of_runs runs.now))) }
+    ensures no_memory { ¬ HasBytes (column_dtype runs.now.values) → result ≢ Err VortexError.OutOfMemory }
     ensures session { ctx.new ≡ ctx.old }
 {
     let found = min_max(runs, ctx)?;
     copies_of(*ctx.allocator(), runs.dtype(), found)
+}
+
+// The two rows of a constant, which is one run.
+#[tactic(auto, using(crate::proofs::Extremes::single_if_ordered))]
+fn extremes_of_constant<A: Allocator + Copy>(
+    constant: &ConstantArray<A>,
+    ctx: &ExecutionCtx<A>,
+) -> VortexResult<Option<(Scalar<A>, Scalar<A>)>>
+    ensures refused { IsRefusedBy (order_fault constant.now.dtype) result }
+    ensures extremes { IfOk result (AreExtremesIfAny (plain_of (OfConstant constant.now))) }
+    ensures no_memory { ¬ HasBytes constant.now.dtype → result ≢ Err VortexError.OutOfMemory }
+{
+    let found = min_max_of_constant(constant)?;
+    copies_of(*ctx.allocator(), constant.dtype(), found)
 }
 
 // The two rows of any column, found row by row.
@@ -89,16 +111,54 @@ fn copies_of<A: Allocator + Copy>(
     requires greatest_of_type { IfSome found (λ ends. IsViewOf dtype ends.1) }
     ensures only { IsOkUnless result VortexError.OutOfMemory }
     ensures copies { IfOk result (AreCopiesOf dtype found.entry) }
+    ensures no_memory { ¬ HasBytes dtype → IsOk result }
 {
     let Some((least, greatest)) = found else {
         return Ok(None);
     };
-    let least = Scalar::of_view(alloc, dtype, least)?;
-    match Scalar::of_view(alloc, dtype, greatest) {
+    let least = copy_of(alloc, dtype, least)?;
+    match copy_of(alloc, dtype, greatest) {
         Ok(greatest) => Ok(Some((least, greatest))),
         Err(error) => {
             drop(least);
             Err(error)
         }
+    }
+}
+
+// What a row of this type shows, as a scalar of it. Only a copy of a text or of bytes takes memory.
+fn copy_of<A: Allocator + Copy>(
+    alloc: A,
+    dtype: DType,
+    row: ScalarView<'_, A>,
+) -> VortexResult<Scalar<A>>
+    requires single { ¬ IsLists dtype }
+    requires of_type { IsViewOf dtype row }
+    ensures only { IsOkUnless result VortexError.OutOfMemory }
+    ensures copy { IfOk result (IsCopyOf dtype row.entry) }
+    ensures no_memory { ¬ HasBytes dtype → IsOk result }
+{
+    match dtype {
+        DType::Utf8(_) | DType::Binary(_) => Scalar::of_view(alloc, dtype, row),
+        _ => Scalar::try_new(dtype, value_of(dtype, row)),
+    }
+}
+
+// The value of a row of this type, which is none of texts, bytes or lists, or `None` for null.
+fn value_of<A: Allocator>(dtype: DType, row: ScalarView<'_, A>) -> Option<ScalarValue<A>>
+    requires plain { ¬ HasBytes dtype }
+    requires single { ¬ IsLists dtype }
+    requires of_type { IsViewOf dtype row }
+    ensures of_type { IsScalarOf dtype result }
+    ensures value { option_map Single (option_map flat_of result) ≡ sees row.entry }
+{
+    let _ = dtype;
+    match row {
+        ScalarView::Null => None,
+        ScalarView::Bool(truth) => Some(ScalarValue::Bool(truth)),
+        ScalarView::Unsigned(number) => Some(ScalarValue::Unsigned(number)),
+        ScalarView::Signed(number) => Some(ScalarValue::Signed(number)),
+        ScalarView::Decimal(number) => Some(ScalarValue::Decimal(number)),
+        ScalarView::Utf8(_) | ScalarView::Binary(_) | ScalarView::List { .. } => unreachable!(),
     }
 }

@@ -4,17 +4,17 @@ ghost use Rattle.column_core.specs.Refusal.{IsRefusedBy};
 ghost use Rattle.column_sums.specs.SumAnswer.{sum_fault, IsSumAnswer};
 ghost use Rattle.runend_array.specs.Array.{column_of, dtype_of, rows};
 ghost use Rattle.runend_array.specs.declared.session.Kernel.TheVariants.{Sum as sum_kernel};
-ghost use Rattle.runend_commands.specs.KernelForms.{HasKernel};
+ghost use Rattle.runend_commands.specs.KernelForms.{HasAggregateKernel};
 ghost use Rattle.runend_commands.specs.Outcomes.{IsOutcome};
 ghost use Rattle.runend_commands.specs.declared.command.Command.TheVariants.{Sum};
 
 use crate::command::Answer;
 use crate::steps::Outcome;
 use crate::steps::flat_rows::flat_rows;
-use crate::steps::kernel_runs::runs_for;
+use crate::steps::kernel_runs::{constant_for, runs_for};
 use column_core::{DType, VortexError, VortexResult};
 use column_sums::{SumAnswer, sum_flat};
-use runend_aggregate::sum;
+use runend_aggregate::{sum, sum_of_constant};
 use runend_array::{ArrayRef, ExecutionCtx, Kernel};
 use std::alloc::Allocator;
 
@@ -37,13 +37,16 @@ fn sum_of_rows<A: Allocator + Copy>(
 ) -> VortexResult<SumAnswer>
     ensures refused { IsRefusedBy (sum_fault (dtype_of column.now)) result }
     ensures answer { IfOk result (IsSumAnswer (dtype_of column.now) (rows column.now)) }
-    ensures kernel { HasKernel ctx.old sum_kernel (column_of column.now) → result ≢ Err VortexError.OutOfMemory }
+    ensures kernel { HasAggregateKernel ctx.old sum_kernel (column_of column.now) → result ≢ Err VortexError.OutOfMemory }
     ensures session { ctx.new ≡ ctx.old }
 {
-    match runs_for(column, Kernel::Sum, ctx) {
-        Some(runs) => sum(runs, ctx),
-        None => sum_row_by_row(column, ctx),
+    if let Some(runs) = runs_for(column, Kernel::Sum, ctx) {
+        return sum(runs, ctx);
     }
+    if let Some(constant) = constant_for(column, Kernel::Sum, ctx) {
+        return sum_of_constant(constant);
+    }
+    sum_row_by_row(column, ctx)
 }
 
 // The sum, row by row.

@@ -7,7 +7,7 @@ ghost use Rattle.runend_array.specs.Array.{column_of, dtype_of, rows};
 ghost use Rattle.runend_array.specs.Column.{IsFlat};
 ghost use Rattle.runend_array.specs.declared.session.Kernel.TheVariants.{TakeFrom as take_from_kernel};
 ghost use Rattle.runend_map.specs.Codes.{keeps_runs};
-ghost use Rattle.runend_map.specs.Owed.{IsMappedRuns};
+ghost use Rattle.runend_map.specs.TakenForm.{IsTakenForm};
 ghost use Rattle.runend_commands.specs.KernelForms.{HasKernel, OnRuns};
 ghost use Rattle.runend_commands.specs.Meaning.{plain};
 ghost use Rattle.runend_commands.specs.Outcomes.{IsOutcome};
@@ -43,7 +43,7 @@ fn rows_for_codes<A: Allocator + Copy>(
     ensures rows { IfOk result (λ taken. rows taken ≡ code_rows (rows dictionary.now) (rows column.now)) }
     ensures dtype { IfOk result (λ taken. dtype_of taken ≡ take_dtype (dtype_of dictionary.now) (dtype_of column.now)) }
     ensures kernel { HasKernel ctx.old take_from_kernel (column_of column.now) → OnRuns (column_of column.now)
-        (λ runs. IfOk result (λ taken. IsMappedRuns (keeps_runs (dtype_of dictionary.now)) runs (column_of taken))) }
+        (λ runs. IfOk result (λ taken. IsTakenForm (keeps_runs (dtype_of dictionary.now)) (dtype_of dictionary.now) runs (column_of taken))) }
     ensures otherwise { ¬ HasKernel ctx.old take_from_kernel (column_of column.now) → IfOk result (λ taken. IsFlat (column_of taken)) }
     ensures session { ctx.new ≡ ctx.old }
 {

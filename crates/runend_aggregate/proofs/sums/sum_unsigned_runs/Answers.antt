@@ -1,5 +1,5 @@
 use Rattle.runend_array.specs.Column.{column_dtype, column_of_runs, column_rows}
-use Rattle.runend_aggregate.proofs.RunRows.{rows_of_visible_runs}
+use Rattle.runend_aggregate.proofs.RunRows.{rows_of_visible_runs, shown-visible_runs}
 use Rattle.runend_aggregate.proofs.SumOfRows.{unsigned_answer}
 use Rattle.runend_aggregate.proofs.sums.sum_unsigned_runs.Goals as goal
 
@@ -8,3 +8,9 @@ returns-clause-answer g c =
     let r = c.args.array.now in
     unsigned_answer (column_dtype r.values) (column_rows (column_of_runs r)) _ c.sum_unsigned_in_runs.result c.requires.unsigned c.sum_unsigned_in_runs.ensures.answer
     (rows_of_visible_runs r c.visible_runs-runs.ensures.valid)
+
+pub returns-clause-rows : goal.returns-clause-rows
+returns-clause-rows g c = rows_of_visible_runs c.args.array.now c.visible_runs-runs.ensures.valid
+
+pub returns-clause-shown : goal.returns-clause-shown
+returns-clause-shown g c = shown-visible_runs c.args.array.now c.visible_runs-runs.ensures.valid

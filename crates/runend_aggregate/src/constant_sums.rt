@@ -1,0 +1,131 @@
+//! Sums of constant columns: all rows are one run.
+ghost use Rattle.std.specs.Prelude.{◌≡◌, ◌≢◌, ◌++◌, Err, IfOk, option_map, pos};
+ghost use Rattle.column_core.specs.Refusal.{IsRefusedBy};
+ghost use Rattle.column_core.specs.Value.{Single};
+ghost use Rattle.column_sums.specs.RunSum.{calls_of};
+ghost use Rattle.column_sums.specs.SumAnswer.{IsSumAnswer, number_in, sum_fault};
+ghost use Rattle.column_sums.specs.SumRange.{SignedRange, UnsignedRange};
+ghost use Rattle.runend_array.specs.Column.{OfConstant, column_rows};
+ghost use Rattle.runend_aggregate.specs.ShownRuns.{constant_runs, one_run};
+ghost use Rattle.runend_aggregate.specs.SignOf.{IsSignedType, IsUnsignedType};
+
+use column_core::{DType, ScalarView, VortexError, VortexResult};
+use column_sums::{
+    SignedRuns, SignedSum, SumAnswer, UnsignedRuns, UnsignedSum, sum_signed_in_runs,
+    sum_unsigned_in_runs,
+};
+use runend_array::ConstantArray;
+use std::alloc::Allocator;
+
+// The run of all rows of a constant of signed numbers. There is none where there is no row.
+#[derive(Drop)]
+struct SignedRun {
+    value: Option<i64>,
+    row_count: usize,
+}
+
+impl SignedRuns for SignedRun {
+    ghost runs = { λ run. one_run run.value run.row_count };
+
+    fn run_count(&self) -> usize {
+        usize::from(self.row_count > 0)
+    }
+
+    fn value(&self, _run: usize) -> Option<i64> {
+        self.value
+    }
+
+    fn row_count(&self, _run: usize) -> usize {
+        self.row_count
+    }
+}
+
+// The run of all rows of a constant of unsigned numbers. There is none where there is no row.
+#[derive(Drop)]
+struct UnsignedRun {
+    value: Option<u64>,
+    row_count: usize,
+}
+
+impl UnsignedRuns for UnsignedRun {
+    ghost runs = { λ run. one_run (option_map pos run.value) run.row_count };
+
+    fn run_count(&self) -> usize {
+        usize::from(self.row_count > 0)
+    }
+
+    fn value(&self, _run: usize) -> Option<u64> {
+        self.value
+    }
+
+    fn row_count(&self, _run: usize) -> usize {
+        self.row_count
+    }
+}
+
+// The number of a constant that has no unsigned numbers.
+fn signed_number<A: Allocator>(array: &ConstantArray<A>) -> Option<i64>
+    requires { ¬ IsUnsignedType array.now.dtype }
+    ensures { result ≡ number_in (option_map Single array.now.value) }
+{
+    match array.scalar().view() {
+        ScalarView::Signed(number) => Some(number),
+        _ => None,
+    }
+}
+
+// The number of a constant that has no signed numbers.
+fn unsigned_number<A: Allocator>(array: &ConstantArray<A>) -> Option<u64>
+    requires { ¬ IsSignedType array.now.dtype }
+    ensures { option_map pos result ≡ number_in (option_map Single array.now.value) }
+{
+    match array.scalar().view() {
+        ScalarView::Unsigned(number) => Some(number),
+        _ => None,
+    }
+}
+
+// The sum of a constant of signed numbers, by at most one call of `add_run`.
+fn sum_signed_constant<A: Allocator>(array: &ConstantArray<A>, sum: &mut SignedSum) -> SumAnswer
+    requires signed { IsSignedType array.now.dtype }
+    requires zero { sum.old.value ≡ pos 0 }
+    ensures answer { IsSumAnswer array.now.dtype (column_rows (OfConstant array.now)) result }
+    ensures calls { sum.new.calls ≡ sum.old.calls ++ calls_of SignedRange (constant_runs array.now) }
+{
+    let run = SignedRun {
+        value: signed_number(array),
+        row_count: array.len(),
+    };
+    sum_signed_in_runs(&run, sum)
+}
+
+// The sum of a constant of unsigned numbers, by at most one call of `add_run`.
+fn sum_unsigned_constant<A: Allocator>(array: &ConstantArray<A>, sum: &mut UnsignedSum) -> SumAnswer
+    requires unsigned { IsUnsignedType array.now.dtype }
+    requires zero { sum.old.value ≡ pos 0 }
+    ensures answer { IsSumAnswer array.now.dtype (column_rows (OfConstant array.now)) result }
+    ensures calls { sum.new.calls ≡ sum.old.calls ++ calls_of UnsignedRange (constant_runs array.now) }
+{
+    let run = UnsignedRun {
+        value: unsigned_number(array),
+        row_count: array.len(),
+    };
+    sum_unsigned_in_runs(&run, sum)
+}
+
+/// The sum of the rows of a constant column, as `sum` answers it of runs: its value is added once, as
+/// often as there are rows. Refused as `Unsupported` exactly for columns of other types than whole
+/// numbers. It takes no memory.
+pub fn sum_of_constant<A: Allocator>(array: &ConstantArray<A>) -> VortexResult<SumAnswer>
+    ensures refused { IsRefusedBy (sum_fault array.now.dtype) result }
+    ensures no_memory { result ≢ Err VortexError.OutOfMemory }
+    ensures answer { IfOk result (IsSumAnswer array.now.dtype (column_rows (OfConstant array.now))) }
+{
+    match array.dtype() {
+        DType::Primitive(ptype, _) if ptype.is_unsigned_int() => {
+            Ok(sum_unsigned_constant(array, &mut UnsignedSum::new()))
+        }
+        DType::Primitive(_, _) => Ok(sum_signed_constant(array, &mut SignedSum::new())),
+        _ => Err(VortexError::Unsupported),
+    }
+}
