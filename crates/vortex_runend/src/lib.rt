@@ -4,7 +4,10 @@
 pub mod compress;
 pub mod compute;
 pub mod laws;
+mod strategies;
 
+pub use column_ops::ColumnOps;
+pub use column_order::FlatOrder;
 pub use runend_aggregate::{SignedSum, SumAnswer, SumValue, UnsignedSum};
 pub use runend_array::{
     ArrayRef, BitBuffer, BitBufferMut, BoolArray, Canonical, ConstantArray, CountedEnds, DType,
