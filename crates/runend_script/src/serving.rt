@@ -2,15 +2,15 @@
 ghost use Rattle.std.specs.Prelude.{◌≡◌, ◌⊎◌};
 
 use crate::scripts::script;
-use script_text::{Failure, Status, print, read_input, report};
+use script_text::{Failure, LimitedReads, Status, print, read_input, report};
 use std::alloc::Allocator;
 use std::io::{Read, Write};
 use std::str;
 use vortex_runend::ExecutionCtx;
 
-/// Reads a script, runs it, and writes its answers. The status is 0 where each line was answered; 2
-/// after a line that is no command, or where the input is not UTF-8; 3 where memory was refused, a
-/// read failed or a write failed.
+/// Reads a script by at most 1,048,576 reads of 65,536 bytes, runs it, and writes its answers. The status
+/// is 0 where each line was answered; 2 after a line that is no command, or where the input is not UTF-8;
+/// 3 where memory was refused, a read failed, a write failed or the input did not end within the reads.
 pub fn serve<R: Read, W: Write, E: Write, A: Allocator + Copy>(
     input: &mut R,
     out: &mut W,
@@ -19,7 +19,8 @@ pub fn serve<R: Read, W: Write, E: Write, A: Allocator + Copy>(
 ) -> u8
     ensures status { (result ≡ 0) ⊎ (result ≡ 2) ⊎ (result ≡ 3) }
 {
-    let status = match read_input(input, *ctx.allocator()) {
+    let mut reads = LimitedReads::new(input);
+    let status = match read_input(&mut reads, *ctx.allocator()) {
         Ok(bytes) => answer(&bytes, out, err, ctx),
         Err(failure) => report(err, failure),
     };

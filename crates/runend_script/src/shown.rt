@@ -56,6 +56,8 @@ fn push_row<A: Allocator + Copy>(line: &mut String<A>, row: ScalarView<'_, A>) -
 
 // A word for each row, each behind a space.
 fn push_rows<A: Allocator + Copy>(line: &mut String<A>, array: &ArrayRef<A>) -> VortexResult<()> {
+    // A row takes two bytes at least: what no memory can show is refused before the first row.
+    line.reserve(array.len().saturating_mul(2))?;
     for index in 0..array.len() {
         push_row(line, array.scalar_at(index)?)?;
     }

@@ -1,17 +1,12 @@
 //! Input that is read whole.
-ghost use Rattle.std.specs.Prelude.{◌≡◌, IfOk, OnOk, vec_len};
+ghost use Rattle.std.specs.Prelude.{◌≡◌, ◌≤◌, IfOk, OnOk, vec_len};
 ghost use Rattle.std.specs.Io.KnownBytes.{Consumes, IsAtEnd};
 ghost use Rattle.script_text.specs.declared.input.Failure.TheVariants.{OutOfMemory};
 
+use crate::reads::{BLOCK_BYTES, LimitedReads};
 use std::alloc::{AllocError, Allocator};
 use std::io::Read;
 use thiserror::Error;
-
-/// How many blocks are asked for at most: input that has not ended by then is not read.
-const MAX_READS: u64 = 1 << 20;
-
-/// How many bytes are asked for at a time.
-const BLOCK_BYTES: usize = 1 << 16;
 
 /// Why there is no answer. The text is what the program prints.
 #[derive(Clone, Copy, Debug, PartialEq, Eq, Error)]
@@ -32,19 +27,20 @@ impl From<AllocError> for Failure {
     }
 }
 
-/// All that is left of the input. Refused as `CannotRead` where a read fails, or where the input
-/// does not end within 1,048,576 reads of at most 65,536 bytes, and as `OutOfMemory`.
+/// All that is left of the input, by as many reads of 65,536 bytes as are left. Refused as `CannotRead` where a
+/// read fails, or where the input does not end within them, and as `OutOfMemory`.
 #[tactic(auto, using(crate::proofs::KnownInput::consumes_none, crate::proofs::KnownInput::consumes_more, crate::proofs::KnownInput::consumes_end))]
-pub fn read_input<R: Read, A: Allocator + Copy>(
-    input: &mut R,
+pub fn read_input<R: Read + Drop, A: Allocator + Copy>(
+    input: &mut LimitedReads<R>,
     alloc: A,
 ) -> Result<Vec<u8, A>, Failure>
-    ensures bytes { IfOk result (λ all. Consumes (R.remaining input.old) (R.remaining input.new) all.items) }
-    ensures end { OnOk result (IsAtEnd (R.remaining input.new)) }
+    ensures bytes { IfOk result (λ all. Consumes (R.remaining input.old.reader) (R.remaining input.new.reader) all.items) }
+    ensures end { OnOk result (IsAtEnd (R.remaining input.new.reader)) }
+    ensures reads { input.new.left ≤ input.old.left }
 {
     let mut all = Vec::new(alloc);
     let mut block = empty_block(alloc)?;
-    for _ in 0..MAX_READS {
+    while input.left() > 0 {
         match input.read(&mut block) {
             Ok(0) => return Ok(all),
             Ok(n) => all.extend_from_slice(&block[..n])?,

@@ -1,9 +1,13 @@
 use Rattle.std.specs.Io.KnownBytes.{Consumes}
-use Rattle.std.proofs.Common.{◌≡◌, vec_len}
+use Rattle.std.proofs.Common.{◌≡◌, ◌≤◌, vec_len}
 use Rattle.script_text.proofs.input.read_input.Given as goal
 
-abbrev pub invariant-loop : goal.invariant-loop
-invariant-loop g l = record {
-  read : Consumes (g.R.Read.remaining l.initial.input) (g.R.Read.remaining l.input) l.all.items;
+abbrev pub invariant-loop-input : goal.invariant-loop-input
+invariant-loop-input g l = record {
+  read : Consumes (g.R.Read.remaining l.initial.input.reader) (g.R.Read.remaining l.input.reader) l.all.items;
+  left : l.input.left ≤ l.initial.input.left;
   room : vec_len l.block ≡ 65536;
 }
+
+abbrev pub decreases-loop-input : goal.decreases-loop-input
+decreases-loop-input g l = l.input.left

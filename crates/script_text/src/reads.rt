@@ -1,0 +1,53 @@
+//! A reader that is read at most so many times.
+ghost use Rattle.std.specs.Prelude.{◌≡◌, ◌+◌, ◌<◌, length};
+ghost use Rattle.std.specs.Io.{ReadsAtMost};
+ghost use Rattle.std.specs.Io.KnownBytes.{ReadConsumes};
+
+use std::io;
+use std::io::Read;
+
+/// How often a reader is read at most.
+pub const MAX_READS: u64 = 1 << 20;
+
+/// How many bytes are asked for at a time.
+pub const BLOCK_BYTES: usize = 1 << 16;
+
+/// A reader, and how many reads of it are left. It is read by `read` alone.
+#[derive(Drop)]
+pub struct LimitedReads<R: Drop> {
+    reader: R,
+    left: u64,
+}
+
+impl<R: Read + Drop> LimitedReads<R> {
+    /// The reader, with 1,048,576 reads left.
+    pub fn new(reader: R) -> Self
+        ensures reader { result.reader ≡ reader }
+        ensures left { result.left ≡ MAX_READS }
+    {
+        LimitedReads {
+            reader,
+            left: MAX_READS,
+        }
+    }
+
+    /// How many reads are left.
+    pub fn left(&self) -> u64
+        ensures { result ≡ self.now.left }
+    {
+        self.left
+    }
+
+    /// One read into the block of 65,536 bytes, which takes one of the reads that are left.
+    pub fn read(&mut self, block: &mut [u8]) -> io::Result<usize>
+        requires left { 0 < self.old.left }
+        requires block { length block.old ≡ BLOCK_BYTES }
+        ensures left { self.new.left + 1 ≡ self.old.left }
+        ensures block { length block.new ≡ BLOCK_BYTES }
+        ensures bound { ReadsAtMost result block.new }
+        ensures bytes { ReadConsumes (R.remaining self.old.reader) (R.remaining self.new.reader) result block.new }
+    {
+        self.left -= 1;
+        self.reader.read(block)
+    }
+}
