@@ -1,9 +1,9 @@
-//! Bits, masks and validities.
+//! Bits and validities.
 use crate::parts::bits;
 use std::alloc::Allocator;
 use std::process::Abort;
 use std::test::Fail;
-use vortex_runend::{BitBuffer, BitBufferMut, Mask, Validity};
+use vortex_runend::{BitBuffer, BitBufferMut, Validity};
 
 // Do the bits stand in these words?
 fn assert_words<A: Allocator>(rt: &impl Abort, bits: &BitBuffer<A>, words: &[u64]) {
@@ -39,17 +39,6 @@ fn filled_bits_are_counted_and_copied(rt: HostRuntime) -> Result<(), Fail> {
 }
 
 #[test]
-fn masks_are_copied(rt: HostRuntime) -> Result<(), Fail> {
-    let mask = Mask::from_indices(rt.alloc(), 4, &[1, 3])?;
-    let copy = mask.try_clone(rt.alloc());
-    drop(mask);
-    let copy = copy?;
-    assert_eq!(rt; (copy.len(), copy.true_count()), (4, 2));
-    drop(copy);
-    Ok(())
-}
-
-#[test]
 fn validities_are_copied_and_sliced(rt: HostRuntime) -> Result<(), Fail> {
     let validity = Validity::from_bits(bits(rt.alloc(), &[false, true, true])?);
     let copy = validity.try_clone(rt.alloc());
@@ -76,6 +65,15 @@ fn bits_stand_in_words(rt: HostRuntime) -> Result<(), Fail> {
         assert_eq!(rt; bits.words().len(), count.div_ceil(64));
         drop(bits);
     }
+    Ok(())
+}
+
+#[test]
+fn true_bits_of_ranges_are_counted(rt: HostRuntime) -> Result<(), Fail> {
+    let bits = BitBufferMut::full(rt.alloc(), true, 128)?.freeze();
+    let counts = (bits.count_range(0, 0), bits.count_range(63, 65));
+    assert_eq!(rt; counts, (0, 2));
+    assert_eq!(rt; bits.count_range(1, 127), 126);
     Ok(())
 }
 

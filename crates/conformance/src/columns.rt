@@ -10,12 +10,19 @@ use std::process::Abort;
 use vortex_runend::compress::runend_decode_primitive;
 use vortex_runend::{
     ArrayRef, BitBufferMut, ExecutionCtx, NativePType, PrimitiveArray, RunEnd, ScalarView,
-    UnsignedPType, Validity, VortexResult, VortexSession,
+    UnsignedPType, Validity, VortexResult, VortexSession, initialize,
 };
 
 /// A context in which no kernel is registered.
 pub(crate) fn context<A: Allocator + Copy>(alloc: A) -> ExecutionCtx<A> {
     ExecutionCtx::new(VortexSession::empty(), alloc)
+}
+
+/// A context in which all kernels are registered, with the library's thresholds.
+pub(crate) fn full_context<A: Allocator + Copy>(alloc: A) -> ExecutionCtx<A> {
+    let mut session = VortexSession::empty();
+    initialize(&mut session);
+    ExecutionCtx::new(session, alloc)
 }
 
 /// A column of a type without null.
@@ -114,4 +121,16 @@ pub(crate) fn assert_rows<A: Allocator + Copy>(
         };
         assert_eq!(rt; row, rows[index], "at {index}");
     }
+}
+
+/// Are the rows these, of a signed type?
+pub(crate) fn are_rows<A: Allocator + Copy>(array: &ArrayRef<A>, rows: &[Option<i64>]) -> bool {
+    for index in 0..rows.len() {
+        match array.scalar_at(index) {
+            Ok(ScalarView::Null) if rows[index].is_none() => {}
+            Ok(ScalarView::Signed(number)) if rows[index] == Some(number) => {}
+            _ => return false,
+        }
+    }
+    array.len() == rows.len()
 }

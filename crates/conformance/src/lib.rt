@@ -7,6 +7,10 @@ mod bits;
 #[cfg(test)]
 mod columns;
 #[cfg(test)]
+mod commands;
+#[cfg(test)]
+mod edges;
+#[cfg(test)]
 mod encoded;
 #[cfg(test)]
 mod errors;
@@ -14,6 +18,10 @@ mod errors;
 mod fakes;
 #[cfg(test)]
 mod flat;
+#[cfg(test)]
+mod flat_calls;
+#[cfg(test)]
+mod growths;
 #[cfg(test)]
 mod indices;
 #[cfg(test)]
@@ -23,19 +31,17 @@ mod lists;
 #[cfg(test)]
 mod lookups;
 #[cfg(test)]
+mod many_runs;
+#[cfg(test)]
 mod memory;
 #[cfg(test)]
 mod parts;
-#[cfg(test)]
-mod probes;
 #[cfg(test)]
 mod records;
 #[cfg(test)]
 mod refusals;
 #[cfg(test)]
 mod reports;
-#[cfg(test)]
-mod scalars;
 #[cfg(test)]
 mod scripts;
 #[cfg(test)]

@@ -3,7 +3,8 @@
 use crate::fakes::{Closed, Endless, FailsAt};
 use refusing::Refusing;
 use runend_script::{script, serve};
-use std::alloc::Allocator;
+use std::alloc::{Allocator, Global};
+use std::process::Abort;
 use std::test::Fail;
 use vortex_runend::{ExecutionCtx, VortexResult, VortexSession};
 
@@ -201,32 +202,56 @@ fn a_write_that_fails(rt: HostRuntime) {
     assert!(rt; err.is_empty());
 }
 
-// Lines for each way of making and answering that asks for memory.
+// Lines of each kind, on runs and on a flat column.
 const SERVED: &[u8] =
-    b"col u8? 7 7 null\nencode\nshow\nrows\nat 3\nruns i8 u8 0 2 1 2 / 4 5\nslice 1 2\nminmax\nmeta\nread 08 01\n";
+    b"col u8? 7 7 null\nencode\nshow\nrows\nat 3\nfilter 011\ncast i16?\nfill 9\ndecode\nsum\nthresholds zero\n\
+    runs i8 u8 0 5 1 2 5 / 4 5 6\nfilter 01111\ntake 1 0 3 0\nkernels none\nencode\nsum\nminmax\nconstant\nsorted\nstrict\n\
+    cast i16\nencode\ntake 0 null\nfill 0\nkernels all\nthresholds crate\nencode\nslice 0 1\nshow\nmeta\nread 08 01\n\
+    runs i8 u8 1 3 2 4 / 4 5\nmeta\nsum\nminmax\nconstant\nsorted\nstrict\n";
 
 const SERVED_ANSWERS: &[u8] =
-    b"ok\nok\nruns u8? u8 offset 0 length 3 ends 2 3 values 7 null\nrows 7 7 null\nrefused 8 3 3\nok\nok\nminmax 5 5\nnot runs\nread u16 runs 0 offset 0\n";
+    b"ok\nok\nruns u8? u8 offset 0 length 3 ends 2 3 values 7 null\nrows 7 7 null\nrefused 8 3 3\nok\nok\nok\nok\nsum 16\nok\n\
+    ok\nok\nok\nok\nok\nsum 22\nminmax 5 6\nconstant false\nsorted false\nstrict false\n\
+    ok\nok\nok\nok\nok\nok\nok\nok\nconst i16 6 length 1\nnot runs\nread u16 runs 0 offset 0\n\
+    ok\nmeta 10 02 18 01\nsum 14\nminmax 4 5\nconstant false\nsorted true\nstrict false\n";
+
+// What is served where this request is refused, alone or with all later ones. Was it refused?
+fn assert_served(rt: &impl Abort, alloc: Global, request: u64, is_alone: bool) -> bool {
+    let heap = if is_alone {
+        Refusing::only(alloc, request)
+    } else {
+        Refusing::from(alloc, request)
+    };
+    let mut ctx = ExecutionCtx::new(VortexSession::empty(), &heap);
+    let mut input = SERVED;
+    let mut out = Vec::new(alloc);
+    let mut err = Vec::new(alloc);
+    let status = serve(&mut input, &mut out, &mut err, &mut ctx);
+    if heap.refused() == 0 {
+        assert_eq!(rt; status, 0);
+        assert_eq!(rt; out.as_slice(), SERVED_ANSWERS);
+        return false;
+    }
+    assert_eq!(rt; status, 3);
+    assert_eq!(rt; err.as_slice(), b"out of memory\n".as_slice());
+    assert!(rt; out.is_empty());
+    true
+}
+
+// The first request that does not come, so that it is not refused.
+fn first_unmet(rt: &impl Abort, alloc: Global, is_alone: bool) -> u64 {
+    for request in 1..999u64 {
+        if !assert_served(rt, alloc, request, is_alone) {
+            return request;
+        }
+    }
+    999
+}
 
 #[test]
 fn growths_that_are_refused(rt: HostRuntime) {
-    let mut met = 0u64;
-    for request in 1..99u64 {
-        let heap = Refusing::from(rt.alloc(), request);
-        let mut ctx = ExecutionCtx::new(VortexSession::empty(), &heap);
-        let mut input = SERVED;
-        let mut out = Vec::new(rt.alloc());
-        let mut err = Vec::new(rt.alloc());
-        let status = serve(&mut input, &mut out, &mut err, &mut ctx);
-        if heap.refused() == 0 {
-            assert_eq!(rt; status, 0);
-            assert_eq!(rt; out.as_slice(), SERVED_ANSWERS);
-            break;
-        }
-        assert_eq!(rt; status, 3);
-        assert_eq!(rt; err.as_slice(), b"out of memory\n".as_slice());
-        assert!(rt; out.is_empty());
-        met = request;
+    for is_alone in [true, false] {
+        let unmet = first_unmet(&rt, rt.alloc(), is_alone);
+        assert!(rt; unmet > 30 && unmet < 999);
     }
-    assert!(rt; met > 9 && met < 98);
 }

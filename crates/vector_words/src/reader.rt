@@ -7,6 +7,9 @@ use runend_array::{DType, Kernel, Thresholds, VarBinKind};
 /// The word between ends and values, and between views and buffers.
 const SLASH: &str = "/";
 
+/// The word between a command of a list and the next.
+pub const NEXT: &str = ";";
+
 /// The words that are no name of a column.
 const TAKEN: [&str; 8] = [
     "read",
@@ -28,6 +31,8 @@ pub enum Request<'a> {
     Call(&'a str, Call<'a>),
     /// The same, with memory refused in turn first.
     Refuse(&'a str, Call<'a>),
+    /// A list of commands is run, the one at this place, from 1, refused for memory alone.
+    RefuseOne(usize, &'a str, Call<'a>),
     /// A column is looked at.
     Look(&'a str, Look),
     /// These kernels are registered, and no others.
@@ -61,6 +66,8 @@ pub enum Call<'a> {
     Views(Views<'a>),
     Deserialize(Record<'a>),
     Command(Command<'a>),
+    /// The words of commands, to be run as one list, parted by `NEXT`.
+    Run(&'a [&'a str]),
     Row(usize),
     Probe(usize),
     Validity,
@@ -76,7 +83,7 @@ impl<'a> Call<'a> {
         match self {
             Call::Copy(_) | Call::Encode(_) | Call::Runs(_) | Call::Whole(_) => true,
             Call::Lists(_) | Call::Views(_) | Call::Deserialize(_) => true,
-            Call::Command(_) | Call::Row(_) | Call::Probe(_) => false,
+            Call::Command(_) | Call::Run(_) | Call::Row(_) | Call::Probe(_) => false,
             Call::Validity | Call::Meta | Call::Read(_) => false,
         }
     }
@@ -177,8 +184,26 @@ pub fn read_request<'a>(words: &'a [&'a str]) -> Option<Request<'a>> {
     }
 }
 
-// The call that these words ask, with memory refused in turn first.
+// The call that these words ask, with memory refused in turn first, or where a number stands first to the command at
+// that place of a list.
 fn read_refused<'a>(words: &'a [&'a str]) -> Option<Request<'a>> {
+    let (first, rest) = words.split_first()?;
+    match read_count(first) {
+        Some(place) => read_refused_one(place, rest),
+        None => read_refused_call(words),
+    }
+}
+
+fn read_refused_one<'a>(place: usize, words: &'a [&'a str]) -> Option<Request<'a>> {
+    match read_done(words)? {
+        Request::Call(name, Call::Run(list)) => {
+            Some(Request::RefuseOne(place, name, Call::Run(list)))
+        }
+        _ => None,
+    }
+}
+
+fn read_refused_call<'a>(words: &'a [&'a str]) -> Option<Request<'a>> {
     match read_done(words)? {
         Request::Call(name, call) => Some(Request::Refuse(name, call)),
         _ => None,
@@ -267,9 +292,10 @@ fn read_call<'a>(verb: &str, words: &'a [&'a str]) -> Option<Call<'a>> {
         return read_alone(verb);
     };
     match verb {
+        "run" => Some(Call::Run(words)),
         "row" => Some(Call::Row(only_count(words)?)),
         "probe" => Some(Call::Probe(only_count(words)?)),
-        _ => Some(Call::Command(read_command(verb, first, rest)?)),
+        _ => Some(Call::Command(read_worded(verb, first, rest)?)),
     }
 }
 
@@ -290,8 +316,17 @@ fn only<'a>(words: &'a [&'a str]) -> Option<&'a str> {
     }
 }
 
+/// The command of these words, of which the first is its verb.
+pub fn read_command<'a>(words: &'a [&'a str]) -> Option<Command<'a>> {
+    let (verb, rest) = words.split_first()?;
+    match rest.split_first() {
+        Some((first, others)) => read_worded(verb, first, others),
+        None => read_bare(verb),
+    }
+}
+
 // The command of a verb and its words, of which one is the first.
-fn read_command<'a>(verb: &str, first: &'a str, rest: &'a [&'a str]) -> Option<Command<'a>> {
+fn read_worded<'a>(verb: &str, first: &'a str, rest: &'a [&'a str]) -> Option<Command<'a>> {
     match verb {
         "slice" => read_slice(first, rest),
         "take" => read_take(first, rest),

@@ -1,13 +1,15 @@
 //! Calls, and what comes of them.
 use crate::flats::boxed_lists;
 use crate::printer::{
-    push_metadata, push_record, push_row, push_sum, push_truth, push_validity, push_word,
+    push_metadata, push_record, push_refusal, push_row, push_sum, push_truth, push_validity,
+    push_word,
 };
 use bytes::Bytes;
 use column_base::VortexResult;
 use runend_commands::{Answer, Command, execute};
 use std::alloc::Allocator;
 use std::rc::Rc;
+use vector_words::reader::NEXT;
 use vortex_runend::{
     ArrayRef, DType, ExecutionCtx, FlatColumn, ListViewArray, RowValidity, RunEnd, RunEndArray,
     RunEndMetadata, RunEndProbe, ScalarView, Validity, VarBinKind, VarBinViewArray, View,
@@ -45,6 +47,8 @@ pub enum Maker<A: Allocator> {
 #[derive(Drop)]
 pub enum Task<A: Allocator> {
     Command(Command<A>),
+    /// The commands of a list, in one call.
+    Run(Vec<Command<A>, A>),
     Row(usize),
     Probe(usize),
     Validity,
@@ -58,12 +62,25 @@ pub enum Reply<A: Allocator> {
     Done,
     /// It is refused.
     Refused(VortexError),
-    /// There was no room for the answers of commands, and no command was begun.
+    /// There was no room for the answers of commands, and no command was begun, or none for the text of a look.
     NoRoom,
     /// It says this.
     Says(String<A>),
+    /// The commands of a list are answered so.
+    Listed(Listed<A>),
     /// It asks for something that there is not.
     Bad,
+}
+
+/// What the commands of a list are answered.
+#[derive(Drop)]
+pub struct Listed<A: Allocator> {
+    /// All answers.
+    pub text: String<A>,
+    /// The answers of those that were not refused for want of memory.
+    pub served: String<A>,
+    /// Was the command at each place refused for want of memory?
+    pub lacking: Vec<bool, A>,
 }
 
 /// What comes of a call: its reply, and the column that it made or was done to.
@@ -158,6 +175,7 @@ impl<A: Allocator + Copy> Task<A> {
     ) -> VortexResult<Reply<A>> {
         match self {
             Task::Command(command) => run_command(command, column, ctx, ample),
+            Task::Run(commands) => run_list(commands, column, ctx, ample),
             Task::Row(index) => row_reply(column.scalar_at(index), ample),
             Task::Probe(index) => probe_of(column, index, ample),
             Task::Validity => validity_of(column, ctx, ample),
@@ -197,6 +215,69 @@ fn run_commands<A: Allocator + Copy>(
     }
 }
 
+// What each of the commands answers.
+fn run_list<A: Allocator + Copy>(
+    commands: Vec<Command<A>, A>,
+    column: &mut ArrayRef<A>,
+    ctx: &mut ExecutionCtx<A>,
+    ample: A,
+) -> VortexResult<Reply<A>> {
+    let answered = execute(column, commands.as_slice(), ctx);
+    drop(commands);
+    match answered {
+        Ok(answers) => {
+            let reply = list_reply(answers.as_slice(), ample);
+            drop(answers);
+            reply
+        }
+        Err(_) => Ok(Reply::NoRoom),
+    }
+}
+
+// What is said of all of the answers.
+fn list_reply<A: Allocator + Copy>(answers: &[Answer<A>], ample: A) -> VortexResult<Reply<A>> {
+    let mut listed = Listed {
+        text: String::new(ample),
+        served: String::new(ample),
+        lacking: Vec::new(ample),
+    };
+    match listed.push_all(answers) {
+        Ok(()) => Ok(Reply::Listed(listed)),
+        Err(error) => {
+            drop(listed);
+            Err(error)
+        }
+    }
+}
+
+impl<A: Allocator + Copy> Listed<A> {
+    // Puts the answers behind, in order.
+    fn push_all(&mut self, answers: &[Answer<A>]) -> VortexResult<()> {
+        for answer in answers {
+            self.push(answer)?;
+        }
+        Ok(())
+    }
+
+    // Puts the answer behind.
+    fn push(&mut self, answer: &Answer<A>) -> VortexResult<()> {
+        let lacking = matches!(answer, Answer::Refused(VortexError::OutOfMemory));
+        self.lacking.push(lacking)?;
+        if !lacking {
+            push_next(&mut self.served, answer)?;
+        }
+        push_next(&mut self.text, answer)
+    }
+}
+
+// The words of an answer, parted from those of the last one.
+fn push_next<A: Allocator + Copy>(text: &mut String<A>, answer: &Answer<A>) -> VortexResult<()> {
+    if !text.is_empty() {
+        push_word(text, NEXT)?;
+    }
+    push_answer(text, answer)
+}
+
 // What is said of the last of the answers.
 fn last_reply<A: Allocator + Copy>(answers: &[Answer<A>], ample: A) -> VortexResult<Reply<A>> {
     match answers.last() {
@@ -229,10 +310,11 @@ fn said<A: Allocator>(text: String<A>, pushed: VortexResult<()>) -> VortexResult
     }
 }
 
-// The words of an answer, nothing where it has none.
+// The words of an answer.
 fn push_answer<A: Allocator + Copy>(text: &mut String<A>, answer: &Answer<A>) -> VortexResult<()> {
     match answer {
-        Answer::Done | Answer::Refused(_) => Ok(()),
+        Answer::Done => push_word(text, "ok"),
+        Answer::Refused(error) => push_refusal(text, *error),
         Answer::Value(scalar) => push_row(text, scalar.view()),
         Answer::Sum(total) => push_sum(text, *total),
         Answer::MinMax(Some((least, greatest))) => {

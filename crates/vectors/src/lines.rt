@@ -8,7 +8,7 @@ use crate::columns::Columns;
 use crate::flats::{flat_column, invalid_column, raw_column, scalar_of};
 use crate::prepare::{prepare, read_validity};
 use crate::printer::{push_dtype, push_form, push_refusal, push_rows, push_stored};
-use crate::refuse::{Found, refused_in_turn};
+use crate::refuse::{Found, refused_in_turn, refused_one};
 use crate::session::{crate_thresholds, set_kernels, set_thresholds};
 use column_base::VortexResult;
 use std::alloc::Allocator;
@@ -84,6 +84,7 @@ impl<'a> Bench<'a> {
             Request::Make(name, plain) => make(name, plain, columns, ctx),
             Request::Call(name, call) => settle(name, call, columns, ctx),
             Request::Refuse(name, call) => self.refuse(name, call),
+            Request::RefuseOne(place, name, list) => self.refuse_one(place, name, list),
             Request::Look(name, look) => look_at(name, look, columns, *ctx.allocator()),
             _ => {
                 set(request, ctx);
@@ -94,10 +95,29 @@ impl<'a> Bench<'a> {
 
     // Makes the call with memory refused in turn, and then with ample memory.
     fn refuse(&mut self, name: &str, call: reader::Call<'_>) -> LineResult<Reply<Heap<'a>>> {
-        match refused_in_turn(name, call, self)? {
-            Found::Memory => self.settle_with(" memory", name, call),
-            Found::Nothing => self.settle_with(" none", name, call),
-            Found::Broken(request) => broken_at(*self.ctx.allocator(), request),
+        let ample = *self.ctx.allocator();
+        match refused_in_turn(name, call, self) {
+            Ok(Found::Memory) => self.settle_with(" memory", name, call),
+            Ok(Found::Nothing) => self.settle_with(" none", name, call),
+            Ok(Found::Broken(request)) => broken_at(ample, request),
+            // What the line gives the call is refused, so there is no call.
+            Err(LineError::Refused(error)) if error != VortexError::OutOfMemory => {
+                with_suffix(ample, Reply::Refused(error), " none")
+            }
+            Err(error) => Err(error),
+        }
+    }
+
+    // Runs the list with the command at this place, from 1, refused for memory alone.
+    fn refuse_one(
+        &mut self,
+        place: usize,
+        name: &str,
+        list: reader::Call<'_>,
+    ) -> LineResult<Reply<Heap<'a>>> {
+        match refused_one(place, name, list, self)? {
+            Some(outcome) => keep(name, outcome, &mut self.columns),
+            None => Ok(Reply::Says(String::from_str(*self.ctx.allocator(), "never")?)),
         }
     }
 
@@ -144,9 +164,12 @@ fn look_at<A: Allocator + Copy>(
     columns: &Columns<A>,
     alloc: A,
 ) -> LineResult<Reply<A>> {
-    match columns.get(name) {
-        Some(column) => looked_at(alloc, column, look),
-        None => Err(LineError::Bad),
+    let Some(column) = columns.get(name) else {
+        return Err(LineError::Bad);
+    };
+    match looked_at(alloc, column, look) {
+        Err(LineError::Refused(VortexError::OutOfMemory)) => Ok(Reply::NoRoom),
+        reply => reply,
     }
 }
 
@@ -174,6 +197,7 @@ pub fn reply_text<A: Allocator + Copy>(alloc: A, reply: Reply<A>) -> VortexResul
         Reply::Refused(error) => refusal_text(alloc, error),
         Reply::NoRoom => refusal_text(alloc, VortexError::OutOfMemory),
         Reply::Says(said) => Ok(said),
+        Reply::Listed(listed) => Ok(listed.text),
         Reply::Bad => Ok(String::from_str(alloc, "bad line")?),
     }
 }
@@ -282,7 +306,7 @@ fn put_if_done<A: Allocator + Copy>(
     ensures unmade { OnErr result (columns.new.named.items ≡ columns.old.named.items) }
 {
     let done = match reply {
-        Reply::Done | Reply::Says(_) => true,
+        Reply::Done | Reply::Says(_) | Reply::Listed(_) => true,
         _ => false,
     };
     match column {

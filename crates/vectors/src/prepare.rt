@@ -6,7 +6,7 @@ use bytes::Bytes;
 use runend_commands::Command;
 use std::alloc::Allocator;
 use std::rc::Rc;
-use vector_words::reader::{self, Lists, Record, Runs, Views};
+use vector_words::reader::{self, Lists, NEXT, Record, Runs, Views, read_command};
 use vector_words::values::{Value, both, bytes_of, bytes_of_words, read_count, read_value};
 use vector_words::{LineError, LineResult};
 use vortex_runend::{ArrayRef, ExecutionCtx, FlatColumn, Mask, RowValidity, Validity, View};
@@ -21,6 +21,7 @@ pub fn prepare<A: Allocator + Copy>(
 ) -> LineResult<Call<A>> {
     match call {
         reader::Call::Command(command) => commanded_copy(name, command, columns, ctx),
+        reader::Call::Run(words) => prepare_list(name, words, &[], columns, ctx),
         reader::Call::Row(index) => on_copy(name, Task::Row(index), columns, ctx),
         reader::Call::Probe(index) => on_copy(name, Task::Probe(index), columns, ctx),
         reader::Call::Validity => on_copy(name, Task::Validity, columns, ctx),
@@ -39,6 +40,55 @@ fn commanded_copy<A: Allocator + Copy>(
 ) -> LineResult<Call<A>> {
     let command = prepared_command(command, columns, ctx)?;
     on_copy(name, Task::Command(command), columns, ctx)
+}
+
+/// The commands of a list on a copy of the column of this name, but for those at the places that are said to be left out.
+/// Bad where a part of the words is no command that can be given.
+pub fn prepare_list<A: Allocator + Copy>(
+    name: &str,
+    words: &[&str],
+    left_out: &[bool],
+    columns: &Columns<A>,
+    ctx: &mut ExecutionCtx<A>,
+) -> LineResult<Call<A>> {
+    let commands = prepared_list(words, left_out, columns, ctx)?;
+    on_copy(name, Task::Run(commands), columns, ctx)
+}
+
+fn prepared_list<A: Allocator + Copy>(
+    words: &[&str],
+    left_out: &[bool],
+    columns: &Columns<A>,
+    ctx: &mut ExecutionCtx<A>,
+) -> LineResult<Vec<Command<A>, A>> {
+    let parts = parts_of(*ctx.allocator(), words)?;
+    let mut commands = Vec::new(*ctx.allocator());
+    for (place, part) in parts.iter().enumerate() {
+        if !matches!(left_out.get(place), Some(true)) {
+            commands.push(command_of(part, columns, ctx)?)?;
+        }
+    }
+    Ok(commands)
+}
+
+// The words of each command of a list.
+fn parts_of<'a, A: Allocator + Copy>(
+    alloc: A,
+    words: &'a [&'a str],
+) -> LineResult<Vec<&'a [&'a str], A>> {
+    Ok(words.split(|word| *word == NEXT).collect(alloc)?)
+}
+
+// The command of these words with what it is given.
+fn command_of<A: Allocator + Copy>(
+    words: &[&str],
+    columns: &Columns<A>,
+    ctx: &mut ExecutionCtx<A>,
+) -> LineResult<Command<A>> {
+    match read_command(words) {
+        Some(command) => prepared_command(command, columns, ctx),
+        None => Err(LineError::Bad),
+    }
 }
 
 // The task on a copy of the column of this name.

@@ -151,11 +151,13 @@ fn push_bytes<A: Allocator + Copy>(text: &mut String<A>, bytes: &[u8]) -> Vortex
     Ok(())
 }
 
-/// The values of all rows.
+/// The values of all rows. More rows than there is room for are refused at once.
 pub fn push_rows<A: Allocator + Copy>(
     text: &mut String<A>,
     array: &ArrayRef<A>,
 ) -> VortexResult<()> {
+    // Each row takes a letter and a space at least.
+    text.reserve(array.len().saturating_mul(2))?;
     for index in 0..array.len() {
         push_row(text, array.scalar_at(index)?)?;
     }

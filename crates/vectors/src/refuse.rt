@@ -3,10 +3,10 @@ ghost use Rattle.std.specs.Prelude.{◌≡◌, ◌↔◌, ◌⊎◌, IsTrue};
 ghost use Rattle.vectors.specs.Trials.{IsSame};
 
 use crate::bench::{Bench, Heap, Plan};
-use crate::calls::{Call, Outcome, Reply};
+use crate::calls::{Listed, Outcome, Reply};
 use crate::columns::Columns;
 use crate::lines::reply_text;
-use crate::prepare::prepare;
+use crate::prepare::{prepare, prepare_list};
 use crate::printer::push_form;
 use crate::session::copy_of;
 use column_base::VortexResult;
@@ -44,7 +44,7 @@ struct Expected<A: Allocator> {
 /// What became of a run that may have met refused requests.
 #[derive(Clone, Copy)]
 enum Tried {
-    /// It was refused for want of memory, and left the column as it was.
+    /// It was refused for want of memory, and left the column as it was, or so was a command of a list.
     Refused,
     /// No command was begun, for want of memory, and the column is as it was; or the run answered and
     /// left what it has to.
@@ -65,6 +65,37 @@ pub fn refused_in_turn(
     let found = found_in_turn(name, call, bench, &expected);
     drop(expected);
     found
+}
+
+/// What comes of the list with the first request for memory refused alone for want of which the command at this place,
+/// from 1, is refused. `None` where it is so for no request. Bad where the line asks for something that there is not.
+pub fn refused_one<'a>(
+    place: usize,
+    name: &str,
+    list: reader::Call<'_>,
+    bench: &mut Bench<'a>,
+) -> LineResult<Option<Outcome<Heap<'a>>>> {
+    for request in 1..u64::MAX {
+        let heap = bench.heap(Plan::Only, request)?;
+        let outcome = outcome_with(heap, name, list, bench)?;
+        if heap.refused() == 0 {
+            drop(outcome);
+            return Ok(None);
+        }
+        if lacks_at(&outcome.reply, place) {
+            return Ok(Some(outcome));
+        }
+        drop(outcome);
+    }
+    Ok(None)
+}
+
+// Was the command at this place, from 1, refused for want of memory?
+fn lacks_at<A: Allocator>(reply: &Reply<A>, place: usize) -> bool {
+    match (reply, place.checked_sub(1)) {
+        (Reply::Listed(listed), Some(before)) => matches!(listed.lacking.get(before), Some(true)),
+        _ => false,
+    }
 }
 
 // What comes of the call with each request refused alone, and then with all from each on.
@@ -178,7 +209,7 @@ fn refused_by<'a>(
     Ok(found)
 }
 
-// What becomes of the call with this memory, on copies that are made with ample memory.
+// What becomes of the call with this memory.
 fn tried_with<'a>(
     heap: Heap<'a>,
     name: &str,
@@ -186,26 +217,63 @@ fn tried_with<'a>(
     bench: &mut Bench<'a>,
     expected: &Expected<Heap<'a>>,
 ) -> LineResult<Tried> {
-    let call = match prepare(name, call, &bench.columns, &mut bench.ctx) {
-        Ok(call) => call,
-        Err(LineError::Bad) => return Ok(Tried::Wrong),
-        Err(error) => return Err(error),
-    };
-    let mut ctx = ExecutionCtx::new(copy_of(bench.ctx.session()), heap);
-    tried_on(call, &mut ctx, *bench.ctx.allocator(), expected)
+    let ample = *bench.ctx.allocator();
+    let Outcome { reply, column } = outcome_with(heap, name, call, bench)?;
+    match (call, reply) {
+        (reader::Call::Run(list), Reply::Listed(listed)) => {
+            tried_list(name, list, listed, column, bench)
+        }
+        (_, reply) => tried_call(ample, Outcome { reply, column }, expected),
+    }
 }
 
-// What becomes of the call in this context.
-fn tried_on<A: Allocator + Copy>(
-    call: Call<A>,
-    ctx: &mut ExecutionCtx<A>,
+// What comes of the call with this memory, on copies that are made with ample memory.
+fn outcome_with<'a>(
+    heap: Heap<'a>,
+    name: &str,
+    call: reader::Call<'_>,
+    bench: &mut Bench<'a>,
+) -> LineResult<Outcome<Heap<'a>>> {
+    let call = prepare(name, call, &bench.columns, &mut bench.ctx)?;
+    let mut ctx = ExecutionCtx::new(copy_of(bench.ctx.session()), heap);
+    Ok(call.run(&mut ctx, *bench.ctx.allocator())?)
+}
+
+// What became of a call that is no list, or was not begun.
+fn tried_call<A: Allocator + Copy>(
     ample: A,
+    outcome: Outcome<A>,
     expected: &Expected<A>,
 ) -> LineResult<Tried> {
-    let outcome = call.run(ctx, ample)?;
     let answered = matches!(&outcome.reply, Reply::Refused(VortexError::OutOfMemory));
     let shown = shown_of(ample, outcome)?;
     Ok(judged(&shown, expected, answered))
+}
+
+// What became of a list: its commands that were not refused for want of memory answer and leave what they do alone, with
+// ample memory.
+fn tried_list<'a>(
+    name: &str,
+    list: &[&str],
+    listed: Listed<Heap<'a>>,
+    column: Option<ArrayRef<Heap<'a>>>,
+    bench: &mut Bench<'a>,
+) -> LineResult<Tried> {
+    let ample = *bench.ctx.allocator();
+    let form = form_of(ample, &column);
+    drop(column);
+    let Listed {
+        served,
+        lacking,
+        ..
+    } = listed;
+    let shown = Shown {
+        answer: served,
+        form: form?,
+    };
+    let call = prepare_list(name, list, &lacking, &bench.columns, &mut bench.ctx)?;
+    let due = shown_of(ample, call.run(&mut bench.ctx, ample)?)?;
+    Ok(judged_list(&shown, &due, lacking.contains(&true)))
 }
 
 // What became of a run that showed this, and was answered for want of memory or not.
@@ -223,6 +291,18 @@ fn judged<A: Allocator>(shown: &Shown<A>, expected: &Expected<A>, answered: bool
         Tried::Served
     } else {
         Tried::Wrong
+    }
+}
+
+// What became of a list whose commands that were not refused for want of memory showed this, of which this is due.
+fn judged_list<A: Allocator>(shown: &Shown<A>, due: &Shown<A>, lacking: bool) -> Tried
+    ensures wrong { result ≡ Tried.Wrong ↔ (¬ (IsSame shown.now due.now)) }
+    ensures refused { result ≡ Tried.Refused ↔ (IsSame shown.now due.now × IsTrue lacking) }
+{
+    match (shown.is(due), lacking) {
+        (false, _) => Tried::Wrong,
+        (true, true) => Tried::Refused,
+        (true, false) => Tried::Served,
     }
 }
 
