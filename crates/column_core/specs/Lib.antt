@@ -8,6 +8,7 @@ pub mod VarBinFault
 pub mod Primitive
 pub mod Leaf
 pub mod FlatColumn
+pub mod FlatView
 pub mod ScalarForm
 pub mod Scalar
 pub mod ScalarView

@@ -5,12 +5,14 @@ ghost use Rattle.column_core.specs.Leaf.{leaf_count, leaf_rows, leaf_dtype, leaf
 ghost use Rattle.column_base.specs.Validity.{form_of};
 ghost use Rattle.column_base.specs.ValidityForm.{AllNull, HasLength, IsNormal};
 ghost use Rattle.column_core.specs.FlatColumn.{leaf_of};
+ghost use Rattle.column_core.specs.FlatView.{leaf_in};
 ghost use Rattle.column_core.specs.ScalarView.{sees, IsViewOf};
 ghost use Rattle.column_core.specs.Ranges.{IsBadRange};
 ghost use Rattle.column_core.specs.Refusal.{range_fault, IsRefusedBy};
 
 use crate::boolean::BoolArray;
 use crate::decimal::DecimalArray;
+use crate::flat_view::FlatView;
 use crate::primitive::PrimitiveArray;
 use crate::varbinview::VarBinViewArray;
 use crate::view::ScalarView;
@@ -28,6 +30,18 @@ pub enum FlatColumn<A: Allocator> {
 }
 
 impl<A: Allocator> FlatColumn<A> {
+    /// The same column, borrowed.
+    pub fn view(&self) -> FlatView<'_, A>
+        ensures { leaf_in result ≡ leaf_of self.now }
+    {
+        match self {
+            FlatColumn::Primitive(array) => FlatView::Primitive(array),
+            FlatColumn::Bool(array) => FlatView::Bool(array),
+            FlatColumn::Decimal(array) => FlatView::Decimal(array),
+            FlatColumn::VarBinView(array) => FlatView::VarBinView(array),
+        }
+    }
+
     /// How many rows there are.
     pub fn len(&self) -> usize
         ensures { result ≡ length (leaf_rows (leaf_of self.now)) }

@@ -5,6 +5,7 @@ mod boolean;
 mod counted;
 mod decimal;
 mod flat;
+mod flat_view;
 mod kinds;
 mod primitive;
 mod scalar;
@@ -19,6 +20,7 @@ pub use column_base::{
 pub use counted::CountedEnds;
 pub use decimal::DecimalArray;
 pub use flat::FlatColumn;
+pub use flat_view::FlatView;
 pub use kinds::{is_list_type, is_number_type, is_same_kind};
 pub use primitive::PrimitiveArray;
 pub use scalar::{Scalar, ScalarValue};

@@ -2,3 +2,8 @@ pub mod OrderLaws
 pub mod RowRanges
 pub mod BestRows
 pub mod WrittenTruths
+pub mod ConstantBits
+pub mod ItemRows
+pub mod ItemEnds
+pub mod ItemOrder
+pub mod ItemColumns

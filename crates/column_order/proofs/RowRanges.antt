@@ -15,6 +15,7 @@ use Rattle.column_core.specs.Value.{FlatValue, Single, Value}
 use Rattle.column_order.specs.Order.{row_cmp}
 use Rattle.column_order.specs.OrderFacts.{IsConstant, IsSorted}
 use Rattle.column_order.specs.Steps.{HasOrderAt, is_step_of}
+pub use Rattle.column_order.specs.Steps.{AreSteps}
 use Rattle.column_order.proofs.OrderLaws.{row_equal, row_total}
 
 -- an item that is read is the item with any default
@@ -109,11 +110,6 @@ IsConstant-not rows start stop k o inside low high at told constant =
     let other : is_ne o ≡ false = ap is_ne (at.4 ∙ tied) in
     cc
 
--- each row up to a place stands to the next as it may
-abbrev pub AreSteps : Bool → List (Option Value) → ℕ → ℕ → Type 0
-AreSteps strict rows start stop = (k : ℕ) → start ≤ k → k < stop → (a b : Option Value) → slice_get rows k ≡ Some a → slice_get rows (k + 1) ≡ Some b
-    → is_step_of strict (row_cmp a b) ≡ true
-
 -- so does the next one
 pub AreSteps-next : (strict : Bool) (rows : List (Option Value)) (start stop : ℕ) (o : Ordering) → HasOrderAt rows stop (stop + 1) o → is_step_of strict o ≡ true
     → AreSteps strict rows start stop → AreSteps strict rows start (stop + 1)
@@ -132,7 +128,7 @@ sorted_by_steps : (strict : Bool) (rows : List (Option Value)) → AllAdjacentBe
 sorted_by_steps true rows h = h
 sorted_by_steps false rows h = h
 
-steps_of_sorted : (strict : Bool) (rows : List (Option Value)) → IsSorted strict rows → AllAdjacentBelow (λ a b. IsTrue (is_step_of strict (row_cmp a b))) rows (length rows)
+pub steps_of_sorted : (strict : Bool) (rows : List (Option Value)) → IsSorted strict rows → AllAdjacentBelow (λ a b. IsTrue (is_step_of strict (row_cmp a b))) rows (length rows)
 steps_of_sorted true rows h = h
 steps_of_sorted false rows h = h
 

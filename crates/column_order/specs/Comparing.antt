@@ -1,6 +1,7 @@
 -- What a comparison answers, row by row, and how the answer is stored.
-use Rattle.std.specs.Prelude.{◌≡◌, ◌<◌, List, [], ◌∷◌, Bool, Option, Some, None, length, map}
+use Rattle.std.specs.Prelude.{◌≡◌, ◌<◌, List, [], ◌∷◌, Bool, false, Option, Some, None, length, map}
 use Rattle.std.specs.declared.cmp.Ordering.{Ordering}
+use Rattle.std.specs.declared.cmp.Ordering.TheVariants.{Less, Equal, Greater}
 use Rattle.std.specs.Ordering.{is_eq, is_ne, is_gt, is_ge, is_lt, is_le}
 use Rattle.column_base.specs.declared.dtype.Nullability.{Nullability}
 use Rattle.column_base.specs.declared.dtype.Nullability.TheVariants.{NonNullable, Nullable}
@@ -23,6 +24,12 @@ holds_of Gte ordering = is_ge ordering
 holds_of Lt ordering = is_lt ordering
 holds_of Lte ordering = is_le ordering
 
+-- of three answers, that to an ordering
+abbrev pub outcome_of : Ordering → Bool → Bool → Bool → Bool
+outcome_of Less below equal above = below
+outcome_of Equal below equal above = equal
+outcome_of Greater below equal above = above
+
 -- null where either row is null, else whether the operator holds of the two values
 abbrev pub compared : CompareOperator → Option Value → Option Value → Option Value
 compared operator None right = None
@@ -38,6 +45,20 @@ compare_rows operator (left ∷ lefts) (right ∷ rights) = compared operator le
 -- each row compared with one optional value
 abbrev pub compare_with : CompareOperator → List (Option Value) → Option Value → List (Option Value)
 compare_with operator rows right = map (λ row. compared operator row right) rows
+
+-- whether a test holds of an optional item: it does not of null
+abbrev pub is_held : {B : Type 0} → (B → Bool) → Option B → Bool
+is_held test None = false
+is_held test (Some item) = test item
+
+-- the bit that is stored for an answer: false for null
+abbrev pub answer_bit : Option Value → Bool
+answer_bit (Some (Single (Truth truth))) = truth
+answer_bit answer = false
+
+-- the bits that are stored for these answers
+abbrev pub answer_bits : List (Option Value) → List Bool
+answer_bits answers = map answer_bit answers
 
 -- whether a comparison of two types has null: where either type has
 abbrev pub either_nullability : Nullability → Nullability → Nullability

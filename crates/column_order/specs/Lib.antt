@@ -3,3 +3,4 @@ pub mod OrderFacts
 pub mod Steps
 pub mod Comparing
 pub mod CompareFault
+pub mod Items

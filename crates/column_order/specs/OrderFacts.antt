@@ -4,7 +4,10 @@ use Rattle.std.specs.Ordering.{is_le, is_lt}
 use Rattle.std.specs.List.{AllAdjacentBelow}
 use Rattle.std.specs.declared.cmp.Ordering.{Ordering}
 use Rattle.std.specs.declared.cmp.Ordering.TheVariants.{Less, Greater}
+use Rattle.column_base.specs.declared.dtype.DType.{DType}
+use Rattle.column_core.specs.ScalarView.{sees, IsViewOf}
 use Rattle.column_core.specs.Value.{Value}
+use Rattle.column_core.specs.declared.view.ScalarView.{ScalarView}
 use Rattle.column_order.specs.Order.{row_cmp}
 
 -- any two rows are equal, null equal to null
@@ -37,3 +40,10 @@ IsLeast rows row = IsFurthest Less rows row
 -- a row that is no null, and no such row is above it
 abbrev pub IsGreatest : List (Option Value) → Option Value → Type 0
 IsGreatest rows row = IsFurthest Greater rows row
+
+-- a least and a greatest row, each seen as its type is
+pub record AreEnds {A : Type 0} (dtype : DType) (rows : List (Option Value)) (low high : ScalarView A) : Type 0 where
+  pub least : IsLeast rows (sees low)
+  pub greatest : IsGreatest rows (sees high)
+  pub least_of_type : IsViewOf dtype low
+  pub greatest_of_type : IsViewOf dtype high

@@ -1,5 +1,5 @@
 -- What the functions that look at one or two rows answer.
-use Rattle.std.specs.Prelude.{◌≡◌, ◌==◌, ◌+◌, ℕ, Bool, true, false, List, Option, Some, None, slice_get}
+use Rattle.std.specs.Prelude.{◌≡◌, ◌==◌, ◌+◌, ◌<◌, ◌≤◌, ℕ, Bool, true, false, List, Option, Some, None, slice_get}
 use Rattle.std.specs.Ordering.{is_le, is_lt, ordering_index}
 use Rattle.std.specs.declared.cmp.Ordering.{Ordering}
 use Rattle.column_core.specs.Value.{Value, Single, Items}
@@ -25,3 +25,8 @@ abbrev pub is_past : Ordering → Option Value → Option (Option Value) → Boo
 is_past side None best = false
 is_past side (Some value) None = true
 is_past side (Some value) (Some best) = ordering_index (row_cmp (Some value) best) == ordering_index side
+
+-- each row from one place on, before another, stands to the next as it may
+abbrev pub AreSteps : Bool → List (Option Value) → ℕ → ℕ → Type 0
+AreSteps strict rows start stop = (k : ℕ) → start ≤ k → k < stop → (a b : Option Value) → slice_get rows k ≡ Some a → slice_get rows (k + 1) ≡ Some b
+    → is_step_of strict (row_cmp a b) ≡ true

@@ -87,7 +87,7 @@ impl<A: Allocator + Copy> FlatOrder<A> for FlatColumn<A> {
         operator: CompareOperator,
         right: &Scalar<A>,
     ) -> VortexResult<BoolArray<A>> {
-        compare::compare_scalar(self, alloc, operator, right)
+        compare::compare_scalar(self.view(), alloc, operator, right)
     }
 
     fn compare_column(
@@ -96,18 +96,18 @@ impl<A: Allocator + Copy> FlatOrder<A> for FlatColumn<A> {
         operator: CompareOperator,
         right: &FlatColumn<A>,
     ) -> VortexResult<BoolArray<A>> {
-        compare::compare_column(self, alloc, operator, right)
+        compare::compare_column(self.view(), alloc, operator, right.view())
     }
 
     fn min_max(&self, range: Range<usize>) -> Option<(ScalarView<'_, A>, ScalarView<'_, A>)> {
-        extremes::min_max(self, range)
+        extremes::min_max(self.view(), range)
     }
 
     fn is_constant(&self, range: Range<usize>) -> bool {
-        sorted::is_constant(self, range)
+        sorted::is_constant(self.view(), range)
     }
 
     fn is_sorted(&self, range: Range<usize>, strict: bool) -> bool {
-        sorted::is_sorted(self, range, strict)
+        sorted::is_sorted(self.view(), range, strict)
     }
 }

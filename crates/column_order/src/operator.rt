@@ -31,3 +31,40 @@ impl CompareOperator {
         }
     }
 }
+
+/// Whether an operator holds where the left value is below, equal to, and above the right one.
+#[derive(Clone, Copy)]
+pub(crate) struct Outcomes {
+    below: bool,
+    equal: bool,
+    above: bool,
+}
+
+impl Outcomes {
+    ghost use Rattle.std.specs.declared.cmp.Ordering.TheVariants.{Less, Equal, Greater};
+    ghost use Rattle.column_order.specs.Comparing.{holds_of, outcome_of};
+
+    /// What the operator says of each ordering, so that a loop over many rows need not ask it.
+    pub(crate) fn of(operator: CompareOperator) -> Outcomes
+        ensures below { result.below ≡ holds_of operator Less }
+        ensures equal { result.equal ≡ holds_of operator Equal }
+        ensures above { result.above ≡ holds_of operator Greater }
+    {
+        Outcomes {
+            below: operator.holds(Ordering::Less),
+            equal: operator.holds(Ordering::Equal),
+            above: operator.holds(Ordering::Greater),
+        }
+    }
+
+    /// What the operator says of this ordering.
+    pub(crate) fn at(self, ordering: Ordering) -> bool
+        ensures { result ≡ outcome_of ordering self.below self.equal self.above }
+    {
+        match ordering {
+            Ordering::Less => self.below,
+            Ordering::Equal => self.equal,
+            Ordering::Greater => self.above,
+        }
+    }
+}

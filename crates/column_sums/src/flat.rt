@@ -2,6 +2,7 @@
 ghost use Rattle.std.specs.Prelude.{◌≡◌, ◌≢◌, Err, IfOk};
 ghost use Rattle.column_base.specs.Types.{IsUnsigned};
 ghost use Rattle.column_core.specs.FlatColumn.{leaf_of};
+ghost use Rattle.column_core.specs.FlatView.{leaf_in};
 ghost use Rattle.column_core.specs.Leaf.{leaf_dtype, single_rows};
 ghost use Rattle.column_core.specs.PrimitiveForm.{optional_numbers};
 ghost use Rattle.column_core.specs.Refusal.{IsRefusedBy};
@@ -15,7 +16,7 @@ use crate::signed::SignedSum;
 use crate::signed_runs::{SignedRuns, sum_signed_in_runs};
 use crate::unsigned::UnsignedSum;
 use crate::unsigned_runs::{UnsignedRuns, sum_unsigned_in_runs};
-use column_core::{FlatColumn, PrimitiveArray, VortexError, VortexResult};
+use column_core::{FlatColumn, FlatView, PrimitiveArray, VortexError, VortexResult};
 use std::alloc::Allocator;
 
 // The rows of a column of signed numbers, as runs of one row each.
@@ -81,9 +82,18 @@ pub fn sum_flat<A: Allocator>(column: &FlatColumn<A>) -> VortexResult<SumAnswer>
     ensures no_memory { result ≢ Err VortexError.OutOfMemory }
     ensures answer { IfOk result (IsSumAnswer (leaf_dtype (leaf_of column.now)) (single_rows (leaf_of column.now))) }
 {
+    sum_view(column.view())
+}
+
+/// The same of a flat column that is borrowed.
+pub fn sum_view<A: Allocator>(column: FlatView<'_, A>) -> VortexResult<SumAnswer>
+    ensures refused { IsRefusedBy (sum_fault (leaf_dtype (leaf_in column.entry))) result }
+    ensures no_memory { result ≢ Err VortexError.OutOfMemory }
+    ensures answer { IfOk result (IsSumAnswer (leaf_dtype (leaf_in column.entry)) (single_rows (leaf_in column.entry))) }
+{
     match column {
-        FlatColumn::Primitive(array) => Ok(sum_numbers(array)),
-        FlatColumn::Bool(_) | FlatColumn::Decimal(_) | FlatColumn::VarBinView(_) => {
+        FlatView::Primitive(array) => Ok(sum_numbers(array)),
+        FlatView::Bool(_) | FlatView::Decimal(_) | FlatView::VarBinView(_) => {
             Err(VortexError::Unsupported)
         }
     }

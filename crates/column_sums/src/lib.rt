@@ -4,6 +4,7 @@
 mod answer;
 mod calls;
 mod flat;
+mod items;
 mod numbers;
 mod signed;
 mod signed_runs;
@@ -11,7 +12,11 @@ mod unsigned;
 mod unsigned_runs;
 
 pub use answer::{SumAnswer, SumValue};
-pub use flat::sum_flat;
+pub use flat::{sum_flat, sum_view};
+pub use items::{
+    AllNull, AllValid, ByBits, ItemFlags, SignedItems, SignedNumbers, SignedPType, UnsignedItems,
+    UnsignedNumbers,
+};
 pub use numbers::{signed_at, unsigned_at};
 pub use signed::SignedSum;
 pub use signed_runs::{SignedRuns, sum_signed_in_runs};

@@ -1,5 +1,6 @@
 //! A sum of signed numbers.
-ghost use Rattle.std.specs.Prelude.{◌≡◌, ◌+ℤ◌, ◌*ℤ◌, pos, [], ◌∷◌, ◌++◌, true, false};
+ghost use Rattle.std.specs.Prelude.{◌≡◌, ◌+ℤ◌, ◌*ℤ◌, pos, [], ◌∷◌, ◌++◌, true, false, IfSome, MatchOption};
+ghost use Rattle.column_sums.specs.SumRange.{SignedRange, is_within};
 
 use crate::calls::Calls;
 use std::marker::Model;
@@ -23,8 +24,6 @@ impl Model for SignedSum {
 }
 
 impl SignedSum {
-    ghost use Rattle.column_sums.specs.SumRange.{SignedRange, is_within};
-
     /// The sum of nothing, which is 0.
     pub fn new() -> SignedSum
         ensures { result ≡ record { value = pos 0; calls = [] } }
@@ -44,6 +43,7 @@ impl SignedSum {
 
     /// Adds `value` as often as the run has rows, all at once. False means that the result left the
     /// range of `i64`, and the sum is unchanged.
+    #[inline]
     pub fn add_run(&mut self, value: i64, len: usize) -> bool
         ensures fits { result ≡ is_within SignedRange (self.old.value +ℤ value *ℤ pos len) }
         ensures added { result ≡ true → self.new.value ≡ self.old.value +ℤ value *ℤ pos len }
@@ -51,14 +51,43 @@ impl SignedSum {
         ensures calls { self.new.calls ≡ self.old.calls ++ (value, len) ∷ [] }
     {
         self.calls = self.calls.and_signed(&value, &len);
-        match i64::try_from(sum_with(self.value, value, len)) {
-            Ok(sum) => {
+        match next_sum(self.value, value, len) {
+            Some(sum) => {
                 self.value = sum;
                 true
             }
-            Err(_) => false,
+            None => false,
         }
     }
+}
+
+// The sum and `len` times the value, where that is in the range.
+#[inline]
+fn next_sum(sum: i64, value: i64, len: usize) -> Option<i64>
+    ensures sum { MatchOption result (is_within SignedRange (sum +ℤ value *ℤ pos len) ≡ false) (λ next. next ≡ sum +ℤ value *ℤ pos len) }
+    ensures within { IfSome result (λ _. is_within SignedRange (sum +ℤ value *ℤ pos len) ≡ true) }
+{
+    match near_sum(sum, value, len) {
+        Some(near) => Some(near),
+        None => far_sum(sum, value, len),
+    }
+}
+
+// The same where no step leaves 64 bits, which takes least time. Else nothing is known.
+#[inline]
+fn near_sum(sum: i64, value: i64, len: usize) -> Option<i64>
+    ensures { IfSome result (λ near. near ≡ sum +ℤ value *ℤ pos len) }
+{
+    let count = i64::try_from(len).ok()?;
+    let product = value.checked_mul(count)?;
+    sum.checked_add(product)
+}
+
+// The same by 128 bits: a product may leave 64 bits where the sum is in the range.
+fn far_sum(sum: i64, value: i64, len: usize) -> Option<i64>
+    ensures { MatchOption result (is_within SignedRange (sum +ℤ value *ℤ pos len) ≡ false) (λ far. far ≡ sum +ℤ value *ℤ pos len) }
+{
+    i64::try_from(sum_with(sum, value, len)).ok()
 }
 
 // The sum and `len` times the value. The least is -2^127, which fits.

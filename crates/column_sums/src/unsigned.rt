@@ -45,6 +45,7 @@ impl UnsignedSum {
 
     /// Adds `value` as often as the run has rows, all at once. False means that the result left the
     /// range of `u64`, and the sum is unchanged.
+    #[inline]
     pub fn add_run(&mut self, value: u64, len: usize) -> bool
         ensures fits { result ≡ is_within UnsignedRange (self.old.value +ℤ pos value *ℤ pos len) }
         ensures added { result ≡ true → self.new.value ≡ self.old.value +ℤ pos value *ℤ pos len }
@@ -63,6 +64,7 @@ impl UnsignedSum {
 }
 
 // The sum and `len` times the value. The greatest is 2^128 - 2^64, which fits.
+#[inline]
 fn sum_with(sum: u64, value: u64, len: usize) -> u128
     ensures { result ≡ sum + value * len }
 {

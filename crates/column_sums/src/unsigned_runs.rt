@@ -6,6 +6,7 @@ ghost use Rattle.column_sums.specs.SumAnswer.{answer_of};
 
 use crate::answer::{SumAnswer, SumValue};
 use crate::unsigned::UnsignedSum;
+use std::mem;
 
 /// Runs of unsigned numbers, each of them shown by some row.
 pub trait UnsignedRuns {
@@ -30,7 +31,24 @@ pub trait UnsignedRuns {
 
 /// The sum of the rows of the runs, by one call of `add_run` for each run that is not null, up to and
 /// with the first that leaves the range. Where there is a sum, it is that of the accumulator.
+#[inline]
 pub fn sum_unsigned_in_runs<R: UnsignedRuns>(runs: &R, sum: &mut UnsignedSum) -> SumAnswer
+    requires { sum.old.value ≡ pos 0 }
+    ensures answer { result ≡ answer_of UnsignedRange (rows_of_runs (R.runs runs.now)) }
+    ensures calls { sum.new.calls ≡ sum.old.calls ++ calls_of UnsignedRange (R.runs runs.now) }
+    ensures few { length sum.new.calls ≤ length sum.old.calls + length (valid_runs (R.runs runs.now)) }
+    ensures value { IfSome result.sum (λ value. value ≡ SumValue.Unsigned (unsigned_abs sum.new.value)) }
+{
+    // (the sum stands in a local while it grows, so that no run waits for memory)
+    let mut running = mem::replace(sum, UnsignedSum::new());
+    let answer = add_runs(runs, &mut running);
+    *sum = running;
+    answer
+}
+
+// The same, over the sum where it stands.
+#[inline(always)]
+fn add_runs<R: UnsignedRuns>(runs: &R, sum: &mut UnsignedSum) -> SumAnswer
     requires { sum.old.value ≡ pos 0 }
     ensures answer { result ≡ answer_of UnsignedRange (rows_of_runs (R.runs runs.now)) }
     ensures calls { sum.new.calls ≡ sum.old.calls ++ calls_of UnsignedRange (R.runs runs.now) }

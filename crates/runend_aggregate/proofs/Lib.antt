@@ -1,7 +1,9 @@
 pub mod ConstantRuns
 pub mod FourRuns
+pub mod LentValues
 pub mod RunRows
 pub mod SameRows
 pub mod SeenRows
+pub mod StoredValues
 pub mod SumOfRows
 pub mod VisibleFacts

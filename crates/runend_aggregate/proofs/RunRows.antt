@@ -2,7 +2,7 @@
 use Rattle.std.proofs.Common.{◌≡◌, ℕ, zero, suc, ◌+◌, ◌-◌, ◌<◌, ◌≤◌, ℤ, List, [], ◌∷◌, ◌++◌, Option, Some, None, length, map, min, replicate, slice_index, refl, sym, subst, ◌∙◌, ap, arith, append_assoc, add-one}
 use Rattle.std.specs.Prelude.{All, slice_get, slice_index_or, option_map}
 use Rattle.std.proofs.lemmas.List.{length-map}
-use Rattle.std.proofs.lemmas.Option.{slice_get-get_or, slice_get-map}
+use Rattle.std.proofs.lemmas.Option.{get_or_from_slice_get, slice_get-get_or}
 use Rattle.column_core.specs.Value.{Value}
 use Rattle.column_sums.specs.RunSum.{rows_of_runs}
 use Rattle.column_sums.specs.SumAnswer.{number_in}
@@ -86,7 +86,7 @@ pub length-runs_from : (ends : List ℕ) (numbers : List (Option ℤ)) (offset c
 length-runs_from ends numbers offset count run zero = refl
 length-runs_from ends numbers offset count run (suc n) = ap suc (length-runs_from ends numbers offset count (run + 1) n)
 
-pub get-runs_from : (ends : List ℕ) (numbers : List (Option ℤ)) (offset count run n k : ℕ) → k < n
+get-runs_from : (ends : List ℕ) (numbers : List (Option ℤ)) (offset count run n k : ℕ) → k < n
     → slice_get (runs_from ends numbers offset count run n) k ≡ Some (slice_index_or numbers (run + k) None, rows_showing ends offset count (run + k))
 get-runs_from ends numbers offset count run zero k h = absurd (omega arith)
 get-runs_from ends numbers offset count run (suc n) zero h =
@@ -119,42 +119,28 @@ pub stop_visible-le : (ends : List ℕ) (offset count : ℕ) → IsWindow ends o
 stop_visible-le ends offset zero window = omega arith
 stop_visible-le ends offset (suc n) window = let inside = run_of_row_within ends offset (suc n) n window (omega arith) in omega arith
 
--- the number in a row
-pub number_at : (values : List (Option Value)) (k : ℕ) (number : Option ℤ) → k < length values → option_map number_in (slice_get values k) ≡ Some number
-    → slice_index_or (map number_in values) k None ≡ number
-number_at values k number within read =
-    let size = length-map values number_in in
-    let there : slice_get (map number_in values) k ≡ Some (slice_index_or (map number_in values) k None) = slice_get-get_or (map number_in values) k None (omega arith) in
-    let e : Some (slice_index_or (map number_in values) k None) ≡ Some number = sym there ∙ slice_get-map number_in values k ∙ read in
-    cc
+-- the runs that are written out are as many as were asked for
+pub within-runs_from : (ends : List ℕ) (numbers : List (Option ℤ)) (offset count run n k : ℕ) → k < length (runs_from ends numbers offset count run n) → k < n
+within-runs_from ends numbers offset count run n k within = omega (arith, length-runs_from ends numbers offset count run n)
 
-pub length-visible_runs : (r : Runs) → length (visible_runs r) ≡ stop_visible r.ends r.offset r.count - first_visible r.ends r.offset r.count
+-- what one of them shows
+pub value-runs_from : (ends : List ℕ) (numbers : List (Option ℤ)) (offset count run n k : ℕ) (number : Option ℤ) → k < length (runs_from ends numbers offset count run n)
+    → slice_get numbers (run + k) ≡ Some number → option_map (λ (shown : Option ℤ × ℕ). shown.0) (slice_get (runs_from ends numbers offset count run n) k) ≡ Some number
+value-runs_from ends numbers offset count run n k number within read =
+    ap (option_map (λ (shown : Option ℤ × ℕ). shown.0)) (get-runs_from ends numbers offset count run n k (within-runs_from ends numbers offset count run n k within))
+    ∙ ap Some (get_or_from_slice_get numbers (run + k) number None read)
+
+-- and in how many rows
+pub count-runs_from : (ends : List ℕ) (numbers : List (Option ℤ)) (offset count run n k rows : ℕ) → k < length (runs_from ends numbers offset count run n)
+    → rows ≡ rows_showing ends offset count (run + k) → option_map (λ (shown : Option ℤ × ℕ). shown.1) (slice_get (runs_from ends numbers offset count run n) k) ≡ Some rows
+count-runs_from ends numbers offset count run n k rows within counted =
+    ap (option_map (λ (shown : Option ℤ × ℕ). shown.1)) (get-runs_from ends numbers offset count run n k (within-runs_from ends numbers offset count run n k within))
+    ∙ sym (ap Some counted)
+
+length-visible_runs : (r : Runs) → length (visible_runs r) ≡ stop_visible r.ends r.offset r.count - first_visible r.ends r.offset r.count
 length-visible_runs r =
     let first = first_visible r.ends r.offset r.count in
     length-runs_from r.ends (map number_in (column_rows r.values)) r.offset r.count first (stop_visible r.ends r.offset r.count - first)
-
--- what a visible run shows
-pub value-visible_runs : (r : Runs) (k place : ℕ) (number : Option ℤ) → length (column_rows r.values) ≡ length r.ends → stop_visible r.ends r.offset r.count ≤ length r.ends
-    → place ≡ first_visible r.ends r.offset r.count + k → k < length (visible_runs r) → option_map number_in (slice_get (column_rows r.values) place) ≡ Some number
-    → option_map (λ (shown : Option ℤ × ℕ). shown.0) (slice_get (visible_runs r) k) ≡ Some number
-value-visible_runs r k place number paired inside at within read =
-    let first = first_visible r.ends r.offset r.count in
-    let long = length-visible_runs r in
-    let numbers = map number_in (column_rows r.values) in
-    let got = get-runs_from r.ends numbers r.offset r.count first (stop_visible r.ends r.offset r.count - first) k (omega arith) in
-    let shows = number_at (column_rows r.values) place number (omega arith) read in
-    ap (option_map (λ (shown : Option ℤ × ℕ). shown.0)) got
-    ∙ ap (λ (j : ℕ). Some (slice_index_or numbers j None)) (sym at) ∙ ap Some shows
-
--- and in how many rows
-pub count-visible_runs : (r : Runs) (k place : ℕ) → place ≡ first_visible r.ends r.offset r.count + k → k < length (visible_runs r)
-    → option_map (λ (shown : Option ℤ × ℕ). shown.1) (slice_get (visible_runs r) k) ≡ Some (rows_showing r.ends r.offset r.count place)
-count-visible_runs r k place at within =
-    let first = first_visible r.ends r.offset r.count in
-    let long = length-visible_runs r in
-    let got = get-runs_from r.ends (map number_in (column_rows r.values)) r.offset r.count first (stop_visible r.ends r.offset r.count - first) k (omega arith) in
-    ap (option_map (λ (shown : Option ℤ × ℕ). shown.1)) got
-    ∙ ap (λ (j : ℕ). Some (rows_showing r.ends r.offset r.count j)) (sym at)
 
 abbrev count_in : Option (Option ℤ × ℕ) → ℕ
 count_in None = 0

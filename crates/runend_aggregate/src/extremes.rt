@@ -38,8 +38,9 @@ fn furthest<A: Allocator + Copy>(
     best
 }
 
-// The least and the greatest of some rows that are no nulls, or `None` where all of them are null.
-fn ends_of<A: Allocator + Copy>(
+// The least and the greatest of some rows that are no nulls, each looked up, or `None` where all of them
+// are null.
+fn looked_up_ends<A: Allocator + Copy>(
     values: &ArrayRef<A>,
     range: Range<usize>,
 ) -> Option<(ScalarView<'_, A>, ScalarView<'_, A>)>
@@ -54,6 +55,25 @@ fn ends_of<A: Allocator + Copy>(
     let least = furthest(values, range.start..range.end, Ordering::Less)?;
     let greatest = furthest(values, range, Ordering::Greater)?;
     Some((least, greatest))
+}
+
+// The same. Flat values are read where they are stored, by their type.
+fn ends_of<A: Allocator + Copy>(
+    values: &ArrayRef<A>,
+    range: Range<usize>,
+) -> Option<(ScalarView<'_, A>, ScalarView<'_, A>)>
+    requires ordered { range.start ≤ range.end }
+    requires in_bounds { range.end ≤ length (rows values.now) }
+    ensures none { IfNone result (All (λ row. row ≡ None) (slice_range (rows values.now) range.start range.end)) }
+    ensures least { IfSome result (λ ends. IsLeast (slice_range (rows values.now) range.start range.end) (sees ends.0)) }
+    ensures greatest { IfSome result (λ ends. IsGreatest (slice_range (rows values.now) range.start range.end) (sees ends.1)) }
+    ensures least_of_type { IfSome result (λ ends. IsViewOf (dtype_of values.now) ends.0) }
+    ensures greatest_of_type { IfSome result (λ ends. IsViewOf (dtype_of values.now) ends.1) }
+{
+    match values.flat_view() {
+        Some(flat) => column_order::min_max(flat, range),
+        None => looked_up_ends(values, range),
+    }
 }
 
 /// The least and the greatest of the rows that are not null, borrowed from the column, or `None` where

@@ -9,7 +9,9 @@ mod extremes;
 mod four_runs;
 mod order;
 mod rows;
+mod signed_sums;
 mod sums;
+mod unsigned_sums;
 mod visible;
 
 pub use column_sums::{SignedSum, SumAnswer, SumValue, UnsignedSum};

@@ -16,8 +16,8 @@ use std::alloc::Allocator;
 use std::cmp::Ordering;
 use std::ops::Range;
 
-// Are any two of the rows from `range.start` to `range.end - 1` equal?
-fn are_equal<A: Allocator + Copy>(values: &ArrayRef<A>, range: Range<usize>) -> bool
+// Are any two of the rows from `range.start` to `range.end - 1`, each looked up, equal?
+fn are_looked_up_equal<A: Allocator + Copy>(values: &ArrayRef<A>, range: Range<usize>) -> bool
     requires flat { is_list (dtype_of values.now) ≡ false }
     requires ordered { range.start ≤ range.end }
     requires in_bounds { range.end ≤ length (rows values.now) }
@@ -29,6 +29,19 @@ fn are_equal<A: Allocator + Copy>(values: &ArrayRef<A>, range: Range<usize>) -> 
         }
     }
     true
+}
+
+// The same. Flat values are read where they are stored, by their type.
+fn are_equal<A: Allocator + Copy>(values: &ArrayRef<A>, range: Range<usize>) -> bool
+    requires flat { is_list (dtype_of values.now) ≡ false }
+    requires ordered { range.start ≤ range.end }
+    requires in_bounds { range.end ≤ length (rows values.now) }
+    ensures { IsTrue result ↔ IsConstant (slice_range (rows values.now) range.start range.end) }
+{
+    match values.flat_view() {
+        Some(flat) => column_order::is_constant(flat, range),
+        None => are_looked_up_equal(values, range),
+    }
 }
 
 /// Are any two rows equal, null equal to null? No rows are constant. Work is by visible runs. Refused
@@ -60,8 +73,13 @@ fn is_step(ordering: Ordering, strict: bool) -> bool
     }
 }
 
-// Is each of the rows from `range.start` to `range.end - 2` one that may stand before the next?
-fn are_sorted<A: Allocator + Copy>(values: &ArrayRef<A>, range: Range<usize>, strict: bool) -> bool
+// Is each of the rows from `range.start` to `range.end - 2`, each looked up, one that may stand before the
+// next?
+fn are_looked_up_sorted<A: Allocator + Copy>(
+    values: &ArrayRef<A>,
+    range: Range<usize>,
+    strict: bool,
+) -> bool
     requires flat { is_list (dtype_of values.now) ≡ false }
     requires ordered { range.start ≤ range.end }
     requires in_bounds { range.end ≤ length (rows values.now) }
@@ -73,6 +91,19 @@ fn are_sorted<A: Allocator + Copy>(values: &ArrayRef<A>, range: Range<usize>, st
         }
     }
     true
+}
+
+// The same. Flat values are read where they are stored, by their type.
+fn are_sorted<A: Allocator + Copy>(values: &ArrayRef<A>, range: Range<usize>, strict: bool) -> bool
+    requires flat { is_list (dtype_of values.now) ≡ false }
+    requires ordered { range.start ≤ range.end }
+    requires in_bounds { range.end ≤ length (rows values.now) }
+    ensures { IsTrue result ↔ IsSorted strict (slice_range (rows values.now) range.start range.end) }
+{
+    match values.flat_view() {
+        Some(flat) => column_order::is_sorted(flat, range, strict),
+        None => are_looked_up_sorted(values, range, strict),
+    }
 }
 
 /// Is no row above the next, or, where `strict` is asked, is each below the next? No rows are sorted.

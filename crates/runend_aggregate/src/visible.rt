@@ -1,15 +1,14 @@
 //! Which runs of a column are visible, and what they show.
-ghost use Rattle.std.specs.Prelude.{◌≡◌, ◌+◌, ◌-◌, ◌<◌, ◌≤◌, Some, length, map, min, option_map, pos, slice_get, slice_index, unsigned_abs};
-ghost use Rattle.column_base.specs.Numbers.{numbers, ptype_of};
+ghost use Rattle.std.specs.Prelude.{◌≡◌, ◌-◌, ◌<◌, ◌≤◌, Some, length, map, min, option_map, pos, slice_get, slice_index};
 ghost use Rattle.column_base.specs.Types.{IsUnsigned};
 ghost use Rattle.column_sums.specs.SumAnswer.{number_in};
-ghost use Rattle.runend_array.specs.Array.{column_of, dtype_of, rows};
-ghost use Rattle.runend_array.specs.Column.{AreRuns, IsPlainEnds, end_numbers};
+ghost use Rattle.runend_codec.specs.Ends.{ends_of};
+ghost use Rattle.runend_array.specs.Array.{dtype_of, rows};
+ghost use Rattle.runend_array.specs.Column.{AreRuns};
 ghost use Rattle.runend_aggregate.specs.ShownRuns.{first_visible, rows_before, rows_showing, stop_visible};
 ghost use Rattle.runend_aggregate.specs.SignOf.{IsSignedType, IsUnsignedType};
 
-use column_base::match_each_unsigned;
-use column_core::{PrimitiveValues, ScalarView, UnsignedPType};
+use column_core::{PrimitiveArray, ScalarView, UnsignedPType};
 use runend_array::{ArrayRef, RunEndArray, RunEndArrayExt, RunEndArraySlotsExt};
 use std::alloc::Allocator;
 use std::ops::Range;
@@ -29,63 +28,51 @@ pub(crate) fn visible_runs<A: Allocator + Copy>(array: &RunEndArray<A>) -> Range
     array.runs_of_rows(0, array.len())
 }
 
-fn natural_at<E: UnsignedPType>(items: &[E], index: usize) -> usize
-    requires { index < length items.now }
-    ensures { result ≡ slice_index (map E.natural items.now) index }
+/// The ends, as the flat column that they are.
+pub(crate) fn plain_ends<A: Allocator + Copy>(array: &RunEndArray<A>) -> &PrimitiveArray<A>
+    ensures ends { ends_of result.now ≡ array.now.ends }
+    ensures unsigned { IsUnsigned result.now.ptype }
+    ensures valid { AreRuns array.now }
 {
-    items[index].to_u64() as usize
-}
-
-// The number in a row of unsigned numbers.
-fn number_among<A: Allocator>(ends: &PrimitiveValues<A>, run: usize) -> usize
-    requires unsigned { IsUnsigned (ptype_of ends.now) }
-    requires within { run < length (map unsigned_abs (numbers ends.now)) }
-    ensures { result ≡ slice_index (map unsigned_abs (numbers ends.now)) run }
-{
-    match_each_unsigned!(ends, items => natural_at(items.as_slice(), run), _ => unreachable!())
-}
-
-// An end, in rows.
-fn end_at<A: Allocator + Copy>(ends: &ArrayRef<A>, run: usize) -> usize
-    requires plain { IsPlainEnds (column_of ends.now) }
-    requires within { run < length (end_numbers (column_of ends.now)) }
-    ensures { result ≡ slice_index (end_numbers (column_of ends.now)) run }
-{
-    match ends {
-        ArrayRef::Primitive(plain) => number_among(plain.values(), run),
+    match array.ends() {
+        ArrayRef::Primitive(ends) => ends,
         _ => unreachable!(),
     }
 }
 
-// How many rows lie before the end of a run.
-fn rows_through<A: Allocator + Copy>(array: &RunEndArray<A>, run: usize) -> usize
-    requires { run < length array.now.ends }
-    ensures rows { result ≡ min (slice_index array.now.ends run - array.now.offset) array.now.count }
-    ensures valid { AreRuns array.now }
+// How many rows of the window lie before the end of a run.
+#[inline]
+fn rows_through<E: UnsignedPType>(ends: &[E], run: usize, offset: usize, count: usize) -> usize
+    requires { run < length ends.now }
+    ensures { result ≡ min (slice_index (map E.natural ends.now) run - offset) count }
 {
-    end_at(array.ends(), run)
-        .saturating_sub(array.offset())
-        .min(array.len())
+    let rows = ends[run].to_u64().saturating_sub(offset as u64);
+    rows.min(count as u64) as usize
 }
 
-fn rows_ahead<A: Allocator + Copy>(array: &RunEndArray<A>, run: usize) -> usize
-    requires { run < length array.now.ends }
-    ensures { result ≡ rows_before array.now.ends array.now.offset array.now.count run }
+#[inline]
+fn rows_ahead<E: UnsignedPType>(ends: &[E], run: usize, offset: usize, count: usize) -> usize
+    requires { run < length ends.now }
+    ensures { result ≡ rows_before (map E.natural ends.now) offset count run }
 {
     if run == 0 {
         return 0;
     }
-    rows_through(array, run - 1)
+    rows_through(ends, run - 1, offset, count)
 }
 
-/// How many rows show a run.
-pub(crate) fn rows_of_run<A: Allocator + Copy>(array: &RunEndArray<A>, run: usize) -> usize
-    requires { run < length array.now.ends }
-    ensures rows { result ≡ rows_showing array.now.ends array.now.offset array.now.count run }
-    ensures visible { first_visible array.now.ends array.now.offset array.now.count ≤ run
-        → run < stop_visible array.now.ends array.now.offset array.now.count → 0 < result }
+/// How many rows of a window, of `count` rows from position `offset` on, show a run.
+#[inline]
+pub(crate) fn rows_of_run<E: UnsignedPType>(
+    ends: &[E],
+    run: usize,
+    offset: usize,
+    count: usize,
+) -> usize
+    requires { run < length ends.now }
+    ensures { result ≡ rows_showing (map E.natural ends.now) offset count run }
 {
-    rows_through(array, run).saturating_sub(rows_ahead(array, run))
+    rows_through(ends, run, offset, count).saturating_sub(rows_ahead(ends, run, offset, count))
 }
 
 /// The number in a row of a column that has no unsigned numbers.

@@ -1,7 +1,7 @@
 use Rattle.std.proofs.Common.{arith}
 use Rattle.column_base.specs.Types.{nullability_of}
 use Rattle.column_core.specs.BoolForm.{optional_truths}
-use Rattle.column_core.specs.FlatColumn.{leaf_of}
+use Rattle.column_core.specs.FlatView.{leaf_in}
 use Rattle.column_core.specs.Leaf.{leaf_dtype, single_rows}
 use Rattle.column_core.specs.ScalarView.{sees}
 use Rattle.column_order.specs.Comparing.{compare_rows, compared, either_nullability}
@@ -11,8 +11,8 @@ use Rattle.column_order.proofs.compare.compare_beside.Goals as goal
 
 pub loop-index-preserved : goal.loop-index-preserved
 loop-index-preserved g c =
-    let leaf = leaf_of c.args.column.now in
-    let other = leaf_of c.args.right.now in
+    let leaf = leaf_in c.args.column in
+    let other = leaf_in c.args.right in
     let left = sees c.get.result in
     let right = sees c.get-in-loop-index.result in
     let nullability = either_nullability (nullability_of (leaf_dtype leaf)) (nullability_of (leaf_dtype other)) in
@@ -23,8 +23,8 @@ loop-index-preserved g c =
 
 pub returns-clause-rows : goal.returns-clause-rows
 returns-clause-rows g c =
-    let leaf = leaf_of c.args.column.now in
-    let other = leaf_of c.args.right.now in
+    let leaf = leaf_in c.args.column in
+    let other = leaf_in c.args.right in
     let all = compare_rows c.args.operator (single_rows leaf) (single_rows other) in
     let long = length-single_rows leaf in
     let same = length-compare_rows c.args.operator (single_rows leaf) (single_rows other) in

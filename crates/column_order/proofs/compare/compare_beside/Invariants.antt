@@ -1,6 +1,6 @@
 use Rattle.std.proofs.Common.{take}
 use Rattle.column_base.specs.Types.{nullability_of}
-use Rattle.column_core.specs.FlatColumn.{leaf_of}
+use Rattle.column_core.specs.FlatView.{leaf_in}
 use Rattle.column_core.specs.Leaf.{leaf_dtype, single_rows}
 use Rattle.column_order.specs.Comparing.{compare_rows, either_nullability}
 use Rattle.column_order.proofs.WrittenTruths.{AreWritten}
@@ -8,5 +8,5 @@ use Rattle.column_order.proofs.compare.compare_beside.Given as goal
 
 abbrev pub invariant-loop-index : goal.invariant-loop-index
 invariant-loop-index g l =
-    AreWritten (either_nullability (nullability_of (leaf_dtype (leaf_of l.column))) (nullability_of (leaf_dtype (leaf_of l.right))))
-    (take l.index (compare_rows l.operator (single_rows (leaf_of l.column)) (single_rows (leaf_of l.right)))) l.bits l.flags
+    AreWritten (either_nullability (nullability_of (leaf_dtype (leaf_in l.column))) (nullability_of (leaf_dtype (leaf_in l.right))))
+    (take l.index (compare_rows l.operator (single_rows (leaf_in l.column)) (single_rows (leaf_in l.right)))) l.bits l.flags

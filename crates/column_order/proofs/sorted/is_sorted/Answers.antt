@@ -1,28 +1,26 @@
-use Rattle.std.proofs.Common.{◌∙◌, refl, sym, arith}
-use Rattle.column_core.specs.FlatColumn.{leaf_of}
-use Rattle.column_core.specs.Leaf.{single_rows}
-use Rattle.std.proofs.lemmas.Bool.{false≢true}
-use Rattle.column_order.proofs.RowRanges.{AreSteps-next, IsSorted-steps, IsSorted-not, length-single_rows}
+use Rattle.std.proofs.Common.{List, Option, subst}
+use Rattle.std.specs.Prelude.{◌↔◌, slice_range, IsTrue}
+use Rattle.column_base.specs.Validity.{form_of}
+use Rattle.column_core.specs.Value.{Value}
+use Rattle.column_order.specs.OrderFacts.{IsSorted}
+use Rattle.column_order.proofs.ItemColumns.{decimal-rows, within-decimals}
 use Rattle.column_order.proofs.sorted.is_sorted.Goals as goal
 
-pub returns-then-not-is_step : goal.returns-then-not-is_step
-returns-then-not-is_step g c =
-    let leaf = leaf_of c.args.column.now in
-    let long = length-single_rows leaf in (
-      λ never. absurd (false≢true never),
-      λ sorted. absurd (IsSorted-not c.args.strict (single_rows leaf) c.args.range.start c.args.range.end c.loop-index.index c.order_at.result (omega arith) (omega arith) (omega arith)
-          c.order_at.ensures (sym c.is_step.ensures ∙ c.if-not-is_step.true) sorted),
-    )
+pub is_sorted_of-requires-clause-in_bounds : goal.is_sorted_of-requires-clause-in_bounds
+is_sorted_of-requires-clause-in_bounds g c =
+    within-decimals c.values.result.now (c.in-Decimal.array).now c.args.range.end c.values.ensures (rw c.in-Decimal.is at c.requires.in_bounds)
 
-pub loop-index-preserved : goal.loop-index-preserved
-loop-index-preserved g c =
-    AreSteps-next c.args.strict (single_rows (leaf_of c.args.column.now)) c.args.range.start c.loop-index.index c.order_at.result c.order_at.ensures
-    (sym c.is_step.ensures ∙ c.if-not-is_step.false) c.loop-index.invariant
+pub returns-in-Primitive : goal.returns-in-Primitive
+returns-in-Primitive g c = rw c.in-Primitive.is c.are_sorted_numbers.ensures
 
-pub returns : goal.returns
-returns g c =
-    let leaf = leaf_of c.args.column.now in
-    let long = length-single_rows leaf in (
-      λ _. IsSorted-steps c.args.strict (single_rows leaf) c.args.range.start c.args.range.end c.loop-index.index c.requires.ordered (omega arith) (omega arith) c.loop-index.invariant,
-      λ _. refl,
-    )
+pub returns-in-Bool : goal.returns-in-Bool
+returns-in-Bool g c = rw c.in-Bool.is c.are_sorted_rows.ensures
+
+pub returns-in-Decimal : goal.returns-in-Decimal
+returns-in-Decimal g c =
+    rw c.in-Decimal.is
+    (subst (λ (rows : List (Option Value)). IsTrue c.is_sorted_of.result ↔ IsSorted c.args.strict (slice_range rows c.args.range.start c.args.range.end))
+    (decimal-rows c.values.result.now (form_of c.validity.result.now) (c.in-Decimal.array).now c.values.ensures c.validity.ensures.form) c.is_sorted_of.ensures)
+
+pub returns-in-VarBinView : goal.returns-in-VarBinView
+returns-in-VarBinView g c = rw c.in-VarBinView.is c.are_sorted_rows-in-VarBinView.ensures

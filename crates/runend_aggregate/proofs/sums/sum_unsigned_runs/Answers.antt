@@ -6,11 +6,11 @@ use Rattle.runend_aggregate.proofs.sums.sum_unsigned_runs.Goals as goal
 pub returns-clause-answer : goal.returns-clause-answer
 returns-clause-answer g c =
     let r = c.args.array.now in
-    unsigned_answer (column_dtype r.values) (column_rows (column_of_runs r)) _ c.sum_unsigned_in_runs.result c.requires.unsigned c.sum_unsigned_in_runs.ensures.answer
-    (rows_of_visible_runs r c.visible_runs-runs.ensures.valid)
+    unsigned_answer (column_dtype r.values) (column_rows (column_of_runs r)) _ c.sum_unsigned_visible.result c.requires.unsigned c.sum_unsigned_visible.ensures.answer
+    (rows_of_visible_runs r c.sum_unsigned_visible.ensures.valid)
 
 pub returns-clause-rows : goal.returns-clause-rows
-returns-clause-rows g c = rows_of_visible_runs c.args.array.now c.visible_runs-runs.ensures.valid
+returns-clause-rows g c = rows_of_visible_runs c.args.array.now c.sum_unsigned_visible.ensures.valid
 
 pub returns-clause-shown : goal.returns-clause-shown
-returns-clause-shown g c = shown-visible_runs c.args.array.now c.visible_runs-runs.ensures.valid
+returns-clause-shown g c = shown-visible_runs c.args.array.now c.sum_unsigned_visible.ensures.valid

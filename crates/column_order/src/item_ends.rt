@@ -1,0 +1,119 @@
+//! The least and the greatest of the items of a flat column.
+ghost use Rattle.std.specs.Prelude.{◌≡◌, ◌≤◌, All, IfNone, IfSome, None, length, slice_range, MatchOption};
+ghost use Rattle.column_base.specs.ValidityForm.{HasLength, flags};
+ghost use Rattle.column_base.specs.Validity.{form_of};
+ghost use Rattle.column_base.specs.declared.dtype.DecimalDType.{DecimalDType};
+ghost use Rattle.column_base.specs.declared.dtype.Nullability.{Nullability};
+ghost use Rattle.column_order.specs.Items.{flagged_rows, item_row, item_rows, IsFirstValid};
+ghost use Rattle.column_order.specs.OrderFacts.{AreEnds, IsGreatest, IsLeast};
+
+use crate::items::FlatItem;
+use column_core::{BitBuffer, ScalarView, Validity};
+use std::alloc::Allocator;
+use std::ops::Range;
+
+/// The least and the greatest of the items from `range.start` to `range.end - 1` that are no nulls, as
+/// rows, or `None` where all of them are null. Takes no memory.
+pub(crate) fn min_max_of<'a, T: FlatItem, A: Allocator>(
+    items: &[T],
+    validity: &Validity<A>,
+    range: Range<usize>,
+) -> Option<(ScalarView<'a, A>, ScalarView<'a, A>)>
+    requires fits { HasLength (form_of validity.now) (length items.now) }
+    requires ordered { range.start ≤ range.end }
+    requires in_bounds { range.end ≤ length items.now }
+    ensures { (decimal : DecimalDType) (nullability : Nullability) → let rows = slice_range (flagged_rows T.value items.now (flags (form_of validity.now) (length items.now))) range.start range.end in
+        MatchOption result (All (λ row. row ≡ None) rows) (λ ends. AreEnds (T.dtype decimal nullability) rows ends.0 ends.1) }
+{
+    let (least, greatest) = item_ends(items, validity, range.start, range.end)?;
+    Some((least.view(), greatest.view()))
+}
+
+// The least and the greatest of the items from `start` to `stop - 1` that are no nulls.
+fn item_ends<T: FlatItem, A: Allocator>(
+    items: &[T],
+    validity: &Validity<A>,
+    start: usize,
+    stop: usize,
+) -> Option<(T, T)>
+    requires fits { HasLength (form_of validity.now) (length items.now) }
+    requires ordered { start ≤ stop }
+    requires in_bounds { stop ≤ length items.now }
+    ensures none { IfNone result (All (λ row. row ≡ None) (slice_range (flagged_rows T.value items.now (flags (form_of validity.now) (length items.now))) start stop)) }
+    ensures least { IfSome result (λ ends. IsLeast (slice_range (flagged_rows T.value items.now (flags (form_of validity.now) (length items.now))) start stop) (item_row T.value ends.0)) }
+    ensures greatest { IfSome result (λ ends. IsGreatest (slice_range (flagged_rows T.value items.now (flags (form_of validity.now) (length items.now))) start stop) (item_row T.value ends.1)) }
+{
+    match validity {
+        Validity::NonNullable => ends_of_valid(items, start, stop),
+        Validity::AllValid => ends_of_valid(items, start, stop),
+        Validity::AllInvalid => None,
+        Validity::Bits(bits) => ends_of_flagged(items, bits, start, stop),
+    }
+}
+
+// The same of items of which none is null.
+fn ends_of_valid<T: FlatItem>(items: &[T], start: usize, stop: usize) -> Option<(T, T)>
+    requires ordered { start ≤ stop }
+    requires in_bounds { stop ≤ length items.now }
+    ensures none { IfNone result (start ≡ stop) }
+    ensures least { IfSome result (λ ends. IsLeast (slice_range (item_rows T.value items.now) start stop) (item_row T.value ends.0)) }
+    ensures greatest { IfSome result (λ ends. IsGreatest (slice_range (item_rows T.value items.now) start stop) (item_row T.value ends.1)) }
+{
+    if start == stop {
+        return None;
+    }
+    let first = items[start];
+    let mut least = first;
+    let mut greatest = first;
+    for row in start + 1..stop {
+        let item = items[row];
+        least = least.min(item);
+        greatest = greatest.max(item);
+    }
+    Some((least, greatest))
+}
+
+/// The first row from `start` to `stop - 1` whose flag is true, and `stop` where there is none.
+pub(crate) fn first_valid<A: Allocator>(flags: &BitBuffer<A>, start: usize, stop: usize) -> usize
+    requires ordered { start ≤ stop }
+    requires in_bounds { stop ≤ length flags.now }
+    ensures { IsFirstValid flags.now start stop result }
+{
+    for row in start..stop {
+        if flags.value(row) {
+            return row;
+        }
+    }
+    stop
+}
+
+// The same of items that are null where their flag is false. In the place of a null the first item that
+// is none is looked at once more, so that each row takes the same steps.
+fn ends_of_flagged<T: FlatItem, A: Allocator>(
+    items: &[T],
+    flags: &BitBuffer<A>,
+    start: usize,
+    stop: usize,
+) -> Option<(T, T)>
+    requires fits { length flags.now ≡ length items.now }
+    requires ordered { start ≤ stop }
+    requires in_bounds { stop ≤ length items.now }
+    ensures none { IfNone result (All (λ row. row ≡ None) (slice_range (flagged_rows T.value items.now flags.now) start stop)) }
+    ensures least { IfSome result (λ ends. IsLeast (slice_range (flagged_rows T.value items.now flags.now) start stop) (item_row T.value ends.0)) }
+    ensures greatest { IfSome result (λ ends. IsGreatest (slice_range (flagged_rows T.value items.now flags.now) start stop) (item_row T.value ends.1)) }
+{
+    let from = first_valid(flags, start, stop);
+    if from == stop {
+        return None;
+    }
+    let first = items[from];
+    let mut least = first;
+    let mut greatest = first;
+    for row in from + 1..stop {
+        let item = items[row];
+        let shown = if flags.value(row) { item } else { first };
+        least = least.min(shown);
+        greatest = greatest.max(shown);
+    }
+    Some((least, greatest))
+}

@@ -1,6 +1,0 @@
-use Rattle.runend_array.specs.Array.{rows}
-use Rattle.column_order.proofs.RowRanges.{AreSteps}
-use Rattle.runend_aggregate.proofs.order.are_sorted.Given as goal
-
-abbrev pub invariant-loop-index : goal.invariant-loop-index
-invariant-loop-index g l = AreSteps l.strict (rows l.values) l.fn.range.start l.index
