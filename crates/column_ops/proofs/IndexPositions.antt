@@ -23,7 +23,7 @@ optionals-map f (x ∷ xs) (true ∷ bs) = ap (λ rows. Some (f x) ∷ rows) (op
 optionals-map f (x ∷ xs) (false ∷ bs) = ap (λ rows. None ∷ rows) (optionals-map f xs bs)
 
 -- of two faults neither is there
-neither : (a b : Option VortexError) → option_or a b ≡ None → (a ≡ None) × (b ≡ None)
+pub neither : (a b : Option VortexError) → option_or a b ≡ None → (a ≡ None) × (b ≡ None)
 neither None b none = (refl, none)
 neither (Some error) b none = let wrong : ⊥ = cc in absurd wrong
 

@@ -1,9 +1,12 @@
-pub mod Written
+pub mod Blanked
 pub mod RowItems
 pub mod Arms
 pub mod Passed
-pub mod Loops
+pub mod TakenRows
+pub mod SelectedRows
 pub mod IndexPositions
+pub mod PositionRows
+pub mod Nulls
 pub mod Made
 pub mod Columns
 pub mod CastRows

@@ -1,10 +1,11 @@
 //! Whole numbers cast to another native type.
-ghost use Rattle.std.specs.Prelude.{◌≡◌, ◌≢◌, pos, Err, IfOk, IsSome, length, map, option_map};
+ghost use Rattle.std.specs.Prelude.{◌≡◌, ◌≢◌, pos, true, Err, None, Some, IfOk, IsSome, cond, length, map, option_map, unwrap_or};
 ghost use Rattle.column_base.specs.declared.dtype.DType.TheVariants as column;
 ghost use Rattle.column_base.specs.declared.dtype.Nullability.TheVariants.{NonNullable};
 ghost use Rattle.column_base.specs.ValidityForm.{HasLength};
 ghost use Rattle.column_base.specs.Validity.{form_of};
 ghost use Rattle.column_core.specs.Leaf.{OfNumbers, single_rows};
+ghost use Rattle.column_core.specs.Optionals.{optionals};
 ghost use Rattle.column_core.specs.PrimitiveForm.{optional_numbers, primitive_rows, primitive_with};
 ghost use Rattle.column_core.specs.Refusal.{IsRefusedBy};
 ghost use Rattle.column_core.specs.Value.{Number, Single};
@@ -13,12 +14,13 @@ ghost use Rattle.column_ops.specs.Computed.{IsMade};
 ghost use Rattle.column_ops.specs.Fault.{first_fault};
 ghost use Rattle.column_ops.specs.Written.{AreWritten};
 
+use crate::items_or::items_by_bits;
 use crate::keep_items::null_row;
-use crate::row_writer::RowWriter;
+use crate::kept_validity::kept_validity;
 use crate::rows::row_at;
 use column_base::match_each_native;
 use column_core::{
-    NativePType, Nullability, PType, PrimitiveArray, Validity, VortexError, VortexResult,
+    BitBuffer, NativePType, Nullability, PType, PrimitiveArray, Validity, VortexError, VortexResult,
 };
 use std::alloc::Allocator;
 
@@ -31,6 +33,18 @@ fn cast_number<S: NativePType, T: NativePType>(item: S) -> VortexResult<T>
     match T::narrow(item.widen()) {
         None => Err(VortexError::CastOutOfRange),
         Some(number) => Ok(number),
+    }
+}
+
+// The number as one of the type `T`, or 0 where the type does not have it, and whether it has it.
+#[inline(always)]
+fn cast_or_zero<S: NativePType, T: NativePType>(item: S) -> (T, bool)
+    ensures fault { number_fault (column.Primitive T.PTYPE NonNullable) (S.number item) ≡ cond result.1 None (Some VortexError.CastOutOfRange) }
+    ensures same { result.1 ≡ true → T.number result.0 ≡ S.number item }
+{
+    match T::narrow(item.widen()) {
+        None => (T::default(), false),
+        Some(number) => (number, true),
     }
 }
 
@@ -67,25 +81,104 @@ fn cast_items<S: NativePType, T: NativePType, A: Allocator + Copy>(
         (optional_numbers (primitive_with S.PTYPE (map S.number items.now) (form_of validity.now)))
         nullability (map T.number parts.0.items) (form_of parts.1)) }
 {
-    let mut rows = RowWriter::with_room(alloc, T::default(), nullability, items.len())?;
+    let cast = cast_all::<S, T, A>(alloc, items, validity, nullability)?;
+    match kept_validity(alloc, validity, items.len(), nullability) {
+        Ok(rows) => Ok((cast, rows)),
+        Err(error) => {
+            drop(cast);
+            Err(error)
+        }
+    }
+}
+
+// The numbers in the type `T`, with 0 in place of null. What is valid is asked once, where no row is null.
+fn cast_all<S: NativePType, T: NativePType, A: Allocator + Copy>(
+    alloc: A,
+    items: &[S],
+    validity: &Validity<A>,
+    nullability: Nullability,
+) -> VortexResult<Vec<T, A>>
+    requires { HasLength (form_of validity.now) (length items.now) }
+    ensures refused { IsRefusedBy (first_fault (cast_row_fault (column.Primitive T.PTYPE nullability))
+        (single_rows (OfNumbers (primitive_with S.PTYPE (map S.number items.now) (form_of validity.now))))) result }
+    ensures cast { IfOk result (λ cast. map T.number cast.items ≡ map (λ row. unwrap_or row (pos 0))
+        (optional_numbers (primitive_with S.PTYPE (map S.number items.now) (form_of validity.now)))) }
+{
+    match validity {
+        Validity::NonNullable => cast_valid::<S, T, A>(alloc, items),
+        Validity::AllValid => cast_valid::<S, T, A>(alloc, items),
+        Validity::AllInvalid => cast_rows::<S, T, A>(alloc, items, validity, nullability),
+        Validity::Bits(bits) => match nullability {
+            Nullability::Nullable => cast_nullable::<S, T, A>(alloc, items, bits),
+            Nullability::NonNullable => cast_rows::<S, T, A>(alloc, items, validity, nullability),
+        },
+    }
+}
+
+// The same where no row is null. All numbers are converted, so that no branch is taken for any of them.
+fn cast_valid<S: NativePType, T: NativePType, A: Allocator>(
+    alloc: A,
+    items: &[S],
+) -> VortexResult<Vec<T, A>>
+    ensures refused { IsRefusedBy (first_fault (number_fault (column.Primitive T.PTYPE NonNullable)) (map S.number items.now)) result }
+    ensures cast { IfOk result (λ cast. map T.number cast.items ≡ map S.number items.now) }
+{
+    let mut cast = Vec::with_capacity(alloc, items.len())?;
+    let mut all_fit = true;
+    for item in items {
+        let (number, fits) = cast_or_zero::<S, T>(*item);
+        cast.push_reserved(number);
+        all_fit = all_fit & fits;
+    }
+    if all_fit {
+        Ok(cast)
+    } else {
+        drop(cast);
+        Err(VortexError::CastOutOfRange)
+    }
+}
+
+// The same where null may stay: 0 is put in place of each null first, and each type has 0.
+fn cast_nullable<S: NativePType, T: NativePType, A: Allocator + Copy>(
+    alloc: A,
+    items: &[S],
+    bits: &BitBuffer<A>,
+) -> VortexResult<Vec<T, A>>
+    requires { length bits.now ≡ length items.now }
+    ensures refused { IsRefusedBy (first_fault (number_fault (column.Primitive T.PTYPE NonNullable)) (map (λ row. unwrap_or row (pos 0)) (optionals (map S.number items.now) bits.now))) result }
+    ensures cast { IfOk result (λ cast. map T.number cast.items ≡ map (λ row. unwrap_or row (pos 0)) (optionals (map S.number items.now) bits.now)) }
+{
+    let shown = items_by_bits(alloc, items, bits, S::default())?;
+    let cast = cast_valid::<S, T, A>(alloc, &shown);
+    drop(shown);
+    cast
+}
+
+// The same, row by row.
+fn cast_rows<S: NativePType, T: NativePType, A: Allocator + Copy>(
+    alloc: A,
+    items: &[S],
+    validity: &Validity<A>,
+    nullability: Nullability,
+) -> VortexResult<Vec<T, A>>
+    requires { HasLength (form_of validity.now) (length items.now) }
+    ensures refused { IsRefusedBy (first_fault (cast_row_fault (column.Primitive T.PTYPE nullability))
+        (single_rows (OfNumbers (primitive_with S.PTYPE (map S.number items.now) (form_of validity.now))))) result }
+    ensures cast { IfOk result (λ cast. map T.number cast.items ≡ map (λ row. unwrap_or row (pos 0))
+        (optional_numbers (primitive_with S.PTYPE (map S.number items.now) (form_of validity.now)))) }
+{
+    let mut cast = Vec::with_capacity(alloc, items.len())?;
     for row in 0..items.len() {
         let item = row_at(items, validity, row);
-        let number = match cast_row(item, nullability) {
-            Ok(number) => number,
+        match cast_row::<S, T>(item, nullability) {
+            Ok(number) => cast.push_reserved(number.unwrap_or(T::default())),
             Err(error) => {
-                drop(rows);
-                return Err(error);
-            }
-        };
-        match rows.push(number) {
-            Ok(()) => {}
-            Err(error) => {
-                drop(rows);
+                drop(cast);
                 return Err(error);
             }
         }
     }
-    Ok(rows.finish())
+    Ok(cast)
 }
 
 // The numbers as a column of the type `T`.

@@ -9,11 +9,9 @@ ghost use Rattle.column_core.specs.Refusal.{IsRefusedBy};
 ghost use Rattle.column_ops.specs.Fill.{fill_fault, fill_rows};
 ghost use Rattle.column_ops.specs.Written.{AreWritten};
 
-use crate::row_writer::RowWriter;
-use crate::rows::row_at;
+use crate::items_or::items_or;
 use column_core::{
-    DType, Nullability, Scalar, ScalarValue, Validity, VortexError, VortexResult, is_list_type,
-    is_same_kind,
+    DType, Scalar, ScalarValue, Validity, VortexError, VortexResult, is_list_type, is_same_kind,
 };
 use std::alloc::Allocator;
 
@@ -31,18 +29,8 @@ pub(crate) fn fill_items<T: Copy + Drop, A: Allocator + Copy>(
         (fill_rows (optionals items.now (flags (form_of validity.now) (length items.now))) value)
         NonNullable parts.0.items (form_of parts.1)) }
 {
-    let mut rows = RowWriter::with_room(alloc, blank, Nullability::NonNullable, items.len())?;
-    for row in 0..items.len() {
-        let item = row_at(items, validity, row).unwrap_or(value);
-        match rows.push(Some(item)) {
-            Ok(()) => {}
-            Err(error) => {
-                drop(rows);
-                return Err(error);
-            }
-        }
-    }
-    Ok(rows.finish())
+    let filled = items_or(alloc, items, validity, value)?;
+    Ok((filled, Validity::NonNullable))
 }
 
 /// The value that fills the nulls of rows of this type. Refused as `Unsupported` for lists; then as

@@ -1,15 +1,16 @@
 //! Rows that a mask selects, of any kind of item.
-ghost use Rattle.std.specs.Prelude.{◌≡◌, IfOk, IsOkUnless, length};
+ghost use Rattle.std.specs.Prelude.{◌≡◌, IfOk, IsOkUnless, is_some, length, map, unwrap_or};
 ghost use Rattle.column_base.specs.Mask.{mask_bits};
 ghost use Rattle.column_base.specs.ValidityForm.{HasLength, flags, nullability_in};
 ghost use Rattle.column_base.specs.Validity.{form_of};
 ghost use Rattle.column_core.specs.Optionals.{optionals};
 ghost use Rattle.column_ops.specs.Filter.{filter_rows};
-ghost use Rattle.column_ops.specs.Written.{AreWritten};
+ghost use Rattle.column_ops.specs.Written.{AreWritten, IsValidityOf};
 
-use crate::row_writer::RowWriter;
+use crate::items_or::items_or;
+use crate::kept_validity::is_all_valid;
 use crate::rows::row_at;
-use column_core::{Mask, Validity, VortexError, VortexResult};
+use column_core::{BitBuffer, BitBufferMut, Mask, Validity, VortexError, VortexResult};
 use std::alloc::Allocator;
 
 /// The rows at which the mask is true, with the blank item stored under null. Refused as `OutOfMemory`
@@ -28,17 +29,125 @@ pub(crate) fn filter_items<T: Copy + Drop, A: Allocator + Copy>(
         (filter_rows (mask_bits mask.now) (optionals items.now (flags (form_of validity.now) (length items.now))))
         (nullability_in (form_of validity.now)) parts.0.items (form_of parts.1)) }
 {
-    let mut rows = RowWriter::with_room(alloc, blank, validity.nullability(), mask.true_count())?;
-    for row in 0..items.len() {
-        if mask.value(row) {
-            match rows.push(row_at(items, validity, row)) {
-                Ok(()) => {}
-                Err(error) => {
-                    drop(rows);
-                    return Err(error);
-                }
-            }
+    let kept = kept_items(alloc, items, validity, blank, mask)?;
+    match selected_validity(alloc, items, validity, mask) {
+        Ok(rows) => Ok((kept, rows)),
+        Err(error) => {
+            drop(kept);
+            Err(error)
         }
     }
-    Ok(rows.finish())
+}
+
+// The items at which the mask is true, with the blank one for null. What is valid is asked once, where no row is
+// null.
+fn kept_items<T: Copy + Drop, A: Allocator + Copy>(
+    alloc: A,
+    items: &[T],
+    validity: &Validity<A>,
+    blank: T,
+    mask: &Mask<A>,
+) -> VortexResult<Vec<T, A>>
+    requires fits { HasLength (form_of validity.now) (length items.now) }
+    requires masked { length (mask_bits mask.now) ≡ length items.now }
+    ensures only { IsOkUnless result VortexError.OutOfMemory }
+    ensures items { IfOk result (λ kept. kept.items ≡ map (λ row. unwrap_or row blank)
+        (filter_rows (mask_bits mask.now) (optionals items.now (flags (form_of validity.now) (length items.now))))) }
+{
+    match mask {
+        Mask::AllTrue(_) => items_or(alloc, items, validity, blank),
+        Mask::AllFalse(_) => Ok(Vec::new(alloc)),
+        Mask::Values(bits) => {
+            if is_all_valid(validity) {
+                return selected_items(alloc, items, bits);
+            }
+            selected_rows(alloc, items, validity, blank, bits)
+        }
+    }
+}
+
+// The items at which the bits are true.
+fn selected_items<T: Copy + Drop, A: Allocator + Copy>(
+    alloc: A,
+    items: &[T],
+    bits: &BitBuffer<A>,
+) -> VortexResult<Vec<T, A>>
+    requires { length bits.now ≡ length items.now }
+    ensures only { IsOkUnless result VortexError.OutOfMemory }
+    ensures items { IfOk result (λ kept. kept.items ≡ filter_rows bits.now items.now) }
+{
+    let mut kept = Vec::with_capacity(alloc, bits.true_count())?;
+    for row in bits.set_indices() {
+        kept.push_reserved(items[row]);
+    }
+    Ok(kept)
+}
+
+// The same of rows of which some may be null.
+fn selected_rows<T: Copy + Drop, A: Allocator + Copy>(
+    alloc: A,
+    items: &[T],
+    validity: &Validity<A>,
+    blank: T,
+    bits: &BitBuffer<A>,
+) -> VortexResult<Vec<T, A>>
+    requires fits { HasLength (form_of validity.now) (length items.now) }
+    requires masked { length bits.now ≡ length items.now }
+    ensures only { IsOkUnless result VortexError.OutOfMemory }
+    ensures items { IfOk result (λ kept. kept.items ≡ map (λ row. unwrap_or row blank)
+        (filter_rows bits.now (optionals items.now (flags (form_of validity.now) (length items.now))))) }
+{
+    let mut kept = Vec::with_capacity(alloc, bits.true_count())?;
+    for row in bits.set_indices() {
+        kept.push_reserved(row_at(items, validity, row).unwrap_or(blank));
+    }
+    Ok(kept)
+}
+
+// The validity of the rows at which the mask is true.
+fn selected_validity<T: Copy + Drop, A: Allocator + Copy>(
+    alloc: A,
+    items: &[T],
+    validity: &Validity<A>,
+    mask: &Mask<A>,
+) -> VortexResult<Validity<A>>
+    requires fits { HasLength (form_of validity.now) (length items.now) }
+    requires masked { length (mask_bits mask.now) ≡ length items.now }
+    ensures only { IsOkUnless result VortexError.OutOfMemory }
+    ensures flags { IfOk result (λ rows. IsValidityOf
+        (map is_some (filter_rows (mask_bits mask.now) (optionals items.now (flags (form_of validity.now) (length items.now)))))
+        (nullability_in (form_of validity.now))
+        (length (filter_rows (mask_bits mask.now) (optionals items.now (flags (form_of validity.now) (length items.now)))))
+        (form_of rows)) }
+{
+    match validity {
+        Validity::NonNullable => Ok(Validity::NonNullable),
+        Validity::AllValid => Ok(Validity::AllValid),
+        _ => {
+            let flags = selected_flags(alloc, items, validity, mask)?;
+            Ok(Validity::from_bits(flags))
+        }
+    }
+}
+
+// Whether each row at which the mask is true is valid.
+fn selected_flags<T: Copy + Drop, A: Allocator + Copy>(
+    alloc: A,
+    items: &[T],
+    validity: &Validity<A>,
+    mask: &Mask<A>,
+) -> VortexResult<BitBuffer<A>>
+    requires fits { HasLength (form_of validity.now) (length items.now) }
+    requires masked { length (mask_bits mask.now) ≡ length items.now }
+    ensures only { IsOkUnless result VortexError.OutOfMemory }
+    ensures flags { IfOk result (λ kept. kept ≡ map is_some
+        (filter_rows (mask_bits mask.now) (optionals items.now (flags (form_of validity.now) (length items.now))))) }
+{
+    let mut kept = BitBufferMut::with_capacity(alloc, mask.true_count())?;
+    for row in 0..items.len() {
+        if mask.value(row) {
+            kept.append(row_at(items, validity, row).is_some())?;
+        }
+    }
+    Ok(kept.freeze())
 }

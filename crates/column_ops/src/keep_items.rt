@@ -1,5 +1,5 @@
 //! Rows kept as they are in a type that may lack null, of any kind of item.
-ghost use Rattle.std.specs.Prelude.{◌≡◌, ◌≢◌, Err, None, IfOk, IsSome, length};
+ghost use Rattle.std.specs.Prelude.{◌≡◌, ◌≢◌, Err, None, IfOk, length};
 ghost use Rattle.column_base.specs.declared.dtype.Nullability.TheVariants.{NonNullable};
 ghost use Rattle.column_base.specs.ValidityForm.{HasLength, flags};
 ghost use Rattle.column_base.specs.Validity.{form_of};
@@ -9,8 +9,8 @@ ghost use Rattle.column_ops.specs.Cast.{null_fault, null_row_fault};
 ghost use Rattle.column_ops.specs.Fault.{first_fault};
 ghost use Rattle.column_ops.specs.Written.{AreWritten};
 
-use crate::row_writer::RowWriter;
-use crate::rows::row_at;
+use crate::items_or::items_or;
+use crate::kept_validity::{check_nulls, kept_validity};
 use column_core::{Nullability, Validity, VortexError, VortexResult};
 use std::alloc::Allocator;
 
@@ -25,19 +25,6 @@ pub(crate) fn null_row<T: Drop>(nullability: Nullability) -> VortexResult<Option
     match nullability {
         Nullability::NonNullable => Err(VortexError::NullNotAllowed),
         Nullability::Nullable => Ok(None),
-    }
-}
-
-// The row, null only where rows may be null.
-fn kept_row<T: Copy + Drop>(row: Option<T>, nullability: Nullability) -> VortexResult<Option<T>>
-    ensures refused { IsRefusedBy (null_row_fault nullability row) result }
-    ensures no_memory { result ≢ Err VortexError.OutOfMemory }
-    ensures same { IfOk result (λ kept. kept ≡ row) }
-    ensures valid { IfOk result (λ kept. nullability ≡ NonNullable → IsSome kept) }
-{
-    match row {
-        None => null_row(nullability),
-        Some(item) => Ok(Some(item)),
     }
 }
 
@@ -56,23 +43,13 @@ pub(crate) fn keep_items<T: Copy + Drop, A: Allocator + Copy>(
         (optionals items.now (flags (form_of validity.now) (length items.now)))
         nullability parts.0.items (form_of parts.1)) }
 {
-    let mut rows = RowWriter::with_room(alloc, blank, nullability, items.len())?;
-    for row in 0..items.len() {
-        let item = row_at(items, validity, row);
-        let kept = match kept_row(item, nullability) {
-            Ok(kept) => kept,
-            Err(error) => {
-                drop(rows);
-                return Err(error);
-            }
-        };
-        match rows.push(kept) {
-            Ok(()) => {}
-            Err(error) => {
-                drop(rows);
-                return Err(error);
-            }
+    check_nulls(items, validity, nullability)?;
+    let kept = items_or(alloc, items, validity, blank)?;
+    match kept_validity(alloc, validity, items.len(), nullability) {
+        Ok(rows) => Ok((kept, rows)),
+        Err(error) => {
+            drop(kept);
+            Err(error)
         }
     }
-    Ok(rows.finish())
 }

@@ -1,13 +1,14 @@
 //! The positions of indices, each tested as a signed number before it becomes a position.
-ghost use Rattle.std.specs.Prelude.{◌≡◌, ◌≢◌, ◌<◌, pos, Err, Some, IfOk, IfSome, IsSome, is_some, length, map, option_map, slice_get};
+ghost use Rattle.std.specs.Prelude.{◌≡◌, ◌≢◌, ◌<◌, pos, Err, Some, IfOk, IsSome, length, map, option_map, slice_get, unwrap_or};
 ghost use Rattle.column_base.specs.declared.dtype.Nullability.TheVariants.{NonNullable};
 ghost use Rattle.column_base.specs.ValidityForm.{HasLength, nullability_in};
 ghost use Rattle.column_base.specs.Validity.{form_of};
 ghost use Rattle.column_core.specs.PrimitiveForm.{optional_numbers, primitive_with};
 ghost use Rattle.column_core.specs.Refusal.{IsRefusedBy};
+ghost use Rattle.column_ops.specs.Fault.{first_fault};
 ghost use Rattle.column_ops.specs.Take.{ArePositionsFor, index_fault, take_fault};
 
-use crate::row_writer::RowWriter;
+use crate::kept_validity::kept_validity;
 use crate::rows::row_at;
 use column_base::match_each_native;
 use column_core::{NativePType, PrimitiveArray, Validity, VortexError, VortexResult};
@@ -32,23 +33,34 @@ fn number_at<T: NativePType, A: Allocator>(
 
 // The position of an index. Refused as `OutOfBounds`, with the index and the number of rows, where it
 // is negative or not below that number.
-fn position_of(index: Option<i128>, count: usize) -> VortexResult<Option<u64>>
-    ensures refused { IsRefusedBy (index_fault count index) result }
+#[inline(always)]
+fn position_of(index: i128, count: usize) -> VortexResult<u64>
+    ensures refused { IsRefusedBy (index_fault count (Some index)) result }
     ensures no_memory { result ≢ Err VortexError.OutOfMemory }
-    ensures same { IfOk result (λ position. option_map (λ k. pos k) position ≡ index) }
-    ensures within { IfOk result (λ position. IfSome position (λ k. k < count)) }
-    ensures valid { IfOk result (λ position. is_some position ≡ is_some index) }
+    ensures same { IfOk result (λ position. pos position ≡ index) }
 {
-    let Some(index) = index else {
-        return Ok(None);
-    };
     if index < 0 || index >= count as i128 {
         return Err(VortexError::OutOfBounds {
             index,
             length: count,
         });
     }
-    Ok(Some(index as u64))
+    Ok(index as u64)
+}
+
+// The same of an optional index.
+fn optional_position(index: Option<i128>, count: usize) -> VortexResult<Option<u64>>
+    ensures refused { IsRefusedBy (index_fault count index) result }
+    ensures no_memory { result ≢ Err VortexError.OutOfMemory }
+    ensures same { IfOk result (λ position. option_map (λ k. pos k) position ≡ index) }
+{
+    match index {
+        None => Ok(None),
+        Some(index) => {
+            let position = position_of(index, count)?;
+            Ok(Some(position))
+        }
+    }
 }
 
 // The positions of indices of one native type.
@@ -63,25 +75,79 @@ fn native_positions<T: NativePType, A: Allocator + Copy>(
     ensures positions { IfOk result (λ parts. ArePositionsFor (optional_numbers (primitive_with T.PTYPE (map T.number indices.now) (form_of validity.now)))
         (nullability_in (form_of validity.now)) count parts.0.items (form_of parts.1)) }
 {
-    let mut positions = RowWriter::with_room(alloc, 0, validity.nullability(), indices.len())?;
-    for place in 0..indices.len() {
-        let index = number_at(indices, validity, place);
-        let position = match position_of(index, count) {
-            Ok(position) => position,
-            Err(error) => {
-                drop(positions);
-                return Err(error);
-            }
-        };
-        match positions.push(position) {
-            Ok(()) => {}
+    let positions = position_items(alloc, indices, validity, count)?;
+    match kept_validity(alloc, validity, indices.len(), validity.nullability()) {
+        Ok(places) => Ok((positions, places)),
+        Err(error) => {
+            drop(positions);
+            Err(error)
+        }
+    }
+}
+// The positions, with 0 for null. What is valid is asked once, where no index is null.
+fn position_items<T: NativePType, A: Allocator + Copy>(
+    alloc: A,
+    indices: &[T],
+    validity: &Validity<A>,
+    count: usize,
+) -> VortexResult<Vec<u64, A>>
+    requires fits { HasLength (form_of validity.now) (length indices.now) }
+    ensures refused { IsRefusedBy (take_fault (optional_numbers (primitive_with T.PTYPE (map T.number indices.now) (form_of validity.now))) count) result }
+    ensures same { IfOk result (λ positions. map pos positions.items ≡ map (λ row. unwrap_or row (pos 0))
+        (optional_numbers (primitive_with T.PTYPE (map T.number indices.now) (form_of validity.now)))) }
+{
+    match validity {
+        Validity::NonNullable => valid_positions(alloc, indices, count),
+        Validity::AllValid => valid_positions(alloc, indices, count),
+        _ => optional_positions(alloc, indices, validity, count),
+    }
+}
+
+// The same where no index is null.
+fn valid_positions<T: NativePType, A: Allocator>(
+    alloc: A,
+    indices: &[T],
+    count: usize,
+) -> VortexResult<Vec<u64, A>>
+    ensures refused { IsRefusedBy (first_fault (λ index. index_fault count (Some index)) (map T.number indices.now)) result }
+    ensures same { IfOk result (λ positions. map pos positions.items ≡ map T.number indices.now) }
+{
+    let mut positions = Vec::with_capacity(alloc, indices.len())?;
+    for index in indices {
+        match position_of(index.widen(), count) {
+            Ok(position) => positions.push_reserved(position),
             Err(error) => {
                 drop(positions);
                 return Err(error);
             }
         }
     }
-    Ok(positions.finish())
+    Ok(positions)
+}
+
+// The same, row by row.
+fn optional_positions<T: NativePType, A: Allocator + Copy>(
+    alloc: A,
+    indices: &[T],
+    validity: &Validity<A>,
+    count: usize,
+) -> VortexResult<Vec<u64, A>>
+    requires fits { HasLength (form_of validity.now) (length indices.now) }
+    ensures refused { IsRefusedBy (take_fault (optional_numbers (primitive_with T.PTYPE (map T.number indices.now) (form_of validity.now))) count) result }
+    ensures same { IfOk result (λ positions. map pos positions.items ≡ map (λ row. unwrap_or row (pos 0))
+        (optional_numbers (primitive_with T.PTYPE (map T.number indices.now) (form_of validity.now)))) }
+{
+    let mut positions = Vec::with_capacity(alloc, indices.len())?;
+    for place in 0..indices.len() {
+        match optional_position(number_at(indices, validity, place), count) {
+            Ok(position) => positions.push_reserved(position.unwrap_or(0)),
+            Err(error) => {
+                drop(positions);
+                return Err(error);
+            }
+        }
+    }
+    Ok(positions)
 }
 
 /// The positions of indices among `count` rows, null for null. Refused as `OutOfBounds`, with the index

@@ -1,16 +1,16 @@
 //! Rows taken by their numbers, of any kind of item.
-ghost use Rattle.std.specs.Prelude.{◌≡◌, ◌<◌, pos, IfOk, IfSome, IsOkUnless, IsSome, length, option_map};
+ghost use Rattle.std.specs.Prelude.{◌≡◌, ◌<◌, pos, All, IfOk, IfSome, IsOkUnless, IsSome, Some, is_some, length, map, option_map, slice_get, unwrap_or};
 ghost use Rattle.column_base.specs.declared.dtype.Nullability.TheVariants.{NonNullable};
 ghost use Rattle.column_base.specs.ValidityForm.{HasLength, flags, nullability_in};
 ghost use Rattle.column_base.specs.Validity.{form_of};
 ghost use Rattle.column_core.specs.Optionals.{optionals};
 ghost use Rattle.column_ops.specs.Nullable.{either_nullable};
 ghost use Rattle.column_ops.specs.Take.{ArePositions, position_numbers, take_rows, taken_row};
-ghost use Rattle.column_ops.specs.Written.{AreWritten};
+ghost use Rattle.column_ops.specs.Written.{AreWritten, IsValidityOf};
 
-use crate::row_writer::RowWriter;
+use crate::kept_validity::{is_all_valid, kept_validity};
 use crate::rows::row_at;
-use column_core::{Nullability, Validity, VortexError, VortexResult};
+use column_core::{BitBuffer, BitBufferMut, Nullability, Validity, VortexError, VortexResult};
 use std::alloc::Allocator;
 
 // With null where either has null.
@@ -61,16 +61,127 @@ pub(crate) fn take_items<T: Copy + Drop, A: Allocator + Copy>(
         parts.0.items (form_of parts.1)) }
 {
     let nullability = either(validity.nullability(), places.nullability());
-    let mut rows = RowWriter::with_room(alloc, blank, nullability, positions.len())?;
-    for place in 0..positions.len() {
-        let position = row_at(positions, places, place);
-        match rows.push(taken_at(items, validity, position)) {
-            Ok(()) => {}
-            Err(error) => {
-                drop(rows);
-                return Err(error);
-            }
+    let taken = taken_items(alloc, items, validity, blank, positions, places)?;
+    match taken_validity(alloc, items, validity, positions, places, nullability) {
+        Ok(rows) => Ok((taken, rows)),
+        Err(error) => {
+            drop(taken);
+            Err(error)
         }
     }
-    Ok(rows.finish())
+}
+
+// The items at these positions, with the blank one for null. What is valid is asked once, where no row is null.
+fn taken_items<T: Copy + Drop, A: Allocator + Copy>(
+    alloc: A,
+    items: &[T],
+    validity: &Validity<A>,
+    blank: T,
+    positions: &[u64],
+    places: &Validity<A>,
+) -> VortexResult<Vec<T, A>>
+    requires fits { HasLength (form_of validity.now) (length items.now) }
+    requires counted { HasLength (form_of places.now) (length positions.now) }
+    requires within { ArePositions (optionals positions.now (flags (form_of places.now) (length positions.now))) (length items.now) }
+    ensures only { IsOkUnless result VortexError.OutOfMemory }
+    ensures items { IfOk result (λ taken. taken.items ≡ map (λ row. unwrap_or row blank)
+        (take_rows (optionals items.now (flags (form_of validity.now) (length items.now)))
+        (position_numbers (optionals positions.now (flags (form_of places.now) (length positions.now)))))) }
+{
+    if is_all_valid(validity) && is_all_valid(places) {
+        return items_at(alloc, items, positions);
+    }
+    items_by_rows(alloc, items, validity, blank, positions, places)
+}
+
+// The items at positions of which none is null.
+fn items_at<T: Copy + Drop, A: Allocator>(
+    alloc: A,
+    items: &[T],
+    positions: &[u64],
+) -> VortexResult<Vec<T, A>>
+    requires { All (λ position. position < length items.now) positions.now }
+    ensures only { IsOkUnless result VortexError.OutOfMemory }
+    ensures items { IfOk result (λ taken. map Some taken.items ≡ map (λ position. slice_get items.now position) positions.now) }
+{
+    let mut taken = Vec::with_capacity(alloc, positions.len())?;
+    for position in positions {
+        taken.push_reserved(items[*position as usize]);
+    }
+    Ok(taken)
+}
+
+// The same, row by row.
+fn items_by_rows<T: Copy + Drop, A: Allocator + Copy>(
+    alloc: A,
+    items: &[T],
+    validity: &Validity<A>,
+    blank: T,
+    positions: &[u64],
+    places: &Validity<A>,
+) -> VortexResult<Vec<T, A>>
+    requires fits { HasLength (form_of validity.now) (length items.now) }
+    requires counted { HasLength (form_of places.now) (length positions.now) }
+    requires within { ArePositions (optionals positions.now (flags (form_of places.now) (length positions.now))) (length items.now) }
+    ensures only { IsOkUnless result VortexError.OutOfMemory }
+    ensures items { IfOk result (λ taken. taken.items ≡ map (λ row. unwrap_or row blank)
+        (take_rows (optionals items.now (flags (form_of validity.now) (length items.now)))
+        (position_numbers (optionals positions.now (flags (form_of places.now) (length positions.now)))))) }
+{
+    let mut taken = Vec::with_capacity(alloc, positions.len())?;
+    for place in 0..positions.len() {
+        let position = row_at(positions, places, place);
+        taken.push_reserved(taken_at(items, validity, position).unwrap_or(blank));
+    }
+    Ok(taken)
+}
+
+// The validity of the rows at these positions.
+fn taken_validity<T: Copy + Drop, A: Allocator + Copy>(
+    alloc: A,
+    items: &[T],
+    validity: &Validity<A>,
+    positions: &[u64],
+    places: &Validity<A>,
+    nullability: Nullability,
+) -> VortexResult<Validity<A>>
+    requires fits { HasLength (form_of validity.now) (length items.now) }
+    requires counted { HasLength (form_of places.now) (length positions.now) }
+    requires within { ArePositions (optionals positions.now (flags (form_of places.now) (length positions.now))) (length items.now) }
+    requires wanted { nullability ≡ either_nullable (nullability_in (form_of validity.now)) (nullability_in (form_of places.now)) }
+    ensures only { IsOkUnless result VortexError.OutOfMemory }
+    ensures flags { IfOk result (λ rows. IsValidityOf (map is_some
+        (take_rows (optionals items.now (flags (form_of validity.now) (length items.now)))
+        (position_numbers (optionals positions.now (flags (form_of places.now) (length positions.now))))))
+        nullability (length positions.now) (form_of rows)) }
+{
+    if is_all_valid(validity) {
+        return kept_validity(alloc, places, positions.len(), nullability);
+    }
+    let flags = taken_flags(alloc, items, validity, positions, places)?;
+    Ok(Validity::from_bits(flags))
+}
+
+// Whether there is an item at each of these positions.
+fn taken_flags<T: Copy + Drop, A: Allocator + Copy>(
+    alloc: A,
+    items: &[T],
+    validity: &Validity<A>,
+    positions: &[u64],
+    places: &Validity<A>,
+) -> VortexResult<BitBuffer<A>>
+    requires fits { HasLength (form_of validity.now) (length items.now) }
+    requires counted { HasLength (form_of places.now) (length positions.now) }
+    requires within { ArePositions (optionals positions.now (flags (form_of places.now) (length positions.now))) (length items.now) }
+    ensures only { IsOkUnless result VortexError.OutOfMemory }
+    ensures flags { IfOk result (λ taken. taken ≡ map is_some
+        (take_rows (optionals items.now (flags (form_of validity.now) (length items.now)))
+        (position_numbers (optionals positions.now (flags (form_of places.now) (length positions.now)))))) }
+{
+    let mut taken = BitBufferMut::with_capacity(alloc, positions.len())?;
+    for place in 0..positions.len() {
+        let position = row_at(positions, places, place);
+        taken.append(taken_at(items, validity, position).is_some())?;
+    }
+    Ok(taken.freeze())
 }

@@ -1,0 +1,33 @@
+use Rattle.std.proofs.Common.{◌≡◌, ◌∙◌, map, pos, sym, ap, subst}
+use Rattle.std.specs.Prelude.{IfOk, unwrap_or}
+use Rattle.column_base.specs.Validity.{form_of}
+use Rattle.column_core.specs.PrimitiveForm.{optional_numbers, primitive_with}
+use Rattle.column_core.specs.Refusal.{IsRefusedBy}
+use Rattle.column_ops.specs.Take.{take_fault}
+use Rattle.column_ops.proofs.Blanked.{items_or-valid}
+use Rattle.column_ops.proofs.PositionRows.{faults-valid}
+use Rattle.column_ops.proofs.positions.position_items.Goals as goal
+
+pub returns-in-NonNullable-clause-refused : goal.returns-in-NonNullable-clause-refused
+returns-in-NonNullable-clause-refused g c =
+    let numbers = map g.T.NativePType.number c.args.indices.now in
+    let told = sym (ap (λ own. take_fault (optional_numbers (primitive_with g.T.NativePType.PTYPE numbers (form_of own))) c.args.count) c.in-NonNullable.is) in
+    subst (λ why. IsRefusedBy why c.valid_positions.result) (sym (faults-valid c.args.count numbers) ∙ told) c.valid_positions.ensures.refused
+
+pub returns-in-AllValid-clause-refused : goal.returns-in-AllValid-clause-refused
+returns-in-AllValid-clause-refused g c =
+    let numbers = map g.T.NativePType.number c.args.indices.now in
+    let told = sym (ap (λ own. take_fault (optional_numbers (primitive_with g.T.NativePType.PTYPE numbers (form_of own))) c.args.count) c.in-AllValid.is) in
+    subst (λ why. IsRefusedBy why c.valid_positions-in-AllValid.result) (sym (faults-valid c.args.count numbers) ∙ told) c.valid_positions-in-AllValid.ensures.refused
+
+pub returns-in-NonNullable-clause-same : goal.returns-in-NonNullable-clause-same
+returns-in-NonNullable-clause-same g c =
+    let numbers = map g.T.NativePType.number c.args.indices.now in
+    let told = sym (ap (λ own. map (λ row. unwrap_or row (pos 0)) (optional_numbers (primitive_with g.T.NativePType.PTYPE numbers (form_of own)))) c.in-NonNullable.is) in
+    subst (λ wanted. IfOk c.valid_positions.result (λ positions. map pos positions.items ≡ wanted)) (sym (items_or-valid numbers (pos 0)) ∙ told) c.valid_positions.ensures.same
+
+pub returns-in-AllValid-clause-same : goal.returns-in-AllValid-clause-same
+returns-in-AllValid-clause-same g c =
+    let numbers = map g.T.NativePType.number c.args.indices.now in
+    let told = sym (ap (λ own. map (λ row. unwrap_or row (pos 0)) (optional_numbers (primitive_with g.T.NativePType.PTYPE numbers (form_of own)))) c.in-AllValid.is) in
+    subst (λ wanted. IfOk c.valid_positions-in-AllValid.result (λ positions. map pos positions.items ≡ wanted)) (sym (items_or-valid numbers (pos 0)) ∙ told) c.valid_positions-in-AllValid.ensures.same

@@ -1,0 +1,63 @@
+//! Items with another one in place of each null, of any kind of item.
+ghost use Rattle.std.specs.Prelude.{◌≡◌, IfOk, IsOkUnless, length, map, replicate, unwrap_or};
+ghost use Rattle.column_base.specs.ValidityForm.{HasLength, flags};
+ghost use Rattle.column_base.specs.Validity.{form_of};
+ghost use Rattle.column_core.specs.Optionals.{optionals};
+
+use column_core::{BitBuffer, Validity, VortexError, VortexResult};
+use std::alloc::Allocator;
+
+/// The items, with this one in place of each null. Refused as `OutOfMemory` alone.
+pub(crate) fn items_or<T: Copy + Drop, A: Allocator + Copy>(
+    alloc: A,
+    items: &[T],
+    validity: &Validity<A>,
+    instead: T,
+) -> VortexResult<Vec<T, A>>
+    requires { HasLength (form_of validity.now) (length items.now) }
+    ensures only { IsOkUnless result VortexError.OutOfMemory }
+    ensures items { IfOk result (λ shown. shown.items ≡ map (λ row. unwrap_or row instead) (optionals items.now (flags (form_of validity.now) (length items.now)))) }
+{
+    match validity {
+        Validity::NonNullable => Ok(Vec::from_slice(alloc, items)?),
+        Validity::AllValid => Ok(Vec::from_slice(alloc, items)?),
+        Validity::AllInvalid => copies_of(alloc, instead, items.len()),
+        Validity::Bits(bits) => items_by_bits(alloc, items, bits, instead),
+    }
+}
+
+/// So many copies of the item. Refused as `OutOfMemory` alone.
+pub(crate) fn copies_of<T: Copy + Drop, A: Allocator>(
+    alloc: A,
+    item: T,
+    count: usize,
+) -> VortexResult<Vec<T, A>>
+    ensures only { IsOkUnless result VortexError.OutOfMemory }
+    ensures items { IfOk result (λ copies. copies.items ≡ replicate count item) }
+{
+    let mut copies = Vec::with_capacity(alloc, count)?;
+    for _ in 0..count {
+        copies.push_reserved(item);
+    }
+    Ok(copies)
+}
+
+/// The items where the bits are true, and this one elsewhere. Refused as `OutOfMemory` alone.
+pub(crate) fn items_by_bits<T: Copy + Drop, A: Allocator + Copy>(
+    alloc: A,
+    items: &[T],
+    bits: &BitBuffer<A>,
+    instead: T,
+) -> VortexResult<Vec<T, A>>
+    requires { length bits.now ≡ length items.now }
+    ensures only { IsOkUnless result VortexError.OutOfMemory }
+    ensures items { IfOk result (λ shown. shown.items ≡ map (λ row. unwrap_or row instead) (optionals items.now bits.now)) }
+{
+    let mut shown = Vec::with_capacity(alloc, items.len())?;
+    for row in 0..items.len() {
+        // (the item is read first, so that no branch is needed)
+        let item = items[row];
+        shown.push_reserved(if bits.value(row) { item } else { instead });
+    }
+    Ok(shown)
+}
