@@ -172,12 +172,12 @@ Tiles-from_parts start stop (end ∷ next ∷ ends) (value ∷ next_value ∷ va
 )
 
 -- the runs of a tight cover are tiles
-Tiles-from_IsTightCover : {A : Type 0} (rows : List A) (ends : List ℕ) (values : List A) → IsTightCover rows ends values → Tiles 0 (length rows) ends values
+pub Tiles-from_IsTightCover : {A : Type 0} (rows : List A) (ends : List ℕ) (values : List A) → IsTightCover rows ends values → Tiles 0 (length rows) ends values
 Tiles-from_IsTightCover rows ends values c = Tiles-from_parts 0 (length rows) ends values c.covers.paired c.covers.window.increasing c.tight.filled
     (λ z. sym (c.covers.window.none z).1) (λ _. c.exact.stop) c.tight.differ
 
 -- what a tight cover shows at a row
-shown-from_IsTightCover : {A : Type 0} (rows : List A) (ends : List ℕ) (values : List A) (i : ℕ) → IsTightCover rows ends values → i < length rows
+pub shown-from_IsTightCover : {A : Type 0} (rows : List A) (ends : List ℕ) (values : List A) (i : ℕ) → IsTightCover rows ends values → i < length rows
     → shown_at ends values i ≡ slice_get rows i
 shown-from_IsTightCover rows ends values i c h = sym (shown-from_Covers rows ends values 0 (length rows) i c.covers h ∙ ap (shown_at ends values) (zero-add i))
 

@@ -12,6 +12,10 @@ use column_base::match_each_unsigned;
 use column_core::{CountedEnds, PrimitiveArray, PrimitiveValues, UnsignedPType};
 use std::alloc::Allocator;
 
+// Up to so many runs a search takes no branch. Ends of `u32` leave a second-level cache of 1 MiB there. Past it an end
+// is waited for longer than a branch that is guessed wrongly costs, and a right guess fetches the next end meanwhile.
+const NEAR_RUNS: usize = 1 << 18;
+
 /// The run of a row: the first run that ends past it, or the number of runs where none does. As the
 /// ends increase, that is also the number of ends at or below the row.
 ///
@@ -27,6 +31,20 @@ pub fn first_past<E: UnsignedPType>(ends: &mut CountedEnds<'_, E>, row: usize) -
     // The same without the word `digits`.
     ensures bound { (k : ℕ) → length ends.old.ends < 2 ^ k → ends.new.tests ≤ ends.old.tests + k }
 {
+    if ends.len() > NEAR_RUNS {
+        search_by_branch(ends, row)
+    } else {
+        search_by_product(ends, row)
+    }
+}
+
+// The search by halves whose next test waits for this one.
+fn search_by_product<E: UnsignedPType>(ends: &mut CountedEnds<'_, E>, row: usize) -> usize
+    requires { IsStrictlyIncreasing ends.old.ends }
+    ensures place { result ≡ run_at ends.old.ends row }
+    ensures same { ends.new.ends ≡ ends.old.ends }
+    ensures cost { ends.new.tests ≤ ends.old.tests + digits (length ends.old.ends) }
+{
     let mut low = 0;
     let mut left = ends.len();
     while left != 0 {
@@ -35,6 +53,27 @@ pub fn first_past<E: UnsignedPType>(ends: &mut CountedEnds<'_, E>, row: usize) -
         // Behind the middle of an even number of runs there is one fewer than before it.
         low += number_if(ended, half + 1);
         left = half - number_if(ended, 1 - left % 2);
+    }
+    low
+}
+
+// The same search whose next test is guessed. As a call of its own it stays a branch.
+#[inline(never)]
+fn search_by_branch<E: UnsignedPType>(ends: &mut CountedEnds<'_, E>, row: usize) -> usize
+    requires { IsStrictlyIncreasing ends.old.ends }
+    ensures place { result ≡ run_at ends.old.ends row }
+    ensures same { ends.new.ends ≡ ends.old.ends }
+    ensures cost { ends.new.tests ≤ ends.old.tests + digits (length ends.old.ends) }
+{
+    let mut low = 0;
+    let mut high = ends.len();
+    while low < high {
+        let middle = low + (high - low) / 2;
+        if ends.test(middle, row) {
+            low = middle + 1;
+        } else {
+            high = middle;
+        }
     }
     low
 }

@@ -13,6 +13,7 @@ const LARGEST_BLOCK: usize = 32;
 
 // How many items are written at once: few stores, and no more than most short runs have. Large items are
 // written one by one.
+#[inline(always)]
 fn block_of<T: Copy>(value: &T) -> usize
     ensures items { result ≡ block_items (type_size T.row) }
     ensures largest { result ≤ 32 }
@@ -37,26 +38,8 @@ fn append_copies<T: Copy + Drop, A: Allocator>(items: &mut Vec<T, A>, value: T, 
     }
 }
 
-// The same of a block, by one copy unless it has no items.
-#[inline(always)]
-fn append_block<T: Copy + Drop, A: Allocator>(items: &mut Vec<T, A>, value: T, block: usize)
-    requires room { vec_len items.old + block ≤ vec_capacity items.old }
-    requires sized { block ≡ block_items (type_size T.row) }
-    ensures items { items.new.items ≡ items.old.items ++ replicate block value }
-    ensures capacity { vec_capacity items.old ≤ vec_capacity items.new }
-{
-    if block == 8 {
-        let _ = items.extend_from_slice(&[value; 8]);
-    } else if block == 16 {
-        let _ = items.extend_from_slice(&[value; 16]);
-    } else if block == 32 {
-        let _ = items.extend_from_slice(&[value; 32]);
-    } else {
-        append_copies(items, value, block);
-    }
-}
-
-// The same of at most a block: a whole one is written, and what is past the count is cut off.
+// The same of at most a block: a whole one is written, so that the number of items is the same for every short run,
+// and what is past the count is cut off.
 #[tactic(auto, using(crate::proofs::Blocks::take_block))]
 #[inline(always)]
 fn append_short<T: Copy + Drop, A: Allocator>(
@@ -72,7 +55,7 @@ fn append_short<T: Copy + Drop, A: Allocator>(
     ensures capacity { vec_capacity items.old ≤ vec_capacity items.new }
 {
     let end = items.len() + count;
-    append_block(items, value, block);
+    append_copies(items, value, block);
     items.truncate(end);
 }
 
@@ -117,7 +100,11 @@ impl<T: Copy + Drop, A: Allocator> RunWriter<T, A> {
         ensures rows { self.new.rows ≡ self.old.rows ++ replicate (end - length self.old.rows) value }
         ensures limit { self.new.limit ≡ self.old.limit }
     {
-        let missing = end.saturating_sub(self.written.len());
+        let len = self.written.len();
+        if end <= len {
+            return;
+        }
+        let missing = end - len;
         let block = block_of(&value);
         if missing <= block {
             append_short(&mut self.written, value, missing, block);

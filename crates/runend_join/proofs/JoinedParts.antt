@@ -6,7 +6,7 @@ use Rattle.column_base.specs.ValidityForm.{ValidityForm, HasLength, IsNormal, fl
 use Rattle.column_base.proofs.ValidityRows.{length-flags}
 use Rattle.column_core.proofs.OptionalRows.{length-optionals}
 use Rattle.column_core.specs.Value.{FlatValue, Number, Single}
-use Rattle.column_core.specs.PrimitiveForm.{PrimitiveForm, optionals, optional_numbers, row_flags, AreZeroAtNulls}
+use Rattle.column_core.specs.PrimitiveForm.{PrimitiveForm, optionals, optional_numbers, primitive_dtype, row_flags, AreZeroAtNulls}
 use Rattle.column_core.specs.Computed.{HasRowIfAllNull, IsComputed}
 use Rattle.runend_codec.specs.Window.{IsWindow, run_rows}
 use Rattle.runend_codec.specs.Cover.{IsTightCover}
@@ -58,12 +58,13 @@ AreJoined-made ends values joined_ends joined_values offset count numbers bits w
       computed = record { blanked = rw (marks, plain) zeroed; normal = normal; some = subst (HasRowIfAllNull joined_values.validity) (paired ∙ sym (ap length plain)) some };
     }
 
--- parts that are in least form as they are
-pub AreJoined-same : (ends values : PrimitiveForm) (offset count : ℕ) → IsWindow (ends_of ends) offset count → length (optional_numbers values) ≡ length (ends_of ends)
-    → IsTightCover (run_rows (ends_of ends) (optional_numbers values) offset count) (ends_of ends) (optional_numbers values) → IsComputed values → AreJoined ends values offset count ends values
-AreJoined-same ends values offset count window long cover computed = record {
-  cover = tight-values (ends_of ends) (optional_numbers values) offset count (ends_of ends) (optional_numbers values) window long cover;
-  ends_dtype = refl;
+-- parts of which the ends alone were counted anew
+pub AreJoined-moved : (ends values moved : PrimitiveForm) (offset count : ℕ) → IsWindow (ends_of ends) offset count → length (optional_numbers values) ≡ length (ends_of ends)
+    → IsTightCover (run_rows (ends_of ends) (optional_numbers values) offset count) (ends_of moved) (optional_numbers values) → primitive_dtype moved ≡ primitive_dtype ends → IsComputed values
+    → AreJoined ends values offset count moved values
+AreJoined-moved ends values moved offset count window long cover typed computed = record {
+  cover = tight-values (ends_of ends) (optional_numbers values) offset count (ends_of moved) (optional_numbers values) window long cover;
+  ends_dtype = typed;
   dtype = refl;
   computed = computed;
 }

@@ -1,8 +1,9 @@
 -- Runs joined one after another: the rows that the first runs reach are those of the runs made so far, the last of which is open.
-use Rattle.std.proofs.Common.{◌≡◌, ◌≢◌, ℕ, zero, suc, ◌+◌, ◌-◌, ◌<◌, ◌≤◌, List, [], ◌∷◌, ◌++◌, Some, length, min, get_or, slice_index, refl, sym, subst, ◌∙◌, ap, arith, add-one, inl, inr}
+use Rattle.std.proofs.Common.{◌≡◌, ◌≢◌, ℕ, zero, suc, ◌+◌, ◌-◌, ◌<◌, ◌≤◌, List, [], ◌∷◌, ◌++◌, Some, length, map, min, slice_index, refl, sym, subst, ◌∙◌, ap, arith, add-one, inl, inr}
 use Rattle.std.proofs.lemmas.Bool.{cases_lt}
+use Rattle.std.proofs.lemmas.List.{get_or-map, length-map}
 use Rattle.std.proofs.lemmas.List.Kept.{AllPairs-from_increasing}
-use Rattle.std.specs.List.{slice_get}
+use Rattle.std.specs.List.{slice_get, AllAdjacentBelow}
 use Rattle.std.specs.List.Sorted.{IsStrictlyIncreasing}
 use native.Mathlib.Numerals.{unary_clauses}
 use Rattle.runend_codec.specs.Cover.{Covers, IsTightCover}
@@ -10,7 +11,7 @@ use Rattle.runend_codec.specs.Visible.{HasRow}
 use Rattle.runend_codec.specs.Window.{run_at, last_end, IsRunAt, IsWindow}
 use Rattle.runend_codec.proofs.Decoded.{reached, reached-le}
 use Rattle.runend_codec.proofs.Grow.{Open, Open-first, Open-same, Open-next, Open-done}
-use Rattle.runend_codec.proofs.RunAt.{run_at-from_IsRunAt, ended_before, ends_past}
+use Rattle.runend_codec.proofs.RunAt.{run_at-from_IsRunAt, run_at-le-length, run_at_is, ended_before, ends_past}
 use Rattle.runend_join.specs.Joined.{AllHaveRows}
 
 -- a row past those that the runs before reach, and within those that this run reaches, is in this run
@@ -122,16 +123,72 @@ Joining-done rows ends values offset count run closed joined value cover all ope
     let small = cover.window.small in
     Open-done rows (reached ends offset count run) closed joined value (omega arith) (omega arith) opened
 
--- runs that show a row each, of which each differs from the next, are a tight cover where they begin at 0 and end with the rows
-pub tight_as_it_is : {A : Type 0} (rows : List A) (ends : List ℕ) (values : List A) (offset count : ℕ) → Covers rows ends values offset count → AllHaveRows ends offset count
-    → offset ≡ 0 → slice_index ends (length ends - 1) ≡ count → ((k : ℕ) (d : A) → k + 1 < length values → get_or values k d ≢ get_or values (k + 1) d) → IsTightCover rows ends values
-tight_as_it_is rows ends values offset count cover shown start last differ =
+-- ends counted from the first row of a window
+abbrev pub windowed : List ℕ → ℕ → ℕ → List ℕ
+windowed ends offset count = map (λ end. min (end - offset) count) ends
+
+pub windowed-at : (ends : List ℕ) (offset count k : ℕ) → k < length ends → slice_index (windowed ends offset count) k ≡ min (slice_index ends k - offset) count
+windowed-at ends offset count k within = get_or-map (λ end. min (end - offset) count) ends k 0 0 within
+
+pub long-windowed : (ends : List ℕ) (offset count : ℕ) → length (windowed ends offset count) ≡ length ends
+long-windowed ends offset count = length-map ends (λ end. min (end - offset) count)
+
+-- a row is in the same run
+run_at-windowed : (ends : List ℕ) (offset count i : ℕ) → i < count → run_at (windowed ends offset count) i ≡ run_at ends (offset + i)
+run_at-windowed ends offset count i within =
+    let run = run_at ends (offset + i) in
+    let short = run_at-le-length ends (offset + i) in
+    let long = long-windowed ends offset count in
+    run_at_is (windowed ends offset count) i run (omega arith)
+    (λ k h. let is = windowed-at ends offset count k (omega arith) in let ended = ended_before ends (offset + i) k h in omega arith)
+    (λ h. let is = windowed-at ends offset count run (omega arith) in let past = ends_past ends (offset + i) (omega arith) in omega arith)
+
+pub last-windowed : (ends : List ℕ) (offset count : ℕ) → IsWindow ends offset count → last_end (windowed ends offset count) ≡ count
+last-windowed [] offset count window = sym (window.none refl).1
+last-windowed (end ∷ ends) offset count window =
+    let all = end ∷ ends in
+    let long = long-windowed all offset count in
+    let place : length (windowed all offset count) - 1 ≡ length all - 1 = omega arith in
+    let is = ap (slice_index (windowed all offset count)) place ∙ windowed-at all offset count (length all - 1) (omega arith) in
+    elim (cases_lt 0 count) [
+      | inl some ↦ let last = window.last some in omega arith
+      | inr none ↦ omega arith
+    ]
+
+-- runs that show a row each, of which each differs from the next, are a tight cover once their ends are counted from the first row
+pub tight-windowed : {A : Type 0} (rows : List A) (ends : List ℕ) (values : List A) (offset count : ℕ) → Covers rows ends values offset count → AllHaveRows ends offset count
+    → AllAdjacentBelow (λ x y. x ≢ y) values (length values) → IsTightCover rows (windowed ends offset count) values
+tight-windowed rows ends values offset count cover shown differ =
     let counted = cover.counted in
+    let small = cover.window.small in
+    let long = long-windowed ends offset count in
+    let stop = last-windowed ends offset count cover.window in
+    let at = windowed-at ends offset count in
+    let whole : Covers rows (windowed ends offset count) values 0 count = record {
+      window = record {
+        increasing = λ k h.
+            let here = at k (omega arith) in
+            let next = at (k + 1) (omega arith) in
+            let before = reached-at ends offset count (k + 1) (omega arith) in
+            let same : k + 1 - 1 ≡ k = omega arith in
+            let further = rw same at (rw before at (reached-lt ends offset count (k + 1) (omega arith) (shown (k + 1) (omega arith)))) in
+            omega arith;
+        none = λ none. (refl, (cover.window.none (sym long ∙ none)).1);
+        first = λ some. omega arith;
+        last = λ some. omega arith;
+        small = omega arith;
+      };
+      paired = cover.paired ∙ sym long;
+      counted = counted;
+      each = λ i h.
+          let place : 0 + i ≡ i = omega arith in
+          cover.each i h ∙ ap (slice_get values) (sym (ap (run_at (windowed ends offset count)) place ∙ run_at-windowed ends offset count i h));
+    } in
     record {
-      covers = subst (λ (n : ℕ). Covers rows ends values 0 n) (sym counted) (subst (λ (n : ℕ). Covers rows ends values n count) start cover);
-      exact = record { start = refl; stop = last ∙ sym counted };
+      covers = subst (λ (n : ℕ). Covers rows (windowed ends offset count) values 0 n) (sym counted) whole;
+      exact = record { start = refl; stop = stop ∙ sym counted };
       tight = record {
-        filled = λ some. let reach = reached-lt ends offset count 0 some (shown 0 some) in omega arith;
+        filled = λ some. let is = at 0 (omega arith) in let reach = reached-lt ends offset count 0 (omega arith) (shown 0 (omega arith)) in omega arith;
         differ = differ;
       };
     }

@@ -2,3 +2,4 @@ pub mod Fitting
 pub mod Joining
 pub mod JoinedParts
 pub mod RunReads
+pub mod Moved

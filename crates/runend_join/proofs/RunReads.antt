@@ -1,9 +1,9 @@
 -- What single runs show, read by number and flag.
-use Rattle.std.proofs.Common.{◌≡◌, ◌≢◌, ◌+◌, ◌-◌, ◌<◌, ℕ, ℤ, pos, List, Bool, true, false, Some, get_or, length, map, refl, sym, subst, ◌∙◌, ap, arith, inl, inr}
+use Rattle.std.proofs.Common.{◌≡◌, ◌≢◌, ◌+◌, ◌-◌, ◌<◌, ◌≤◌, ℕ, ℤ, pos, List, Bool, true, false, Some, get_or, length, map, refl, sym, subst, ◌∙◌, ap, arith, inl, inr}
 use Rattle.std.specs.List.{slice_get, AllAdjacentBelow}
 use Rattle.std.specs.Option.{option_map}
 use Rattle.std.proofs.lemmas.Bool.{cases_lt}
-use Rattle.std.proofs.lemmas.Option.{slice_get-map, slice_get_read, get_or_from_slice_get}
+use Rattle.std.proofs.lemmas.Option.{slice_get-get_or, slice_get-map, slice_get_read, get_or_from_slice_get}
 use Rattle.column_base.specs.declared.dtype.PType.{PType}
 use Rattle.column_base.specs.declared.dtype.Nullability.TheVariants.{NonNullable}
 use Rattle.column_base.specs.declared.dtype.DType.TheVariants as column
@@ -66,6 +66,30 @@ AllAdjacentBelow-more R xs run x y later first second related before = λ k d h.
       let left : get_or xs k d ≡ x = ap (λ (n : ℕ). get_or xs n d) ahead ∙ get_or_from_slice_get xs (run - 1) x d first in
       let right : get_or xs (k + 1) d ≡ y = ap (λ (n : ℕ). get_or xs n d) at ∙ get_or_from_slice_get xs run y d second in
       rw (left, right) related
+]
+
+-- where the stored numbers differ from those before, so do the runs
+pub AllAdjacentBelow-further : (numbers : List ℤ) (form : ValidityForm) (size start stop : ℕ) → size ≡ length numbers → HasLength form size → AreZeroAtNulls numbers (flags form size) → stop ≤ size
+    → ((run : ℕ) → start ≤ run → run < stop → slice_get numbers (run - 1) ≢ slice_get numbers run)
+    → AllAdjacentBelow (λ x y. x ≢ y) (optionals numbers (flags form size)) start → AllAdjacentBelow (λ x y. x ≢ y) (optionals numbers (flags form size)) stop
+AllAdjacentBelow-further numbers form size start stop long fits zeroed within apart before = λ k d h. elim (cases_lt (k + 1) start) [
+  | inl below ↦ before k d below
+  | inr from ↦ λ same.
+      let values = optionals numbers (flags form size) in
+      let n = get_or numbers k (pos 0) in
+      let m = get_or numbers (k + 1) (pos 0) in
+      let v = flag_at form k in
+      let w = flag_at form (k + 1) in
+      let first : slice_get numbers k ≡ Some n = slice_get-get_or numbers k (pos 0) (omega arith) in
+      let second : slice_get numbers (k + 1) ≡ Some m = slice_get-get_or numbers (k + 1) (pos 0) (omega arith) in
+      let flag = flags-read form size k v fits (omega arith) refl in
+      let next = flags-read form size (k + 1) w fits (omega arith) refl in
+      let left = get_or_from_slice_get values k (optional_of v n) d (optionals-at numbers (flags form size) k n v first flag) in
+      let right = get_or_from_slice_get values (k + 1) (optional_of w m) d (optionals-at numbers (flags form size) (k + 1) m w second next) in
+      let equal = numbers-equal v w n m (λ null. AreBlankAtNulls-at (pos 0) numbers (flags form size) k n zeroed first (flag ∙ ap Some null))
+      (λ null. AreBlankAtNulls-at (pos 0) numbers (flags form size) (k + 1) m zeroed second (next ∙ ap Some null)) (sym left ∙ same ∙ right) in
+      let place : k + 1 - 1 ≡ k = omega arith in
+      apart (k + 1) from h (ap (slice_get numbers) place ∙ first ∙ ap Some equal ∙ sym second)
 ]
 
 -- a column of ends has no null by its form

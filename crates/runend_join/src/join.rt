@@ -1,6 +1,8 @@
 //! Runs of flat columns of whole numbers, joined where neighbours are equal.
-ghost use Rattle.std.specs.Prelude.{◌≡◌, ◌≢◌, pos, true, All, IfOk, IsOkUnless, IsTrue, length, map, replicate, unsigned_abs};
+ghost use Rattle.std.specs.Prelude.{◌≡◌, ◌≢◌, ◌-◌, pos, true, All, IfOk, IsOkUnless, IsTrue, length, map, min, replicate, unsigned_abs};
 ghost use Rattle.std.specs.List.{AllAdjacentBelow};
+ghost use Rattle.column_base.specs.declared.dtype.Nullability.TheVariants.{NonNullable};
+ghost use Rattle.column_base.specs.declared.dtype.DType.TheVariants as column;
 ghost use Rattle.column_base.specs.Types.{HasNumber};
 ghost use Rattle.column_base.specs.ValidityForm.{HasLength, NeverNull, flags};
 ghost use Rattle.column_base.specs.Validity.{form_of};
@@ -12,12 +14,13 @@ ghost use Rattle.runend_codec.specs.Window.{run_rows, IsWindow};
 ghost use Rattle.runend_join.specs.Joined.{AreJoined, AllHaveRows};
 
 use crate::joined::{JoinedRuns, differ_in, join_nullable, valid_runs};
+use crate::shifted::{EndsType, shift_ends};
 use column_base::{match_each_native, match_each_unsigned};
 use column_core::{
     BitBufferMut, NativePType, PrimitiveArray, PrimitiveValues, UnsignedPType, Validity,
     VortexError, VortexResult,
 };
-use runend_codec::{last_end_of, validity_with};
+use runend_codec::validity_with;
 use std::alloc::Allocator;
 
 /// The ends and the values of the runs that show the same rows, `count` of them from position `offset` on, in
@@ -25,7 +28,8 @@ use std::alloc::Allocator;
 /// last one at `count`, and the ends count rows from the first. Ends and values keep their types; the number
 /// under a null is 0. Each run has to show a row, so hidden runs are dropped before.
 ///
-/// Runs that are in least form are answered as they are, without a copy; else each run is looked at once more.
+/// Where no neighbours show the same, nothing is copied: the values are answered as they are and the ends in the
+/// memory that they are in, moved where the offset is not 0. Else each run is looked at once more.
 /// Refused as `OutOfMemory` alone.
 pub fn join_runs<A: Allocator + Copy>(
     alloc: A,
@@ -42,8 +46,8 @@ pub fn join_runs<A: Allocator + Copy>(
     ensures only { IsOkUnless result VortexError.OutOfMemory }
     ensures joined { IfOk result (λ parts. AreJoined ends values offset count parts.0 parts.1) }
 {
-    if are_joined(&ends, &values, offset, count) {
-        return Ok((ends, values));
+    if all_differ(&values) {
+        return Ok((ends_in_window(ends, offset, count), values));
     }
     let joined = join_parts(alloc, &ends, &values, offset, count);
     drop(ends);
@@ -51,27 +55,35 @@ pub fn join_runs<A: Allocator + Copy>(
     joined
 }
 
-// Are the runs in least form as they are?
-fn are_joined<A: Allocator>(
-    ends: &PrimitiveArray<A>,
-    values: &PrimitiveArray<A>,
+// The ends of runs, each of which shows a row, counted from the first row of the window.
+fn ends_in_window<A: Allocator + Copy>(
+    ends: PrimitiveArray<A>,
     offset: usize,
     count: usize,
-) -> bool
-    requires plain { IsEndsType (primitive_dtype ends.now) }
-    requires window { IsWindow (ends_of ends.now) offset count }
-    requires paired { length values.now.numbers ≡ length ends.now.numbers }
-    requires shown { AllHaveRows (ends_of ends.now) offset count }
-    requires computed { IsComputed values.now }
-    ensures { IsTrue result → AreJoined ends.now values.now offset count ends.now values.now }
+) -> PrimitiveArray<A>
+    requires plain { IsEndsType (primitive_dtype ends) }
+    requires window { IsWindow (ends_of ends) offset count }
+    requires shown { AllHaveRows (ends_of ends) offset count }
+    ensures ends { ends_of result ≡ map (λ end. min (end - offset) count) (ends_of ends) }
+    ensures dtype { primitive_dtype result ≡ primitive_dtype ends }
 {
-    if offset != 0 {
-        return false;
-    }
-    if last_end_of(ends) != count {
-        return false;
-    }
-    all_differ(values)
+    let (stored, _) = ends.into_parts();
+    match_each_unsigned!(stored, items => stored_in_window(items, offset, count), _ => unreachable!())
+}
+
+// The same of ends as they are stored.
+fn stored_in_window<E: EndsType, A: Allocator + Copy>(
+    mut ends: Vec<E, A>,
+    offset: usize,
+    count: usize,
+) -> PrimitiveArray<A>
+    requires window { IsWindow (map unsigned_abs (map E.number ends.items)) offset count }
+    requires shown { AllHaveRows (map unsigned_abs (map E.number ends.items)) offset count }
+    ensures ends { ends_of result ≡ map (λ end. min (end - offset) count) (map unsigned_abs (map E.number ends.items)) }
+    ensures dtype { primitive_dtype result ≡ column.Primitive E.PTYPE NonNullable }
+{
+    shift_ends(&mut ends, offset, count);
+    PrimitiveArray::new_unchecked(E::wrap(ends), Validity::NonNullable)
 }
 
 // Does each run show another value than the one before it?

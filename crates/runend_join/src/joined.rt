@@ -1,5 +1,5 @@
 //! The loops that join runs: each run shows a row, and is looked at once.
-ghost use Rattle.std.specs.Prelude.{◌≡◌, ◌+◌, ◌-◌, ◌<◌, ◌++◌, ◌↔◌, [], ◌∷◌, Some, pos, true, false, All, IfOk, OnOk, IsOkUnless, IsTrue, length, map, min, slice_index, unsigned_abs};
+ghost use Rattle.std.specs.Prelude.{◌≡◌, ◌+◌, ◌-◌, ◌<◌, ◌≤◌, ◌++◌, ◌↔◌, [], ◌∷◌, ℕ, Some, pos, true, false, All, IfOk, OnOk, IsOkUnless, IsTrue, length, map, min, slice_get, slice_index, unsigned_abs};
 ghost use Rattle.std.specs.Prelude.{◌≢◌};
 ghost use Rattle.std.specs.List.{AllAdjacentBelow};
 ghost use Rattle.column_base.specs.Types.{HasNumber};
@@ -169,13 +169,61 @@ pub(crate) fn join_nullable<E: UnsignedPType, T: NativePType, A: Allocator + Cop
     Ok(joined)
 }
 
+// So many stored numbers are compared with those before them until the answer is looked at: a loop without a branch
+// compares several at once, and past two equal neighbours at most so many are looked at for nothing.
+const COMPARED_AT_ONCE: usize = 256;
+
 /// Does each run show another value than the one before it?
 pub(crate) fn differ_in<T: NativePType, A: Allocator>(items: &[T], validity: &Validity<A>) -> bool
     requires counted { HasLength (form_of validity.now) (length items.now) }
     requires zeroed { AreZeroAtNulls (map T.number items.now) (flags (form_of validity.now) (length items.now)) }
     ensures { IsTrue result → AllAdjacentBelow (λ x y. x ≢ y) (optionals (map T.number items.now) (flags (form_of validity.now) (length items.now))) (length items.now) }
 {
-    for run in 1..items.len() {
+    let mut start = 1;
+    while start < items.len() {
+        let stop = start + COMPARED_AT_ONCE.min(items.len() - start);
+        if has_equal(items, start, stop) {
+            if !differ_between(items, validity, start, stop) {
+                return false;
+            }
+        }
+        start = stop;
+    }
+    true
+}
+
+// Is a stored number from `start` to before `stop` that of the run before it?
+fn has_equal<T: NativePType>(items: &[T], start: usize, stop: usize) -> bool
+    requires later { 0 < start }
+    requires within { stop ≤ length items.now }
+    ensures { result ≡ false → (run : ℕ) → start ≤ run → run < stop →
+        slice_get (map T.number items.now) (run - 1) ≢ slice_get (map T.number items.now) run }
+{
+    let mut equal = false;
+    for run in start..stop {
+        if items[run] == items[run - 1] {
+            equal = true;
+        }
+    }
+    equal
+}
+
+// Does each run from `start` to before `stop` show another value than the one before it?
+fn differ_between<T: NativePType, A: Allocator>(
+    items: &[T],
+    validity: &Validity<A>,
+    start: usize,
+    stop: usize,
+) -> bool
+    requires later { 0 < start }
+    requires within { stop ≤ length items.now }
+    requires ordered { start ≤ stop }
+    requires counted { HasLength (form_of validity.now) (length items.now) }
+    requires zeroed { AreZeroAtNulls (map T.number items.now) (flags (form_of validity.now) (length items.now)) }
+    ensures { IsTrue result → AllAdjacentBelow (λ x y. x ≢ y) (optionals (map T.number items.now) (flags (form_of validity.now) (length items.now))) start
+        → AllAdjacentBelow (λ x y. x ≢ y) (optionals (map T.number items.now) (flags (form_of validity.now) (length items.now))) stop }
+{
+    for run in start..stop {
         let item = items[run];
         let before = items[run - 1];
         if item == before {

@@ -4,5 +4,6 @@
 
 mod join;
 mod joined;
+mod shifted;
 
 pub use join::join_runs;

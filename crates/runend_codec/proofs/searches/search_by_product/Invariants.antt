@@ -1,7 +1,7 @@
 use Rattle.std.proofs.Common.{◌≡◌, ◌+◌, ◌≤◌, length}
 use Rattle.column_core.specs.Digits.{digits}
 use Rattle.runend_codec.specs.Window.{run_at}
-use Rattle.runend_codec.proofs.searches.first_past.Given as goal
+use Rattle.runend_codec.proofs.searches.search_by_product.Given as goal
 
 -- the run of the row is between the bounds, and what was tested leaves enough for the rest
 abbrev pub invariant-loop-left : goal.invariant-loop-left
