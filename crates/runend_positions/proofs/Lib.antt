@@ -4,3 +4,4 @@ pub mod Casts
 pub mod Sorted
 pub mod PlacedRows
 pub mod TableRows
+pub mod TableRuns

@@ -11,7 +11,7 @@ use crate::halves::physical_indices_binary;
 use crate::merged::{physical_indices_linear_sorted, physical_indices_linear_unsorted};
 use crate::rows::are_sorted;
 use crate::strategy::{Strategy, TakeThresholds};
-use crate::table::{physical_indices_table, run_index_table};
+use crate::table::runs_by_table;
 use column_core::{CountedEnds, Mask, NativePType, UnsignedPType, VortexError, VortexResult};
 use std::alloc::Allocator;
 
@@ -99,10 +99,7 @@ fn physical_indices_by<E: UnsignedPType, T: NativePType, A: Allocator + Copy>(
 {
     match strategy {
         Strategy::SortedMerge => physical_indices_linear_sorted(ends, alloc, offset, indices, mask),
-        Strategy::Table => {
-            let table = run_index_table(ends, alloc, offset, length)?;
-            physical_indices_table(&table, alloc, indices, mask)
-        }
+        Strategy::Table => runs_by_table(ends, alloc, offset, length, indices, mask),
         Strategy::SortAndMerge => {
             physical_indices_linear_unsorted(ends, alloc, offset, indices, mask)
         }

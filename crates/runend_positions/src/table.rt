@@ -1,16 +1,18 @@
 //! The runs of indices, looked up in a table of all rows.
-ghost use Rattle.std.specs.Prelude.{◌≡◌, ◌+◌, ◌-◌, ◌<◌, ◌≤◌, IfOk, IsOkUnless, length as item_count, map};
+ghost use Rattle.std.specs.Prelude.{◌≡◌, ◌+◌, ◌-◌, ◌<◌, ◌≤◌, ℕ, pos, All, IfOk, IsOkUnless, length as item_count, map, true};
 ghost use Rattle.column_base.specs.Mask.{mask_bits};
-ghost use Rattle.runend_codec.specs.Window.{IsWindow};
-ghost use Rattle.runend_positions.specs.Indices.{AreInBounds, item_of, optional_indices, runs_of_rows};
+ghost use Rattle.column_base.specs.Types.{HasNumber};
+ghost use Rattle.runend_codec.specs.Window.{IsWindow, run_at};
+ghost use Rattle.runend_positions.specs.Indices.{AreInBounds, item_of, optional_indices, runs_of, runs_of_rows};
 
-use crate::merged::advance;
-use crate::rows::row_at;
+use crate::rows::{named_row, selects_all};
 use column_core::{CountedEnds, Mask, NativePType, UnsignedPType, VortexError, VortexResult};
+use runend_decode::RunWriter;
 use std::alloc::Allocator;
 
-/// The run of each of `length` rows, from position `offset` on. It tests an end for each row and one
-/// for each run but the last, at most. Refused as `OutOfMemory` alone, before any test.
+/// The run of each of `length` rows, from position `offset` on. It tests no more ends than there are
+/// runs, nor than one for each row and one for each run but the last. Refused as `OutOfMemory` alone,
+/// before any test.
 pub fn run_index_table<E: UnsignedPType, A: Allocator + Copy>(
     ends: &mut CountedEnds<'_, E>,
     alloc: A,
@@ -22,14 +24,47 @@ pub fn run_index_table<E: UnsignedPType, A: Allocator + Copy>(
     ensures runs { IfOk result (λ table. table.items ≡ runs_of_rows ends.old.ends offset length) }
     ensures same { ends.new.ends ≡ ends.old.ends }
     ensures cost { ends.new.tests ≤ ends.old.tests + (item_count ends.old.ends - 1 + length) }
+    ensures few { ends.new.tests ≤ ends.old.tests + item_count ends.old.ends }
 {
-    let mut table = Vec::with_capacity(alloc, length)?;
-    let mut run = 0;
-    for row in 0..length {
-        run = advance(ends, run, offset + row);
-        table.push_reserved(run as u64);
+    // Read for its range: each run is a number of 64 bits.
+    let _runs = ends.len();
+    table_of::<u64, E, A>(ends, alloc, offset, length)
+}
+
+// A run as a position.
+#[inline(always)]
+fn position_of<P: UnsignedPType>(run: usize) -> P
+    requires { HasNumber P.PTYPE (pos run) }
+    ensures { P.number result ≡ pos run }
+{
+    P::narrow(run as i128).unwrap()
+}
+
+// The same table, of positions that every run fits.
+fn table_of<P: UnsignedPType, E: UnsignedPType, A: Allocator + Copy>(
+    ends: &mut CountedEnds<'_, E>,
+    alloc: A,
+    offset: usize,
+    length: usize,
+) -> VortexResult<Vec<P, A>>
+    requires window { IsWindow ends.old.ends offset length }
+    requires fits { (run : ℕ) → run < item_count ends.old.ends → HasNumber P.PTYPE (pos run) }
+    ensures only { IsOkUnless result VortexError.OutOfMemory }
+    ensures runs { IfOk result (λ table. map P.natural table.items ≡ runs_of_rows ends.old.ends offset length) }
+    ensures same { ends.new.ends ≡ ends.old.ends }
+    ensures cost { ends.new.tests ≤ ends.old.tests + (item_count ends.old.ends - 1 + length) }
+    ensures few { ends.new.tests ≤ ends.old.tests + item_count ends.old.ends }
+{
+    let mut table = RunWriter::with_room(alloc, length)?;
+    let mut reach = 0;
+    for run in 0..ends.len() {
+        if reach == length {
+            break;
+        }
+        reach = ends.reach(run, offset, length);
+        table.repeat_to(position_of(run), reach);
     }
-    Ok(table)
+    Ok(table.finish())
 }
 
 /// The table's item at each valid index, and its first item at a null one. No end is tested, since
@@ -46,10 +81,98 @@ pub fn physical_indices_table<T: NativePType, A: Allocator + Copy>(
     ensures only { IsOkUnless result VortexError.OutOfMemory }
     ensures items { IfOk result (λ runs. runs.items ≡ map (item_of table.now) (optional_indices T.number indices.now (mask_bits mask.now))) }
 {
+    look_up(table, alloc, indices, mask)
+}
+
+// The same of a table of positions of any type.
+fn look_up<P: UnsignedPType, T: NativePType, A: Allocator + Copy>(
+    table: &[P],
+    alloc: A,
+    indices: &[T],
+    mask: &Mask<A>,
+) -> VortexResult<Vec<u64, A>>
+    requires some { 0 < item_count table.now }
+    requires masked { item_count (mask_bits mask.now) ≡ item_count indices.now }
+    requires in_bounds { AreInBounds (optional_indices T.number indices.now (mask_bits mask.now)) (item_count table.now) }
+    ensures only { IsOkUnless result VortexError.OutOfMemory }
+    ensures items { IfOk result (λ runs. runs.items ≡ map (item_of (map P.natural table.now)) (optional_indices T.number indices.now (mask_bits mask.now))) }
+{
+    if selects_all(mask) {
+        looked_up::<true, P, T, A>(table, alloc, indices, mask)
+    } else {
+        looked_up::<false, P, T, A>(table, alloc, indices, mask)
+    }
+}
+
+// The same, where `ALL` says that no index is null.
+fn looked_up<const ALL: bool, P: UnsignedPType, T: NativePType, A: Allocator + Copy>(
+    table: &[P],
+    alloc: A,
+    indices: &[T],
+    mask: &Mask<A>,
+) -> VortexResult<Vec<u64, A>>
+    requires some { 0 < item_count table.now }
+    requires masked { item_count (mask_bits mask.now) ≡ item_count indices.now }
+    requires all { ALL ≡ true → All (λ bit. bit ≡ true) (mask_bits mask.now) }
+    requires in_bounds { AreInBounds (optional_indices T.number indices.now (mask_bits mask.now)) (item_count table.now) }
+    ensures only { IsOkUnless result VortexError.OutOfMemory }
+    ensures items { IfOk result (λ runs. runs.items ≡ map (item_of (map P.natural table.now)) (optional_indices T.number indices.now (mask_bits mask.now))) }
+{
     let mut runs = Vec::with_capacity(alloc, indices.len())?;
     for place in 0..indices.len() {
-        let row = row_at(indices, mask, place).unwrap_or(0);
-        runs.push_reserved(table[row]);
+        let row = named_row::<ALL, T, A>(indices, mask, place).unwrap_or(0);
+        runs.push_reserved(table[row].to_u64());
     }
     Ok(runs)
+}
+
+// The run of each index by a table of such positions.
+fn runs_in_table<P: UnsignedPType, E: UnsignedPType, T: NativePType, A: Allocator + Copy>(
+    ends: &mut CountedEnds<'_, E>,
+    alloc: A,
+    offset: usize,
+    length: usize,
+    indices: &[T],
+    mask: &Mask<A>,
+) -> VortexResult<Vec<u64, A>>
+    requires window { IsWindow ends.old.ends offset length }
+    requires some { 0 < length }
+    requires fits { (run : ℕ) → run < item_count ends.old.ends → HasNumber P.PTYPE (pos run) }
+    requires masked { item_count (mask_bits mask.now) ≡ item_count indices.now }
+    requires in_bounds { AreInBounds (optional_indices T.number indices.now (mask_bits mask.now)) length }
+    ensures only { IsOkUnless result VortexError.OutOfMemory }
+    ensures runs { IfOk result (λ runs. runs.items ≡ runs_of ends.old.ends offset (run_at ends.old.ends offset) (optional_indices T.number indices.now (mask_bits mask.now))) }
+    ensures same { ends.new.ends ≡ ends.old.ends }
+    ensures cost { ends.new.tests ≤ ends.old.tests + (item_count ends.old.ends - 1 + length) }
+{
+    let table = table_of::<P, E, A>(ends, alloc, offset, length)?;
+    look_up(table.as_slice(), alloc, indices, mask)
+}
+
+/// The run of each valid index among `length` rows, and the run of row 0 for a null one, by a table of
+/// the run of each row: of half the bytes where there are no more than 2^32 runs. It tests as many ends
+/// as it takes to make the table. Refused as `OutOfMemory` alone.
+pub(crate) fn runs_by_table<E: UnsignedPType, T: NativePType, A: Allocator + Copy>(
+    ends: &mut CountedEnds<'_, E>,
+    alloc: A,
+    offset: usize,
+    length: usize,
+    indices: &[T],
+    mask: &Mask<A>,
+) -> VortexResult<Vec<u64, A>>
+    requires window { IsWindow ends.old.ends offset length }
+    requires some { 0 < length }
+    requires masked { item_count (mask_bits mask.now) ≡ item_count indices.now }
+    requires in_bounds { AreInBounds (optional_indices T.number indices.now (mask_bits mask.now)) length }
+    ensures only { IsOkUnless result VortexError.OutOfMemory }
+    ensures runs { IfOk result (λ runs. runs.items ≡ runs_of ends.old.ends offset (run_at ends.old.ends offset) (optional_indices T.number indices.now (mask_bits mask.now))) }
+    ensures same { ends.new.ends ≡ ends.old.ends }
+    ensures cost { ends.new.tests ≤ ends.old.tests + (item_count ends.old.ends - 1 + length) }
+{
+    // The last of 2^32 runs is run 2^32 - 1.
+    if ends.len() <= 1 << 32 {
+        runs_in_table::<u32, E, T, A>(ends, alloc, offset, length, indices, mask)
+    } else {
+        runs_in_table::<u64, E, T, A>(ends, alloc, offset, length, indices, mask)
+    }
 }

@@ -4,7 +4,7 @@ use Rattle.column_base.specs.Mask.{mask_bits}
 use Rattle.runend_positions.specs.Indices.{optional_indices}
 use Rattle.runend_positions.proofs.Places.{length-optional_indices}
 use Rattle.runend_positions.proofs.Sorted.{AreSorted-all, AreSorted-not}
-use Rattle.runend_positions.proofs.rows.are_sorted.Goals as goal
+use Rattle.runend_positions.proofs.rows.never_fall.Goals as goal
 
 pub returns-then-row-last : goal.returns-then-row-last
 returns-then-row-last g c =

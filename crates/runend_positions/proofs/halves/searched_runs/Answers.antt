@@ -6,11 +6,11 @@ use Rattle.runend_codec.specs.Window.{run_at}
 use Rattle.runend_positions.specs.Indices.{optional_indices, run_of, valid_count}
 use Rattle.runend_positions.proofs.Bounds.{in_bounds_of_window, position_fits}
 use Rattle.runend_positions.proofs.Places.{answered-all, answered-more, counted-all, counted-null, counted-valid, length-optional_indices, one_search_more}
-use Rattle.runend_positions.proofs.halves.physical_indices_binary.Goals as goal
-use Rattle.runend_positions.proofs.halves.physical_indices_binary.Goals.{in-Some, in-None}
+use Rattle.runend_positions.proofs.halves.searched_runs.Goals as goal
+use Rattle.runend_positions.proofs.halves.searched_runs.Goals.{in-Some, in-None}
 
-pub row_at-requires-clause-in_bounds : goal.row_at-requires-clause-in_bounds
-row_at-requires-clause-in_bounds g c =
+pub named_row-requires-clause-in_bounds : goal.named_row-requires-clause-in_bounds
+named_row-requires-clause-in_bounds g c =
     in_bounds_of_window c.args.ends.now.ends c.args.offset (optional_indices g.T.NativePType.number c.args.indices.now (mask_bits c.args.mask.now)) c.requires.in_window
 
 pub overflow_add-offset : goal.overflow_add-offset
@@ -26,7 +26,7 @@ loop-place-preserved g c =
     let offset = c.args.offset in
     let place = c.loop-place.place in
     let inv = c.loop-place.invariant in
-    elim c.match-row_at.branch [
+    elim c.match-named_row.branch [
       | in-Some w ↦
           let row = w.in-Some.row in
           let at : slice_get indices place ≡ Some (Some (pos row)) = w.in-Some.ensures in
