@@ -69,6 +69,13 @@ depth (OfConstant constant) = 0
 depth (OfLists lists) = lists_depth lists
 depth (OfRuns ends_type ends values offset count) = depth values + 1
 
+-- rows that are stored one by one
+abbrev pub IsLeaf : Column → Type 0
+IsLeaf (OfLeaf leaf) = Unit {0}
+IsLeaf (OfConstant constant) = ⊥
+IsLeaf (OfLists lists) = ⊥
+IsLeaf (OfRuns ends_type ends values offset count) = ⊥
+
 -- a flat form: rows that are stored one by one, or lists
 abbrev pub IsFlat : Column → Type 0
 IsFlat (OfLeaf leaf) = Unit {0}

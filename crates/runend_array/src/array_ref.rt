@@ -1,12 +1,13 @@
 //! Arrays of any form.
-ghost use Rattle.std.specs.Prelude.{◌≡◌, ◌<◌, ◌≤◌, ◌↔◌, Some, [], pos, length, slice_get, IsTrue, IfOk, IsErrOf, IsOkUnless};
+ghost use Rattle.std.specs.Prelude.{◌≡◌, ◌<◌, ◌≤◌, ◌↔◌, Some, [], pos, length, slice_get, IsTrue, IfNone, IfOk, IfSome, IsErrOf, IsOkUnless};
+ghost use Rattle.column_core.specs.FlatView.{leaf_in};
 ghost use Rattle.column_core.specs.PrimitiveForm.{primitive_dtype};
 ghost use Rattle.column_core.specs.ScalarView.{sees, IsViewOf};
 ghost use Rattle.runend_codec.specs.Ends.{IsEndsType, ends_of};
 ghost use Rattle.runend_codec.specs.Window.{IsWindow, run_rows};
 ghost use Rattle.runend_array.specs.Array.{column_of, dtype_of, rows};
 ghost use Rattle.runend_array.specs.Canonical.{IsCanonical, IsFlatPart, canonical_column};
-ghost use Rattle.runend_array.specs.Column.{OfConstant, OfLists, column_dtype, column_of_runs, column_rows};
+ghost use Rattle.runend_array.specs.Column.{OfConstant, OfLeaf, OfLists, IsLeaf, column_dtype, column_of_runs, column_rows};
 ghost use Rattle.runend_array.specs.Encoding.{IsComputedFlat};
 
 use crate::array::RunEndArray;
@@ -16,8 +17,8 @@ use crate::lists::ListViewArray;
 use crate::session::ExecutionCtx;
 use crate::written::{no_rows, write_constant};
 use column_core::{
-    BoolArray, DType, DecimalArray, FlatColumn, PrimitiveArray, ScalarView, VarBinViewArray,
-    VortexError, VortexResult,
+    BoolArray, DType, DecimalArray, FlatColumn, FlatView, PrimitiveArray, ScalarView,
+    VarBinViewArray, VortexError, VortexResult,
 };
 use runend_decode::{decode_numbers, decode_truths};
 use std::alloc::Allocator;
@@ -71,6 +72,29 @@ impl<A: Allocator + Copy> ArrayRef<A> {
             ArrayRef::ListView(lists) => lists.dtype(),
             ArrayRef::Constant(array) => array.dtype(),
             ArrayRef::RunEnd(array) => array.values_dtype(),
+        }
+    }
+
+    /// A run column, as a column of any form. Refused as `OutOfMemory` alone.
+    pub fn of_runs(alloc: A, runs: RunEndArray<A>) -> VortexResult<ArrayRef<A>>
+        ensures only { IsOkUnless result VortexError.OutOfMemory }
+        ensures form { IfOk result (λ array. column_of array ≡ column_of_runs runs) }
+    {
+        let boxed = Box::new(alloc, runs)?;
+        Ok(ArrayRef::RunEnd(boxed))
+    }
+
+    /// The flat column that this array is, borrowed, or `None` where it has another form.
+    pub fn flat_view(&self) -> Option<FlatView<'_, A>>
+        ensures flat { IfSome result (λ view. column_of self.now ≡ OfLeaf (leaf_in view)) }
+        ensures other { IfNone result (¬ IsLeaf (column_of self.now)) }
+    {
+        match self {
+            ArrayRef::Primitive(array) => Some(FlatView::Primitive(array)),
+            ArrayRef::Bool(array) => Some(FlatView::Bool(array)),
+            ArrayRef::Decimal(array) => Some(FlatView::Decimal(array)),
+            ArrayRef::VarBinView(array) => Some(FlatView::VarBinView(array)),
+            ArrayRef::ListView(_) | ArrayRef::Constant(_) | ArrayRef::RunEnd(_) => None,
         }
     }
 
@@ -164,7 +188,7 @@ impl<A: Allocator + Copy> ArrayRef<A> {
                 Err(error) => Err(error),
             },
             ArrayRef::RunEnd(array) => match array.clone_in(alloc) {
-                Ok(copy) => of_runs(alloc, copy),
+                Ok(copy) => ArrayRef::of_runs(alloc, copy),
                 Err(error) => Err(error),
             },
         }
@@ -373,16 +397,4 @@ pub(crate) fn of_lists<A: Allocator + Copy>(
 {
     let boxed = Box::new(alloc, lists)?;
     Ok(ArrayRef::ListView(boxed))
-}
-
-/// A run column as an array. Refused as `OutOfMemory` alone.
-pub(crate) fn of_runs<A: Allocator + Copy>(
-    alloc: A,
-    runs: RunEndArray<A>,
-) -> VortexResult<ArrayRef<A>>
-    ensures only { IsOkUnless result VortexError.OutOfMemory }
-    ensures form { IfOk result (λ array. column_of array ≡ column_of_runs runs) }
-{
-    let boxed = Box::new(alloc, runs)?;
-    Ok(ArrayRef::RunEnd(boxed))
 }

@@ -144,6 +144,5 @@ fn runs_between<A: Allocator + Copy>(
     let values = values.into_array(alloc)?;
     let ends = ArrayRef::Primitive(ends);
     let part = RunEnd::new_unchecked(ends, values, offset, count);
-    let boxed = Box::new(alloc, part)?;
-    Ok(ArrayRef::RunEnd(boxed))
+    ArrayRef::of_runs(alloc, part)
 }

@@ -5,5 +5,5 @@
 mod over;
 mod visible;
 
-pub use over::{boxed_runs, least_runs, over_least_runs, over_runs, over_visible_runs};
-pub use visible::{ends_of_visible, visible_offset, visible_runs, visible_values};
+pub use over::{least_runs, over_least_runs, over_runs, over_visible_runs};
+pub use visible::{ends_of_visible, lent_numbers, visible_offset, visible_runs, visible_values};

@@ -72,7 +72,7 @@ pub fn over_visible_runs<A: Allocator + Copy>(
         }
     };
     let part = RunEnd::new_unchecked(ends, array_of(values), visible_offset(array), array.len());
-    boxed_runs(alloc, part)
+    ArrayRef::of_runs(alloc, part)
 }
 
 /// The rows that the visible runs show over these whole numbers, one for each, as a run column in least form,
@@ -97,7 +97,7 @@ pub fn over_least_runs<A: Allocator + Copy>(
         }
     };
     let least = least_runs(alloc, ends, numbers, visible_offset(array), array.len())?;
-    boxed_runs(alloc, least)
+    ArrayRef::of_runs(alloc, least)
 }
 
 /// The rows that runs with these ends and values show, `count` of them from position `offset` on, as a run
@@ -124,13 +124,4 @@ pub fn least_runs<A: Allocator + Copy>(
     let least_ends = ArrayRef::Primitive(joined_ends);
     let least_values = ArrayRef::Primitive(joined_values);
     Ok(RunEnd::new_unchecked(least_ends, least_values, 0, count))
-}
-
-/// Runs, as a column of any form. Refused as `OutOfMemory` alone.
-pub fn boxed_runs<A: Allocator + Copy>(alloc: A, runs: RunEndArray<A>) -> VortexResult<ArrayRef<A>>
-    ensures only { IsOkUnless result VortexError.OutOfMemory }
-    ensures form { IfOk result (λ boxed. column_of boxed ≡ column_of_runs runs) }
-{
-    let boxed = Box::new(alloc, runs)?;
-    Ok(ArrayRef::RunEnd(boxed))
 }

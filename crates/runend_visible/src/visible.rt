@@ -1,7 +1,7 @@
 //! Which runs of a run column are visible, and their ends and values.
-ghost use Rattle.std.specs.Prelude.{◌≡◌, ◌≤◌, length, slice_range, IfOk, IsOkUnless};
+ghost use Rattle.std.specs.Prelude.{◌≡◌, ◌≤◌, length, slice_range, IfOk, IfSome, IsOkUnless};
 ghost use Rattle.column_core.specs.FlatColumn.{leaf_of};
-ghost use Rattle.column_core.specs.Leaf.{leaf_dtype, single_rows};
+ghost use Rattle.column_core.specs.Leaf.{OfNumbers, leaf_dtype, single_rows};
 ghost use Rattle.column_core.specs.PrimitiveForm.{primitive_dtype};
 ghost use Rattle.column_core.specs.Value.{IsLists};
 ghost use Rattle.runend_codec.specs.Ends.{IsEndsType, ends_of};
@@ -11,7 +11,7 @@ ghost use Rattle.runend_join.specs.Joined.{AllHaveRows};
 ghost use Rattle.runend_visible.specs.VisibleForm.{visible_ends, visible_values as values_of_visible, window_start};
 
 use column_core::{FlatColumn, PrimitiveArray, VortexError, VortexResult};
-use runend_array::{Canonical, RunEndArray, RunEndArrayExt, RunEndArraySlotsExt};
+use runend_array::{ArrayRef, Canonical, RunEndArray, RunEndArrayExt, RunEndArraySlotsExt};
 use std::alloc::Allocator;
 use std::ops::Range;
 
@@ -74,5 +74,20 @@ pub fn visible_values<A: Allocator + Copy>(
     match array.values().rows_between(alloc, runs.start, runs.end)? {
         Canonical::Flat(values) => Ok(values),
         Canonical::List(_) => unreachable!(),
+    }
+}
+
+/// The values, borrowed, where each run is visible and they are flat whole numbers. Takes no memory.
+pub fn lent_numbers<A: Allocator + Copy>(array: &RunEndArray<A>) -> Option<&PrimitiveArray<A>>
+    ensures rows { IfSome result (λ numbers. single_rows (OfNumbers numbers.now) ≡ values_of_visible array.now) }
+    ensures dtype { IfSome result (λ numbers. primitive_dtype numbers.now ≡ column_dtype array.now.values) }
+    ensures valid { AreRuns array.now }
+{
+    let runs = visible_runs(array);
+    match array.values() {
+        ArrayRef::Primitive(numbers) if runs.start == 0 && runs.end == numbers.len() => Some(
+            numbers,
+        ),
+        _ => None,
     }
 }

@@ -50,8 +50,8 @@ pub(crate) fn index_in_runs<A: Allocator + Copy>(
         offset,
         count,
     );
-    let boxed = Box::new(alloc, runs)?;
-    Ok(ArrayRef::RunEnd(boxed))
+    let index = ArrayRef::of_runs(alloc, runs)?;
+    Ok(index)
 }
 
 // The validity that runs of these flags tell.

@@ -42,20 +42,20 @@ least_runs-requires g c =
     }
 
 pub returns-clause-only : goal.returns-clause-only
-returns-clause-only g c = c.boxed_runs.ensures.only
+returns-clause-only g c = c.of_runs.ensures.only
 
 pub returns-clause-rows : goal.returns-clause-rows
 returns-clause-rows g c =
-    if_ok c.boxed_runs.result (λ boxed same.
+    if_ok c.of_runs.result (λ boxed same.
     ap column_rows same ∙ c.in_ok-least.ensures.rows
-    ∙ read_rows c.args.array.now c.in-Ok.ends c.visible_offset.result c.len.result c.in-Ok.ensures.ends c.visible_offset.ensures c.len.ensures (single_rows (OfNumbers c.args.numbers))) c.boxed_runs.ensures.form
+    ∙ read_rows c.args.array.now c.in-Ok.ends c.visible_offset.result c.len.result c.in-Ok.ensures.ends c.visible_offset.ensures c.len.ensures (single_rows (OfNumbers c.args.numbers))) c.of_runs.ensures.form
 
 pub returns-clause-dtype : goal.returns-clause-dtype
-returns-clause-dtype g c = if_ok c.boxed_runs.result (λ boxed same. ap column_dtype same ∙ c.in_ok-least.ensures.dtype) c.boxed_runs.ensures.form
+returns-clause-dtype g c = if_ok c.of_runs.result (λ boxed same. ap column_dtype same ∙ c.in_ok-least.ensures.dtype) c.of_runs.ensures.form
 
 pub returns-clause-form : goal.returns-clause-form
 returns-clause-form g c =
     let least = c.in_ok-least.least in
-    if_ok c.boxed_runs.result (λ boxed same.
+    if_ok c.of_runs.result (λ boxed same.
     subst (IsLeastForm c.args.array.now.ends_type) (sym same)
-    (subst (λ (wanted : PType). IsLeastForm wanted (column_of_runs least)) c.in-Ok.ensures.typed (least_column c.in-Ok.ends.ptype least c.in_ok-least.ensures.form))) c.boxed_runs.ensures.form
+    (subst (λ (wanted : PType). IsLeastForm wanted (column_of_runs least)) c.in-Ok.ensures.typed (least_column c.in-Ok.ends.ptype least c.in_ok-least.ensures.form))) c.of_runs.ensures.form

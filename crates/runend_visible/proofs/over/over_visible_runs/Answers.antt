@@ -25,25 +25,25 @@ new_unchecked-part-requires g c =
     c.in-Ok.ensures.plain c.ends_of_visible.ensures.window c.ends_of_visible.ensures.paired c.requires.paired
 
 pub returns-clause-only : goal.returns-clause-only
-returns-clause-only g c = c.boxed_runs.ensures.only
+returns-clause-only g c = c.of_runs.ensures.only
 
 pub returns-clause-rows : goal.returns-clause-rows
 returns-clause-rows g c =
-    if_ok c.boxed_runs.result (λ boxed same.
+    if_ok c.of_runs.result (λ boxed same.
     ap column_rows same
     ∙ over_rows c.args.array.now c.in-Ok.ends (column_of c.array_of.result) (leaf_of c.args.values) c.visible_offset.result c.len.result c.in-Ok.ensures.ends c.array_of.ensures c.visible_offset.ensures c.len.ensures
-    c.new_unchecked-part.result c.new_unchecked-part.ensures) c.boxed_runs.ensures.form
+    c.new_unchecked-part.result c.new_unchecked-part.ensures) c.of_runs.ensures.form
 
 pub returns-clause-dtype : goal.returns-clause-dtype
 returns-clause-dtype g c =
-    if_ok c.boxed_runs.result (λ boxed same.
+    if_ok c.of_runs.result (λ boxed same.
     ap column_dtype same
     ∙ over_dtype c.args.array.now c.in-Ok.ends (column_of c.array_of.result) (leaf_of c.args.values) c.visible_offset.result c.len.result c.in-Ok.ensures.ends c.array_of.ensures c.visible_offset.ensures c.len.ensures
-    c.new_unchecked-part.result c.new_unchecked-part.ensures) c.boxed_runs.ensures.form
+    c.new_unchecked-part.result c.new_unchecked-part.ensures) c.of_runs.ensures.form
 
 pub returns-clause-form : goal.returns-clause-form
 returns-clause-form g c =
-    if_ok c.boxed_runs.result (λ boxed same.
+    if_ok c.of_runs.result (λ boxed same.
     subst (IsOverVisibleRuns c.args.array.now) (sym same)
     (over_form c.args.array.now c.in-Ok.ends (column_of c.array_of.result) (leaf_of c.args.values) c.visible_offset.result c.len.result c.in-Ok.ensures.ends c.array_of.ensures c.visible_offset.ensures c.len.ensures
-    c.new_unchecked-part.result c.new_unchecked-part.ensures c.in-Ok.ensures.typed c.requires.computed)) c.boxed_runs.ensures.form
+    c.new_unchecked-part.result c.new_unchecked-part.ensures c.in-Ok.ensures.typed c.requires.computed)) c.of_runs.ensures.form

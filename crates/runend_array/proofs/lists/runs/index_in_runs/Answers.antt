@@ -18,6 +18,7 @@ new_unchecked-runs-requires g c =
 pub returns-clause-form : goal.returns-clause-form
 returns-clause-form g c =
     let index = index_of (column_of c.args.index.now) in
-    RunIndex-numbers c.in_ok-boxed.boxed.value c.args.ends.now c.in-Ok.ends c.new_unchecked-numbers.result c.in_ok-numbers_between.field-0.items (index_numbers index) c.args.offset c.args.count
-    (c.in_ok-boxed.ensures.ok ∙ c.new_unchecked-runs.ensures) c.in-Ok.ensures.form c.new_unchecked-numbers.ensures
+    ap index_of c.in_ok-index.ensures.form
+    ∙ RunIndex-numbers c.new_unchecked-runs.result c.args.ends.now c.in-Ok.ends c.new_unchecked-numbers.result c.in_ok-numbers_between.field-0.items (index_numbers index) c.args.offset c.args.count
+    c.new_unchecked-runs.ensures c.in-Ok.ensures.form c.new_unchecked-numbers.ensures
     (c.in_ok-numbers_between.ensures.numbers ∙ made-all (index_at index) c.index_len.result ∙ ap (λ n. map (index_at index) (range_with_len 0 n)) c.index_len.ensures)
