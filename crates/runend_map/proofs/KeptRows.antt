@@ -1,10 +1,9 @@
 -- Rows of the visible runs, and what is made of their values one by one.
-use Rattle.std.proofs.Common.{◌≡◌, ℕ, ◌+◌, ◌<◌, List, [], ◌∷◌, Option, Some, None, length, map, refl, sym, ap, ◌∙◌, arith}
-use Rattle.std.specs.Prelude.{option_map, IfOk, Result, Ok, Err}
+use Rattle.std.proofs.Common.{◌≡◌, ℕ, ◌+◌, ◌<◌, List, Option, None, length, map, refl, sym, ap, ◌∙◌, arith}
+use Rattle.std.specs.Prelude.{IfOk, Result, Ok, Err}
 use Rattle.std.proofs.lemmas.List.{ext_get_or, length-map, get_or-map}
 use Rattle.std.proofs.lemmas.List.FromFn.{get_or-map-range_with_len}
-use Rattle.column_core.specs.Value.{FlatValue, Single, Value}
-use Rattle.column_ops.specs.Fill.{fill_rows}
+use Rattle.column_core.specs.Value.{Value}
 use Rattle.runend_codec.specs.Window.{run_at, run_rows, IsWindow}
 use Rattle.runend_codec.proofs.RunAt.{run_of_row_within}
 use Rattle.runend_codec.proofs.RunRows.{length-run_rows}
@@ -31,12 +30,6 @@ mapped_rows f r values runs same =
     ap (λ (xs : List (Option Value)). run_rows (visible_ends r) xs (window_start r.count r.offset) r.count) same
     ∙ run_rows-map f (visible_ends r) (visible_values r) (window_start r.count r.offset) r.count (visible_window r runs) (visible_paired r runs)
     ∙ ap (map f) (visible_rows r runs)
-
--- a filled value is a filled row
-pub single-filled : (rows : List (Option FlatValue)) (value : FlatValue) → map (option_map (λ (v : FlatValue). Single v)) (fill_rows rows value) ≡ fill_rows (map (option_map (λ (v : FlatValue). Single v)) rows) (Single value)
-single-filled [] value = refl
-single-filled (None ∷ rows) value = ap (λ (xs : List (Option Value)). Some (Single value) ∷ xs) (single-filled rows value)
-single-filled (Some x ∷ rows) value = ap (λ (xs : List (Option Value)). Some (Single x) ∷ xs) (single-filled rows value)
 
 -- what follows for a value that is answered
 pub if_ok : {T E : Type 0} {P Q : T → Type 0} (result : Result T E) → ((value : T) → P value → Q value) → IfOk result P → IfOk result Q

@@ -1,4 +1,5 @@
 pub mod CastRows
+pub mod CodePositions
 pub mod CodeRows
 pub mod ComparedRows
 pub mod FilledRows
@@ -6,5 +7,5 @@ pub mod FirstFaults
 pub mod KeptRows
 pub mod OneKind
 pub mod OwedRows
-pub mod PassedOn
 pub mod TakenForms
+pub mod KeptTypes

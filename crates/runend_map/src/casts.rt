@@ -1,16 +1,19 @@
 //! Run columns cast to another type.
 ghost use Rattle.std.specs.Prelude.{◌≡◌, IfOk};
 ghost use Rattle.column_core.specs.Refusal.{IsRefusedBy};
+ghost use Rattle.column_core.specs.Leaf.{OfNumbers, single_rows};
+ghost use Rattle.column_core.specs.PrimitiveForm.{primitive_dtype};
 ghost use Rattle.column_ops.specs.Cast.{cast_fault};
 ghost use Rattle.runend_array.specs.Array.{column_of, dtype_of, rows};
-ghost use Rattle.runend_array.specs.Column.{column_of_runs, column_rows, plain_of};
+ghost use Rattle.runend_array.specs.Column.{AreRuns, column_dtype, column_of_runs, column_rows, plain_of};
 ghost use Rattle.runend_visible.specs.LeastForm.{IsRunForm};
+ghost use Rattle.runend_visible.specs.VisibleForm.{visible_values as values_of_visible};
 
-use crate::visible::is_lists;
-use column_core::{DType, VortexError, VortexResult};
+use column_core::{DType, FlatColumn, PrimitiveArray, VortexError, VortexResult};
 use column_ops::ColumnOps;
 use runend_array::{ArrayRef, ExecutionCtx, RunEndArray, RunEndArrayExt};
-use runend_visible::{over_runs, visible_values};
+use runend_rowwise::is_lists;
+use runend_visible::{lent_numbers, over_runs, visible_values};
 use std::alloc::Allocator;
 
 /// The same rows in the type: a run column with flat values and ends of the same type. Of whole numbers it is
@@ -35,9 +38,31 @@ pub fn cast<A: Allocator + Copy>(
         return Err(VortexError::Unsupported);
     }
     let alloc = *ctx.allocator();
+    if let Some(numbers) = lent_numbers(array) {
+        return cast_lent(array, numbers, dtype, alloc);
+    }
     let values = visible_values(array, alloc)?;
     let made = values.cast(alloc, dtype);
     drop(values);
     let cast = made?;
     over_runs(array, cast, alloc)
+}
+
+// The same where the values are lent: whole numbers, each of which is visible.
+fn cast_lent<A: Allocator + Copy>(
+    array: &RunEndArray<A>,
+    numbers: &PrimitiveArray<A>,
+    dtype: DType,
+    alloc: A,
+) -> VortexResult<ArrayRef<A>>
+    requires valid { AreRuns array.now }
+    requires rows { single_rows (OfNumbers numbers.now) ≡ values_of_visible array.now }
+    requires of_type { primitive_dtype numbers.now ≡ column_dtype array.now.values }
+    ensures refused { IsRefusedBy (cast_fault (plain_of (column_of_runs array.now)) dtype) result }
+    ensures rows { IfOk result (λ cast. rows cast ≡ column_rows (column_of_runs array.now)) }
+    ensures dtype { IfOk result (λ cast. dtype_of cast ≡ dtype) }
+    ensures form { IfOk result (λ cast. IsRunForm dtype array.now (column_of cast)) }
+{
+    let cast = numbers.cast(alloc, dtype)?;
+    over_runs(array, FlatColumn::Primitive(cast), alloc)
 }

@@ -15,11 +15,11 @@ ghost use Rattle.runend_map.specs.Codes.{keeps_runs};
 ghost use Rattle.runend_map.specs.TakenForm.{IsTakenForm};
 ghost use Rattle.runend_visible.specs.VisibleForm.{visible_ends, visible_values as values_of_visible, window_start};
 
+use crate::positions::rows_at_codes;
 use crate::visible::shown_rows;
 use column_core::{DType, FlatColumn, PrimitiveArray, VortexError, VortexResult, is_number_type};
-use column_ops::ColumnOps;
 use runend_array::{ArrayRef, ExecutionCtx, RunEndArray, RunEndArrayExt, array_of};
-use runend_visible::{over_runs, visible_values};
+use runend_visible::{lent_numbers, over_runs, visible_values};
 use std::alloc::Allocator;
 
 // Is it a type over whose values runs of codes are kept?
@@ -98,9 +98,31 @@ pub(crate) fn take_from_flat<A: Allocator + Copy>(
         return Err(VortexError::TypeMismatch);
     }
     let alloc = *ctx.allocator();
+    if let Some(indices) = lent_numbers(codes) {
+        return take_at_codes(codes, indices, dictionary, alloc);
+    }
     let indices = visible_codes(codes, alloc)?;
-    let made = dictionary.take(alloc, &indices);
+    let taken = take_at_codes(codes, &indices, dictionary, alloc);
     drop(indices);
-    let taken = made?;
+    taken
+}
+
+// The same, where these are the codes of the visible runs.
+fn take_at_codes<A: Allocator + Copy>(
+    codes: &RunEndArray<A>,
+    indices: &PrimitiveArray<A>,
+    dictionary: &FlatColumn<A>,
+    alloc: A,
+) -> VortexResult<ArrayRef<A>>
+    requires valid { AreRuns codes.now }
+    requires numbers { is_numbers (column_dtype codes.now.values) ≡ true }
+    requires codes { map code_number (values_of_visible codes.now) ≡ optional_numbers indices.now }
+    requires of_type { primitive_dtype indices.now ≡ column_dtype codes.now.values }
+    ensures refused { IsRefusedBy (code_fault (plain_of (column_of_runs codes.now)) (length (leaf_rows (leaf_of dictionary.now)))) result }
+    ensures rows { IfOk result (λ taken. rows taken ≡ code_rows (single_rows (leaf_of dictionary.now)) (column_rows (column_of_runs codes.now))) }
+    ensures dtype { IfOk result (λ taken. dtype_of taken ≡ take_dtype (leaf_dtype (leaf_of dictionary.now)) (column_dtype codes.now.values)) }
+    ensures form { IfOk result (λ taken. IsTakenForm (keeps_runs (leaf_dtype (leaf_of dictionary.now))) (leaf_dtype (leaf_of dictionary.now)) codes.now (column_of taken)) }
+{
+    let taken = rows_at_codes(dictionary, alloc, indices)?;
     placed(codes, taken, is_kept_type(dictionary.dtype()), alloc)
 }

@@ -16,13 +16,13 @@ ghost use Rattle.runend_array.specs.Column.{OfConstant, column_dtype, column_of_
 ghost use Rattle.runend_array.specs.Encoding.{IsComputedFlat, IsDecodedForm};
 ghost use Rattle.runend_map.specs.ComparisonForm.{IsComparisonForm, IsNullConstant};
 
-use crate::decoded::flat_rows;
 use crate::visible::{shown_rows, shown_truths};
 use column_core::{
     BoolArray, DType, FlatColumn, Nullability, Scalar, ScalarView, VortexError, VortexResult,
 };
 use column_order::{CompareOperator, FlatOrder, column_fault};
 use runend_array::{ArrayRef, ConstantArray, ExecutionCtx, RunEndArray, RunEndArrayExt};
+use runend_rowwise::flat_rows;
 use runend_visible::visible_values;
 use std::alloc::Allocator;
 

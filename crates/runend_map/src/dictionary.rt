@@ -14,11 +14,10 @@ ghost use Rattle.runend_map.specs.Codes.{keeps_runs};
 ghost use Rattle.runend_map.specs.TakenForm.{IsTakenForm};
 
 use crate::codes::take_from_flat;
-use crate::decoded::flat_rows;
-use crate::visible::{is_lists, shown_rows};
+use crate::visible::shown_rows;
 use column_core::{FlatColumn, PrimitiveArray, VortexError, VortexResult, is_number_type};
 use runend_array::{ArrayRef, ExecutionCtx, RunEndArray, RunEndArrayExt};
-use runend_select::take_rows;
+use runend_rowwise::{flat_rows, is_lists, take_rows};
 use runend_visible::visible_values;
 use std::alloc::Allocator;
 

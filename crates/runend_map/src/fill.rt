@@ -1,17 +1,20 @@
 //! Nulls of run columns, filled.
 ghost use Rattle.std.specs.Prelude.{◌≡◌, IfOk, IfSome};
+ghost use Rattle.column_core.specs.Leaf.{OfNumbers, single_rows};
+ghost use Rattle.column_core.specs.PrimitiveForm.{primitive_dtype};
 ghost use Rattle.column_core.specs.Refusal.{IsRefusedBy};
 ghost use Rattle.column_core.specs.Value.{Single};
 ghost use Rattle.column_ops.specs.Fill.{fill_dtype, fill_fault, fill_rows};
 ghost use Rattle.runend_array.specs.Array.{column_of, dtype_of, rows};
-ghost use Rattle.runend_array.specs.Column.{column_dtype, column_of_runs, column_rows};
+ghost use Rattle.runend_array.specs.Column.{AreRuns, column_dtype, column_of_runs, column_rows};
 ghost use Rattle.runend_visible.specs.LeastForm.{IsRunForm};
+ghost use Rattle.runend_visible.specs.VisibleForm.{visible_values as values_of_visible};
 
-use crate::visible::is_lists;
-use column_core::{Scalar, VortexError, VortexResult};
+use column_core::{FlatColumn, PrimitiveArray, Scalar, VortexError, VortexResult};
 use column_ops::ColumnOps;
 use runend_array::{ArrayRef, ExecutionCtx, RunEndArray, RunEndArrayExt};
-use runend_visible::{over_runs, visible_values};
+use runend_rowwise::is_lists;
+use runend_visible::{lent_numbers, over_runs, visible_values};
 use std::alloc::Allocator;
 
 /// The rows with the scalar's value in place of each null, of the column's kind and without null: a run
@@ -36,9 +39,31 @@ pub fn fill_null<A: Allocator + Copy>(
         return Err(VortexError::Unsupported);
     }
     let alloc = *ctx.allocator();
+    if let Some(numbers) = lent_numbers(array) {
+        return fill_lent(array, numbers, value, alloc);
+    }
     let values = visible_values(array, alloc)?;
     let made = values.fill_null(alloc, value);
     drop(values);
     let filled = made?;
     over_runs(array, filled, alloc)
+}
+
+// The same where the values are lent: whole numbers, each of which is visible.
+fn fill_lent<A: Allocator + Copy>(
+    array: &RunEndArray<A>,
+    numbers: &PrimitiveArray<A>,
+    value: &Scalar<A>,
+    alloc: A,
+) -> VortexResult<ArrayRef<A>>
+    requires valid { AreRuns array.now }
+    requires rows { single_rows (OfNumbers numbers.now) ≡ values_of_visible array.now }
+    requires of_type { primitive_dtype numbers.now ≡ column_dtype array.now.values }
+    ensures refused { IsRefusedBy (fill_fault (column_dtype array.now.values) value.now) result }
+    ensures rows { IfOk result (λ filled. IfSome value.now.value (λ flat. rows filled ≡ fill_rows (column_rows (column_of_runs array.now)) (Single flat))) }
+    ensures dtype { IfOk result (λ filled. dtype_of filled ≡ fill_dtype (column_dtype array.now.values)) }
+    ensures form { IfOk result (λ filled. IsRunForm (fill_dtype (column_dtype array.now.values)) array.now (column_of filled)) }
+{
+    let filled = numbers.fill_null(alloc, value)?;
+    over_runs(array, FlatColumn::Primitive(filled), alloc)
 }

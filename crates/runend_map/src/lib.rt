@@ -7,10 +7,9 @@ mod answers;
 mod casts;
 mod codes;
 mod comparisons;
-mod decoded;
 mod dictionary;
 mod fill;
-mod rowwise;
+mod positions;
 mod scalar_fn;
 mod visible;
 
@@ -19,5 +18,5 @@ pub use column_order::CompareOperator;
 pub use comparisons::compare;
 pub use dictionary::{take_from, take_from_rows};
 pub use fill::fill_null;
-pub use rowwise::{cast_rows, fill_rows};
+pub use runend_rowwise::{cast_rows, fill_rows};
 pub use scalar_fn::{map_rows, map_rows_bool};

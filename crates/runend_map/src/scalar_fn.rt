@@ -13,10 +13,10 @@ ghost use Rattle.runend_map.specs.Asked.{HasValidRuns, IsAsked, answered_rows, a
 ghost use Rattle.runend_map.specs.Owed.{IsMappedForm, IsOwed, MayAsk, is_native, native_fault, number_row, truth_row};
 
 use crate::answers::{answers, column_of_numbers, column_of_truths};
-use crate::decoded::flat_rows;
 use crate::visible::shown_rows;
 use column_core::{DType, FlatColumn, NativePType, VortexError, VortexResult};
 use runend_array::{ArrayRef, ExecutionCtx, Kernel, array_of};
+use runend_rowwise::flat_rows;
 use runend_visible::{over_visible_runs, visible_values};
 use std::alloc::Allocator;
 

@@ -1,31 +1,20 @@
 //! The rows that the visible runs of a run column show over other values.
-ghost use Rattle.std.specs.Prelude.{◌≡◌, ◌↔◌, length, IfOk, IsOkUnless, IsTrue};
+ghost use Rattle.std.specs.Prelude.{◌≡◌, length, IfOk, IsOkUnless};
 ghost use Rattle.column_core.specs.Computed.{IsComputedLeaf};
 ghost use Rattle.column_core.specs.FlatColumn.{leaf_of};
 ghost use Rattle.column_core.specs.BoolForm.{bool_dtype, bool_rows};
 ghost use Rattle.column_core.specs.Leaf.{OfTruths, leaf_dtype, leaf_rows, single_rows};
-ghost use Rattle.column_core.specs.Value.{IsLists};
 ghost use Rattle.runend_codec.specs.Window.{run_rows};
 ghost use Rattle.runend_array.specs.Array.{column_of, dtype_of, rows};
 ghost use Rattle.runend_array.specs.Encoding.{IsDecodedForm};
 ghost use Rattle.runend_visible.specs.VisibleForm.{visible_ends, visible_values as values_of_visible, window_start};
 
-use column_core::{BoolArray, DType, FlatColumn, VortexError, VortexResult};
+use column_core::{BoolArray, FlatColumn, VortexError, VortexResult};
 use runend_array::{ArrayRef, ExecutionCtx, RunEndArray, RunEndArrayExt};
 use runend_column::decompress_bool::runend_decode_bools;
 use runend_decode::decode_flat;
 use runend_visible::{ends_of_visible, visible_offset};
 use std::alloc::Allocator;
-
-/// Is it a type of lists?
-pub(crate) fn is_lists(dtype: DType) -> bool
-    ensures { IsTrue result ↔ IsLists dtype }
-{
-    match dtype {
-        DType::List(_, _) => true,
-        _ => false,
-    }
-}
 
 /// The rows that the visible runs show over these values, one for each, as a flat column. Refused as
 /// `OutOfMemory` alone.

@@ -17,6 +17,7 @@ use Rattle.column_ops.specs.Take.{take_rows}
 use Rattle.runend_array.specs.Column.{Column, OfLeaf, OfConstant, OfLists, OfRuns}
 use Rattle.runend_array.specs.Encoding.{IsComputedFlat}
 use Rattle.runend_positions.specs.Indices.{optional_indices}
+use Rattle.runend_rowwise.proofs.CheckedIndices.{length-indices}
 use Rattle.runend_select.specs.TakeForm.{AreAllNull, IsTakeForm}
 
 -- of rows that are there, none is null only by its form
@@ -43,11 +44,6 @@ of-nulls (x ∷ xs) (true ∷ bits) same h = let wrong : Some x ≡ None = All-h
 of-nulls (x ∷ xs) (false ∷ bits) same h =
     let rest = of-nulls xs bits (omega arith) (All-tail (λ index. index ≡ None) None (optionals xs bits) h) in
     omega (arith, rest, count_by-false bits)
-
-pub length-indices : (xs : List ℤ) (bits : List Bool) → length bits ≡ length xs → length (optionals xs bits) ≡ length xs
-length-indices [] bits h = refl
-length-indices (x ∷ xs) [] h = h
-length-indices (x ∷ xs) (b ∷ bits) h = let rest = length-indices xs bits (omega arith) in omega arith
 
 -- null is taken at null indices
 pub take_rows-nulls : {B : Type 0} (rows : List (Option B)) (indices : List (Option ℤ)) → All (λ index. index ≡ None) indices → replicate (length indices) None ≡ take_rows rows indices

@@ -1,22 +1,14 @@
 -- What a filter answers, and indices that are tested, in plain variables.
-use Rattle.std.proofs.Common.{◌≡◌, ◌∙◌, ◌<◌, ◌≤◌, ◌⊎◌, inl, inr, ℕ, ℤ, pos, negsuc, List, Bool, true, false, cond, Some, None, length, refl, arith}
-use Rattle.std.specs.Prelude.{◌≤ℤ◌, ◌<ℤ◌, ◌↔◌, nat_lt, option_map}
+use Rattle.std.proofs.Common.{◌≡◌, ◌<◌, ◌≤◌, ◌⊎◌, inl, inr, ℕ, ℤ, pos, negsuc, List, Bool, true, false, cond, Some, None, refl, arith}
+use Rattle.std.specs.Prelude.{◌≤ℤ◌, ◌<ℤ◌, ◌↔◌, nat_lt}
 use Rattle.std.proofs.lemmas.Bool.Decides.{Decides-ltb}
 use Rattle.std.proofs.lemmas.Int.{ints}
-use Rattle.std.proofs.lemmas.List.{length-map}
-use Rattle.column_base.specs.declared.dtype.PType.{PType}
 use Rattle.column_base.specs.declared.error.VortexError.TheVariants.{OutOfBounds}
-use Rattle.column_base.specs.ValidityForm.{ValidityForm}
-use Rattle.column_core.specs.Leaf.{Leaf, leaf_rows, single_rows}
-use Rattle.column_core.specs.PrimitiveForm.{PrimitiveForm, primitive_with}
-use Rattle.column_core.specs.Value.{FlatValue, Single}
-use Rattle.column_ops.specs.Filter.{filter_fault}
 use Rattle.column_ops.specs.Take.{index_fault}
 use Rattle.runend_array.specs.declared.session.Thresholds.{Thresholds}
 use Rattle.runend_array.specs.Column.{Column, OfLeaf, OfConstant, OfLists, OfRuns, Runs}
 use Rattle.runend_array.specs.Encoding.{IsComputedFlat}
 use Rattle.runend_select.specs.FilterForm.{IsSelectedForm, TakesDirectly}
-use Rattle.runend_select.proofs.FilterFaults.{no_fault}
 
 -- rows that are taken one by one are flat
 pub flat-selected : (directly : Type 0) (whole : Runs) (bits : List Bool) (column : Column) → IsComputedFlat column → directly → IsSelectedForm directly whole bits column
@@ -29,15 +21,6 @@ flat-selected directly whole bits (OfRuns ends_type ends values offset count) fl
 pub takes_directly-same : (selected runs : ℕ) (thresholds : Thresholds) (selected′ runs′ : ℕ) (thresholds′ : Thresholds) → selected ≡ selected′ → runs ≡ runs′ → thresholds ≡ thresholds′
     → TakesDirectly selected runs thresholds ↔ TakesDirectly selected′ runs′ thresholds′
 takes_directly-same selected runs thresholds selected′ runs′ thresholds′ same_selected same_runs same_thresholds = rw (same_selected, same_runs, same_thresholds) ((λ h. h), (λ h. h))
-
--- a mask as long as the rows of a flat column is no fault
-pub no_fault-single : (mask : ℕ) (leaf : Leaf) → mask ≡ length (single_rows leaf) → filter_fault mask (length (leaf_rows leaf)) ≡ None
-no_fault-single mask leaf long = no_fault mask (length (leaf_rows leaf)) (long ∙ length-map (leaf_rows leaf) (option_map (λ (v : FlatValue). Single v)))
-
--- a column of whole numbers is known by its parts
-pub same-primitive : (ptype : PType) (numbers : List ℤ) (validity : ValidityForm) (own : PrimitiveForm) → ptype ≡ own.ptype → numbers ≡ own.numbers → validity ≡ own.validity
-    → primitive_with ptype numbers validity ≡ own
-same-primitive ptype numbers validity own same_type same_numbers same_validity = λ i. primitive_with (same_type i) (same_numbers i) (same_validity i)
 
 fault-past : (k count : ℕ) (b : Bool) → nat_lt k count ≡ b → count ≤ k → cond b None (Some (OutOfBounds (pos k) count)) ≡ Some (OutOfBounds (pos k) count)
 fault-past k count true is past = let less = (Decides-ltb k count).0 is in absurd (omega (arith, less))

@@ -1,16 +1,14 @@
 -- The run column of kept runs.
-use Rattle.std.proofs.Common.{◌≡◌, ◌∙◌, ℕ, List, Bool, length, refl, ap}
+use Rattle.std.proofs.Common.{◌≡◌, ◌∙◌, ℕ, List, Bool, length, ap}
 use Rattle.column_base.specs.declared.dtype.PType.{PType}
 use Rattle.column_base.specs.declared.dtype.Nullability.{Nullability}
 use Rattle.column_base.specs.declared.dtype.Nullability.TheVariants.{NonNullable, Nullable}
-use Rattle.column_base.specs.declared.dtype.DType.{DType}
 use Rattle.column_base.specs.declared.dtype.DType.TheVariants as column
-use Rattle.column_base.specs.Types.{IsUnsigned, nullability_of, with_nullability}
+use Rattle.column_base.specs.Types.{IsUnsigned}
 use Rattle.column_base.specs.ValidityForm.{NeverNull}
 use Rattle.column_core.specs.Leaf.{OfNumbers}
 use Rattle.column_core.specs.PrimitiveForm.{PrimitiveForm}
 use Rattle.column_ops.specs.Filter.{filter_rows}
-use Rattle.column_ops.specs.Nullable.{either_nullable}
 use Rattle.runend_array.specs.Column.{AreParts, AreRuns, Column, OfLeaf, Runs, column_rows}
 use Rattle.runend_codec.specs.Ends.{IsEndsType, ends_of}
 use Rattle.runend_codec.specs.Window.{run_rows}
@@ -23,23 +21,6 @@ use Rattle.runend_select.proofs.Selected.{set_bits}
 pub unsigned_of_ends : (t : PType) (n : Nullability) → IsEndsType (column.Primitive t n) → IsUnsigned t
 unsigned_of_ends t NonNullable h = h
 unsigned_of_ends t Nullable h = absurd h
-
--- a type with the nullability that it has
-keeps_type : (t : DType) → with_nullability t (nullability_of t) ≡ t
-keeps_type (column.Bool n) = refl
-keeps_type (column.Primitive t n) = refl
-keeps_type (column.Decimal d n) = refl
-keeps_type (column.Utf8 n) = refl
-keeps_type (column.Binary n) = refl
-keeps_type (column.List e n) = refl
-
-keeps_nullability : (n : Nullability) → either_nullable n NonNullable ≡ n
-keeps_nullability NonNullable = refl
-keeps_nullability Nullable = refl
-
--- indices without null change no type
-pub take_dtype-required : (t : DType) → with_nullability t (either_nullable (nullability_of t) NonNullable) ≡ t
-take_dtype-required t = ap (with_nullability t) (keeps_nullability (nullability_of t)) ∙ keeps_type t
 
 module _ (whole : Runs) (bits kept : List Bool) (kept_ends : PrimitiveForm) (values : Column) (count : ℕ) (valid : AreRuns whole) (long : length bits ≡ whole.count)
     (are : AreKept whole.ends whole.offset bits kept (ends_of kept_ends)) (rows : column_rows values ≡ filter_rows kept (column_rows whole.values)) (counted : count ≡ set_bits bits) where

@@ -1,5 +1,5 @@
 -- The runs that are kept, as far as they have been passed.
-use Rattle.std.proofs.Common.{◌≡◌, ◌↔◌, ℕ, ◌+◌, ◌-◌, ◌<◌, ◌≤◌, zero, suc, List, [], ◌∷◌, ◌++◌, Bool, true, false, Some, length, map, take, min, slice_index, arith, add-one, inl, inr, ap, refl, sym, ◌∙◌, length-append}
+use Rattle.std.proofs.Common.{◌≡◌, ◌↔◌, ℕ, ◌+◌, ◌-◌, ◌<◌, ◌≤◌, zero, suc, List, [], ◌∷◌, ◌++◌, Bool, true, false, Some, length, map, take, min, slice_index, arith, add-one, inl, inr, ap, refl, subst, sym, ◌∙◌, length-append}
 use Rattle.std.specs.Prelude.{slice_get, slice_range, nat_lt}
 use Rattle.std.proofs.lemmas.Bool.{cases_lt, lt-ltb}
 use Rattle.std.proofs.lemmas.List.{length-map, length-take, take_all, map-append, append-nil}
@@ -161,6 +161,22 @@ module _ (ends : List ℕ) (offset count : ℕ) (bits : List Bool) (k passed sel
         each = each_next b ((λ yes. absurd (let e : true ≡ false = sym yes ∙ no in cc)), (λ some. absurd (omega arith)));
         counted = sym (counts_next b ∙ ap (λ (t : Bool). kept_ends ++ filter_rows (t ∷ []) ((selected + more) ∷ [])) no ∙ append-nil kept_ends);
       }
+
+  -- the same by how many rows are selected up to where the run reaches
+  pub KeptSoFar-kept_to : (b : Bool) (total : ℕ) → total ≡ selected + more → b ≡ nat_lt 0 more → 0 < more
+      → KeptSoFar ends offset count bits (k + 1) (reached ends offset count (k + 1)) total (kept ++ b ∷ []) (kept_ends ++ total ∷ [])
+  KeptSoFar-kept_to b total all is some =
+      let next = KeptSoFar-kept b is some in
+      subst (λ (p : ℕ). KeptSoFar ends offset count bits (k + 1) p total (kept ++ b ∷ []) (kept_ends ++ total ∷ [])) next.passed_is
+      (subst (λ (n : ℕ). KeptSoFar ends offset count bits (k + 1) reach n (kept ++ b ∷ []) (kept_ends ++ n ∷ [])) (sym all) next)
+
+  pub KeptSoFar-skipped_to : (b : Bool) (total : ℕ) → total ≡ selected + more → b ≡ nat_lt 0 more → more ≡ 0
+      → KeptSoFar ends offset count bits (k + 1) (reached ends offset count (k + 1)) total (kept ++ b ∷ []) kept_ends
+  KeptSoFar-skipped_to b total all is none =
+      let next = KeptSoFar-skipped b is none in
+      let same : selected ≡ total = omega arith in
+      subst (λ (p : ℕ). KeptSoFar ends offset count bits (k + 1) p total (kept ++ b ∷ []) kept_ends) next.passed_is
+      (subst (λ (n : ℕ). KeptSoFar ends offset count bits (k + 1) reach n (kept ++ b ∷ []) kept_ends) same next)
 
 -- once all runs have been passed
 pub AreKept-all : (ends : List ℕ) (offset count : ℕ) (bits : List Bool) (k passed selected : ℕ) (kept : List Bool) (kept_ends : List ℕ) → k ≡ length ends

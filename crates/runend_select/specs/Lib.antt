@@ -1,9 +1,7 @@
 pub mod KeptRuns
-pub mod Computed
 pub mod RunsOf
 pub mod FilterForm
 pub mod TakeForm
 pub mod Laws
-pub mod Positions
 pub mod SessionPicks
 pub mod Told

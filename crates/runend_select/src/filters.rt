@@ -9,18 +9,17 @@ ghost use Rattle.runend_array.specs.Array.{column_of, dtype_of, rows};
 ghost use Rattle.runend_array.specs.Canonical.{canonical_column};
 ghost use Rattle.runend_array.specs.Column.{column_dtype, column_of_runs, column_rows};
 ghost use Rattle.runend_array.specs.Encoding.{IsComputedFlat};
-ghost use Rattle.runend_select.specs.Computed.{IsComputedAs};
+ghost use Rattle.runend_rowwise.specs.Computed.{IsComputedAs};
 ghost use Rattle.runend_select.specs.FilterForm.{HasNoRuns, IsFilterForm, IsSelectedForm, IsWholeForm, TakesDirectly};
 
 use crate::kept_columns::{least_column, selected_runs};
-use crate::places::set_places;
 use crate::taken_runs::taken_rows;
 use column_core::{BitBuffer, Mask, Validity, VortexError, VortexResult, is_number_type};
 use runend_array::{
     ArrayRef, Canonical, ExecutionCtx, RunEnd, RunEndArray, RunEndArrayExt, RunEndArraySlotsExt,
     Thresholds,
 };
-use runend_visible::boxed_runs;
+use runend_rowwise::set_places;
 use std::alloc::Allocator;
 
 // Are so few rows selected, of so many runs, that they are taken one by one?
@@ -72,7 +71,7 @@ fn filter_bits<A: Allocator + Copy>(
         return taken.into_array(alloc);
     }
     let kept = selected_runs(alloc, array, bits)?;
-    boxed_runs(alloc, kept)
+    ArrayRef::of_runs(alloc, kept)
 }
 
 // The same column, in memory of its own.
@@ -93,7 +92,7 @@ fn unchanged<A: Allocator + Copy>(
         }
     };
     let copy = RunEnd::new_unchecked(ends, values, array.offset(), array.len());
-    boxed_runs(*ctx.allocator(), copy)
+    ArrayRef::of_runs(*ctx.allocator(), copy)
 }
 
 // All rows: of whole numbers in least form, of other types unchanged.
@@ -145,7 +144,7 @@ fn without_rows<A: Allocator + Copy>(
     };
     let ends = ArrayRef::Primitive(ends);
     let none = RunEnd::new_unchecked(ends, values, 0, 0);
-    boxed_runs(alloc, none)
+    ArrayRef::of_runs(alloc, none)
 }
 
 /// The rows at which the mask is true, in order. Runs of whole numbers are left in least form: as few as

@@ -11,15 +11,15 @@ ghost use Rattle.runend_array.specs.Column.{AreParts, AreRuns, IsFlat, OfLeaf, c
 ghost use Rattle.runend_codec.specs.Ends.{IsEndsType, ends_of};
 ghost use Rattle.runend_codec.specs.Window.{run_rows};
 ghost use Rattle.runend_join.specs.Joined.{AllHaveRows};
-ghost use Rattle.runend_select.specs.Computed.{IsComputedAs};
+ghost use Rattle.runend_rowwise.specs.Computed.{IsComputedAs};
 ghost use Rattle.runend_select.specs.FilterForm.{AreLeftRuns, AreSelectedRuns};
 ghost use Rattle.runend_visible.specs.LeastForm.{AreLeastRuns, IsLeastForm};
 ghost use Rattle.runend_visible.specs.VisibleForm.{visible_values as values_of_visible};
 
 use crate::kept_runs::filter_ends;
-use crate::run_values::{select_values, selected_by};
 use column_core::{BitBuffer, Mask, PrimitiveArray, VortexError, VortexResult, is_number_type};
 use runend_array::{ArrayRef, RunEnd, RunEndArray, RunEndArrayExt, RunEndArraySlotsExt, array_of};
+use runend_rowwise::{select_values, selected_by};
 use runend_visible::{least_runs, over_least_runs, visible_values};
 use std::alloc::Allocator;
 

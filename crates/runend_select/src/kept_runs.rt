@@ -9,6 +9,7 @@ ghost use Rattle.runend_codec.specs.Ends.{ends_of};
 ghost use Rattle.runend_codec.specs.Window.{last_end};
 ghost use Rattle.runend_select.specs.KeptRuns.{AreKept};
 
+use crate::ones::{ones_before, ones_to};
 use column_base::match_each_unsigned;
 use column_core::{
     BitBuffer, BitBufferMut, Mask, NativePType, PrimitiveArray, PrimitiveValues, UnsignedPType,
@@ -109,22 +110,26 @@ fn kept_runs<E: UnsignedPType, A: Allocator + Copy>(
 {
     let mut kept_ends = Vec::with_capacity(alloc, ends.len())?;
     let mut kept = BitBufferMut::with_capacity(alloc, ends.len())?;
-    let mut passed = 0;
+    let mut index = 0;
+    let mut before = 0;
     let mut selected = 0;
     for run in 0..ends.len() {
         let reach = reach_of(ends, run, offset, count);
-        let more = mask.count_range(passed, reach);
+        before = ones_before(mask, index, before, reach);
+        index = reach / 64;
+        let passed = ones_to(mask, before, reach);
+        let more = passed - selected;
         if more > 0 {
-            selected += more;
-            kept_ends.push(end_of(selected))?;
+            kept_ends.push_reserved(end_of(passed));
         }
         kept.append(more > 0)?;
-        passed = reach;
+        selected = passed;
     }
     Ok((kept_ends, kept))
 }
 
 // So many rows, as an end.
+#[inline(always)]
 fn end_of<E: NativePType>(rows: usize) -> E
     requires { HasNumber E.PTYPE (pos rows) }
     ensures { E.number result ≡ pos rows }

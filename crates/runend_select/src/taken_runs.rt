@@ -12,10 +12,9 @@ ghost use Rattle.runend_array.specs.Column.{column_dtype, column_of_runs, column
 ghost use Rattle.runend_codec.specs.Window.{IsWindow};
 ghost use Rattle.runend_positions.specs.Indices.{AreInBounds, optional_indices};
 ghost use Rattle.runend_select.specs.RunsOf.{AreRunsOf};
-ghost use Rattle.runend_select.specs.Computed.{IsComputedAs};
+ghost use Rattle.runend_rowwise.specs.Computed.{IsComputedAs};
 
 use crate::positions::physical_indices;
-use crate::run_values::take_values;
 use column_base::match_each_unsigned;
 use column_core::{
     CountedEnds, Mask, NativePType, PrimitiveValues, UnsignedPType, Validity, VortexError,
@@ -25,6 +24,7 @@ use runend_array::{
     ArrayRef, Canonical, ExecutionCtx, RunEndArray, RunEndArrayExt, RunEndArraySlotsExt,
 };
 use runend_decode::copies_of;
+use runend_rowwise::take_values;
 use std::alloc::Allocator;
 
 // Which indices are valid, of so many.

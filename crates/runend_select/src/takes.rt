@@ -1,9 +1,9 @@
 //! Rows of run columns at indices.
-ghost use Rattle.std.specs.Prelude.{◌≡◌, ◌↔◌, ◌<◌, None, Some, IfOk, IsErrOf, IsOkUnless, IsTrue, Option, ℤ, count_by, length, map, slice_get};
+ghost use Rattle.std.specs.Prelude.{◌≡◌, ◌↔◌, ◌<◌, None, Some, IfOk, IsErrOf, IsOkUnless, IsTrue, Option, ℕ, ℤ, count_by, length, map, slice_get, true};
 ghost use Rattle.column_base.specs.declared.error.VortexError.{VortexError};
 ghost use Rattle.column_base.specs.Types.{nullability_of, with_nullability as dtype_with};
 ghost use Rattle.column_base.specs.declared.dtype.Nullability.TheVariants.{Nullable};
-ghost use Rattle.column_base.specs.ValidityForm.{HasLength, flags, nullability_in};
+ghost use Rattle.column_base.specs.ValidityForm.{HasLength, HasRow, flag_at, flags, nullability_in};
 ghost use Rattle.column_base.specs.Validity.{form_of};
 ghost use Rattle.column_core.specs.PrimitiveForm.{optional_numbers, primitive_dtype, primitive_with};
 ghost use Rattle.column_core.specs.Refusal.{IsRefusedBy};
@@ -24,6 +24,7 @@ use runend_array::{ArrayRef, ConstantArray, ExecutionCtx, RunEndArray, RunEndArr
 use std::alloc::Allocator;
 
 // Is it an index of one of `count` rows?
+#[inline(always)]
 fn check_index(index: i128, count: usize) -> VortexResult<()>
     ensures { IsToldBy (index_fault count (Some index)) result }
 {
@@ -36,8 +37,22 @@ fn check_index(index: i128, count: usize) -> VortexResult<()>
     Ok(())
 }
 
-// Is the index at a place null, or one of `count` rows?
-fn check_place<T: NativePType, A: Allocator>(
+// Is the index at a place valid? No bit is read where all are.
+#[inline(always)]
+fn is_valid<const ALL: bool, A: Allocator>(validity: &Validity<A>, place: usize) -> bool
+    requires there { HasRow (form_of validity.now) place }
+    requires all { ALL ≡ true → (row : ℕ) → flag_at (form_of validity.now) row ≡ true }
+    ensures { result ≡ flag_at (form_of validity.now) place }
+{
+    if ALL {
+        return true;
+    }
+    validity.is_valid(place)
+}
+
+// Is the index at a place null, or one of `count` rows? `ALL` says that none is null.
+#[inline(always)]
+fn check_place<const ALL: bool, T: NativePType, A: Allocator>(
     indices: &[T],
     validity: &Validity<A>,
     place: usize,
@@ -45,17 +60,34 @@ fn check_place<T: NativePType, A: Allocator>(
 ) -> VortexResult<()>
     requires there { place < length indices.now }
     requires fits { HasLength (form_of validity.now) (length indices.now) }
+    requires all { ALL ≡ true → (row : ℕ) → flag_at (form_of validity.now) row ≡ true }
     ensures { (index : Option ℤ) × (slice_get (optional_indices T.number indices.now (flags (form_of validity.now) (length indices.now))) place ≡ Some index)
         × IsToldBy (index_fault count index) result }
 {
-    if validity.is_valid(place) {
+    if is_valid::<ALL, A>(validity, place) {
         return check_index(indices[place].widen(), count);
     }
     Ok(())
 }
 
 // Is each index null, or one of `count` rows? Refused as `OutOfBounds`, with the index and the number of
-// rows, at the first that is not.
+// rows, at the first that is not. `ALL` says that none is null.
+fn check_each<const ALL: bool, T: NativePType, A: Allocator>(
+    indices: &[T],
+    validity: &Validity<A>,
+    count: usize,
+) -> VortexResult<()>
+    requires fits { HasLength (form_of validity.now) (length indices.now) }
+    requires all { ALL ≡ true → (row : ℕ) → flag_at (form_of validity.now) row ≡ true }
+    ensures { IsToldBy (take_fault (optional_indices T.number indices.now (flags (form_of validity.now) (length indices.now))) count) result }
+{
+    for place in 0..indices.len() {
+        check_place::<ALL, T, A>(indices, validity, place, count)?;
+    }
+    Ok(())
+}
+
+// The same, where some may be null.
 fn check_indices<T: NativePType, A: Allocator>(
     indices: &[T],
     validity: &Validity<A>,
@@ -64,10 +96,12 @@ fn check_indices<T: NativePType, A: Allocator>(
     requires fits { HasLength (form_of validity.now) (length indices.now) }
     ensures { IsToldBy (take_fault (optional_indices T.number indices.now (flags (form_of validity.now) (length indices.now))) count) result }
 {
-    for place in 0..indices.len() {
-        check_place(indices, validity, place, count)?;
+    match validity {
+        Validity::NonNullable => check_each::<true, T, A>(indices, validity, count),
+        Validity::AllValid => check_each::<true, T, A>(indices, validity, count),
+        Validity::AllInvalid => check_each::<false, T, A>(indices, validity, count),
+        Validity::Bits(_) => check_each::<false, T, A>(indices, validity, count),
     }
-    Ok(())
 }
 
 // Is there a row, and is each null?

@@ -1,6 +1,6 @@
 use Rattle.std.proofs.Common.{ap, sym}
 use Rattle.runend_map.specs.Codes.{keeps_runs}
-use Rattle.runend_map.proofs.PassedOn.{others_lose}
+use Rattle.runend_map.proofs.KeptTypes.{others_lose}
 use Rattle.runend_map.proofs.codes.is_kept_type.Goals as goal
 
 pub returns-in-Bool : goal.returns-in-Bool

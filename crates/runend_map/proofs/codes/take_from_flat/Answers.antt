@@ -1,51 +1,13 @@
-use Rattle.std.proofs.Common.{◌∙◌, Bool, Option, sym, ap, subst, length, inl}
-use Rattle.column_base.specs.declared.dtype.DType.{DType}
-use Rattle.column_base.specs.declared.error.VortexError.{VortexError}
+use Rattle.std.proofs.Common.{◌∙◌, map, sym, ap, length, inl}
 use Rattle.column_core.specs.FlatColumn.{leaf_of}
-use Rattle.column_core.specs.Leaf.{leaf_dtype, leaf_rows}
-use Rattle.column_core.specs.PrimitiveForm.{optional_numbers, primitive_dtype}
-use Rattle.column_core.specs.Refusal.{IsErrorFor}
-use Rattle.column_ops.specs.Cast.{is_numbers}
+use Rattle.column_core.specs.Leaf.{leaf_rows}
+use Rattle.column_core.specs.PrimitiveForm.{optional_numbers}
+use Rattle.column_ops.specs.Codes.{code_fault, code_number}
 use Rattle.column_ops.proofs.IndexPositions.{refused-passed_on}
-use Rattle.runend_array.specs.Array.{column_of, rows}
 use Rattle.runend_array.specs.Column.{column_of_runs, plain_of}
-use Rattle.column_ops.specs.Codes.{code_fault}
-use Rattle.runend_map.specs.Codes.{keeps_runs}
-use Rattle.runend_map.specs.TakenForm.{IsTakenForm}
-use Rattle.runend_map.proofs.TakenForms.{taken_kind}
-use Rattle.runend_map.proofs.CodeRows.{same_fault, taken_count, taken_over}
-use Rattle.runend_map.proofs.KeptRows.{if_ok}
-use Rattle.runend_map.proofs.OneKind.{no_fault}
-use Rattle.runend_map.proofs.PassedOn.{no_value}
+use Rattle.runend_map.proofs.CodeRows.{codes_are}
+use Rattle.runend_rowwise.proofs.PassedOn.{no_value}
 use Rattle.runend_map.proofs.codes.take_from_flat.Goals as goal
-
-pub returns-in_err-taken-clause-refused : goal.returns-in_err-taken-clause-refused
-returns-in_err-taken-clause-refused g c =
-    let numbers = sym (c.is_number_type.ensures ∙ ap is_numbers c.dtype.ensures) ∙ c.if-not-is_number_type.false in
-    let count = length (leaf_rows (leaf_of c.args.dictionary.now)) in
-    let same = same_fault c.args.codes.now (optional_numbers c.in_ok-indices.indices) c.in_ok-indices.ensures.valid c.in_ok-indices.ensures.codes count numbers in
-    refused-passed_on (code_fault (plain_of (column_of_runs c.args.codes.now)) count) c.in_err-taken.field-0.0 c.from_residual-in_err-taken.result c.from_residual-in_err-taken.ensures.1
-    (subst (λ (o : Option VortexError). IsErrorFor o c.in_err-taken.field-0.0) same c.in_err-taken.ensures.refused)
-
-pub placed-requires : goal.placed-requires
-placed-requires g c = record {
-  paired = taken_count c.args.codes.now (optional_numbers c.in_ok-indices.indices) c.in_ok-indices.ensures.valid c.in_ok-indices.ensures.codes (leaf_rows (leaf_of c.args.dictionary.now))
-      (leaf_of c.in_ok-taken.taken) c.in_ok-taken.ensures.made.rows;
-  computed = c.in_ok-taken.ensures.made.computed;
-}
-
-pub returns-clause-refused : goal.returns-clause-refused
-returns-clause-refused g c =
-    let numbers = sym (c.is_number_type.ensures ∙ ap is_numbers c.dtype.ensures) ∙ c.if-not-is_number_type.false in
-    let count = length (leaf_rows (leaf_of c.args.dictionary.now)) in
-    let same = same_fault c.args.codes.now (optional_numbers c.in_ok-indices.indices) c.in_ok-indices.ensures.valid c.in_ok-indices.ensures.codes count numbers in
-    no_fault (code_fault (plain_of (column_of_runs c.args.codes.now)) count) c.placed.result (sym same ∙ c.in_ok-taken.ensures.refused) c.placed.ensures.only
-
-pub returns-clause-rows : goal.returns-clause-rows
-returns-clause-rows g c =
-    if_ok c.placed.result (λ taken rows_are.
-    taken_over c.args.codes.now (optional_numbers c.in_ok-indices.indices) c.in_ok-indices.ensures.valid c.in_ok-indices.ensures.codes (leaf_of c.args.dictionary.now) (leaf_of c.in_ok-taken.taken)
-    (rows taken) c.in_ok-taken.ensures.made.rows rows_are) c.placed.ensures.rows
 
 pub returns-in_err-indices-clause-dtype : goal.returns-in_err-indices-clause-dtype
 returns-in_err-indices-clause-dtype g c = no_value _ c.from_residual.result c.from_residual.ensures.0
@@ -60,21 +22,5 @@ returns-in_err-indices-clause-refused g c =
 pub returns-in_err-indices-clause-rows : goal.returns-in_err-indices-clause-rows
 returns-in_err-indices-clause-rows g c = no_value _ c.from_residual.result c.from_residual.ensures.0
 
-pub returns-in_err-taken-clause-dtype : goal.returns-in_err-taken-clause-dtype
-returns-in_err-taken-clause-dtype g c = no_value _ c.from_residual-in_err-taken.result c.from_residual-in_err-taken.ensures.0
-
-pub returns-in_err-taken-clause-form : goal.returns-in_err-taken-clause-form
-returns-in_err-taken-clause-form g c = no_value _ c.from_residual-in_err-taken.result c.from_residual-in_err-taken.ensures.0
-
-pub returns-in_err-taken-clause-rows : goal.returns-in_err-taken-clause-rows
-returns-in_err-taken-clause-rows g c = no_value _ c.from_residual-in_err-taken.result c.from_residual-in_err-taken.ensures.0
-
-pub returns-clause-form : goal.returns-clause-form
-returns-clause-form g c =
-    let codes = c.args.codes.now in
-    let dictionary = leaf_dtype (leaf_of c.args.dictionary.now) in
-    let kept = c.is_kept_type.ensures ∙ ap keeps_runs c.dtype-2.ensures in
-    if_ok c.placed.result (λ taken form.
-    subst (λ (b : Bool). IsTakenForm b dictionary codes (column_of taken)) kept
-    (taken_kind c.is_kept_type.result dictionary (primitive_dtype c.in_ok-indices.indices) codes (column_of taken)
-    (subst (λ (d : DType). IsTakenForm c.is_kept_type.result d codes (column_of taken)) c.in_ok-taken.ensures.made.dtype form))) c.placed.ensures.form
+pub take_at_codes-requires-clause-codes : goal.take_at_codes-requires-clause-codes
+take_at_codes-requires-clause-codes g c = ap (map code_number) (sym c.in-Some.ensures.rows) ∙ codes_are (optional_numbers c.in-Some.indices.now)

@@ -4,7 +4,7 @@ use Rattle.column_ops.specs.Codes.{code_numbers}
 use Rattle.runend_codec.specs.Window.{run_rows}
 use Rattle.runend_visible.specs.VisibleForm.{visible_ends, window_start}
 use Rattle.runend_visible.proofs.VisibleWindow.{visible_rows}
-use Rattle.runend_map.proofs.PassedOn.{no_value, only_error}
+use Rattle.runend_rowwise.proofs.PassedOn.{no_value, only_error}
 use Rattle.runend_map.proofs.dictionary.codes_of_runs.Goals as goal
 
 pub returns-clause-codes : goal.returns-clause-codes

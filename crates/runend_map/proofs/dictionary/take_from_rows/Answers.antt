@@ -7,7 +7,7 @@ use Rattle.column_ops.specs.Take.{take_fault}
 use Rattle.column_ops.proofs.IndexPositions.{refused-passed_on}
 use Rattle.runend_array.specs.Array.{column_of, rows}
 use Rattle.runend_array.specs.Column.{plain_of}
-use Rattle.runend_map.proofs.PassedOn.{no_value}
+use Rattle.runend_rowwise.proofs.PassedOn.{no_value}
 use Rattle.runend_map.proofs.dictionary.take_from_rows.Goals as goal
 
 pub returns-then-not-is_number_type : goal.returns-then-not-is_number_type

@@ -9,7 +9,7 @@ use Rattle.runend_array.specs.declared.session.Kernel.TheVariants.{ScalarFn}
 use Rattle.runend_map.specs.Owed.{IsMappedForm}
 use Rattle.runend_map.proofs.KeptRows.{if_ok}
 use Rattle.runend_map.proofs.OwedRows.{mapped_form}
-use Rattle.runend_map.proofs.PassedOn.{no_value, only_error}
+use Rattle.runend_rowwise.proofs.PassedOn.{no_value, only_error}
 use Rattle.runend_map.proofs.scalar_fn.answered.Goals as goal
 
 -- answers to a column that is no run column are flat

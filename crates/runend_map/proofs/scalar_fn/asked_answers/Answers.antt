@@ -8,7 +8,7 @@ use Rattle.runend_map.specs.Asked.{IsAsked}
 use Rattle.runend_map.specs.Owed.{number_row, is_native}
 use Rattle.runend_map.proofs.KeptRows.{if_ok}
 use Rattle.runend_map.proofs.OwedRows.{may_ask}
-use Rattle.runend_map.proofs.PassedOn.{no_value, only_error}
+use Rattle.runend_rowwise.proofs.PassedOn.{no_value, only_error}
 use Rattle.runend_map.proofs.scalar_fn.asked_answers.Goals as goal
 
 pub answers_to-answers-requires-clause-callable : goal.answers_to-answers-requires-clause-callable

@@ -5,8 +5,8 @@ use Rattle.runend_array.specs.Column.{Column, column_dtype, column_rows}
 use Rattle.runend_array.specs.SessionForm.{SessionForm}
 use Rattle.runend_select.specs.FilterForm.{IsSelectedForm, TakesDirectly}
 use Rattle.runend_select.proofs.Forms.{flat-selected, takes_directly-same}
-use Rattle.runend_select.proofs.ComputedRows.{ok_then}
-use Rattle.runend_select.proofs.PassedOn.{no_value, only_error}
+use Rattle.runend_rowwise.proofs.ComputedRows.{ok_then}
+use Rattle.runend_rowwise.proofs.PassedOn.{no_value, only_error}
 use Rattle.runend_select.proofs.filters.filter_bits.Goals as goal
 
 pub returns-in_err-taken-clause-only : goal.returns-in_err-taken-clause-only
@@ -57,13 +57,13 @@ returns-then-takes_directly-clause-form g c =
     ok_then c.into_array.result _ _ (λ made is. subst (λ (column : Column). IsSelectedForm directly array bits column) (sym is) taken) c.into_array.ensures.form
 
 pub returns-clause-only : goal.returns-clause-only
-returns-clause-only g c = c.boxed_runs.ensures.only
+returns-clause-only g c = c.of_runs.ensures.only
 
 pub returns-clause-rows : goal.returns-clause-rows
-returns-clause-rows g c = ok_then c.boxed_runs.result _ _ (λ boxed same. ap column_rows same ∙ c.in_ok-kept.ensures.rows) c.boxed_runs.ensures.form
+returns-clause-rows g c = ok_then c.of_runs.result _ _ (λ boxed same. ap column_rows same ∙ c.in_ok-kept.ensures.rows) c.of_runs.ensures.form
 
 pub returns-clause-dtype : goal.returns-clause-dtype
-returns-clause-dtype g c = ok_then c.boxed_runs.result _ _ (λ boxed same. ap column_dtype same ∙ c.in_ok-kept.ensures.dtype) c.boxed_runs.ensures.form
+returns-clause-dtype g c = ok_then c.of_runs.result _ _ (λ boxed same. ap column_dtype same ∙ c.in_ok-kept.ensures.dtype) c.of_runs.ensures.form
 
 pub returns-clause-form : goal.returns-clause-form
 returns-clause-form g c =
@@ -75,4 +75,4 @@ returns-clause-form g c =
     let same = takes_directly-same c.true_count.result c.len-runs.result c.thresholds-thresholds.result (count_by (λ bit. bit) bits) (length array.ends) own c.true_count.ensures runs thresholds in
     let directly = TakesDirectly (count_by (λ bit. bit) bits) (length array.ends) own in
     let not : ¬ directly = λ few. let yes = c.takes_directly.ensures.1 (same.1 few) in let no = c.if-takes_directly.false in cc in
-    ok_then c.boxed_runs.result _ _ (λ boxed is. subst (λ (column : Column). IsSelectedForm directly array bits column) (sym is) (not, c.in_ok-kept.ensures.form)) c.boxed_runs.ensures.form
+    ok_then c.of_runs.result _ _ (λ boxed is. subst (λ (column : Column). IsSelectedForm directly array bits column) (sym is) (not, c.in_ok-kept.ensures.form)) c.of_runs.ensures.form

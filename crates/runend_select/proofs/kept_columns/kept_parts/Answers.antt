@@ -8,7 +8,7 @@ use Rattle.runend_array.specs.Column.{IsPlainEnds, column_dtype}
 use Rattle.runend_codec.specs.Ends.{ends_of}
 use Rattle.runend_select.specs.KeptRuns.{AreKept}
 use Rattle.runend_select.proofs.KeptColumn.{filled-kept, parts-kept, rows-kept, unsigned_of_ends}
-use Rattle.runend_select.proofs.PassedOn.{no_value, only_error}
+use Rattle.runend_rowwise.proofs.PassedOn.{no_value, only_error}
 use Rattle.runend_select.proofs.kept_columns.kept_parts.Goals as goal
 
 pub returns-in-Ok-clause-parts : goal.returns-in-Ok-clause-parts

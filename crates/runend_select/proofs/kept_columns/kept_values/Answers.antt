@@ -1,8 +1,8 @@
 use Rattle.std.proofs.Common.{◌∙◌, ap, sym, subst}
 use Rattle.runend_array.specs.Column.{column_dtype, column_rows}
 use Rattle.runend_array.specs.Encoding.{IsComputedFlat}
-use Rattle.runend_select.proofs.ComputedRows.{ok_then}
-use Rattle.runend_select.proofs.PassedOn.{no_value, only_error}
+use Rattle.runend_rowwise.proofs.ComputedRows.{ok_then}
+use Rattle.runend_rowwise.proofs.PassedOn.{no_value, only_error}
 use Rattle.runend_select.proofs.kept_columns.kept_values.Goals as goal
 
 pub returns-in_err-kept-clause-only : goal.returns-in_err-kept-clause-only

@@ -6,8 +6,8 @@ use Rattle.column_core.specs.Value.{FlatValue, Single, Value}
 use Rattle.runend_codec.specs.Window.{run_rows}
 use Rattle.runend_visible.specs.VisibleForm.{visible_ends, window_start}
 use Rattle.runend_visible.proofs.VisibleWindow.{visible_rows}
-use Rattle.runend_select.proofs.ComputedRows.{ok_then}
-use Rattle.runend_select.proofs.PassedOn.{no_value, only_error}
+use Rattle.runend_rowwise.proofs.ComputedRows.{ok_then}
+use Rattle.runend_rowwise.proofs.PassedOn.{no_value, only_error}
 use Rattle.runend_select.proofs.kept_columns.least_column.Goals as goal
 
 pub over_least_runs-requires : goal.over_least_runs-requires

@@ -13,9 +13,9 @@ use Rattle.runend_codec.specs.Window.{run_rows, IsWindow}
 use Rattle.runend_codec.proofs.Ends.{length_ends_of}
 use Rattle.runend_join.specs.Joined.{AllHaveRows}
 use Rattle.runend_visible.specs.LeastForm.{AreLeastRuns}
-use Rattle.runend_select.proofs.ComputedRows.{ok_then}
+use Rattle.runend_rowwise.proofs.ComputedRows.{ok_then}
 use Rattle.runend_select.proofs.LeastForms.{flat_of_computed}
-use Rattle.runend_select.proofs.PassedOn.{no_value, only_error}
+use Rattle.runend_rowwise.proofs.PassedOn.{no_value, only_error}
 use Rattle.runend_select.proofs.kept_columns.least_kept.Goals as goal
 
 pub numbers_in-numbers-requires : goal.numbers_in-numbers-requires

@@ -6,7 +6,7 @@ use Rattle.runend_codec.specs.Window.{IsWindow}
 use Rattle.runend_positions.specs.Indices.{optional_indices, runs_of}
 use Rattle.runend_positions.specs.Pick.{answer_of, run_of_null}
 use Rattle.runend_select.specs.RunsOf.{AreRunsOf}
-use Rattle.runend_select.proofs.ComputedRows.{ok_then}
+use Rattle.runend_rowwise.proofs.ComputedRows.{ok_then}
 use Rattle.runend_join.proofs.Fitting.{naturals-of}
 use Rattle.runend_select.proofs.taken_runs.runs_by.Goals as goal
 

@@ -2,7 +2,7 @@ use Rattle.std.proofs.Common.{◌∙◌, FitsSigned, None, Some, refl, rules, sy
 use Rattle.std.specs.Int.{w128}
 use Rattle.std.proofs.lemmas.Int.{to_z-of_z}
 use Rattle.column_base.specs.Validity.{form_of}
-use Rattle.runend_select.proofs.CheckedIndices.{index-null, index-valid}
+use Rattle.runend_rowwise.proofs.CheckedIndices.{index-null, index-valid}
 use Rattle.runend_select.proofs.takes.check_place.Goals as goal
 
 pub returns-then-is_valid : goal.returns-then-is_valid

@@ -7,8 +7,8 @@ use Rattle.runend_codec.proofs.RunRows.{length-run_rows}
 use Rattle.runend_positions.specs.Indices.{optional_indices}
 use Rattle.runend_select.specs.TakeForm.{IsTakeForm}
 use Rattle.runend_select.proofs.AllNull.{all_null, flat-taken, not_all_null, null_dtype, null_rows}
-use Rattle.runend_select.proofs.ComputedRows.{ok_then}
-use Rattle.runend_select.proofs.PassedOn.{no_value, only_error}
+use Rattle.runend_rowwise.proofs.ComputedRows.{ok_then}
+use Rattle.runend_rowwise.proofs.PassedOn.{no_value, only_error}
 use Rattle.runend_select.proofs.takes.take_indices_unchecked.Goals as goal
 
 pub returns-then-are_all_null-clause-rows : goal.returns-then-are_all_null-clause-rows
