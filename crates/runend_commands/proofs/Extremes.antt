@@ -1,12 +1,18 @@
 -- The least and the greatest row, copied.
-use Rattle.std.proofs.Common.{◌≡◌, Option, Some, None}
+use Rattle.std.proofs.Common.{◌≡◌, Option, Some, None, refl}
 use Rattle.std.specs.Prelude.{All, IfNone, IfOk, IfSome, Result, Ok, Err}
 use Rattle.column_base.specs.declared.dtype.DType.{DType}
 use Rattle.column_base.specs.declared.dtype.DType.TheVariants as column
+use Rattle.column_base.specs.declared.dtype.Nullability.{Nullability}
 use Rattle.column_base.specs.declared.error.VortexError.{VortexError}
+use Rattle.column_base.specs.ValidityForm.{nullability_in}
+use Rattle.column_core.specs.Leaf.{Leaf, OfNumbers, OfTruths, OfDecimals, OfVarBins, leaf_dtype}
 use Rattle.column_core.specs.ScalarForm.{ScalarForm}
 use Rattle.column_core.specs.ScalarView.{sees}
 use Rattle.column_core.specs.Value.{IsLists, PlainColumn}
+use Rattle.column_core.specs.VarBinForm.{kind_dtype}
+use Rattle.column_core.specs.declared.varbinview.VarBinKind.{VarBinKind}
+use Rattle.column_core.specs.declared.varbinview.VarBinKind.TheVariants.{Utf8, Binary}
 use Rattle.column_core.specs.declared.view.ScalarView.{ScalarView}
 use Rattle.column_order.specs.OrderFacts.{IsGreatest, IsLeast}
 use Rattle.runend_aggregate.specs.OrderFault.{order_fault}
@@ -16,6 +22,30 @@ use Rattle.runend_commands.specs.Extremes.{AreCopiesOf, AreExtremesIfAny}
 pub single_if_ordered : (t : DType) → order_fault t ≡ None → ¬ IsLists t
 single_if_ordered (column.List e n) same lists = cc
 single_if_ordered t same lists = absurd lists
+
+-- and the rows of any other type have one
+ordered_if_single : (t : DType) → ¬ IsLists t → order_fault t ≡ None
+ordered_if_single (column.Bool n) single = refl
+ordered_if_single (column.Primitive p n) single = refl
+ordered_if_single (column.Decimal d n) single = refl
+ordered_if_single (column.Utf8 n) single = refl
+ordered_if_single (column.Binary n) single = refl
+ordered_if_single (column.List e n) single = absurd (single tt)
+
+single_kind : (kind : VarBinKind) (n : Nullability) → ¬ IsLists (kind_dtype kind n)
+single_kind Utf8 n lists = lists
+single_kind Binary n lists = lists
+
+-- no flat column is of a type of lists
+pub single_leaf : (leaf : Leaf) → ¬ IsLists (leaf_dtype leaf)
+single_leaf (OfNumbers form) lists = lists
+single_leaf (OfTruths form) lists = lists
+single_leaf (OfDecimals form) lists = lists
+single_leaf (OfVarBins form) lists = single_kind form.kind (nullability_in form.validity) lists
+
+-- so its rows have an order
+pub ordered_leaf : (leaf : Leaf) → order_fault (leaf_dtype leaf) ≡ None
+ordered_leaf leaf = ordered_if_single (leaf_dtype leaf) (single_leaf leaf)
 
 -- copies of the least and the greatest row are these
 extremes_copied : {A : Type 0} (before : PlainColumn) (found : Option (ScalarView A × ScalarView A)) (scalars : Option (ScalarForm × ScalarForm))

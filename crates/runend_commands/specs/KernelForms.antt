@@ -5,7 +5,7 @@ use Rattle.column_base.specs.declared.error.VortexError.TheVariants.{OutOfMemory
 use Rattle.column_core.specs.PrimitiveForm.{optional_numbers}
 use Rattle.column_ops.specs.Fill.{fill_dtype}
 use Rattle.runend_array.specs.Array.{column_of, dtype_of, rows}
-use Rattle.runend_array.specs.Column.{Column, OfLeaf, OfConstant, OfLists, OfRuns, Runs, runs_with, IsFlat}
+use Rattle.runend_array.specs.Column.{Column, OfLeaf, OfConstant, OfLists, OfRuns, Runs, runs_with, IsFlat, IsLeaf}
 use Rattle.runend_array.specs.Encoding.{IsDecodedForm}
 use Rattle.runend_array.specs.SessionForm.{SessionForm, is_registered_in}
 use Rattle.runend_array.specs.declared.array_ref.ArrayRef.{ArrayRef}
@@ -23,7 +23,7 @@ use Rattle.runend_commands.specs.declared.command.Command.TheVariants.{Slice, Fi
 use Rattle.runend_commands.specs.declared.command.Answer.{Answer}
 use Rattle.runend_commands.specs.declared.command.Answer.TheVariants.{Done, Refused}
 use Rattle.runend_commands.specs.Extremes.{HasBytes}
-use Rattle.runend_commands.specs.Parts.{IsPlainPart}
+use Rattle.runend_rowwise.specs.Parts.{IsPlainPart}
 use Rattle.runend_commands.specs.Step.{IsChain, IsStep}
 
 -- a run column whose kernel is registered
@@ -40,9 +40,9 @@ HasConstantKernel session kernel (OfConstant constant) = is_registered_in sessio
 HasConstantKernel session kernel (OfLists lists) = ⊥
 HasConstantKernel session kernel (OfRuns ends_type ends values offset count) = ⊥
 
--- a column that the kernel of an aggregate serves
-abbrev pub HasAggregateKernel : SessionForm → Kernel → Column → Type 0
-HasAggregateKernel session kernel before = HasKernel session kernel before ⊎ HasConstantKernel session kernel before
+-- a column whose rows an aggregate reads where they are, so that it takes no memory: runs or a constant whose kernel is registered, or a flat column, whatever is registered
+abbrev pub IsReadInPlace : SessionForm → Kernel → Column → Type 0
+IsReadInPlace session kernel before = HasKernel session kernel before ⊎ HasConstantKernel session kernel before ⊎ IsLeaf before
 
 -- a fact of the runs, where it is a run column
 abbrev pub OnRuns : Column → (Runs → Type 0) → Type 0
@@ -60,9 +60,9 @@ pub record ByKernel (session : SessionForm) (kernel : Kernel) (before : Column) 
 abbrev pub KeepsRuns : SessionForm → Kernel → DType → Column → Column → Type 0
 KeepsRuns session kernel dtype before after = ByKernel session kernel before (λ runs. IsRunForm dtype runs after) (IsFlat after)
 
--- the kernel of an aggregate, which takes no memory, is never short of it
+-- an aggregate that reads the rows where they are is never short of memory
 abbrev pub IsNeverShort : {A : Type 0} → SessionForm → Kernel → Column → Answer A → Type 0
-IsNeverShort session kernel before answer = HasAggregateKernel session kernel before → answer ≢ Refused OutOfMemory
+IsNeverShort session kernel before answer = IsReadInPlace session kernel before → answer ≢ Refused OutOfMemory
 
 -- what a command leaves or answers by its kernel, where it has one
 abbrev pub LeavesByKernel : {A : Type 0} → SessionForm → ArrayRef A → Command A → Answer A → ArrayRef A → Type 0

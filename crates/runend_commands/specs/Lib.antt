@@ -2,7 +2,6 @@ pub mod Refusal
 pub mod Extremes
 pub mod Meaning
 pub mod Step
-pub mod Parts
 pub mod KernelForms
 pub mod Outcomes
 pub mod Laws

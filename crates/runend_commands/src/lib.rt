@@ -8,3 +8,4 @@ mod steps;
 
 pub use command::{Answer, Command};
 pub use execution::{execute, execute_one};
+pub use steps::{Outcome, outcome_of};

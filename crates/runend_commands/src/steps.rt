@@ -16,7 +16,6 @@ mod is_constant;
 mod is_sorted;
 mod kernel_runs;
 mod min_max;
-mod part;
 mod slice;
 mod sum;
 mod take;

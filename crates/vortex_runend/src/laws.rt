@@ -1,7 +1,7 @@
 //! The laws of encodings, and of rows that are sliced, taken and filled, each proved of every list of
 //! optional values, so of whole numbers too, the law of what a run column holds beside its slots, and
 //! those of commands and of the metadata record. Those of filter, of strategies of a take, of commands, of
-//! sums and of the record stand in the crates below.
+//! sums, of the record and of columns cut into chunks stand in the crates below.
 //!
 //! An encoding of a list is its tight exact cover: runs of which none is empty, none can be joined
 //! with the next, and none is hidden. But for the last, each function here does nothing: its clause is
@@ -11,6 +11,11 @@ ghost use Rattle.runend_array.specs.Array.{column_of, dtype_of, rows};
 ghost use Rattle.runend_array.specs.Encoding.{IsPlainNumbers};
 ghost use Rattle.vortex_runend.specs.Laws.{DecodingAnEncoding, EqualListsEqualEncodings, NeighboursDiffer, NoCoverIsShorter, SliceOfSlice, TakeOfTake, FillThenSlice, TightCoverIsUnique, EqualDataHashEqually};
 
+pub use chunk_laws::{
+    cast_of_joined, comparison_of_joined, constant_of_joined, encoding_of_joined,
+    extremes_of_joined, fill_of_joined, filter_of_joined, slice_of_joined, sorted_of_joined,
+    sum_from_any_sum, sum_of_joined, sum_of_joined_naturals, take_of_parts,
+};
 pub use runend_aggregate::{sum_signed_runs, sum_unsigned_runs};
 use runend_array::{ArrayRef, ExecutionCtx, RunEnd, VortexError, VortexResult};
 pub use runend_commands::laws::runs_agree;

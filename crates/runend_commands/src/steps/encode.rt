@@ -18,6 +18,6 @@ pub fn encode_column<A: Allocator + Copy>(
 {
     let flat = column.canonicalize(ctx)?;
     let runs = RunEnd::encode(flat, ctx)?;
-    let boxed = Box::new(*ctx.allocator(), runs)?;
-    Ok(Outcome::Becomes(ArrayRef::RunEnd(boxed)))
+    let encoded = ArrayRef::of_runs(*ctx.allocator(), runs)?;
+    Ok(Outcome::Becomes(encoded))
 }

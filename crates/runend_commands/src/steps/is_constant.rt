@@ -1,13 +1,13 @@
 //! The command IsConstant.
 ghost use Rattle.std.specs.Prelude.{◌≡◌, ◌≢◌, ◌↔◌, Err, IfOk, IsTrue};
-ghost use Rattle.column_core.specs.FlatColumn.{leaf_of};
+ghost use Rattle.column_core.specs.FlatView.{leaf_in};
 ghost use Rattle.column_core.specs.Leaf.{single_rows};
 ghost use Rattle.column_core.specs.Refusal.{IsRefusedBy};
 ghost use Rattle.column_order.specs.OrderFacts as order;
 ghost use Rattle.runend_aggregate.specs.OrderFault.{order_fault};
 ghost use Rattle.runend_array.specs.Array.{column_of, dtype_of, rows};
 ghost use Rattle.runend_array.specs.declared.session.Kernel.TheVariants.{IsConstant as constant_kernel};
-ghost use Rattle.runend_commands.specs.KernelForms.{HasAggregateKernel};
+ghost use Rattle.runend_commands.specs.KernelForms.{IsReadInPlace};
 ghost use Rattle.runend_commands.specs.Outcomes.{IsOutcome};
 ghost use Rattle.runend_commands.specs.declared.command.Command.TheVariants.{IsConstant};
 
@@ -15,8 +15,7 @@ use crate::command::Answer;
 use crate::steps::Outcome;
 use crate::steps::flat_rows::flat_rows;
 use crate::steps::kernel_runs::{constant_for, runs_for};
-use column_core::{FlatColumn, VortexError, VortexResult};
-use column_order::FlatOrder;
+use column_core::{FlatView, VortexError, VortexResult};
 use runend_aggregate::{is_constant, is_constant_of_constant};
 use runend_array::{ArrayRef, ExecutionCtx, Kernel};
 use std::alloc::Allocator;
@@ -33,14 +32,14 @@ pub fn is_constant_column<A: Allocator + Copy>(
     Ok(Outcome::Answers(Answer::Bool(constant)))
 }
 
-// The same, by the kernel where it serves the column.
+// The same, by the kernel where it serves the column. A flat column is read where it is.
 fn are_rows_equal<A: Allocator + Copy>(
     column: &ArrayRef<A>,
     ctx: &mut ExecutionCtx<A>,
 ) -> VortexResult<bool>
     ensures refused { IsRefusedBy (order_fault (dtype_of column.now)) result }
     ensures answer { IfOk result (λ constant. IsTrue constant ↔ order.IsConstant (rows column.now)) }
-    ensures kernel { HasAggregateKernel ctx.old constant_kernel (column_of column.now) → result ≢ Err VortexError.OutOfMemory }
+    ensures in_place { IsReadInPlace ctx.old constant_kernel (column_of column.now) → result ≢ Err VortexError.OutOfMemory }
     ensures session { ctx.new ≡ ctx.old }
 {
     if let Some(runs) = runs_for(column, Kernel::IsConstant, ctx) {
@@ -49,15 +48,18 @@ fn are_rows_equal<A: Allocator + Copy>(
     if let Some(constant) = constant_for(column, Kernel::IsConstant, ctx) {
         return is_constant_of_constant(constant);
     }
+    if let Some(flat) = column.flat_view() {
+        return Ok(is_flat_constant(flat));
+    }
     let flat = flat_rows(column, ctx)?;
-    let constant = is_flat_constant(&flat);
+    let constant = is_flat_constant(flat.view());
     drop(flat);
     Ok(constant)
 }
 
 // The same of all rows of a flat column.
-fn is_flat_constant<A: Allocator + Copy>(flat: &FlatColumn<A>) -> bool
-    ensures { IsTrue result ↔ order.IsConstant (single_rows (leaf_of flat.now)) }
+fn is_flat_constant<A: Allocator + Copy>(flat: FlatView<'_, A>) -> bool
+    ensures { IsTrue result ↔ order.IsConstant (single_rows (leaf_in flat.entry)) }
 {
-    flat.is_constant(0..flat.len())
+    column_order::is_constant(flat, 0..flat.len())
 }

@@ -1,13 +1,13 @@
 //! The command IsSorted.
 ghost use Rattle.std.specs.Prelude.{◌≡◌, ◌≢◌, ◌↔◌, Err, IfOk, IsTrue};
-ghost use Rattle.column_core.specs.FlatColumn.{leaf_of};
+ghost use Rattle.column_core.specs.FlatView.{leaf_in};
 ghost use Rattle.column_core.specs.Leaf.{single_rows};
 ghost use Rattle.column_core.specs.Refusal.{IsRefusedBy};
 ghost use Rattle.column_order.specs.OrderFacts as order;
 ghost use Rattle.runend_aggregate.specs.OrderFault.{order_fault};
 ghost use Rattle.runend_array.specs.Array.{column_of, dtype_of, rows};
 ghost use Rattle.runend_array.specs.declared.session.Kernel.TheVariants.{IsSorted as sorted_kernel};
-ghost use Rattle.runend_commands.specs.KernelForms.{HasAggregateKernel};
+ghost use Rattle.runend_commands.specs.KernelForms.{IsReadInPlace};
 ghost use Rattle.runend_commands.specs.Outcomes.{IsOutcome};
 ghost use Rattle.runend_commands.specs.declared.command.Command.TheVariants.{IsSorted};
 
@@ -15,8 +15,7 @@ use crate::command::Answer;
 use crate::steps::Outcome;
 use crate::steps::flat_rows::flat_rows;
 use crate::steps::kernel_runs::{constant_for, runs_for};
-use column_core::{FlatColumn, VortexError, VortexResult};
-use column_order::FlatOrder;
+use column_core::{FlatView, VortexError, VortexResult};
 use runend_aggregate::{is_sorted, is_sorted_of_constant};
 use runend_array::{ArrayRef, ExecutionCtx, Kernel};
 use std::alloc::Allocator;
@@ -34,7 +33,7 @@ pub fn is_sorted_column<A: Allocator + Copy>(
     Ok(Outcome::Answers(Answer::Bool(sorted)))
 }
 
-// The same, by the kernel where it serves the column.
+// The same, by the kernel where it serves the column. A flat column is read where it is.
 fn are_rows_sorted<A: Allocator + Copy>(
     column: &ArrayRef<A>,
     strict: bool,
@@ -42,7 +41,7 @@ fn are_rows_sorted<A: Allocator + Copy>(
 ) -> VortexResult<bool>
     ensures refused { IsRefusedBy (order_fault (dtype_of column.now)) result }
     ensures answer { IfOk result (λ sorted. IsTrue sorted ↔ order.IsSorted strict (rows column.now)) }
-    ensures kernel { HasAggregateKernel ctx.old sorted_kernel (column_of column.now) → result ≢ Err VortexError.OutOfMemory }
+    ensures in_place { IsReadInPlace ctx.old sorted_kernel (column_of column.now) → result ≢ Err VortexError.OutOfMemory }
     ensures session { ctx.new ≡ ctx.old }
 {
     if let Some(runs) = runs_for(column, Kernel::IsSorted, ctx) {
@@ -51,15 +50,18 @@ fn are_rows_sorted<A: Allocator + Copy>(
     if let Some(constant) = constant_for(column, Kernel::IsSorted, ctx) {
         return is_sorted_of_constant(constant, strict);
     }
+    if let Some(flat) = column.flat_view() {
+        return Ok(is_flat_sorted(flat, strict));
+    }
     let flat = flat_rows(column, ctx)?;
-    let sorted = is_flat_sorted(&flat, strict);
+    let sorted = is_flat_sorted(flat.view(), strict);
     drop(flat);
     Ok(sorted)
 }
 
 // The same of all rows of a flat column.
-fn is_flat_sorted<A: Allocator + Copy>(flat: &FlatColumn<A>, strict: bool) -> bool
-    ensures { IsTrue result ↔ order.IsSorted strict (single_rows (leaf_of flat.now)) }
+fn is_flat_sorted<A: Allocator + Copy>(flat: FlatView<'_, A>, strict: bool) -> bool
+    ensures { IsTrue result ↔ order.IsSorted strict (single_rows (leaf_in flat.entry)) }
 {
-    flat.is_sorted(0..flat.len(), strict)
+    column_order::is_sorted(flat, 0..flat.len(), strict)
 }

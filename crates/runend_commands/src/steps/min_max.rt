@@ -1,15 +1,17 @@
 //! The command MinMax.
 ghost use Rattle.std.specs.Prelude.{◌≡◌, ◌≢◌, Err, IfOk, IfSome, IsOk, IsOkUnless, option_map};
+ghost use Rattle.column_core.specs.FlatView.{leaf_in};
+ghost use Rattle.column_core.specs.Leaf.{leaf_dtype};
 ghost use Rattle.column_core.specs.Refusal.{IsRefusedBy};
 ghost use Rattle.column_core.specs.Scalar.{IsScalarOf, flat_of};
 ghost use Rattle.column_core.specs.ScalarView.{IsViewOf, sees};
 ghost use Rattle.column_core.specs.Value.{IsLists, Single};
 ghost use Rattle.runend_aggregate.specs.OrderFault.{order_fault};
 ghost use Rattle.runend_array.specs.Array.{column_of, dtype_of};
-ghost use Rattle.runend_array.specs.Column.{OfConstant, column_dtype, column_of_runs, plain_of};
+ghost use Rattle.runend_array.specs.Column.{OfConstant, OfLeaf, column_dtype, column_of_runs, plain_of};
 ghost use Rattle.runend_array.specs.declared.session.Kernel.TheVariants.{MinMax as min_max_kernel};
 ghost use Rattle.runend_commands.specs.Extremes.{AreCopiesOf, AreExtremesIfAny, HasBytes, IsCopyOf};
-ghost use Rattle.runend_commands.specs.KernelForms.{HasAggregateKernel};
+ghost use Rattle.runend_commands.specs.KernelForms.{IsReadInPlace};
 ghost use Rattle.runend_commands.specs.Meaning.{plain};
 ghost use Rattle.runend_commands.specs.Outcomes.{IsOutcome};
 ghost use Rattle.runend_commands.specs.declared.command.Command.TheVariants.{MinMax};
@@ -18,8 +20,7 @@ use crate::command::Answer;
 use crate::steps::Outcome;
 use crate::steps::flat_rows::flat_rows;
 use crate::steps::kernel_runs::{constant_for, runs_for};
-use column_core::{DType, Scalar, ScalarValue, ScalarView, VortexError, VortexResult};
-use column_order::FlatOrder;
+use column_core::{DType, FlatView, Scalar, ScalarValue, ScalarView, VortexError, VortexResult};
 use runend_aggregate::{min_max, min_max_of_constant};
 use runend_array::{ArrayRef, ConstantArray, ExecutionCtx, Kernel, RunEndArray, RunEndArrayExt};
 use std::alloc::Allocator;
@@ -36,14 +37,15 @@ pub fn min_max_of_column<A: Allocator + Copy>(
     Ok(Outcome::Answers(Answer::MinMax(extremes)))
 }
 
-// The two rows in memory of their own, found by the kernel where it serves the column.
+// The two rows in memory of their own, found by the kernel where it serves the column. A flat column is
+// read where it is.
 fn extremes_of<A: Allocator + Copy>(
     column: &ArrayRef<A>,
     ctx: &mut ExecutionCtx<A>,
 ) -> VortexResult<Option<(Scalar<A>, Scalar<A>)>>
     ensures refused { IsRefusedBy (order_fault (dtype_of column.now)) result }
     ensures extremes { IfOk result (AreExtremesIfAny (plain column.now)) }
-    ensures kernel { ¬ HasBytes (dtype_of column.now) → HasAggregateKernel ctx.old min_max_kernel (column_of column.now) → result ≢ Err VortexError.OutOfMemory }
+    ensures in_place { ¬ HasBytes (dtype_of column.now) → IsReadInPlace ctx.old min_max_kernel (column_of column.now) → result ≢ Err VortexError.OutOfMemory }
     ensures session { ctx.new ≡ ctx.old }
 {
     if let Some(runs) = runs_for(column, Kernel::MinMax, ctx) {
@@ -51,6 +53,9 @@ fn extremes_of<A: Allocator + Copy>(
     }
     if let Some(constant) = constant_for(column, Kernel::MinMax, ctx) {
         return extremes_of_constant(constant, ctx);
+    }
+    if let Some(flat) = column.flat_view() {
+        return extremes_of_flat(flat, ctx);
     }
     extremes_row_by_row(column, ctx)
 }
@@ -84,8 +89,21 @@ fn extremes_of_constant<A: Allocator + Copy>(
     copies_of(*ctx.allocator(), constant.dtype(), found)
 }
 
-// The two rows of any column, found row by row.
-#[tactic(auto, using(crate::proofs::Extremes::single_if_ordered))]
+// The two rows of a flat column.
+#[tactic(auto, using(crate::proofs::Extremes::ordered_leaf, crate::proofs::Extremes::single_leaf))]
+fn extremes_of_flat<A: Allocator + Copy>(
+    flat: FlatView<'_, A>,
+    ctx: &ExecutionCtx<A>,
+) -> VortexResult<Option<(Scalar<A>, Scalar<A>)>>
+    ensures refused { IsRefusedBy (order_fault (leaf_dtype (leaf_in flat.entry))) result }
+    ensures extremes { IfOk result (AreExtremesIfAny (plain_of (OfLeaf (leaf_in flat.entry)))) }
+    ensures no_memory { ¬ HasBytes (leaf_dtype (leaf_in flat.entry)) → result ≢ Err VortexError.OutOfMemory }
+{
+    let found = column_order::min_max(flat, 0..flat.len());
+    copies_of(*ctx.allocator(), flat.dtype(), found)
+}
+
+// The two rows of any column, written out.
 fn extremes_row_by_row<A: Allocator + Copy>(
     column: &ArrayRef<A>,
     ctx: &mut ExecutionCtx<A>,
@@ -95,7 +113,7 @@ fn extremes_row_by_row<A: Allocator + Copy>(
     ensures session { ctx.new ≡ ctx.old }
 {
     let flat = flat_rows(column, ctx)?;
-    let copies = copies_of(*ctx.allocator(), flat.dtype(), flat.min_max(0..flat.len()));
+    let copies = extremes_of_flat(flat.view(), ctx);
     drop(flat);
     copies
 }

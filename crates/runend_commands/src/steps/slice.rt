@@ -6,15 +6,15 @@ ghost use Rattle.runend_array.specs.declared.session.Kernel.TheVariants.{Slice a
 ghost use Rattle.runend_column.specs.SliceForm.{IsSliceForm};
 ghost use Rattle.runend_commands.specs.KernelForms.{HasKernel, OnRuns};
 ghost use Rattle.runend_commands.specs.Outcomes.{IsOutcome};
-ghost use Rattle.runend_commands.specs.Parts.{IsPlainPart};
+ghost use Rattle.runend_rowwise.specs.Parts.{IsPlainPart};
 ghost use Rattle.runend_commands.specs.declared.command.Command.TheVariants.{Slice};
 
 use crate::steps::Outcome;
 use crate::steps::kernel_runs::runs_for;
-use crate::steps::part::part_of;
 use column_core::VortexResult;
 use runend_array::{ArrayRef, ExecutionCtx, Kernel};
 use runend_column::slice;
+use runend_rowwise::part_of;
 use std::alloc::Allocator;
 use std::ops::Range;
 

@@ -4,7 +4,7 @@ ghost use Rattle.column_core.specs.Refusal.{IsRefusedBy};
 ghost use Rattle.column_sums.specs.SumAnswer.{sum_fault, IsSumAnswer};
 ghost use Rattle.runend_array.specs.Array.{column_of, dtype_of, rows};
 ghost use Rattle.runend_array.specs.declared.session.Kernel.TheVariants.{Sum as sum_kernel};
-ghost use Rattle.runend_commands.specs.KernelForms.{HasAggregateKernel};
+ghost use Rattle.runend_commands.specs.KernelForms.{IsReadInPlace};
 ghost use Rattle.runend_commands.specs.Outcomes.{IsOutcome};
 ghost use Rattle.runend_commands.specs.declared.command.Command.TheVariants.{Sum};
 
@@ -13,7 +13,7 @@ use crate::steps::Outcome;
 use crate::steps::flat_rows::flat_rows;
 use crate::steps::kernel_runs::{constant_for, runs_for};
 use column_core::{DType, VortexError, VortexResult};
-use column_sums::{SumAnswer, sum_flat};
+use column_sums::{SumAnswer, sum_view};
 use runend_aggregate::{sum, sum_of_constant};
 use runend_array::{ArrayRef, ExecutionCtx, Kernel};
 use std::alloc::Allocator;
@@ -30,14 +30,14 @@ pub fn sum_column<A: Allocator + Copy>(
     Ok(Outcome::Answers(Answer::Sum(total)))
 }
 
-// The sum, by the kernel where it serves the column.
+// The sum, by the kernel where it serves the column. A flat column is read where it is.
 fn sum_of_rows<A: Allocator + Copy>(
     column: &ArrayRef<A>,
     ctx: &mut ExecutionCtx<A>,
 ) -> VortexResult<SumAnswer>
     ensures refused { IsRefusedBy (sum_fault (dtype_of column.now)) result }
     ensures answer { IfOk result (IsSumAnswer (dtype_of column.now) (rows column.now)) }
-    ensures kernel { HasAggregateKernel ctx.old sum_kernel (column_of column.now) → result ≢ Err VortexError.OutOfMemory }
+    ensures in_place { IsReadInPlace ctx.old sum_kernel (column_of column.now) → result ≢ Err VortexError.OutOfMemory }
     ensures session { ctx.new ≡ ctx.old }
 {
     if let Some(runs) = runs_for(column, Kernel::Sum, ctx) {
@@ -46,10 +46,13 @@ fn sum_of_rows<A: Allocator + Copy>(
     if let Some(constant) = constant_for(column, Kernel::Sum, ctx) {
         return sum_of_constant(constant);
     }
+    if let Some(flat) = column.flat_view() {
+        return sum_view(flat);
+    }
     sum_row_by_row(column, ctx)
 }
 
-// The sum, row by row.
+// The sum of the rows, written out.
 fn sum_row_by_row<A: Allocator + Copy>(
     column: &ArrayRef<A>,
     ctx: &mut ExecutionCtx<A>,
@@ -62,7 +65,7 @@ fn sum_row_by_row<A: Allocator + Copy>(
         return Err(VortexError::Unsupported);
     };
     let flat = flat_rows(column, ctx)?;
-    let total = sum_flat(&flat);
+    let total = sum_view(flat.view());
     drop(flat);
     total
 }

@@ -7,4 +7,7 @@ pub returns-in-Some-constant_for-clause-answer : goal.returns-in-Some-constant_f
 returns-in-Some-constant_for-clause-answer g c = rw c.in-Some-constant_for.ensures.1 c.is_sorted_of_constant.ensures.answer
 
 pub returns-clause-answer : goal.returns-clause-answer
-returns-clause-answer g c = rw c.in_ok-flat.ensures.rows at c.is_flat_sorted-sorted.ensures
+returns-clause-answer g c = rw (c.view.ensures, c.in_ok-flat.ensures.rows) at c.is_flat_sorted-sorted.ensures
+
+pub returns-in-Some-flat_view-clause-answer : goal.returns-in-Some-flat_view-clause-answer
+returns-in-Some-flat_view-clause-answer g c = rw c.in-Some-flat_view.ensures.flat c.is_flat_sorted.ensures
