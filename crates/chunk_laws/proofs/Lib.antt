@@ -1,0 +1,4 @@
+pub mod JoinedRows
+pub mod JoinedSums
+pub mod JoinedOrders
+pub mod JoinedRuns
