@@ -180,7 +180,7 @@ pub fn push_row<'a, A: Allocator + Copy>(
 }
 
 /// The value, where it could be read whole.
-pub fn kept<T: Drop>(read: LineResult<()>, value: T) -> LineResult<T> {
+pub fn unless_failed<T: Drop>(read: LineResult<()>, value: T) -> LineResult<T> {
     match read {
         Ok(()) => Ok(value),
         Err(error) => {
@@ -191,7 +191,7 @@ pub fn kept<T: Drop>(read: LineResult<()>, value: T) -> LineResult<T> {
 }
 
 /// The two, where there is a second.
-pub fn both<T: Drop, U>(first: T, second: LineResult<U>) -> LineResult<(T, U)> {
+pub fn paired<T: Drop, U>(first: T, second: LineResult<U>) -> LineResult<(T, U)> {
     match second {
         Ok(second) => Ok((first, second)),
         Err(error) => {

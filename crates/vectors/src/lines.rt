@@ -1,28 +1,27 @@
 //! The lines of a file of vectors: what each asks is done, and its answer is counted.
 ghost use Rattle.std.specs.Prelude.{◌≡◌, IfOk, OnErr, IsOkUnless};
-ghost use Rattle.vectors.specs.Outcomes.{ChangesNothing};
+ghost use Rattle.vector_calls.specs.Outcomes.{ChangesNothing};
 
-use crate::bench::{Bench, Heap};
-use crate::calls::{Outcome, Reply};
-use crate::columns::Columns;
-use crate::flats::{flat_column, invalid_column, raw_column, scalar_of};
-use crate::prepare::{prepare, read_validity};
-use crate::printer::{push_dtype, push_form, push_refusal, push_rows, push_stored};
 use crate::refuse::{Found, refused_in_turn, refused_one};
-use crate::session::{crate_thresholds, set_kernels, set_thresholds};
+use crate::workspace::{Heap, Workspace};
 use column_base::VortexResult;
 use std::alloc::Allocator;
+use vector_answers::{push_dtype, push_form, push_refusal, push_rows, push_stored};
+use vector_calls::{
+    Outcome, Reply, crate_thresholds, prepare, read_validity, set_kernels, set_thresholds,
+};
+use vector_columns::{Columns, flat_column, invalid_column, raw_column, scalar_of};
 use vector_report::{Line, Report, read_line};
-use vector_words::reader::{self, Look, Plain, Request, read_request};
-use vector_words::{LineError, LineResult};
+use vector_words::request::{self, Look, Plain, Request};
+use vector_words::{LineError, LineResult, read_request};
 use vortex_runend::{ArrayRef, ConstantArray, ExecutionCtx, RunEndArraySlotsExt, VortexError};
 
 /// Runs all lines, and reports which of them are not answered as they expect.
-pub fn run_lines<'a>(text: &str, bench: &mut Bench<'a>) -> VortexResult<Report<Heap<'a>>>
+pub fn run_lines<'a>(text: &str, workspace: &mut Workspace<'a>) -> VortexResult<Report<Heap<'a>>>
     ensures only { IsOkUnless result VortexError.OutOfMemory }
 {
-    let mut report = Report::new(*bench.ctx.allocator());
-    match count_lines(text, bench, &mut report) {
+    let mut report = Report::new(*workspace.ctx.allocator());
+    match count_lines(text, workspace, &mut report) {
         Ok(()) => Ok(report),
         Err(error) => {
             drop(report);
@@ -34,14 +33,14 @@ pub fn run_lines<'a>(text: &str, bench: &mut Bench<'a>) -> VortexResult<Report<H
 // Runs all lines, and counts their answers.
 fn count_lines<'a>(
     text: &str,
-    bench: &mut Bench<'a>,
+    workspace: &mut Workspace<'a>,
     report: &mut Report<Heap<'a>>,
 ) -> VortexResult<()>
     ensures only { IsOkUnless result VortexError.OutOfMemory }
 {
     for (before, line) in text.lines().enumerate() {
         if let Some(line) = read_line(line) {
-            count_line(before, line, bench, report)?;
+            count_line(before, line, workspace, report)?;
         }
     }
     report.total()
@@ -51,18 +50,18 @@ fn count_lines<'a>(
 fn count_line<'a>(
     before: usize,
     line: Line<'_>,
-    bench: &mut Bench<'a>,
+    workspace: &mut Workspace<'a>,
     report: &mut Report<Heap<'a>>,
 ) -> VortexResult<()>
     ensures only { IsOkUnless result VortexError.OutOfMemory }
 {
-    let answer = bench.answer(line.request)?;
+    let answer = workspace.answer(line.request)?;
     let counted = report.count(before, line.expected, answer.as_str());
     drop(answer);
     counted
 }
 
-impl<'a> Bench<'a> {
+impl<'a> Workspace<'a> {
     // The answer to a request, which has its effect.
     fn answer(&mut self, request: &str) -> VortexResult<String<Heap<'a>>>
         ensures only { IsOkUnless result VortexError.OutOfMemory }
@@ -94,7 +93,7 @@ impl<'a> Bench<'a> {
     }
 
     // Makes the call with memory refused in turn, and then with ample memory.
-    fn refuse(&mut self, name: &str, call: reader::Call<'_>) -> LineResult<Reply<Heap<'a>>> {
+    fn refuse(&mut self, name: &str, call: request::Call<'_>) -> LineResult<Reply<Heap<'a>>> {
         let ample = *self.ctx.allocator();
         match refused_in_turn(name, call, self) {
             Ok(Found::Memory) => self.settle_with(" memory", name, call),
@@ -113,7 +112,7 @@ impl<'a> Bench<'a> {
         &mut self,
         place: usize,
         name: &str,
-        list: reader::Call<'_>,
+        list: request::Call<'_>,
     ) -> LineResult<Reply<Heap<'a>>> {
         match refused_one(place, name, list, self)? {
             Some(outcome) => keep(name, outcome, &mut self.columns),
@@ -126,7 +125,7 @@ impl<'a> Bench<'a> {
         &mut self,
         suffix: &str,
         name: &str,
-        call: reader::Call<'_>,
+        call: request::Call<'_>,
     ) -> LineResult<Reply<Heap<'a>>> {
         let reply = settle(name, call, &mut self.columns, &mut self.ctx)?;
         with_suffix(*self.ctx.allocator(), reply, suffix)
@@ -196,7 +195,7 @@ pub fn reply_text<A: Allocator + Copy>(alloc: A, reply: Reply<A>) -> VortexResul
         Reply::Done => Ok(String::from_str(alloc, "ok")?),
         Reply::Refused(error) => refusal_text(alloc, error),
         Reply::NoRoom => refusal_text(alloc, VortexError::OutOfMemory),
-        Reply::Says(said) => Ok(said),
+        Reply::Says(text) => Ok(text),
         Reply::Listed(listed) => Ok(listed.text),
         Reply::Bad => Ok(String::from_str(alloc, "bad line")?),
     }
@@ -218,12 +217,12 @@ fn make<A: Allocator + Copy>(
     columns: &mut Columns<A>,
     ctx: &mut ExecutionCtx<A>,
 ) -> LineResult<Reply<A>> {
-    let column = made(plain, columns, ctx)?;
+    let column = plain_column(plain, columns, ctx)?;
     columns.put(name, column)?;
     Ok(Reply::Done)
 }
 
-fn made<A: Allocator + Copy>(
+fn plain_column<A: Allocator + Copy>(
     plain: Plain<'_>,
     columns: &Columns<A>,
     ctx: &mut ExecutionCtx<A>,
@@ -263,7 +262,7 @@ fn part_of_runs<A: Allocator + Copy>(
 // Makes the call, and keeps the column that it makes or leaves, unless it is refused.
 fn settle<A: Allocator + Copy>(
     name: &str,
-    call: reader::Call<'_>,
+    call: request::Call<'_>,
     columns: &mut Columns<A>,
     ctx: &mut ExecutionCtx<A>,
 ) -> LineResult<Reply<A>>

@@ -2,27 +2,21 @@
 //! expect, and how many are.
 #![tactic(auto)]
 
-mod bench;
-mod calls;
-mod columns;
-mod flats;
 mod lines;
-mod prepare;
-mod printer;
 mod refuse;
-mod session;
+mod workspace;
 
-use bench::Bench;
 use bumpalo::Bump;
 use lines::run_lines;
 use std::io;
 use std::process::ExitCode;
+use workspace::Workspace;
 
 fn main(rt: HostRuntime) -> anyhow::Result<ExitCode> {
     let text = io::read_to_string(rt.alloc(), rt.stdin())?;
     let heaps = Bump::new(rt.alloc());
-    let mut bench = Bench::new(&heaps, rt.alloc())?;
-    let report = run_lines(text.as_str(), &mut bench)?;
+    let mut workspace = Workspace::new(&heaps, rt.alloc())?;
+    let report = run_lines(text.as_str(), &mut workspace)?;
     rt.print(report.text.as_str())?;
     Ok(ExitCode::from(report.status()))
 }

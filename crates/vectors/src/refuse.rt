@@ -2,16 +2,14 @@
 ghost use Rattle.std.specs.Prelude.{◌≡◌, ◌↔◌, ◌⊎◌, IsTrue};
 ghost use Rattle.vectors.specs.Trials.{IsSame};
 
-use crate::bench::{Bench, Heap, Plan};
-use crate::calls::{Listed, Outcome, Reply};
-use crate::columns::Columns;
 use crate::lines::reply_text;
-use crate::prepare::{prepare, prepare_list};
-use crate::printer::push_form;
-use crate::session::copy_of;
+use crate::workspace::{Heap, Plan, Workspace};
 use column_base::VortexResult;
 use std::alloc::Allocator;
-use vector_words::{LineError, LineResult, reader};
+use vector_answers::push_form;
+use vector_calls::{Listed, Outcome, Reply, copy_of, prepare, prepare_list};
+use vector_columns::Columns;
+use vector_words::{LineError, LineResult, request};
 use vortex_runend::{ArrayRef, ExecutionCtx, VortexError};
 
 /// What came of a call with requests for memory refused.
@@ -58,11 +56,11 @@ enum Tried {
 /// asks for something that there is not.
 pub fn refused_in_turn(
     name: &str,
-    call: reader::Call<'_>,
-    bench: &mut Bench<'_>,
+    call: request::Call<'_>,
+    workspace: &mut Workspace<'_>,
 ) -> LineResult<Found> {
-    let expected = expected_of(name, call, &bench.columns, &mut bench.ctx)?;
-    let found = found_in_turn(name, call, bench, &expected);
+    let expected = expected_of(name, call, &workspace.columns, &mut workspace.ctx)?;
+    let found = found_in_turn(name, call, workspace, &expected);
     drop(expected);
     found
 }
@@ -72,12 +70,12 @@ pub fn refused_in_turn(
 pub fn refused_one<'a>(
     place: usize,
     name: &str,
-    list: reader::Call<'_>,
-    bench: &mut Bench<'a>,
+    list: request::Call<'_>,
+    workspace: &mut Workspace<'a>,
 ) -> LineResult<Option<Outcome<Heap<'a>>>> {
     for request in 1..u64::MAX {
-        let heap = bench.heap(Plan::Only, request)?;
-        let outcome = outcome_with(heap, name, list, bench)?;
+        let heap = workspace.heap(Plan::Only, request)?;
+        let outcome = outcome_with(heap, name, list, workspace)?;
         if heap.refused() == 0 {
             drop(outcome);
             return Ok(None);
@@ -101,13 +99,13 @@ fn lacks_at<A: Allocator>(reply: &Reply<A>, place: usize) -> bool {
 // What comes of the call with each request refused alone, and then with all from each on.
 fn found_in_turn<'a>(
     name: &str,
-    call: reader::Call<'_>,
-    bench: &mut Bench<'a>,
+    call: request::Call<'_>,
+    workspace: &mut Workspace<'a>,
     expected: &Expected<Heap<'a>>,
 ) -> LineResult<Found> {
-    match refused_by(Plan::Only, name, call, bench, expected)? {
+    match refused_by(Plan::Only, name, call, workspace, expected)? {
         Found::Broken(request) => Ok(Found::Broken(request)),
-        alone => match refused_by(Plan::From, name, call, bench, expected)? {
+        alone => match refused_by(Plan::From, name, call, workspace, expected)? {
             Found::Nothing => Ok(alone),
             found => Ok(found),
         },
@@ -117,7 +115,7 @@ fn found_in_turn<'a>(
 // What the call has to show. Bad where the line asks for something that there is not.
 fn expected_of<A: Allocator + Copy>(
     name: &str,
-    call: reader::Call<'_>,
+    call: request::Call<'_>,
     columns: &Columns<A>,
     ctx: &mut ExecutionCtx<A>,
 ) -> LineResult<Expected<A>> {
@@ -135,7 +133,7 @@ fn expected_of<A: Allocator + Copy>(
 // What the call shows with ample memory.
 fn served_by<A: Allocator + Copy>(
     name: &str,
-    call: reader::Call<'_>,
+    call: request::Call<'_>,
     columns: &Columns<A>,
     ctx: &mut ExecutionCtx<A>,
 ) -> LineResult<Shown<A>> {
@@ -152,7 +150,7 @@ fn served_by<A: Allocator + Copy>(
 // What a call shows that memory is refused: the column that it is done to, as that is.
 fn shown_before<A: Allocator + Copy>(
     name: &str,
-    call: reader::Call<'_>,
+    call: request::Call<'_>,
     columns: &Columns<A>,
     ample: A,
 ) -> VortexResult<Shown<A>> {
@@ -189,14 +187,14 @@ fn form_of<A: Allocator + Copy>(ample: A, column: &Option<ArrayRef<A>>) -> Vorte
 fn refused_by<'a>(
     plan: Plan,
     name: &str,
-    call: reader::Call<'_>,
-    bench: &mut Bench<'a>,
+    call: request::Call<'_>,
+    workspace: &mut Workspace<'a>,
     expected: &Expected<Heap<'a>>,
 ) -> LineResult<Found> {
     let mut found = Found::Nothing;
     for request in 1..u64::MAX {
-        let heap = bench.heap(plan, request)?;
-        let tried = tried_with(heap, name, call, bench, expected)?;
+        let heap = workspace.heap(plan, request)?;
+        let tried = tried_with(heap, name, call, workspace, expected)?;
         if heap.refused() == 0 {
             return Ok(found);
         }
@@ -213,15 +211,15 @@ fn refused_by<'a>(
 fn tried_with<'a>(
     heap: Heap<'a>,
     name: &str,
-    call: reader::Call<'_>,
-    bench: &mut Bench<'a>,
+    call: request::Call<'_>,
+    workspace: &mut Workspace<'a>,
     expected: &Expected<Heap<'a>>,
 ) -> LineResult<Tried> {
-    let ample = *bench.ctx.allocator();
-    let Outcome { reply, column } = outcome_with(heap, name, call, bench)?;
+    let ample = *workspace.ctx.allocator();
+    let Outcome { reply, column } = outcome_with(heap, name, call, workspace)?;
     match (call, reply) {
-        (reader::Call::Run(list), Reply::Listed(listed)) => {
-            tried_list(name, list, listed, column, bench)
+        (request::Call::Run(list), Reply::Listed(listed)) => {
+            tried_list(name, list, listed, column, workspace)
         }
         (_, reply) => tried_call(ample, Outcome { reply, column }, expected),
     }
@@ -231,12 +229,12 @@ fn tried_with<'a>(
 fn outcome_with<'a>(
     heap: Heap<'a>,
     name: &str,
-    call: reader::Call<'_>,
-    bench: &mut Bench<'a>,
+    call: request::Call<'_>,
+    workspace: &mut Workspace<'a>,
 ) -> LineResult<Outcome<Heap<'a>>> {
-    let call = prepare(name, call, &bench.columns, &mut bench.ctx)?;
-    let mut ctx = ExecutionCtx::new(copy_of(bench.ctx.session()), heap);
-    Ok(call.run(&mut ctx, *bench.ctx.allocator())?)
+    let call = prepare(name, call, &workspace.columns, &mut workspace.ctx)?;
+    let mut ctx = ExecutionCtx::new(copy_of(workspace.ctx.session()), heap);
+    Ok(call.run(&mut ctx, *workspace.ctx.allocator())?)
 }
 
 // What became of a call that is no list, or was not begun.
@@ -257,9 +255,9 @@ fn tried_list<'a>(
     list: &[&str],
     listed: Listed<Heap<'a>>,
     column: Option<ArrayRef<Heap<'a>>>,
-    bench: &mut Bench<'a>,
+    workspace: &mut Workspace<'a>,
 ) -> LineResult<Tried> {
-    let ample = *bench.ctx.allocator();
+    let ample = *workspace.ctx.allocator();
     let form = form_of(ample, &column);
     drop(column);
     let Listed {
@@ -271,8 +269,8 @@ fn tried_list<'a>(
         answer: served,
         form: form?,
     };
-    let call = prepare_list(name, list, &lacking, &bench.columns, &mut bench.ctx)?;
-    let due = shown_of(ample, call.run(&mut bench.ctx, ample)?)?;
+    let call = prepare_list(name, list, &lacking, &workspace.columns, &mut workspace.ctx)?;
+    let due = shown_of(ample, call.run(&mut workspace.ctx, ample)?)?;
     Ok(judged_list(&shown, &due, lacking.contains(&true)))
 }
 

@@ -1,15 +1,15 @@
 //! Calls, and what comes of them.
-use crate::flats::boxed_lists;
-use crate::printer::{
-    push_metadata, push_record, push_refusal, push_row, push_sum, push_truth, push_validity,
-    push_word,
-};
 use bytes::Bytes;
 use column_base::VortexResult;
 use runend_commands::{Answer, Command, execute};
 use std::alloc::Allocator;
 use std::rc::Rc;
-use vector_words::reader::NEXT;
+use vector_answers::{
+    push_metadata, push_record, push_refusal, push_row, push_sum, push_truth, push_validity,
+    push_word,
+};
+use vector_columns::boxed_lists;
+use vector_words::request::NEXT;
 use vortex_runend::{
     ArrayRef, DType, ExecutionCtx, FlatColumn, ListViewArray, RowValidity, RunEnd, RunEndArray,
     RunEndMetadata, RunEndProbe, ScalarView, Validity, VarBinKind, VarBinViewArray, View,
@@ -94,7 +94,7 @@ impl<A: Allocator + Copy> Call<A> {
     /// Makes the call, with memory for it from `ctx`, and for what is said of it from `ample`.
     pub fn run(self, ctx: &mut ExecutionCtx<A>, ample: A) -> VortexResult<Outcome<A>> {
         match self {
-            Call::Make(maker) => match maker.made(ctx, ample) {
+            Call::Make(maker) => match maker.make(ctx, ample) {
                 Ok(column) => Ok(Outcome {
                     reply: Reply::Done,
                     column: Some(column),
@@ -105,7 +105,7 @@ impl<A: Allocator + Copy> Call<A> {
                 }),
             },
             Call::On(mut column, task) => {
-                match task.done(&mut column, ctx, ample) {
+                match task.run(&mut column, ctx, ample) {
                     Ok(reply) => Ok(Outcome {
                         reply,
                         column: Some(column),
@@ -126,7 +126,7 @@ impl<A: Allocator + Copy> Call<A> {
 
 impl<A: Allocator + Copy> Maker<A> {
     // The column, with memory for the call from `ctx`, and for its box from `ample`.
-    fn made(self, ctx: &mut ExecutionCtx<A>, ample: A) -> VortexResult<ArrayRef<A>> {
+    fn make(self, ctx: &mut ExecutionCtx<A>, ample: A) -> VortexResult<ArrayRef<A>> {
         match self {
             Maker::Copy(array) => {
                 let copy = array.try_clone(ctx);
@@ -162,12 +162,12 @@ fn boxed_runs<A: Allocator + Copy>(
     made: VortexResult<RunEndArray<A>>,
     ample: A,
 ) -> VortexResult<ArrayRef<A>> {
-    Ok(ArrayRef::RunEnd(Box::new(ample, made?)?))
+    ArrayRef::of_runs(ample, made?)
 }
 
 impl<A: Allocator + Copy> Task<A> {
     // What comes of it, with memory for it from `ctx`, and for what is said of it from `ample`.
-    fn done(
+    fn run(
         self,
         column: &mut ArrayRef<A>,
         ctx: &mut ExecutionCtx<A>,
@@ -294,13 +294,13 @@ fn reply_to<A: Allocator + Copy>(answer: &Answer<A>, ample: A) -> VortexResult<R
         _ => {
             let mut text = String::new(ample);
             let pushed = push_answer(&mut text, answer);
-            said(text, pushed)
+            text_reply(text, pushed)
         }
     }
 }
 
 // The text as a reply, unless it could not be written.
-fn said<A: Allocator>(text: String<A>, pushed: VortexResult<()>) -> VortexResult<Reply<A>> {
+fn text_reply<A: Allocator>(text: String<A>, pushed: VortexResult<()>) -> VortexResult<Reply<A>> {
     match pushed {
         Ok(()) => Ok(Reply::Says(text)),
         Err(error) => {
@@ -347,7 +347,7 @@ fn row_reply<A: Allocator + Copy>(
         Ok(row) => {
             let mut text = String::new(ample);
             let pushed = push_row(&mut text, row);
-            said(text, pushed)
+            text_reply(text, pushed)
         }
         Err(error) => Ok(Reply::Refused(error)),
     }
@@ -366,7 +366,7 @@ fn validity_of<A: Allocator + Copy>(
             let mut text = String::new(ample);
             let pushed = push_validity(&mut text, &rows);
             drop(rows);
-            said(text, pushed)
+            text_reply(text, pushed)
         }
         Err(error) => Ok(Reply::Refused(error)),
     }
@@ -385,7 +385,7 @@ fn meta_of<A: Allocator + Copy>(
             let mut text = String::new(ample);
             let pushed = push_record(&mut text, &bytes);
             drop(bytes);
-            said(text, pushed)
+            text_reply(text, pushed)
         }
         Err(error) => Ok(Reply::Refused(error)),
     }
@@ -397,7 +397,7 @@ fn read_of<A: Allocator + Copy>(bytes: &[u8], ample: A) -> VortexResult<Reply<A>
         Ok(metadata) => {
             let mut text = String::new(ample);
             let pushed = push_metadata(&mut text, &metadata);
-            said(text, pushed)
+            text_reply(text, pushed)
         }
         Err(error) => Ok(Reply::Refused(error)),
     }

@@ -1,10 +1,10 @@
 //! What lines stand on.
-use crate::columns::Columns;
-use crate::session::crate_session;
 use bumpalo::Bump;
 use column_base::VortexResult;
 use refusing::Refusing;
 use std::alloc::Global;
+use vector_calls::crate_session;
+use vector_columns::Columns;
 use vortex_runend::ExecutionCtx;
 
 /// The memory of columns, which may refuse requests.
@@ -21,7 +21,7 @@ pub enum Plan {
 
 /// What lines stand on: the columns by their names, and the session with ample memory.
 #[derive(Drop)]
-pub struct Bench<'a> {
+pub struct Workspace<'a> {
     pub columns: Columns<Heap<'a>>,
     pub ctx: ExecutionCtx<Heap<'a>>,
     // Columns outlive the calls that are refused memory, and all of them are of one type, so the memory
@@ -30,11 +30,11 @@ pub struct Bench<'a> {
     global: Global,
 }
 
-impl<'a> Bench<'a> {
+impl<'a> Workspace<'a> {
     /// No columns, and a session with all kernels and the thresholds of the library.
     pub fn new(heaps: &'a Bump<Global>, global: Global) -> VortexResult<Self> {
         let ample = heaps.try_alloc(Refusing::never(global))?;
-        Ok(Bench {
+        Ok(Workspace {
             columns: Columns::new(ample),
             ctx: ExecutionCtx::new(crate_session(), ample),
             heaps,

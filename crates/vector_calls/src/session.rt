@@ -1,6 +1,7 @@
 //! Sessions as lines set them.
 use std::alloc::Allocator;
-use vector_words::reader::{Kernels, read_kernel};
+use vector_words::read_kernel;
+use vector_words::request::Kernels;
 use vortex_runend::{ExecutionCtx, Kernel, Thresholds, VortexSession, initialize};
 
 /// Every kernel.

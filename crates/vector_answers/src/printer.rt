@@ -442,12 +442,15 @@ pub fn push_refusal<A: Allocator + Copy>(
 // The fields of an error in order, as far as it has some.
 fn fields_of(error: VortexError) -> (Option<i128>, Option<i128>, Option<i128>) {
     match error {
-        VortexError::LengthsDiffer { ends, values } => two(ends as i128, values as i128),
-        VortexError::NoRunsWindow { offset, length } => two(offset as i128, length as i128),
+        VortexError::LengthsDiffer { ends, values } => two_fields(ends as i128, values as i128),
+        VortexError::NoRunsWindow { offset, length } => two_fields(offset as i128, length as i128),
         VortexError::EndsNotStrict { run } => (Some(run as i128), None, None),
-        VortexError::FirstEndBelowOffset { end, offset } => two(end as i128, offset as i128),
-        VortexError::LastEndBelowWindow { end, required } => two(end as i128, required as i128),
-        VortexError::OutOfBounds { index, length } => two(index, length as i128),
+        VortexError::FirstEndBelowOffset { end, offset } => two_fields(end as i128, offset as i128),
+        VortexError::LastEndBelowWindow { end, required } => two_fields(
+            end as i128,
+            required as i128,
+        ),
+        VortexError::OutOfBounds { index, length } => two_fields(index, length as i128),
         VortexError::BadRange {
             start,
             stop,
@@ -457,14 +460,14 @@ fn fields_of(error: VortexError) -> (Option<i128>, Option<i128>, Option<i128>) {
             Some(stop as i128),
             Some(length as i128),
         ),
-        VortexError::MaskLength { mask, length } => two(mask as i128, length as i128),
-        VortexError::ColumnLength { left, right } => two(left as i128, right as i128),
+        VortexError::MaskLength { mask, length } => two_fields(mask as i128, length as i128),
+        VortexError::ColumnLength { left, right } => two_fields(left as i128, right as i128),
         VortexError::EndsTypeNumber { number } => (Some(number as i128), None, None),
-        VortexError::RunCount { stated, found } => two(stated as i128, found as i128),
+        VortexError::RunCount { stated, found } => two_fields(stated as i128, found as i128),
         _ => (None, None, None),
     }
 }
 
-fn two(first: i128, second: i128) -> (Option<i128>, Option<i128>, Option<i128>) {
+fn two_fields(first: i128, second: i128) -> (Option<i128>, Option<i128>, Option<i128>) {
     (Some(first), Some(second), None)
 }

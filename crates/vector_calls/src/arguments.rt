@@ -1,32 +1,31 @@
 //! What a call is given: copies of the columns that a line names, and what its words say.
 use crate::calls::{Call, Maker, Task};
-use crate::columns::Columns;
-use crate::flats::{bits_of_word, flat_column, flat_of, row_validity, scalar_of};
 use bytes::Bytes;
 use runend_commands::Command;
 use std::alloc::Allocator;
 use std::rc::Rc;
-use vector_words::reader::{self, Lists, NEXT, Record, Runs, Views, read_command};
-use vector_words::values::{Value, both, bytes_of, bytes_of_words, read_count, read_value};
-use vector_words::{LineError, LineResult};
+use vector_columns::{Columns, bits_of_word, flat_column, flat_of, row_validity, scalar_of};
+use vector_words::request::{self, Lists, NEXT, Record, Runs, Views};
+use vector_words::values::{Value, bytes_of, bytes_of_words, paired, read_count, read_value};
+use vector_words::{LineError, LineResult, read_command};
 use vortex_runend::{ArrayRef, ExecutionCtx, FlatColumn, Mask, RowValidity, Validity, View};
 
 /// The call on copies of the columns that it names. Bad where one does not stand, or a word is none that
 /// the call can be given.
 pub fn prepare<A: Allocator + Copy>(
     name: &str,
-    call: reader::Call<'_>,
+    call: request::Call<'_>,
     columns: &Columns<A>,
     ctx: &mut ExecutionCtx<A>,
 ) -> LineResult<Call<A>> {
     match call {
-        reader::Call::Command(command) => commanded_copy(name, command, columns, ctx),
-        reader::Call::Run(words) => prepare_list(name, words, &[], columns, ctx),
-        reader::Call::Row(index) => on_copy(name, Task::Row(index), columns, ctx),
-        reader::Call::Probe(index) => on_copy(name, Task::Probe(index), columns, ctx),
-        reader::Call::Validity => on_copy(name, Task::Validity, columns, ctx),
-        reader::Call::Meta => on_copy(name, Task::Meta, columns, ctx),
-        reader::Call::Read(words) => Ok(Call::Read(bytes_of_words(*ctx.allocator(), words)?)),
+        request::Call::Command(command) => commanded_copy(name, command, columns, ctx),
+        request::Call::Run(words) => prepare_list(name, words, &[], columns, ctx),
+        request::Call::Row(index) => on_copy(name, Task::Row(index), columns, ctx),
+        request::Call::Probe(index) => on_copy(name, Task::Probe(index), columns, ctx),
+        request::Call::Validity => on_copy(name, Task::Validity, columns, ctx),
+        request::Call::Meta => on_copy(name, Task::Meta, columns, ctx),
+        request::Call::Read(words) => Ok(Call::Read(bytes_of_words(*ctx.allocator(), words)?)),
         _ => Ok(Call::Make(prepared_maker(call, columns, ctx)?)),
     }
 }
@@ -34,7 +33,7 @@ pub fn prepare<A: Allocator + Copy>(
 // The command on a copy of the column of this name.
 fn commanded_copy<A: Allocator + Copy>(
     name: &str,
-    command: reader::Command<'_>,
+    command: request::Command<'_>,
     columns: &Columns<A>,
     ctx: &mut ExecutionCtx<A>,
 ) -> LineResult<Call<A>> {
@@ -109,22 +108,22 @@ fn on_copy<A: Allocator + Copy>(
 
 // The command with what it is given.
 fn prepared_command<A: Allocator + Copy>(
-    command: reader::Command<'_>,
+    command: request::Command<'_>,
     columns: &Columns<A>,
     ctx: &mut ExecutionCtx<A>,
 ) -> LineResult<Command<A>> {
     let alloc = *ctx.allocator();
     match command {
-        reader::Command::Filter(word) => prepared_filter(alloc, word),
-        reader::Command::Take(dtype, words) => take_by(flat_column(dtype, words, ctx)?),
-        reader::Command::TakeFrom(name) => Ok(Command::TakeFrom(copy_of(name, columns, ctx)?)),
-        reader::Command::CompareColumn(operator, name) => {
+        request::Command::Filter(word) => prepared_filter(alloc, word),
+        request::Command::Take(dtype, words) => take_by(flat_column(dtype, words, ctx)?),
+        request::Command::TakeFrom(name) => Ok(Command::TakeFrom(copy_of(name, columns, ctx)?)),
+        request::Command::CompareColumn(operator, name) => {
             Ok(Command::CompareColumn(operator, copy_of(name, columns, ctx)?))
         }
-        reader::Command::CompareScalar(operator, dtype, value) => {
+        request::Command::CompareScalar(operator, dtype, value) => {
             Ok(Command::CompareScalar(operator, scalar_of(alloc, dtype, value)?))
         }
-        reader::Command::Fill(dtype, value) => {
+        request::Command::Fill(dtype, value) => {
             Ok(Command::FillNull(scalar_of(alloc, dtype, value)?))
         }
         _ => plain_command(command),
@@ -148,18 +147,18 @@ fn take_by<A: Allocator>(indices: ArrayRef<A>) -> LineResult<Command<A>> {
 }
 
 // The command, where it is given nothing that takes memory.
-fn plain_command<A: Allocator>(command: reader::Command<'_>) -> LineResult<Command<A>> {
+fn plain_command<A: Allocator>(command: request::Command<'_>) -> LineResult<Command<A>> {
     match command {
-        reader::Command::Slice(start, stop) => Ok(Command::Slice(start..stop)),
-        reader::Command::Cast(dtype) => Ok(Command::Cast(dtype)),
-        reader::Command::Encode => Ok(Command::Encode),
-        reader::Command::Decode => Ok(Command::Decode),
-        reader::Command::At(index) => Ok(Command::At(index)),
-        reader::Command::Sum => Ok(Command::Sum),
-        reader::Command::MinMax => Ok(Command::MinMax),
-        reader::Command::Constant => Ok(Command::IsConstant),
-        reader::Command::Sorted => Ok(Command::IsSorted { strict: false }),
-        reader::Command::Strict => Ok(Command::IsSorted { strict: true }),
+        request::Command::Slice(start, stop) => Ok(Command::Slice(start..stop)),
+        request::Command::Cast(dtype) => Ok(Command::Cast(dtype)),
+        request::Command::Encode => Ok(Command::Encode),
+        request::Command::Decode => Ok(Command::Decode),
+        request::Command::At(index) => Ok(Command::At(index)),
+        request::Command::Sum => Ok(Command::Sum),
+        request::Command::MinMax => Ok(Command::MinMax),
+        request::Command::Constant => Ok(Command::IsConstant),
+        request::Command::Sorted => Ok(Command::IsSorted { strict: false }),
+        request::Command::Strict => Ok(Command::IsSorted { strict: true }),
         _ => Err(LineError::Bad),
     }
 }
@@ -177,24 +176,24 @@ fn copy_of<A: Allocator + Copy>(
 }
 
 fn prepared_maker<A: Allocator + Copy>(
-    call: reader::Call<'_>,
+    call: request::Call<'_>,
     columns: &Columns<A>,
     ctx: &mut ExecutionCtx<A>,
 ) -> LineResult<Maker<A>> {
     match call {
-        reader::Call::Copy(name) => Ok(Maker::Copy(copy_of(name, columns, ctx)?)),
-        reader::Call::Encode(name) => Ok(Maker::Encode(copy_of(name, columns, ctx)?)),
-        reader::Call::Runs(runs) => {
+        request::Call::Copy(name) => Ok(Maker::Copy(copy_of(name, columns, ctx)?)),
+        request::Call::Encode(name) => Ok(Maker::Encode(copy_of(name, columns, ctx)?)),
+        request::Call::Runs(runs) => {
             let (ends, values) = prepared_runs(runs, columns, ctx)?;
             Ok(Maker::Runs(ends, values, runs.offset, runs.length))
         }
-        reader::Call::Whole(runs) => {
+        request::Call::Whole(runs) => {
             let (ends, values) = prepared_runs(runs, columns, ctx)?;
             Ok(Maker::Whole(ends, values))
         }
-        reader::Call::Lists(lists) => prepared_lists(lists, columns, ctx),
-        reader::Call::Views(views) => prepared_views(*ctx.allocator(), views),
-        reader::Call::Deserialize(record) => prepared_record(record, columns, ctx),
+        request::Call::Lists(lists) => prepared_lists(lists, columns, ctx),
+        request::Call::Views(views) => prepared_views(*ctx.allocator(), views),
+        request::Call::Deserialize(record) => prepared_record(record, columns, ctx),
         _ => Err(LineError::Bad),
     }
 }
@@ -207,7 +206,7 @@ fn copies_of<A: Allocator + Copy>(
     ctx: &mut ExecutionCtx<A>,
 ) -> LineResult<(ArrayRef<A>, ArrayRef<A>)> {
     let first = copy_of(first, columns, ctx)?;
-    both(first, copy_of(second, columns, ctx))
+    paired(first, copy_of(second, columns, ctx))
 }
 
 // The ends, and a copy of the values.
@@ -217,7 +216,7 @@ fn prepared_runs<A: Allocator + Copy>(
     ctx: &mut ExecutionCtx<A>,
 ) -> LineResult<(ArrayRef<A>, ArrayRef<A>)> {
     let ends = flat_column(runs.ends_type, runs.ends, ctx)?;
-    both(ends, copy_of(runs.values, columns, ctx))
+    paired(ends, copy_of(runs.values, columns, ctx))
 }
 
 fn prepared_record<A: Allocator + Copy>(
@@ -227,7 +226,7 @@ fn prepared_record<A: Allocator + Copy>(
 ) -> LineResult<Maker<A>> {
     let bytes = bytes_of_words(*ctx.allocator(), record.bytes)?;
     let slots = copies_of(record.ends, record.values, columns, ctx);
-    let (bytes, (ends, values)) = both(bytes, slots)?;
+    let (bytes, (ends, values)) = paired(bytes, slots)?;
     Ok(Maker::Deserialize(record.dtype, record.length, bytes, ends, values))
 }
 
@@ -238,7 +237,7 @@ fn prepared_lists<A: Allocator + Copy>(
 ) -> LineResult<Maker<A>> {
     let over = elements_and_validity(lists, columns, ctx)?;
     let indices = copies_of(lists.offsets, lists.sizes, columns, ctx);
-    let ((elements, validity), (offsets, sizes)) = both(over, indices)?;
+    let ((elements, validity), (offsets, sizes)) = paired(over, indices)?;
     Ok(Maker::Lists(elements, offsets, sizes, validity))
 }
 
@@ -248,7 +247,7 @@ fn elements_and_validity<A: Allocator + Copy>(
     ctx: &mut ExecutionCtx<A>,
 ) -> LineResult<(Rc<FlatColumn<A>, A>, RowValidity<A>)> {
     let elements = elements_of(lists.elements, columns, ctx)?;
-    both(elements, list_validity(lists.validity, columns, ctx))
+    paired(elements, list_validity(lists.validity, columns, ctx))
 }
 
 // A copy of the column of this name, where it is flat.
@@ -313,7 +312,7 @@ fn views_and_buffers<A: Allocator + Copy>(
     line: Views<'_>,
 ) -> LineResult<(Vec<View, A>, Vec<Bytes<A>, A>)> {
     let views = read_views(alloc, line.views)?;
-    both(views, read_buffers(alloc, line.buffers))
+    paired(views, read_buffers(alloc, line.buffers))
 }
 
 // A view for each three words.

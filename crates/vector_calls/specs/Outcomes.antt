@@ -1,6 +1,6 @@
 -- What is left of columns by a call.
-use Rattle.vectors.specs.declared.calls.Reply.{Reply}
-use Rattle.vectors.specs.declared.calls.Reply.TheVariants.{Done, Refused, NoRoom, Says, Listed, Bad}
+use Rattle.vector_calls.specs.declared.calls.Reply.{Reply}
+use Rattle.vector_calls.specs.declared.calls.Reply.TheVariants.{Done, Refused, NoRoom, Says, Listed, Bad}
 
 -- the call was not made, or was refused
 abbrev pub ChangesNothing : {A : Type 0} → Reply A → Type 0

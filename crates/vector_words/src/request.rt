@@ -1,0 +1,158 @@
+//! What a line of vectors may ask.
+use crate::values::Value;
+use column_order::CompareOperator;
+use runend_array::{DType, Thresholds, VarBinKind};
+
+/// The word between a command of a list and the next.
+pub const NEXT: &str = ";";
+
+/// What a line asks.
+#[derive(Clone, Copy)]
+pub enum Request<'a> {
+    /// A column is made from values, without a call that could be refused memory in turn.
+    Make(&'a str, Plain<'a>),
+    /// A call is made.
+    Call(&'a str, Call<'a>),
+    /// The same, with memory refused in turn first.
+    Refuse(&'a str, Call<'a>),
+    /// A list of commands is run, the one at this place, from 1, refused for memory alone.
+    RefuseOne(usize, &'a str, Call<'a>),
+    /// A column is looked at.
+    Look(&'a str, Look),
+    /// These kernels are registered, and no others.
+    Kernels(Kernels<'a>),
+    /// These thresholds are set.
+    Thresholds(Thresholds),
+    /// The thresholds are set that the library sets.
+    CrateThresholds,
+}
+
+/// Columns that are made from values, or are part of another.
+#[derive(Clone, Copy)]
+pub enum Plain<'a> {
+    Flat(DType, &'a [&'a str]),
+    Raw(DType, &'a str, &'a [&'a str]),
+    Invalid(DType, usize),
+    Constant(DType, Value<'a>, usize),
+    Ends(&'a str),
+    Values(&'a str),
+}
+
+/// Calls whose memory may be refused in turn.
+#[derive(Clone, Copy)]
+pub enum Call<'a> {
+    Copy(&'a str),
+    Encode(&'a str),
+    Runs(Runs<'a>),
+    /// As `Runs`, without its window.
+    Whole(Runs<'a>),
+    Lists(Lists<'a>),
+    Views(Views<'a>),
+    Deserialize(Record<'a>),
+    Command(Command<'a>),
+    /// The words of commands, to be run as one list, parted by `NEXT`.
+    Run(&'a [&'a str]),
+    Row(usize),
+    Probe(usize),
+    Validity,
+    /// The record of a run column.
+    Meta,
+    /// What a record says. It is asked of no column, so its request is named `read`, as no column is.
+    Read(&'a [&'a str]),
+}
+
+impl<'a> Call<'a> {
+    /// Does it make a column? Else it is done to one, or to none.
+    pub fn makes(self) -> bool {
+        match self {
+            Call::Copy(_) | Call::Encode(_) | Call::Runs(_) | Call::Whole(_) => true,
+            Call::Lists(_) | Call::Views(_) | Call::Deserialize(_) => true,
+            Call::Command(_) | Call::Run(_) | Call::Row(_) | Call::Probe(_) => false,
+            Call::Validity | Call::Meta | Call::Read(_) => false,
+        }
+    }
+}
+
+/// A run column of flat ends and a copy of a column.
+#[derive(Clone, Copy)]
+pub struct Runs<'a> {
+    pub ends_type: DType,
+    /// How many rows of the runs lie before the window.
+    pub offset: usize,
+    /// How many rows the window has.
+    pub length: usize,
+    pub ends: &'a [&'a str],
+    /// The name of the column of values.
+    pub values: &'a str,
+}
+
+/// A column of lists of copies of columns, by their names.
+#[derive(Clone, Copy)]
+pub struct Lists<'a> {
+    pub elements: &'a str,
+    pub offsets: &'a str,
+    pub sizes: &'a str,
+    /// The word of a validity, or a name.
+    pub validity: &'a str,
+}
+
+/// A column of views, three words each, into buffers, a word each.
+#[derive(Clone, Copy)]
+pub struct Views<'a> {
+    pub kind: VarBinKind,
+    pub validity: &'a str,
+    pub views: &'a [&'a str],
+    pub buffers: &'a [&'a str],
+}
+
+/// A run column of a record's bytes, ends and values: of so many rows of the type.
+#[derive(Clone, Copy)]
+pub struct Record<'a> {
+    pub dtype: DType,
+    pub length: usize,
+    pub bytes: &'a [&'a str],
+    pub ends: &'a str,
+    pub values: &'a str,
+}
+
+/// Commands on a column.
+#[derive(Clone, Copy)]
+pub enum Command<'a> {
+    Slice(usize, usize),
+    /// By a word of 0 and 1.
+    Filter(&'a str),
+    /// By indices of a type of whole numbers.
+    Take(DType, &'a [&'a str]),
+    /// From the column of this name, by codes.
+    TakeFrom(&'a str),
+    CompareScalar(CompareOperator, DType, Value<'a>),
+    /// With the column of this name.
+    CompareColumn(CompareOperator, &'a str),
+    Cast(DType),
+    Fill(DType, Value<'a>),
+    Encode,
+    Decode,
+    At(usize),
+    Sum,
+    MinMax,
+    Constant,
+    Sorted,
+    /// Sorted, with each row below the next.
+    Strict,
+}
+
+/// What of a column is looked at.
+#[derive(Clone, Copy)]
+pub enum Look {
+    Rows,
+    Type,
+    Form,
+    Stored,
+}
+
+/// Which kernels are registered.
+#[derive(Clone, Copy)]
+pub enum Kernels<'a> {
+    All,
+    These(&'a [&'a str]),
+}
