@@ -60,7 +60,7 @@ pub(crate) fn run_column<A: Allocator + Copy>(
 ) -> VortexResult<ArrayRef<A>> {
     let ends = ArrayRef::Primitive(ends);
     let runs = RunEnd::try_new_offset_length(ends, values, offset, length, ctx)?;
-    Ok(ArrayRef::RunEnd(Box::new(*ctx.allocator(), runs)?))
+    ArrayRef::of_runs(*ctx.allocator(), runs)
 }
 
 /// A column of ends.

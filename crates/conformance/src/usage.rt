@@ -1,16 +1,47 @@
-//! The library as a program calls it. The README shows these lines.
+//! The library as a program calls it. The README and `docs/CALLING.md` show these lines.
 use crate::columns::assert_rows;
+use std::alloc::Global;
 use std::test::Fail;
-use vortex_runend::compute::{slice, sum};
+use vortex_runend::compute::{fill_null, slice, sum};
 use vortex_runend::{
-    ArrayRef, ExecutionCtx, PrimitiveArray, PrimitiveValues, RunEnd, SumAnswer, SumValue, Validity,
-    VortexSession, initialize,
+    Answer, ArrayRef, BitBufferMut, Command, DType, ExecutionCtx, Kernel, Nullability, PType,
+    PrimitiveArray, PrimitiveValues, RunEnd, RunEndArray, RunEndArrayExt, RunEndArraySlotsExt,
+    RunEndProbe, Scalar, ScalarValue, ScalarView, SumAnswer, SumValue, Validity, VortexError,
+    VortexResult, VortexSession, deserialize, execute, initialize, serialize,
 };
 
 const THIRTY_FIVE: SumAnswer = SumAnswer {
     sum: Some(SumValue::Signed(35)),
     is_empty: false,
 };
+
+// All kernels, with the thresholds of the library.
+fn context(alloc: Global) -> ExecutionCtx<Global> {
+    let mut session = VortexSession::empty();
+    initialize(&mut session);
+    ExecutionCtx::new(session, alloc)
+}
+
+// Rows 4, 4, null, null and 9, as a flat column of i64.
+fn rows_with_null(alloc: Global) -> VortexResult<PrimitiveArray<Global>> {
+    let numbers = Vec::from_slice(alloc, &[4i64, 4, 0, 0, 9])?;
+    let mut valid = BitBufferMut::with_capacity(alloc, 5)?;
+    valid.append_n(true, 2)?;
+    valid.append_n(false, 2)?;
+    valid.append(true)?;
+    PrimitiveArray::try_new(
+        PrimitiveValues::I64(numbers),
+        Validity::from_bits(valid.freeze()),
+    )
+}
+
+// The same rows, in runs.
+fn runs_with_null(
+    alloc: Global,
+    ctx: &mut ExecutionCtx<Global>,
+) -> VortexResult<RunEndArray<Global>> {
+    RunEnd::encode(ArrayRef::Primitive(rows_with_null(alloc)?), ctx)
+}
 
 #[test]
 fn rows_are_encoded_summed_and_sliced(rt: HostRuntime) -> Result<(), Fail> {
@@ -29,5 +60,124 @@ fn rows_are_encoded_summed_and_sliced(rt: HostRuntime) -> Result<(), Fail> {
     let part = part?;
     assert_rows(&rt, &part, &[Some(4), Some(7), Some(7)]);
     drop(part);
+    Ok(())
+}
+
+// The same rows with 0 in place of each null.
+fn filled_with_zero(
+    runs: &RunEndArray<Global>,
+    ctx: &mut ExecutionCtx<Global>,
+) -> VortexResult<ArrayRef<Global>> {
+    let dtype = DType::Primitive(PType::I64, Nullability::NonNullable);
+    let zero = Scalar::try_new(dtype, Some(ScalarValue::Signed(0)))?;
+    fill_null(runs, &zero, ctx)
+}
+
+#[test]
+fn nulls_are_filled_by_a_kernel(rt: HostRuntime) -> Result<(), Fail> {
+    let mut ctx = context(rt.alloc());
+    let runs = runs_with_null(rt.alloc(), &mut ctx)?;
+    let filled = filled_with_zero(&runs, &mut ctx);
+    drop(runs);
+    let filled = filled?;
+    assert_rows(&rt, &filled, &[Some(4), Some(4), Some(0), Some(0), Some(9)]);
+    drop(filled);
+    Ok(())
+}
+
+#[test]
+fn commands_are_run_as_a_list(rt: HostRuntime) -> Result<(), Fail> {
+    let mut ctx = context(rt.alloc());
+    let runs = runs_with_null(rt.alloc(), &mut ctx)?;
+    let mut column = ArrayRef::of_runs(rt.alloc(), runs)?;
+
+    let commands = vec![in rt.alloc(); Command::Slice(1..5), Command::At(9), Command::Sum]?;
+    let answers = execute(&mut column, &commands, &mut ctx);
+    drop(commands);
+
+    assert_rows(&rt, &column, &[Some(4), None, None, Some(9)]);
+    drop(column);
+    let answers = answers?;
+    let refusal = VortexError::OutOfBounds {
+        index: 9,
+        length: 4,
+    };
+    let total = SumAnswer {
+        sum: Some(SumValue::Signed(13)),
+        is_empty: false,
+    };
+    assert_eq!(rt; answers.first(), Some(&Answer::Done));
+    assert_eq!(rt; answers.get(1), Some(&Answer::Refused(refusal)));
+    assert_eq!(rt; answers.get(2), Some(&Answer::Sum(total)));
+    drop(answers);
+    Ok(())
+}
+
+// The number in a row, or `None` for null.
+fn number_of(row: ScalarView<'_, Global>) -> Option<i64> {
+    match row {
+        ScalarView::Signed(number) => Some(number),
+        _ => None,
+    }
+}
+
+#[test]
+fn rows_are_read(rt: HostRuntime) -> Result<(), Fail> {
+    let mut ctx = context(rt.alloc());
+    let runs = runs_with_null(rt.alloc(), &mut ctx)?;
+    let probe = RunEndProbe::new(&runs);
+    let last = probe.execute_scalar(4).map(number_of);
+    let null = probe.execute_scalar(2).map(number_of);
+    drop(runs);
+    assert_eq!(rt; last, Ok(Some(9)));
+    assert_eq!(rt; null, Ok(None));
+    Ok(())
+}
+
+#[test]
+fn a_session_decides_the_form_alone(rt: HostRuntime) -> Result<(), Fail> {
+    let mut session = VortexSession::empty();
+    session.register(Kernel::Slice);
+    let mut ctx = ExecutionCtx::new(session, rt.alloc());
+    let runs = runs_with_null(rt.alloc(), &mut ctx)?;
+    let mut column = ArrayRef::of_runs(rt.alloc(), runs)?;
+
+    let commands = vec![in rt.alloc(); Command::Slice(1..5)]?;
+    let answers = execute(&mut column, &commands, &mut ctx);
+    drop(commands);
+    drop(answers?);
+    assert!(rt; matches!(&column, ArrayRef::RunEnd(_)));
+
+    let commands = vec![in rt.alloc(); Command::Slice(0..2)]?;
+    *ctx.session_mut() = VortexSession::empty();
+    let answers = execute(&mut column, &commands, &mut ctx);
+    drop(commands);
+    drop(answers?);
+    assert!(rt; matches!(&column, ArrayRef::Primitive(_)));
+    assert_rows(&rt, &column, &[Some(4), None]);
+    drop(column);
+    Ok(())
+}
+
+// The runs that their record and copies of their slots are read back as.
+fn recorded(
+    runs: &RunEndArray<Global>,
+    ctx: &mut ExecutionCtx<Global>,
+) -> VortexResult<RunEndArray<Global>> {
+    let record = serialize(runs, ctx)?;
+    let ends = runs.ends().try_clone(ctx)?;
+    let values = runs.values().try_clone(ctx)?;
+    deserialize(runs.dtype(), runs.len(), &record, ends, values, ctx)
+}
+
+#[test]
+fn a_record_is_written_and_read(rt: HostRuntime) -> Result<(), Fail> {
+    let mut ctx = context(rt.alloc());
+    let runs = runs_with_null(rt.alloc(), &mut ctx)?;
+    let read = recorded(&runs, &mut ctx);
+    drop(runs);
+    let column = ArrayRef::of_runs(rt.alloc(), read?)?;
+    assert_rows(&rt, &column, &[Some(4), Some(4), None, None, Some(9)]);
+    drop(column);
     Ok(())
 }
