@@ -254,8 +254,7 @@ fn runs_of_parts<A: Allocator + Copy>(
     ensures session { ctx.new ≡ ctx.old }
 {
     let runs = RunEnd::try_new_offset_length(ends, values, offset, length, ctx)?;
-    let boxed = Box::new(*ctx.allocator(), runs)?;
-    Ok(ArrayRef::RunEnd(boxed))
+    ArrayRef::of_runs(*ctx.allocator(), runs)
 }
 
 // Does the command on the column that stands.
