@@ -1,0 +1,205 @@
+-- How calls end, from what they came to.
+use Rattle.std.proofs.Common.{◌≡◌, ◌≢◌, inl, inr, sym, ap, ◌∙◌, subst, pos, ℤ, ℕ, List, Bool}
+use Rattle.std.specs.Prelude.{Option, Some, None, Result, Ok, Err, IfErr, IfOk, IsSomeAnd}
+use Rattle.std.specs.Global.{Global}
+use Rattle.column_base.specs.declared.error.VortexError.{VortexError}
+use Rattle.column_base.specs.Error.{number_of}
+use Rattle.column_core.specs.Refusal.{IsErrorFor}
+use Rattle.column_order.specs.OrderFacts as order
+use Rattle.runend_array.specs.Array.{dtype_of, rows}
+use Rattle.runend_array.specs.declared.array_ref.ArrayRef.{ArrayRef}
+use Rattle.runend_commands.specs.declared.command.Command.{Command}
+use Rattle.column_order.specs.declared.operator.CompareOperator.{CompareOperator}
+use Rattle.runend_commands.specs.declared.command.Command.TheVariants.{CompareColumn, TakeFrom}
+use Rattle.runend_commands.specs.Refusal.{refusal}
+use Rattle.runend_commands.specs.Meaning.{plain}
+use Rattle.hivevigil.specs.Calls.{IsBuilt, IsPassedBuilt, IsSameCommand, Leaves, LeavesBy, LeavesOf, compare_to, compare_with_passed, fill_with_passed, take_from_of}
+use Rattle.hivevigil.specs.Ending.{EndsBy, EndsByPassed, EndsOn, EndsOnBoth, EndsOnGiven, EndsOnPassed, HasFields, LeavesGiven, LeavesPassed, WhereAll, WhereBoth, fault_given, fault_of}
+use Rattle.hivevigil.specs.Flags.{Tells}
+use Rattle.hivevigil.specs.Values.{IsPassed}
+use Rattle.hivevigil.specs.declared.error_fields.ErrorFields.{ErrorFields}
+use Rattle.hivevigil.specs.declared.row_value.RowValue.{RowValue}
+
+abbrev Held : Type 0
+Held = Option (ArrayRef Global)
+
+-- done: there was no fault
+pub ends_done : (fault : Option VortexError) (code : ℤ) (fields : ErrorFields) → fault ≡ None → code ≡ pos 0 → EndsBy fault code fields
+ends_done None code fields none is = inl is
+ends_done (Some error) code fields none is = absurd (cc)
+
+-- refused: by the fault, or for want of memory
+pub ends_refused : (fault : Option VortexError) (error : VortexError) (code : ℤ) (fields : ErrorFields) → IsErrorFor fault error → code ≡ pos (number_of error) → HasFields error fields → EndsBy fault code fields
+ends_refused None error code fields (inl short) is told = inr (is ∙ ap (λ (e : VortexError). pos (number_of e)) short)
+ends_refused None error code fields (inr found) is told = absurd (cc)
+ends_refused (Some other) error code fields (inl short) is told = inl (is ∙ ap (λ (e : VortexError). pos (number_of e)) short)
+ends_refused (Some other) error code fields (inr found) is told =
+    let same : error ≡ other = cc in inr (subst (λ (e : VortexError). (code ≡ pos (number_of e)) × HasFields e fields) same (is, told))
+
+-- memory was refused
+short_of : (fault : Option VortexError) (code : ℤ) (fields : ErrorFields) → code ≡ pos 21 → EndsBy fault code fields
+short_of None code fields is = inr is
+short_of (Some error) code fields is = inl is
+
+-- the handle of a command that was built is empty, or holds the column on which it was done or refused
+pub given_empty : (c : Held) (given : Result (Command Global) VortexError) (code : ℤ) (fields : ErrorFields) → c ≡ None → code ≡ pos 22 → EndsOnGiven c given code fields
+given_empty None given code fields none is = is
+given_empty (Some a) given code fields none is = absurd (cc)
+
+on_given : (c : Held) (a : ArrayRef Global) (given : Result (Command Global) VortexError) (code : ℤ) (fields : ErrorFields) → c ≡ Some a → EndsBy (fault_given given a) code fields → EndsOnGiven c given code fields
+on_given c a given code fields some ends = subst (λ (h : Held). EndsOnGiven h given code fields) (sym some) ends
+
+no_fault : (given : Result (Command Global) VortexError) (a d : ArrayRef Global) → LeavesGiven given a d → fault_given given a ≡ None
+no_fault (Ok command) a d left = left.accepted
+no_fault (Err error) a d left = absurd left
+
+pub given_done : (c : Held) (a d : ArrayRef Global) (given : Result (Command Global) VortexError) (code : ℤ) (fields : ErrorFields) → c ≡ Some a → LeavesGiven given a d → code ≡ pos 0 → EndsOnGiven c given code fields
+given_done c a d given code fields some left is = on_given c a given code fields some (ends_done (fault_given given a) code fields (no_fault given a d left) is)
+
+pub given_refused : (c : Held) (a : ArrayRef Global) (given : Result (Command Global) VortexError) (error : VortexError) (code : ℤ) (fields : ErrorFields)
+    → c ≡ Some a → IsErrorFor (fault_given given a) error → code ≡ pos (number_of error) → HasFields error fields → EndsOnGiven c given code fields
+given_refused c a given error code fields some why is told = on_given c a given code fields some (ends_refused (fault_given given a) error code fields why is told)
+
+-- a command that is made of numbers alone
+pub ends_with : (c : Held) (command : Command Global) (code : ℤ) (fields : ErrorFields) → EndsOnGiven c (Ok command) code fields → EndsOn c (Some command) code fields
+ends_with None command code fields ends = ends
+ends_with (Some a) command code fields ends = ends
+
+pub left_with : (c d : Held) (command : Command Global) → WhereBoth (LeavesGiven (Ok command)) c d → WhereBoth (Leaves command) c d
+left_with None d command left = absurd left
+left_with (Some a) None command left = absurd left
+left_with (Some a) (Some b) command left = left
+
+-- a command that is made of what a second handle holds
+left_same : (m n : Command Global) (a b : ArrayRef Global) → IsSameCommand m n → Leaves n a b → Leaves m a b
+left_same m n a b same left = record {
+  accepted = sym (same.refusal (plain a)) ∙ left.accepted;
+  rows = left.rows ∙ same.rows (plain a);
+  dtype = left.dtype ∙ same.dtype (plain a);
+  shape = same.shape _ _ left.shape;
+}
+
+left_built : (command : Option (Command Global)) (given : Result (Command Global) VortexError) (a b : ArrayRef Global) → IsBuilt command given → LeavesGiven given a b → LeavesBy command a b
+left_built (Some m) (Ok n) a b built left = left_same m n a b built left
+left_built (Some m) (Err error) a b built left = absurd left
+left_built None (Ok n) a b built left = absurd built
+left_built None (Err error) a b built left = absurd left
+
+where_both : (command : Option (Command Global)) (given : Result (Command Global) VortexError) (f : ArrayRef Global → Option (Command Global)) (i : ArrayRef Global) (c d : Held)
+    → ((a b : ArrayRef Global) → LeavesGiven given a b → LeavesBy (f i) a b) → WhereBoth (LeavesGiven given) c d → WhereAll (LeavesOf f) (Some i) c d
+where_both command given f i None d each left = absurd left
+where_both command given f i (Some a) None each left = absurd left
+where_both command given f i (Some a) (Some b) each left = each a b left
+
+pub left_both : (f : ArrayRef Global → Option (Command Global)) (o c d : Held) (i : ArrayRef Global) (given : Result (Command Global) VortexError)
+    → o ≡ Some i → IsBuilt (f i) given → WhereBoth (LeavesGiven given) c d → WhereAll (LeavesOf f) o c d
+left_both f o c d i given some built left =
+    subst (λ (h : Held). WhereAll (LeavesOf f) h c d) (sym some) (where_both (f i) given f i c d (λ a b done. left_built (f i) given a b built done) left)
+
+by_built : (command : Option (Command Global)) (given : Result (Command Global) VortexError) (a : ArrayRef Global) (code : ℤ) (fields : ErrorFields) → IsBuilt command given → EndsBy (fault_given given a) code fields → EndsBy (fault_of command a) code fields
+by_built (Some m) (Ok n) a code fields built ends = subst (λ (fault : Option VortexError). EndsBy fault code fields) (built.refusal (plain a)) ends
+by_built (Some m) (Err error) a code fields built (inl short) = short_of (refusal (plain a) m) code fields short
+by_built (Some m) (Err error) a code fields built (inr told) = short_of (refusal (plain a) m) code fields (told.0 ∙ ap (λ (e : VortexError). pos (number_of e)) built)
+by_built None (Ok n) a code fields built ends = absurd built
+by_built None (Err error) a code fields built ends = subst (λ (e : VortexError). EndsBy (Some e) code fields) built ends
+
+on_built : (command : Option (Command Global)) (given : Result (Command Global) VortexError) (c : Held) (code : ℤ) (fields : ErrorFields) → IsBuilt command given → EndsOnGiven c given code fields → EndsOn c command code fields
+on_built command given None code fields built ends = ends
+on_built command given (Some a) code fields built ends = by_built command given a code fields built ends
+
+pub ends_both : (f : ArrayRef Global → Option (Command Global)) (o c : Held) (i : ArrayRef Global) (given : Result (Command Global) VortexError) (code : ℤ) (fields : ErrorFields)
+    → o ≡ Some i → IsBuilt (f i) given → EndsOnGiven c given code fields → EndsOnBoth f o c code fields
+ends_both f o c i given code fields some built ends = subst (λ (h : Held). EndsOnBoth f h c code fields) (sym some) (on_built (f i) given c code fields built ends)
+
+-- the same of a dictionary and of a right side
+pub left_take_from : (o c d : Held) (i : ArrayRef Global) (given : Result (Command Global) VortexError) → o ≡ Some i → IsBuilt (Some (TakeFrom i)) given → WhereBoth (LeavesGiven given) c d → WhereAll (LeavesOf take_from_of) o c d
+left_take_from o c d i given = left_both take_from_of o c d i given
+
+pub ends_take_from : (o c : Held) (i : ArrayRef Global) (given : Result (Command Global) VortexError) (code : ℤ) (fields : ErrorFields) → o ≡ Some i → IsBuilt (Some (TakeFrom i)) given → EndsOnGiven c given code fields → EndsOnBoth take_from_of o c code fields
+ends_take_from o c i given code fields = ends_both take_from_of o c i given code fields
+
+pub left_compare : (operator : CompareOperator) (o c d : Held) (i : ArrayRef Global) (given : Result (Command Global) VortexError) → o ≡ Some i → IsBuilt (Some (CompareColumn operator i)) given → WhereBoth (LeavesGiven given) c d → WhereAll (LeavesOf (compare_to operator)) o c d
+left_compare operator o c d i given = left_both (compare_to operator) o c d i given
+
+pub ends_compare : (operator : CompareOperator) (o c : Held) (i : ArrayRef Global) (given : Result (Command Global) VortexError) (code : ℤ) (fields : ErrorFields) → o ≡ Some i → IsBuilt (Some (CompareColumn operator i)) given → EndsOnGiven c given code fields → EndsOnBoth (compare_to operator) o c code fields
+ends_compare operator o c i given code fields = ends_both (compare_to operator) o c i given code fields
+
+pub ends_without : (f : ArrayRef Global → Option (Command Global)) (o c : Held) (code : ℤ) (fields : ErrorFields) → o ≡ None → code ≡ pos 22 → EndsOnBoth f o c code fields
+ends_without f o c code fields none is = subst (λ (h : Held). EndsOnBoth f h c code fields) (sym none) is
+
+-- a command that is made of a scalar that is passed
+left_by_passed : (Given : Type 0) (f : ArrayRef Global → Command Global) (given : Result (Command Global) VortexError) (a b : ArrayRef Global) → IsPassedBuilt Given (f a) given → LeavesGiven given a b → LeavesPassed f a b
+left_by_passed Given f (Ok n) a b built left = subst (λ (m : Command Global). Leaves m a b) built.0 left
+left_by_passed Given f (Err error) a b built left = absurd left
+
+both_passed : (Given : Type 0) (f : ArrayRef Global → Command Global) (given : Result (Command Global) VortexError) (a : ArrayRef Global) (d : Held) → IsPassedBuilt Given (f a) given → WhereBoth (LeavesGiven given) (Some a) d → WhereBoth (LeavesPassed f) (Some a) d
+both_passed Given f given a None built left = absurd left
+both_passed Given f given a (Some b) built left = left_by_passed Given f given a b built left
+
+pub left_passed : (Given : Type 0) (f : ArrayRef Global → Command Global) (given : Result (Command Global) VortexError) (c d : Held) (a : ArrayRef Global)
+    → c ≡ Some a → IsPassedBuilt Given (f a) given → WhereBoth (LeavesGiven given) c d → WhereBoth (LeavesPassed f) c d
+left_passed Given f given c d a some built left =
+    subst (λ (h : Held). WhereBoth (LeavesPassed f) h d) (sym some) (both_passed Given f given a d built (subst (λ (h : Held). WhereBoth (LeavesGiven given) h d) some left))
+
+by_passed : (Given : Type 0) (m : Command Global) (given : Result (Command Global) VortexError) (a : ArrayRef Global) (code : ℤ) (fields : ErrorFields) → IsPassedBuilt Given m given → EndsBy (fault_given given a) code fields → EndsByPassed Given (refusal (plain a) m) code fields
+by_passed Given m (Ok n) a code fields built ends = inr (inr (built.1, subst (λ (k : Command Global). EndsBy (refusal (plain a) k) code fields) built.0 ends))
+by_passed Given m (Err error) a code fields built (inl short) = inr (inl short)
+by_passed Given m (Err error) a code fields (inl short) (inr told) = inr (inl (told.0 ∙ ap (λ (e : VortexError). pos (number_of e)) short))
+by_passed Given m (Err error) a code fields (inr wrong) (inr told) = inl (told.0 ∙ ap (λ (e : VortexError). pos (number_of e)) wrong.0, wrong.1)
+
+pub ends_passed : (value : RowValue) (text : List ℕ) (f : ArrayRef Global → Command Global) (given : Result (Command Global) VortexError) (c : Held) (a : ArrayRef Global) (code : ℤ) (fields : ErrorFields)
+    → c ≡ Some a → IsPassedBuilt (IsPassed (dtype_of a) value.kind value text) (f a) given → EndsOnGiven c given code fields → EndsOnPassed value text f c code fields
+ends_passed value text f given c a code fields some built ends =
+    subst (λ (h : Held). EndsOnPassed value text f h code fields) (sym some)
+    (by_passed (IsPassed (dtype_of a) value.kind value text) (f a) given a code fields built (subst (λ (h : Held). EndsOnGiven h given code fields) some ends))
+
+-- of a comparison and of a filling
+abbrev Passes : RowValue → List ℕ → ArrayRef Global → Type 0
+Passes value text a = IsPassed (dtype_of a) value.kind value text
+
+pub left_compared : (operator : CompareOperator) (value : RowValue) (text : List ℕ) (given : Result (Command Global) VortexError) (c d : Held) (a : ArrayRef Global)
+    → c ≡ Some a → IsPassedBuilt (Passes value text a) (compare_with_passed operator value text a) given → WhereBoth (LeavesGiven given) c d → WhereBoth (LeavesPassed (compare_with_passed operator value text)) c d
+left_compared operator value text given c d a = left_passed (Passes value text a) (compare_with_passed operator value text) given c d a
+
+pub ends_compared : (operator : CompareOperator) (value : RowValue) (text : List ℕ) (given : Result (Command Global) VortexError) (c : Held) (a : ArrayRef Global) (code : ℤ) (fields : ErrorFields)
+    → c ≡ Some a → IsPassedBuilt (Passes value text a) (compare_with_passed operator value text a) given → EndsOnGiven c given code fields → EndsOnPassed value text (compare_with_passed operator value text) c code fields
+ends_compared operator value text given c a code fields = ends_passed value text (compare_with_passed operator value text) given c a code fields
+
+pub left_filled : (value : RowValue) (text : List ℕ) (given : Result (Command Global) VortexError) (c d : Held) (a : ArrayRef Global)
+    → c ≡ Some a → IsPassedBuilt (Passes value text a) (fill_with_passed value text a) given → WhereBoth (LeavesGiven given) c d → WhereBoth (LeavesPassed (fill_with_passed value text)) c d
+left_filled value text given c d a = left_passed (Passes value text a) (fill_with_passed value text) given c d a
+
+pub ends_filled : (value : RowValue) (text : List ℕ) (given : Result (Command Global) VortexError) (c : Held) (a : ArrayRef Global) (code : ℤ) (fields : ErrorFields)
+    → c ≡ Some a → IsPassedBuilt (Passes value text a) (fill_with_passed value text a) given → EndsOnGiven c given code fields → EndsOnPassed value text (fill_with_passed value text) c code fields
+ends_filled value text given c a code fields = ends_passed value text (fill_with_passed value text) given c a code fields
+
+pub passed_empty : (value : RowValue) (text : List ℕ) (f : ArrayRef Global → Command Global) (c : Held) (code : ℤ) (fields : ErrorFields) → c ≡ None → code ≡ pos 22 → EndsOnPassed value text f c code fields
+passed_empty value text f c code fields none is = subst (λ (h : Held). EndsOnPassed value text f h code fields) (sym none) is
+
+-- a question
+pub asked_empty : (c : Held) (command : Command Global) (code : ℤ) (fields : ErrorFields) → c ≡ None → code ≡ pos 22 → EndsOn c (Some command) code fields
+asked_empty c command code fields none is = subst (λ (h : Held). EndsOn h (Some command) code fields) (sym none) is
+
+pub asked_done : (c : Held) (a : ArrayRef Global) (command : Command Global) (code : ℤ) (fields : ErrorFields) → c ≡ Some a → refusal (plain a) command ≡ None → code ≡ pos 0 → EndsOn c (Some command) code fields
+asked_done c a command code fields some accepted is = subst (λ (h : Held). EndsOn h (Some command) code fields) (sym some) (ends_done (refusal (plain a) command) code fields accepted is)
+
+pub asked_refused : (c : Held) (a : ArrayRef Global) (command : Command Global) (error : VortexError) (code : ℤ) (fields : ErrorFields)
+    → c ≡ Some a → IsErrorFor (refusal (plain a) command) error → code ≡ pos (number_of error) → HasFields error fields → EndsOn c (Some command) code fields
+asked_refused c a command error code fields some why is told =
+    subst (λ (h : Held). EndsOn h (Some command) code fields) (sym some) (ends_refused (refusal (plain a) command) error code fields why is told)
+
+-- a truth value that is told
+written_is : (outcome : Result ℕ VortexError) (code : ℤ) (written : ℕ) (fields : ErrorFields) (P : ℕ → Type 0) → IfOk outcome P → IfOk outcome (λ found. (code ≡ pos 0) × (written ≡ found))
+    → IfErr outcome (λ error. (code ≡ pos (number_of error)) × (code ≢ pos 0) × HasFields error fields) → code ≡ pos 0 → P written
+written_is (Ok truth) code written fields P is ok err zero = subst P (sym ok.1) is
+written_is (Err error) code written fields P is ok err zero = absurd (err.1 zero)
+
+pub told_constant : (c : Held) (a : ArrayRef Global) (outcome : Result ℕ VortexError) (code : ℤ) (written : ℕ) (fields : ErrorFields) → c ≡ Some a → IfOk outcome (λ truth. Tells truth (order.IsConstant (rows a)))
+    → IfOk outcome (λ found. (code ≡ pos 0) × (written ≡ found)) → IfErr outcome (λ error. (code ≡ pos (number_of error)) × (code ≢ pos 0) × HasFields error fields) → code ≡ pos 0 → IsSomeAnd c (λ x. Tells written (order.IsConstant (rows x)))
+told_constant c a outcome code written fields some is ok err zero =
+    subst (λ (h : Held). IsSomeAnd h (λ x. Tells written (order.IsConstant (rows x)))) (sym some) (written_is outcome code written fields (λ truth. Tells truth (order.IsConstant (rows a))) is ok err zero)
+
+pub told_sorted : (strict : Bool) (c : Held) (a : ArrayRef Global) (outcome : Result ℕ VortexError) (code : ℤ) (written : ℕ) (fields : ErrorFields) → c ≡ Some a → IfOk outcome (λ truth. Tells truth (order.IsSorted strict (rows a)))
+    → IfOk outcome (λ found. (code ≡ pos 0) × (written ≡ found)) → IfErr outcome (λ error. (code ≡ pos (number_of error)) × (code ≢ pos 0) × HasFields error fields) → code ≡ pos 0 → IsSomeAnd c (λ x. Tells written (order.IsSorted strict (rows x)))
+told_sorted strict c a outcome code written fields some is ok err zero =
+    subst (λ (h : Held). IsSomeAnd h (λ x. Tells written (order.IsSorted strict (rows x)))) (sym some) (written_is outcome code written fields (λ truth. Tells truth (order.IsSorted strict (rows a))) is ok err zero)

@@ -1,0 +1,8 @@
+pub mod Built
+pub mod CountedRows
+pub mod Endings
+pub mod Left
+pub mod LookUps
+mod MachineValues
+pub mod Passed
+pub mod TextRows

@@ -1,0 +1,107 @@
+-- How a call ends: a number, and the fields of an error.
+use Rattle.std.specs.Prelude.{◌≡◌, ◌≢◌, ◌⊎◌, ◌-◌, ◌^◌, ◌<◌, ℕ, ℤ, pos, List, slice_get, Option, Some, None, Result, Ok, Err}
+use Rattle.std.specs.Global.{Global}
+use Rattle.column_base.specs.declared.error.VortexError.{VortexError}
+use Rattle.column_base.specs.declared.error.VortexError.TheVariants.{LengthsDiffer, NoRunsWindow, EndsNotStrict, FirstEndBelowOffset, LastEndBelowWindow, OutOfBounds, BadRange, MaskLength, ColumnLength, EndsTypeNumber, RunCount, TypeMismatch}
+use Rattle.column_base.specs.Error.{number_of}
+use Rattle.column_core.specs.Value.{PlainColumn, Value}
+use Rattle.runend_commands.specs.declared.command.Command.TheVariants.{At}
+use Rattle.runend_array.specs.declared.array_ref.ArrayRef.{ArrayRef}
+use Rattle.runend_commands.specs.declared.command.Command.{Command}
+use Rattle.runend_commands.specs.Refusal.{refusal}
+use Rattle.runend_commands.specs.Meaning.{plain}
+use Rattle.runend_array.specs.Array.{dtype_of}
+use Rattle.hivevigil.specs.Calls.{Leaves}
+use Rattle.hivevigil.specs.Values.{IsPassed, IsRoomFault}
+use Rattle.hivevigil.specs.declared.row_value.RowValue.{RowValue}
+use Rattle.hivevigil.specs.declared.error_fields.ErrorFields.{ErrorFields}
+
+-- an index as a field: itself, or 2^64 - 1 where it is negative or no number of 64 bits
+abbrev pub IsIndexField : ℤ → ℕ → Type 0
+IsIndexField index field = (index ≡ pos field) ⊎ ((field ≡ 2 ^ 64 - 1) × ((k : ℕ) → k < 2 ^ 64 → index ≢ pos k))
+
+-- the fields of an error, in their order
+abbrev pub HasFields : VortexError → ErrorFields → Type 0
+HasFields (LengthsDiffer ends values) f = (f.first ≡ ends) × (f.second ≡ values)
+HasFields (NoRunsWindow offset count) f = (f.first ≡ offset) × (f.second ≡ count)
+HasFields (EndsNotStrict run) f = f.first ≡ run
+HasFields (FirstEndBelowOffset end offset) f = (f.first ≡ end) × (f.second ≡ offset)
+HasFields (LastEndBelowWindow end required) f = (f.first ≡ end) × (f.second ≡ required)
+HasFields (OutOfBounds index count) f = IsIndexField index f.first × (f.second ≡ count)
+HasFields (BadRange start stop count) f = (f.first ≡ start) × (f.second ≡ stop) × (f.third ≡ count)
+HasFields (MaskLength mask count) f = (f.first ≡ mask) × (f.second ≡ count)
+HasFields (ColumnLength left right) f = (f.first ≡ left) × (f.second ≡ right)
+HasFields (EndsTypeNumber number) f = f.first ≡ number
+HasFields (RunCount stated found) f = (f.first ≡ stated) × (f.second ≡ found)
+HasFields error f = Unit {0}
+
+-- the call ends by this fault: with its number and its fields, or with 21 for want of memory; where there is none, with 0 or 21
+abbrev pub EndsBy : Option VortexError → ℤ → ErrorFields → Type 0
+EndsBy None code fields = (code ≡ pos 0) ⊎ (code ≡ pos 21)
+EndsBy (Some error) code fields = (code ≡ pos 21) ⊎ ((code ≡ pos (number_of error)) × HasFields error fields)
+
+-- the first fault of a command on a column; there is none to do where what is lent is of the wrong type
+abbrev pub fault_of : Option (Command Global) → ArrayRef Global → Option VortexError
+fault_of None c = Some TypeMismatch
+fault_of (Some command) c = refusal (plain c) command
+
+-- how the call of a command on the column of a handle ends: with 22 where the handle is empty
+abbrev pub EndsOn : Option (ArrayRef Global) → Option (Command Global) → ℤ → ErrorFields → Type 0
+EndsOn None command code fields = code ≡ pos 22
+EndsOn (Some c) command code fields = EndsBy (fault_of command c) code fields
+
+-- of two handles each has a column, and these relate so
+abbrev pub WhereBoth : {X Y : Type 0} → (X → Y → Type 0) → Option X → Option Y → Type 0
+WhereBoth P (Some x) (Some y) = P x y
+WhereBoth P x y = ⊥
+
+-- each of three has a column, and these relate so
+abbrev pub WhereAll : {X Y Z : Type 0} → (X → Y → Z → Type 0) → Option X → Option Y → Option Z → Type 0
+WhereAll P (Some x) (Some y) (Some z) = P x y z
+WhereAll P x y z = ⊥
+
+-- how the call of a command ends that is made of what a second handle holds: with 22 where one of the two is empty
+abbrev pub EndsOnBoth : (ArrayRef Global → Option (Command Global)) → Option (ArrayRef Global) → Option (ArrayRef Global) → ℤ → ErrorFields → Type 0
+EndsOnBoth command None c code fields = code ≡ pos 22
+EndsOnBoth command (Some other) c code fields = EndsOn c (command other) code fields
+
+-- the first fault of a command that was built, or why it was not
+abbrev pub fault_given : Result (Command Global) VortexError → ArrayRef Global → Option VortexError
+fault_given (Ok command) c = refusal (plain c) command
+fault_given (Err error) c = Some error
+
+-- what a command leaves that was built
+abbrev pub LeavesGiven : Result (Command Global) VortexError → ArrayRef Global → ArrayRef Global → Type 0
+LeavesGiven (Ok command) c d = Leaves command c d
+LeavesGiven (Err error) c d = ⊥
+
+-- how the call of a command ends that was built, or was not
+abbrev pub EndsOnGiven : Option (ArrayRef Global) → Result (Command Global) VortexError → ℤ → ErrorFields → Type 0
+EndsOnGiven None given code fields = code ≡ pos 22
+EndsOnGiven (Some c) given code fields = EndsBy (fault_given given c) code fields
+
+-- how a call ends that passes a scalar: with 12 where it is no value of the column's type, else by the fault of the command that is made of it
+abbrev pub EndsByPassed : Type 0 → Option VortexError → ℤ → ErrorFields → Type 0
+EndsByPassed Given fault code fields = ((code ≡ pos 12) × (¬ Given)) ⊎ (code ≡ pos 21) ⊎ (Given × EndsBy fault code fields)
+
+abbrev pub EndsOnPassed : RowValue → List ℕ → (ArrayRef Global → Command Global) → Option (ArrayRef Global) → ℤ → ErrorFields → Type 0
+EndsOnPassed value text command None code fields = code ≡ pos 22
+EndsOnPassed value text command (Some c) code fields = EndsByPassed (IsPassed (dtype_of c) value.kind value text) (refusal (plain c) (command c)) code fields
+
+-- what the command leaves that is made of a scalar in the column's type
+abbrev pub LeavesPassed : (ArrayRef Global → Command Global) → ArrayRef Global → ArrayRef Global → Type 0
+LeavesPassed command c d = Leaves (command c) c d
+
+-- the value, if there is a row, has no room
+abbrev pub HasNoRoom : Option (Option Value) → ℕ → VortexError → Type 0
+HasNoRoom None room error = ⊥
+HasNoRoom (Some value) room error = IsRoomFault value room error
+
+-- why the row is not shown: the look-up of a row is refused, or its text or bytes have no room
+abbrev pub IsLookUpFault : PlainColumn → ℕ → ℕ → VortexError → Type 0
+IsLookUpFault before row room error = (refusal {A = Global} before (At row) ≡ Some error) ⊎ ((refusal {A = Global} before (At row) ≡ None) × HasNoRoom (slice_get before.rows row) room error)
+
+-- how the call of it ends
+abbrev pub EndsOnRow : ℕ → ℕ → Option (ArrayRef Global) → ℤ → ErrorFields → Type 0
+EndsOnRow row room None code fields = code ≡ pos 22
+EndsOnRow row room (Some c) code fields = ((code ≡ pos 0) × (refusal {A = Global} (plain c) (At row) ≡ None)) ⊎ ((error : VortexError) × IsLookUpFault (plain c) row room error × (code ≡ pos (number_of error)) × HasFields error fields)

@@ -1,0 +1,12 @@
+pub mod Bits
+pub mod Calls
+pub mod Ending
+pub mod Flags
+pub mod Handle
+pub mod Kinds
+pub mod Makers
+pub mod Pairs
+pub mod Reads
+pub mod Sessions
+pub mod Totals
+pub mod Values

@@ -1,0 +1,62 @@
+-- Columns that are made of what C passes.
+use Rattle.std.specs.Prelude.{◌≡◌, ℕ, ◌+◌, ◌<◌, ℤ, pos, List, [], ◌∷◌, Bool, length, map, slice_index_or}
+use Rattle.std.specs.Global.{Global}
+use Rattle.column_base.specs.declared.dtype.PType.{PType}
+use Rattle.column_base.specs.declared.dtype.DType.{DType}
+use Rattle.column_base.specs.declared.dtype.DecimalDType.{DecimalDType}
+use Rattle.column_base.specs.ValidityForm.{ValidityForm}
+use Rattle.column_core.specs.PrimitiveForm.{primitive_with}
+use Rattle.column_core.specs.BoolForm.{bool_with}
+use Rattle.column_core.specs.DecimalForm.{decimal_with}
+use Rattle.column_core.specs.VarBinForm.{varbin_with, zero_view}
+use Rattle.column_core.specs.Leaf.{OfNumbers, OfTruths, OfDecimals, OfVarBins}
+use Rattle.column_core.specs.declared.varbinview.View.{View}
+use Rattle.column_core.specs.declared.varbinview.VarBinKind.{VarBinKind}
+use Rattle.runend_array.specs.Column.{Column, OfLeaf, Runs, runs_of, column_of_runs, AreParts}
+use Rattle.runend_array.specs.Array.{column_of}
+use Rattle.runend_array.specs.declared.array_ref.ArrayRef.{ArrayRef}
+use Rattle.runend_column.specs.Fault.{IsRecordedColumn}
+use Rattle.hivevigil.specs.Pairs.{number_in}
+use Rattle.hivevigil.specs.declared.pairs.Pair.{Pair}
+
+-- the flat column of these numbers
+abbrev pub IsFlatOf : PType → List ℤ → ValidityForm → ArrayRef Global → Type 0
+IsFlatOf ptype numbers validity c = column_of c ≡ OfLeaf (OfNumbers (primitive_with ptype numbers validity))
+
+-- the flat column of these truth values
+abbrev pub AreTruthsOf : List Bool → ValidityForm → ArrayRef Global → Type 0
+AreTruthsOf truths validity c = column_of c ≡ OfLeaf (OfTruths (bool_with truths validity))
+
+-- the flat column of these decimals
+abbrev pub AreDecimalsOf : DecimalDType → List Pair → ValidityForm → ArrayRef Global → Type 0
+AreDecimalsOf decimal pairs validity c = column_of c ≡ OfLeaf (OfDecimals (decimal_with decimal (map number_in pairs) validity))
+
+-- view k is from offset k to offset k + 1 of the one buffer
+pub record AreCuts (offsets : List ℤ) (views : List View) : Type 0 where
+  pub count : length offsets ≡ length views + 1
+  pub buffers : (k : ℕ) → k < length views → (slice_index_or views k zero_view).buffer ≡ 0
+  pub starts : (k : ℕ) → k < length views → pos ((slice_index_or views k zero_view).start) ≡ slice_index_or offsets k (pos 0)
+  pub stops : (k : ℕ) → k < length views → pos ((slice_index_or views k zero_view).start + (slice_index_or views k zero_view).size) ≡ slice_index_or offsets (k + 1) (pos 0)
+
+-- the flat column of texts or bytes that lie one behind the other
+pub record AreTextsOf (kind : VarBinKind) (offsets : List ℤ) (bytes : List ℕ) (validity : ValidityForm) (c : ArrayRef Global) : Type 0 where
+  pub views : List View
+  pub cuts : AreCuts offsets views
+  pub is : column_of c ≡ OfLeaf (OfVarBins (varbin_with kind views (bytes ∷ []) validity))
+
+-- a copy in the same form
+abbrev pub IsCopyOf : ArrayRef Global → ArrayRef Global → Type 0
+IsCopyOf c d = column_of d ≡ column_of c
+
+-- the run column of these parts, which are such
+abbrev pub IsRunColumnOf : Column → Column → ℕ → ℕ → Column → Type 0
+IsRunColumnOf ends values offset count c = AreParts ends values offset count × (c ≡ column_of_runs (runs_of ends values offset count))
+
+abbrev pub AreRunsOf : ℕ → ℕ → ArrayRef Global → ArrayRef Global → ArrayRef Global → Type 0
+AreRunsOf offset count ends values c = IsRunColumnOf (column_of ends) (column_of values) offset count (column_of c)
+
+-- the run column of these parts by the record that the bytes spell
+pub record AreRecordedRuns (bytes : List ℕ) (dtype : DType) (count : ℕ) (ends values c : ArrayRef Global) : Type 0 where
+  pub runs : Runs
+  pub recorded : IsRecordedColumn bytes dtype count (column_of ends) (column_of values) runs
+  pub is : column_of c ≡ column_of_runs runs

@@ -1,0 +1,66 @@
+//! Calls that make flat columns of truth values and of decimals.
+ghost use Rattle.std.specs.Prelude.{◌≡◌, ◌≢◌, IsSomeAnd, length, pos};
+ghost use Rattle.std.specs.Option.{option_or};
+ghost use Rattle.hivevigil.specs.Bits.{bits_fault, bits_in, validity_by, validity_fault};
+ghost use Rattle.hivevigil.specs.Ending.{EndsBy};
+ghost use Rattle.hivevigil.specs.Makers.{AreDecimalsOf, AreTruthsOf};
+
+use crate::commands::answer;
+use crate::error_fields::ErrorFields;
+use crate::flat;
+use crate::handle::Handle;
+use crate::pairs::Pair;
+use column_core::DecimalDType;
+use std::alloc::Global;
+
+/// The flat column of `count` truth values, the first of which is bit `start` of `truths`. Nulls are told as to
+/// `hv_u8`. Refused as `ColumnLength` where there are fewer bits of either.
+#[tactic(auto, using(crate::proofs::Endings::ends_done, crate::proofs::Endings::ends_refused))]
+#[unsafe(no_mangle)]
+pub extern "C" fn hv_bools(
+    alloc: Global,
+    truths: &[u8],
+    start: usize,
+    count: usize,
+    nulls: u8,
+    bits: &[u8],
+    first: usize,
+    out: &mut Handle,
+    error: &mut ErrorFields,
+) -> i32
+    ensures made { result ≡ pos 0 → IsSomeAnd out.new.column (λ c. AreTruthsOf (bits_in truths.now start count) (validity_by nulls bits.now first count) c) }
+    ensures kept { result ≢ pos 0 → out.new.column ≡ out.old.column }
+    ensures ended { EndsBy (option_or (validity_fault nulls bits.now first count) (bits_fault truths.now start count)) result error.new }
+{
+    answer(
+        flat::booleans(alloc, truths, start, count, nulls, bits, first),
+        out,
+        error,
+    )
+}
+
+/// The flat column of these decimals, of this precision and scale. Nulls are told, and refused, as to `hv_u8`.
+#[tactic(auto, using(crate::proofs::Endings::ends_done, crate::proofs::Endings::ends_refused))]
+#[unsafe(no_mangle)]
+pub extern "C" fn hv_decimals(
+    alloc: Global,
+    pairs: &[Pair],
+    precision: u8,
+    scale: i8,
+    nulls: u8,
+    bits: &[u8],
+    first: usize,
+    out: &mut Handle,
+    error: &mut ErrorFields,
+) -> i32
+    ensures made { result ≡ pos 0 → IsSomeAnd out.new.column (λ c. AreDecimalsOf (record { precision = precision; scale = scale }) pairs.now (validity_by nulls bits.now first (length pairs.now)) c) }
+    ensures kept { result ≢ pos 0 → out.new.column ≡ out.old.column }
+    ensures ended { EndsBy (validity_fault nulls bits.now first (length pairs.now)) result error.new }
+{
+    let decimal_dtype = DecimalDType { precision, scale };
+    answer(
+        flat::decimals(alloc, pairs, decimal_dtype, nulls, bits, first),
+        out,
+        error,
+    )
+}

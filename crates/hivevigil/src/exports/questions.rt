@@ -1,0 +1,192 @@
+//! Calls that ask about a column.
+ghost use Rattle.std.specs.Prelude.{◌≡◌, IfSome, IsSomeAnd, length, pos, Some};
+ghost use Rattle.column_order.specs.OrderFacts as order;
+ghost use Rattle.column_sums.specs.SumAnswer.{IsSumAnswer};
+ghost use Rattle.runend_array.specs.Array.{column_of, dtype_of, rows};
+ghost use Rattle.runend_commands.specs.declared.command.Command.TheVariants.{Sum, IsConstant, IsSorted};
+ghost use Rattle.hivevigil.specs.Ending.{EndsOn, EndsOnRow};
+ghost use Rattle.hivevigil.specs.Flags.{Tells, flag_of};
+ghost use Rattle.hivevigil.specs.Kinds.{IsKindOf};
+ghost use Rattle.hivevigil.specs.Reads.{form_number, offset_in};
+ghost use Rattle.hivevigil.specs.Totals.{answer_in};
+ghost use Rattle.hivevigil.specs.Values.{IsExtremeOf, IsShownAt};
+
+use crate::error_fields::{ErrorFields, NO_COLUMN, tell};
+use crate::handle::Handle;
+use crate::kinds::{self, Kind};
+use crate::row_value::RowValue;
+use crate::sessions::Session;
+use crate::totals::Total;
+use crate::{questions, runs};
+use std::alloc::Global;
+
+/// The sum of the rows that are not null. Refused as `Unsupported` unless they are whole numbers.
+#[tactic(auto, using(crate::proofs::Endings::asked_empty, crate::proofs::Endings::asked_done, crate::proofs::Endings::asked_refused))]
+#[unsafe(no_mangle)]
+pub extern "C" fn hv_sum(
+    alloc: Global,
+    session: &Session,
+    column: &mut Handle,
+    total: &mut Total,
+    error: &mut ErrorFields,
+) -> i32
+    ensures same { column.new.column ≡ column.old.column }
+    ensures told { result ≡ pos 0 → IsSomeAnd column.old.column (λ c. IsSumAnswer (dtype_of c) (rows c) (answer_in total.new)) }
+    ensures ended { EndsOn column.old.column (Some Sum) result error.new }
+{
+    let Some(array) = column.take(alloc) else {
+        return NO_COLUMN;
+    };
+    let outcome = questions::sum_of(alloc, session, &array);
+    column.put(array);
+    tell(outcome, total, error)
+}
+
+/// Whether any two rows are equal, null equal to null: 1, or 0. Refused as `Unsupported` for lists.
+#[tactic(auto, using(crate::proofs::Endings::asked_empty, crate::proofs::Endings::asked_done, crate::proofs::Endings::asked_refused, crate::proofs::Endings::told_constant))]
+#[unsafe(no_mangle)]
+pub extern "C" fn hv_is_constant(
+    alloc: Global,
+    session: &Session,
+    column: &mut Handle,
+    truth: &mut u8,
+    error: &mut ErrorFields,
+) -> i32
+    ensures same { column.new.column ≡ column.old.column }
+    ensures told { result ≡ pos 0 → IsSomeAnd column.old.column (λ c. Tells truth.new (order.IsConstant (rows c))) }
+    ensures ended { EndsOn column.old.column (Some IsConstant) result error.new }
+{
+    let Some(array) = column.take(alloc) else {
+        return NO_COLUMN;
+    };
+    let outcome = questions::is_constant(alloc, session, &array);
+    column.put(array);
+    tell(outcome, truth, error)
+}
+
+/// Whether no row is above the next, or, where `strict` is not 0, each below it, null being below all else: 1,
+/// or 0. Refused as `Unsupported` for lists.
+#[tactic(auto, using(crate::proofs::Endings::asked_empty, crate::proofs::Endings::asked_done, crate::proofs::Endings::asked_refused, crate::proofs::Endings::told_sorted))]
+#[unsafe(no_mangle)]
+pub extern "C" fn hv_is_sorted(
+    alloc: Global,
+    session: &Session,
+    column: &mut Handle,
+    strict: u8,
+    truth: &mut u8,
+    error: &mut ErrorFields,
+) -> i32
+    ensures same { column.new.column ≡ column.old.column }
+    ensures told { result ≡ pos 0 → IsSomeAnd column.old.column (λ c. Tells truth.new (order.IsSorted (flag_of strict) (rows c))) }
+    ensures ended { EndsOn column.old.column (Some (IsSorted (flag_of strict))) result error.new }
+{
+    let Some(array) = column.take(alloc) else {
+        return NO_COLUMN;
+    };
+    let outcome = questions::is_sorted(alloc, session, &array, kinds::is_set(strict));
+    column.put(array);
+    tell(outcome, truth, error)
+}
+
+/// The least row that is not null, or the greatest where `greatest` is not 0; null where all are. A text or bytes
+/// go to the front of `text`: 11, with their number and the room, where they have no room there.
+#[unsafe(no_mangle)]
+pub extern "C" fn hv_extreme(
+    alloc: Global,
+    session: &Session,
+    column: &mut Handle,
+    greatest: u8,
+    value: &mut RowValue,
+    text: &mut [u8],
+    error: &mut ErrorFields,
+) -> i32
+    ensures same { column.new.column ≡ column.old.column }
+    ensures told { result ≡ pos 0 → IsSomeAnd column.old.column (λ c. IsExtremeOf (flag_of greatest) (rows c) text.new value.new) }
+{
+    let Some(array) = column.take(alloc) else {
+        return NO_COLUMN;
+    };
+    let outcome = questions::extreme_of(alloc, session, &array, kinds::is_set(greatest), text);
+    column.put(array);
+    tell(outcome, value, error)
+}
+
+/// The row at `row`, which takes no memory. A text or bytes go to the front of `text`: 11, with their number and
+/// the room, where they have no room there. Refused as `Unsupported` for lists, and then as `OutOfBounds`.
+#[tactic(auto, using(crate::proofs::LookUps::row_empty, crate::proofs::LookUps::row_done, crate::proofs::LookUps::row_refused))]
+#[unsafe(no_mangle)]
+pub extern "C" fn hv_at(
+    alloc: Global,
+    column: &mut Handle,
+    row: usize,
+    value: &mut RowValue,
+    text: &mut [u8],
+    error: &mut ErrorFields,
+) -> i32
+    ensures same { column.new.column ≡ column.old.column }
+    ensures told { result ≡ pos 0 → IsSomeAnd column.old.column (λ c. IsShownAt row c text.new value.new) }
+    ensures ended { EndsOnRow row (length text.old) column.old.column result error.new }
+{
+    let Some(array) = column.take(alloc) else {
+        return NO_COLUMN;
+    };
+    let outcome = questions::row_at(&array, row, text);
+    column.put(array);
+    tell(outcome, value, error)
+}
+
+/// How many rows there are; 0 of no column.
+#[unsafe(no_mangle)]
+pub extern "C" fn hv_length(alloc: Global, column: &mut Handle) -> usize
+    ensures same { column.new.column ≡ column.old.column }
+    ensures told { IfSome column.old.column (λ c. result ≡ length (rows c)) }
+{
+    let Some(array) = column.take(alloc) else {
+        return 0;
+    };
+    let found = array.len();
+    column.put(array);
+    found
+}
+
+/// The type of the rows; the number is 255 of no column.
+#[unsafe(no_mangle)]
+pub extern "C" fn hv_kind_of(alloc: Global, column: &mut Handle) -> Kind
+    ensures same { column.new.column ≡ column.old.column }
+    ensures told { IfSome column.old.column (λ c. IsKindOf (dtype_of c) result) }
+{
+    let Some(array) = column.take(alloc) else {
+        return kinds::no_kind();
+    };
+    let found = kinds::kind_of(array.dtype());
+    column.put(array);
+    found
+}
+
+/// 0 flat, 1 a constant, 2 lists, 3 runs, 255 no column.
+#[unsafe(no_mangle)]
+pub extern "C" fn hv_form(alloc: Global, column: &mut Handle) -> u8
+    ensures same { column.new.column ≡ column.old.column }
+    ensures told { IfSome column.old.column (λ c. result ≡ form_number (column_of c)) }
+{
+    let Some(array) = column.take(alloc) else {
+        return 255;
+    };
+    let found = runs::form_of_array(&array);
+    column.put(array);
+    found
+}
+
+/// How many rows of the runs of a run column lie before its window; 0 of any other.
+#[unsafe(no_mangle)]
+pub extern "C" fn hv_offset(alloc: Global, column: &mut Handle) -> usize
+    ensures same { column.new.column ≡ column.old.column }
+    ensures told { IfSome column.old.column (λ c. result ≡ offset_in (column_of c)) }
+{
+    let Some(array) = column.take(alloc) else {
+        return 0;
+    };
+    let found = runs::offset_of(&array);
+    column.put(array);
+    found
+}

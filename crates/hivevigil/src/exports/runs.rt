@@ -1,0 +1,179 @@
+//! Calls that make run columns of what handles hold, and take them apart; sessions; and the end of a handle.
+ghost use Rattle.std.specs.Prelude.{◌≡◌, ◌≢◌, IsSomeAnd, None, pos, take};
+ghost use Rattle.runend_array.specs.Array.{column_of};
+ghost use Rattle.runend_array.specs.SessionForm.{crate_thresholds};
+ghost use Rattle.hivevigil.specs.Ending.{WhereAll, WhereBoth};
+ghost use Rattle.hivevigil.specs.Kinds.{dtype_by};
+ghost use Rattle.hivevigil.specs.Makers.{AreRecordedRuns, AreRunsOf, IsCopyOf};
+ghost use Rattle.hivevigil.specs.Reads.{AreEndsOf, AreRunValuesOf, IsRecordOf};
+ghost use Rattle.hivevigil.specs.Sessions.{HasAllKernels, thresholds_in};
+
+use crate::commands::answer;
+use crate::error_fields::{BAD_NUMBER, ErrorFields, NO_COLUMN, tell};
+use crate::handle::Handle;
+use crate::kinds::{self, Kind};
+use crate::runs;
+use crate::sessions::{self, Session};
+use std::alloc::Global;
+
+/// The run column of these ends and values, of which `count` rows from row `offset` on are shown. Both are copied,
+/// and stay. Refused as the run column of such parts is.
+#[unsafe(no_mangle)]
+pub extern "C" fn hv_runs(
+    alloc: Global,
+    ends: &mut Handle,
+    values: &mut Handle,
+    offset: usize,
+    count: usize,
+    out: &mut Handle,
+    error: &mut ErrorFields,
+) -> i32
+    ensures same { ends.new.column ≡ ends.old.column }
+    ensures same_values { values.new.column ≡ values.old.column }
+    ensures made { result ≡ pos 0 → WhereAll (AreRunsOf offset count) ends.old.column values.old.column out.new.column }
+    ensures kept { result ≢ pos 0 → out.new.column ≡ out.old.column }
+{
+    let Some(lent_ends) = ends.take(alloc) else {
+        return NO_COLUMN;
+    };
+    let Some(lent_values) = values.take(alloc) else {
+        ends.put(lent_ends);
+        return NO_COLUMN;
+    };
+    let outcome = runs::run_column(alloc, &lent_ends, &lent_values, offset, count);
+    ends.put(lent_ends);
+    values.put(lent_values);
+    answer(outcome, out, error)
+}
+
+/// The run column of copies of these parts, `count` rows of this type, by its record. Answers 23 where the number
+/// is of no type, or of lists; else refused as the record of such parts is.
+#[unsafe(no_mangle)]
+pub extern "C" fn hv_deserialize(
+    alloc: Global,
+    kind: &Kind,
+    count: usize,
+    bytes: &[u8],
+    ends: &mut Handle,
+    values: &mut Handle,
+    out: &mut Handle,
+    error: &mut ErrorFields,
+) -> i32
+    ensures same { ends.new.column ≡ ends.old.column }
+    ensures same_values { values.new.column ≡ values.old.column }
+    ensures made { result ≡ pos 0 → IsSomeAnd (dtype_by kind.now.number kind.now) (λ dtype. WhereAll (AreRecordedRuns bytes.now dtype count) ends.old.column values.old.column out.new.column) }
+    ensures kept { result ≢ pos 0 → out.new.column ≡ out.old.column }
+{
+    let Some(dtype) = kinds::dtype_of(kind) else {
+        return BAD_NUMBER;
+    };
+    let Some(lent_ends) = ends.take(alloc) else {
+        return NO_COLUMN;
+    };
+    let Some(lent_values) = values.take(alloc) else {
+        ends.put(lent_ends);
+        return NO_COLUMN;
+    };
+    let outcome = runs::recorded_column(alloc, dtype, count, bytes, &lent_ends, &lent_values);
+    ends.put(lent_ends);
+    values.put(lent_values);
+    answer(outcome, out, error)
+}
+
+/// The record of a run column: its bytes go to the front of `bytes`, and `size` says how many they are. Answers 11,
+/// with their number and the room, where they have no room there.
+#[unsafe(no_mangle)]
+pub extern "C" fn hv_serialize(
+    alloc: Global,
+    column: &mut Handle,
+    bytes: &mut [u8],
+    size: &mut usize,
+    error: &mut ErrorFields,
+) -> i32
+    ensures same { column.new.column ≡ column.old.column }
+    ensures told { result ≡ pos 0 → IsSomeAnd column.old.column (λ c. IsRecordOf (column_of c) (take size.new bytes.new)) }
+{
+    let Some(array) = column.take(alloc) else {
+        return NO_COLUMN;
+    };
+    let outcome = runs::put_record(alloc, &array, bytes);
+    column.put(array);
+    tell(outcome, size, error)
+}
+
+/// The ends of a run column, copied.
+#[unsafe(no_mangle)]
+pub extern "C" fn hv_ends(
+    alloc: Global,
+    column: &mut Handle,
+    out: &mut Handle,
+    error: &mut ErrorFields,
+) -> i32
+    ensures same { column.new.column ≡ column.old.column }
+    ensures made { result ≡ pos 0 → WhereBoth (λ c d. AreEndsOf (column_of c) (column_of d)) column.old.column out.new.column }
+    ensures kept { result ≢ pos 0 → out.new.column ≡ out.old.column }
+{
+    let Some(array) = column.take(alloc) else {
+        return NO_COLUMN;
+    };
+    let outcome = runs::ends_of(alloc, &array);
+    column.put(array);
+    answer(outcome, out, error)
+}
+
+/// The values of a run column, copied.
+#[unsafe(no_mangle)]
+pub extern "C" fn hv_values(
+    alloc: Global,
+    column: &mut Handle,
+    out: &mut Handle,
+    error: &mut ErrorFields,
+) -> i32
+    ensures same { column.new.column ≡ column.old.column }
+    ensures made { result ≡ pos 0 → WhereBoth (λ c d. AreRunValuesOf (column_of c) (column_of d)) column.old.column out.new.column }
+    ensures kept { result ≢ pos 0 → out.new.column ≡ out.old.column }
+{
+    let Some(array) = column.take(alloc) else {
+        return NO_COLUMN;
+    };
+    let outcome = runs::values_of(alloc, &array);
+    column.put(array);
+    answer(outcome, out, error)
+}
+
+/// A copy in the same form. Refused for want of memory alone.
+#[unsafe(no_mangle)]
+pub extern "C" fn hv_clone(
+    alloc: Global,
+    column: &mut Handle,
+    out: &mut Handle,
+    error: &mut ErrorFields,
+) -> i32
+    ensures same { column.new.column ≡ column.old.column }
+    ensures made { result ≡ pos 0 → WhereBoth IsCopyOf column.old.column out.new.column }
+    ensures kept { result ≢ pos 0 → out.new.column ≡ out.old.column }
+{
+    let Some(array) = column.take(alloc) else {
+        return NO_COLUMN;
+    };
+    let outcome = runs::boxed_copy(alloc, &array);
+    column.put(array);
+    answer(outcome, out, error)
+}
+
+/// The session that has every kernel, and the thresholds that the ported crate sets.
+#[unsafe(no_mangle)]
+pub extern "C" fn hv_session_initial(session: &mut Session)
+    ensures thresholds { thresholds_in session.new ≡ crate_thresholds }
+    ensures kernels { HasAllKernels session.new }
+{
+    *session = sessions::initial();
+}
+
+/// Frees the column, if there is one. The handle is empty after.
+#[unsafe(no_mangle)]
+pub extern "C" fn hv_free(alloc: Global, column: &mut Handle)
+    ensures { column.new.column ≡ None }
+{
+    drop(column.take(alloc));
+}

@@ -1,0 +1,76 @@
+//! Calls that make flat columns of texts and bytes.
+ghost use Rattle.std.specs.Prelude.{◌≡◌, ◌≢◌, ◌-◌, IsSomeAnd, length, pos};
+ghost use Rattle.hivevigil.specs.Bits.{validity_by};
+ghost use Rattle.hivevigil.specs.Kinds.{varbin_kind_by};
+ghost use Rattle.hivevigil.specs.Makers.{AreTextsOf};
+
+use crate::commands::answer;
+use crate::error_fields::ErrorFields;
+use crate::handle::Handle;
+use crate::kinds::varbin_kind;
+use crate::texts::texts;
+use std::alloc::Global;
+
+/// The flat column of texts, or of bytes where `binary` is not 0, whose row i is the bytes from offset i up to
+/// offset i + 1. Nulls are told as to `hv_u8`. Refused as `texts::texts` says.
+#[unsafe(no_mangle)]
+pub extern "C" fn hv_texts(
+    alloc: Global,
+    binary: u8,
+    offsets: &[i32],
+    bytes: &[u8],
+    nulls: u8,
+    bits: &[u8],
+    first: usize,
+    out: &mut Handle,
+    error: &mut ErrorFields,
+) -> i32
+    ensures made { result ≡ pos 0 → IsSomeAnd out.new.column (λ c. AreTextsOf (varbin_kind_by binary) offsets.now bytes.now (validity_by nulls bits.now first (length offsets.now - 1)) c) }
+    ensures kept { result ≢ pos 0 → out.new.column ≡ out.old.column }
+{
+    answer(
+        texts(
+            alloc,
+            varbin_kind(binary),
+            offsets,
+            bytes,
+            nulls,
+            bits,
+            first,
+        ),
+        out,
+        error,
+    )
+}
+
+/// The flat column of texts, or of bytes where `binary` is not 0, whose row i is the bytes from offset i up to
+/// offset i + 1. Nulls are told as to `hv_u8`. Refused as `texts::texts` says.
+#[unsafe(no_mangle)]
+pub extern "C" fn hv_large_texts(
+    alloc: Global,
+    binary: u8,
+    offsets: &[i64],
+    bytes: &[u8],
+    nulls: u8,
+    bits: &[u8],
+    first: usize,
+    out: &mut Handle,
+    error: &mut ErrorFields,
+) -> i32
+    ensures made { result ≡ pos 0 → IsSomeAnd out.new.column (λ c. AreTextsOf (varbin_kind_by binary) offsets.now bytes.now (validity_by nulls bits.now first (length offsets.now - 1)) c) }
+    ensures kept { result ≢ pos 0 → out.new.column ≡ out.old.column }
+{
+    answer(
+        texts(
+            alloc,
+            varbin_kind(binary),
+            offsets,
+            bytes,
+            nulls,
+            bits,
+            first,
+        ),
+        out,
+        error,
+    )
+}

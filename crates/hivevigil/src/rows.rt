@@ -1,0 +1,160 @@
+//! Many rows of a flat column at once. What is stored under null is read as it stands.
+ghost use Rattle.std.specs.Prelude.{◌≡◌, ℕ, ◌+◌, ◌<◌, ◌≤◌, pos, length, map, slice_range, slice_index_or, IfOk};
+ghost use Rattle.column_base.specs.Validity.{form_of};
+ghost use Rattle.column_base.specs.ValidityForm.{HasLength, flags};
+ghost use Rattle.column_base.specs.Words.{Packs};
+ghost use Rattle.runend_array.specs.Array.{column_of};
+ghost use Rattle.hivevigil.specs.Pairs.{number_in, zero_pair};
+ghost use Rattle.hivevigil.specs.Reads.{AreNumbersFrom, ArePairsFrom, AreTruthWords, AreValidityWords};
+
+use crate::pairs::{Pair, pair_of};
+use column_core::{BitBuffer, BitBufferMut, NativePType, Validity, VortexError, VortexResult};
+use runend_array::ArrayRef;
+use std::alloc::Global;
+
+/// The numbers that a flat column stores, from `start` on, as many as there are `items`. Refused as
+/// `Unsupported` where it is no flat column of whole numbers, as `TypeMismatch` where it is one of another type,
+/// and as `BadRange` where the rows do not reach.
+pub(crate) fn read_numbers<T: NativePType>(
+    array: &ArrayRef<Global>,
+    start: usize,
+    items: &mut [T],
+) -> VortexResult<()>
+    ensures items { IfOk result (λ _. AreNumbersFrom (column_of array.now) start (map T.number items.new)) }
+    ensures len { length items.new ≡ length items.old }
+{
+    let ArrayRef::Primitive(numbers) = array else {
+        return Err(VortexError::Unsupported);
+    };
+    let Some(stored) = T::slice_of(numbers.values()) else {
+        return Err(VortexError::TypeMismatch);
+    };
+    check_range(start, items.len(), stored.len())?;
+    copy_items(stored, start, items);
+    Ok(())
+}
+
+/// The decimals that a flat column stores, from `start` on, as many as there are `pairs`. Refused as
+/// `Unsupported` where it is no flat column of decimals, and as `BadRange` where the rows do not reach.
+pub(crate) fn read_decimals(
+    array: &ArrayRef<Global>,
+    start: usize,
+    pairs: &mut [Pair],
+) -> VortexResult<()>
+    ensures pairs { IfOk result (λ _. ArePairsFrom (column_of array.now) start pairs.new) }
+    ensures len { length pairs.new ≡ length pairs.old }
+{
+    let ArrayRef::Decimal(decimals) = array else {
+        return Err(VortexError::Unsupported);
+    };
+    let stored = decimals.values();
+    check_range(start, pairs.len(), stored.len())?;
+    copy_pairs(stored, start, pairs);
+    Ok(())
+}
+
+/// The bits of the truth values that a flat column stores, 64 to a word. Refused as `Unsupported` where it is
+/// no flat column of truth values, and as `ColumnLength` for another number of words.
+pub(crate) fn read_booleans(array: &ArrayRef<Global>, words: &mut [u64]) -> VortexResult<()>
+    ensures words { IfOk result (λ _. AreTruthWords (column_of array.now) words.new) }
+    ensures len { length words.new ≡ length words.old }
+{
+    match array {
+        ArrayRef::Bool(truths) => put_words(truths.values(), words),
+        _ => Err(VortexError::Unsupported),
+    }
+}
+
+/// A bit for each row of a flat column, 64 to a word: whether it is valid. Refused as `Unsupported` where the
+/// column is not flat, as `ColumnLength` for another number of words, and for want of memory.
+pub(crate) fn read_validity(
+    alloc: Global,
+    array: &ArrayRef<Global>,
+    words: &mut [u64],
+) -> VortexResult<()>
+    ensures words { IfOk result (λ _. AreValidityWords (column_of array.now) words.new) }
+    ensures len { length words.new ≡ length words.old }
+{
+    match array {
+        ArrayRef::Primitive(flat) => put_validity(alloc, flat.validity(), flat.len(), words),
+        ArrayRef::Bool(flat) => put_validity(alloc, flat.validity(), flat.len(), words),
+        ArrayRef::Decimal(flat) => put_validity(alloc, flat.validity(), flat.len(), words),
+        ArrayRef::VarBinView(flat) => put_validity(alloc, flat.validity(), flat.len(), words),
+        _ => Err(VortexError::Unsupported),
+    }
+}
+
+/// Are there so many rows from `start` on? Else refused as `BadRange`, with the stop wanted, 2^64 - 1 where
+/// no `usize` has it.
+pub(crate) fn check_range(start: usize, count: usize, length: usize) -> VortexResult<()>
+    ensures { IfOk result (λ _. start + count ≤ length) }
+{
+    if start > length || count > length - start {
+        return Err(VortexError::BadRange {
+            start,
+            stop: start.saturating_add(count),
+            length,
+        });
+    }
+    Ok(())
+}
+
+// The items from `start` on, as many as there is room for.
+#[tactic(auto, using(column_base::proofs::Ranges::slice_range_of_map))]
+fn copy_items<T: NativePType>(stored: &[T], start: usize, items: &mut [T])
+    requires { start + length items.old ≤ length stored.now }
+    ensures len { length items.new ≡ length items.old }
+    ensures numbers { map T.number items.new ≡ slice_range (map T.number stored.now) start (start + length items.old) }
+{
+    let stop = start + items.len();
+    items.copy_from_slice(&stored[start..stop]);
+}
+
+// The numbers from `start` on, as many as there is room for.
+fn copy_pairs(stored: &[i128], start: usize, pairs: &mut [Pair])
+    requires { start + length pairs.old ≤ length stored.now }
+    ensures len { length pairs.new ≡ length pairs.old }
+    ensures numbers { (k : ℕ) → k < length pairs.new → number_in (slice_index_or pairs.new k zero_pair) ≡ slice_index_or stored.now (start + k) (pos 0) }
+{
+    for row in 0..pairs.len() {
+        pairs[row] = pair_of(stored[start + row]);
+    }
+}
+
+// Copies all words.
+fn put_words(bits: &BitBuffer<Global>, words: &mut [u64]) -> VortexResult<()>
+    ensures packed { IfOk result (λ _. Packs words.new bits.now) }
+    ensures len { length words.new ≡ length words.old }
+{
+    let stored = bits.words();
+    if words.len() != stored.len() {
+        return Err(VortexError::ColumnLength {
+            left: stored.len(),
+            right: words.len(),
+        });
+    }
+    words.copy_from_slice(stored);
+    Ok(())
+}
+
+// The bits of a validity of so many rows.
+fn put_validity(
+    alloc: Global,
+    validity: &Validity<Global>,
+    count: usize,
+    words: &mut [u64],
+) -> VortexResult<()>
+    requires { HasLength (form_of validity.now) count }
+    ensures packed { IfOk result (λ _. Packs words.new (flags (form_of validity.now) count)) }
+    ensures len { length words.new ≡ length words.old }
+{
+    match validity {
+        Validity::Bits(bits) => put_words(bits, words),
+        Validity::AllInvalid => {
+            put_words(&BitBufferMut::full(alloc, false, count)?.freeze(), words)
+        }
+        Validity::NonNullable | Validity::AllValid => {
+            put_words(&BitBufferMut::full(alloc, true, count)?.freeze(), words)
+        }
+    }
+}

@@ -1,0 +1,76 @@
+//! Flat columns of the texts and bytes that C passes, one behind the other, with offsets.
+ghost use Rattle.std.specs.Prelude.{◌≡◌, ◌+◌, ◌-◌, [], ◌∷◌, map, length, pos, IfOk, IfSome};
+ghost use Rattle.hivevigil.specs.Bits.{validity_by};
+ghost use Rattle.hivevigil.specs.Makers.{AreCuts, AreTextsOf};
+
+use crate::bits::validity_of;
+use crate::flat::{Boxed, boxed};
+use bytes::Bytes;
+use column_core::{NativePType, VarBinKind, VarBinViewArray, View, VortexError, VortexResult};
+use runend_array::ArrayRef;
+use std::alloc::Global;
+
+/// The flat column whose row i is the bytes from offset i up to offset i + 1. Refused as `NoRunsWindow` where
+/// there is no offset, as `EndsNotStrict`, with the row, where an offset is negative or below the one before,
+/// as the bits of its validity are, and then as `VarBinViewArray::try_new` refuses.
+pub(crate) fn texts<T: NativePType>(
+    alloc: Global,
+    kind: VarBinKind,
+    offsets: &[T],
+    bytes: &[u8],
+    nulls: u8,
+    bits: &[u8],
+    first: usize,
+) -> VortexResult<Boxed>
+    ensures { IfOk result (λ made. AreTextsOf kind (map T.number offsets.now) bytes.now (validity_by nulls bits.now first (length offsets.now - 1)) made.value) }
+{
+    let views = views_between(alloc, offsets)?;
+    let validity = validity_of(alloc, nulls, bits, first, views.len())?;
+    let buffers = only_buffer(alloc, bytes)?;
+    let array = VarBinViewArray::try_new(views, buffers, kind, validity)?;
+    boxed(alloc, ArrayRef::VarBinView(array))
+}
+
+// A view from each offset to the next.
+fn views_between<T: NativePType>(alloc: Global, offsets: &[T]) -> VortexResult<Vec<View>>
+    ensures { IfOk result (λ views. AreCuts (map T.number offsets.now) views.items) }
+{
+    if offsets.is_empty() {
+        return Err(VortexError::NoRunsWindow {
+            offset: 0,
+            length: 0,
+        });
+    }
+    let rows = offsets.len() - 1;
+    let mut views = Vec::with_capacity(alloc, rows)?;
+    for row in 0..rows {
+        match view_between(offsets[row], offsets[row + 1]) {
+            Some(view) => views.push(view)?,
+            None => return Err(VortexError::EndsNotStrict { run: row }),
+        }
+    }
+    Ok(views)
+}
+
+// The view from one offset to the next of the first buffer.
+fn view_between<T: NativePType>(start: T, stop: T) -> Option<View>
+    ensures { IfSome result (λ view. (view.buffer ≡ 0) × (pos view.start ≡ T.number start) × (pos (view.start + view.size) ≡ T.number stop)) }
+{
+    let start = usize::try_from(start.widen()).ok()?;
+    let stop = usize::try_from(stop.widen()).ok()?;
+    let size = stop.checked_sub(start)?;
+    Some(View {
+        buffer: 0,
+        start,
+        size,
+    })
+}
+
+// These bytes as the one buffer.
+fn only_buffer(alloc: Global, bytes: &[u8]) -> VortexResult<Vec<Bytes<Global>>>
+    ensures { IfOk result (λ buffers. buffers.items ≡ bytes.now ∷ []) }
+{
+    let mut buffers = Vec::with_capacity(alloc, 1)?;
+    buffers.push(Bytes::copy_from_slice(alloc, bytes)?)?;
+    Ok(buffers)
+}
