@@ -1,0 +1,246 @@
+/* Each request for memory refused in turn, in every call: the answer is 21, or 0 where the call went on without; every
+ * column is as it was, and no block is lost. The linker hands our malloc, calloc, realloc and free to all of the
+ * program: cc .. -Wl,--wrap=malloc,--wrap=calloc,--wrap=realloc,--wrap=free */
+#include "check.h"
+#include "hivevigil_arrow.h"
+
+void *__real_malloc(size_t size);
+void *__real_calloc(size_t count, size_t size);
+void *__real_realloc(void *block, size_t size);
+void __real_free(void *block);
+
+static long requests = 0, blocks = 0, refused = 0;
+static long refuse_at = -1;      /* the number of the request that is refused, from 0; -1 for none */
+static bool refuse_rest = false; /* and all after it */
+
+static bool is_refused(void) {
+    long request = requests++;
+    bool now = refuse_at >= 0 && (request == refuse_at || (refuse_rest && request > refuse_at));
+    refused += now;
+    return now;
+}
+
+void *__wrap_malloc(size_t size) {
+    void *block = is_refused() ? NULL : __real_malloc(size);
+    blocks += block != NULL;
+    return block;
+}
+
+void *__wrap_calloc(size_t count, size_t size) {
+    void *block = is_refused() ? NULL : __real_calloc(count, size);
+    blocks += block != NULL;
+    return block;
+}
+
+void *__wrap_realloc(void *block, size_t size) {
+    void *moved = is_refused() ? NULL : __real_realloc(block, size);
+    blocks += moved && !block;
+    return moved;
+}
+
+void __wrap_free(void *block) {
+    blocks -= block != NULL;
+    __real_free(block);
+}
+
+/* What the calls are lent. */
+static hv_session session;
+static hv_error error;
+static hv_column flat = HV_EMPTY, runs = HV_EMPTY, part = HV_EMPTY, texts = HV_EMPTY, truths = HV_EMPTY,
+                 decimals = HV_EMPTY;
+static hv_column ends = HV_EMPTY, values = HV_EMPTY, places = HV_EMPTY, constant = HV_EMPTY, large_texts = HV_EMPTY;
+static hv_column *const lent[] = {&flat, &runs,   &part,   &texts,    &truths,     &decimals,
+                                  &ends, &values, &places, &constant, &large_texts};
+static char rows_before[COUNT(lent)][8192];
+static hv_column out = HV_EMPTY;
+static struct ArrowSchema schema, texts_schema, codes_schema;
+static struct ArrowArray array, texts_array, codes_array;
+
+enum { ROWS = 80, BYTES = 4 * ROWS, WORDS = (ROWS + 63) / 64 };
+static int64_t items[ROWS];
+static uint8_t bits[ROWS / 8];
+static int32_t offsets[ROWS + 1];
+static int64_t large_offsets[ROWS + 1];
+static uint8_t letters[BYTES];
+static const uint16_t some_places[5] = {1, 3, 60, 79, 0};
+static const hv_pair pairs[2] = {{5, 0}, {UINT64_MAX, -1}};
+static const hv_kind i32_type = {HV_I32, 1, 0, 0}, i64_type = {HV_I64, 1, 0, 0};
+static const hv_value five = {.kind = HV_SIGNED, .as_signed = 5}, letter = {.kind = HV_TEXT, .as_unsigned = 1};
+
+/* numbers in stretches of three, two of seven null; texts of four letters each */
+static void write_items(void) {
+    for (int row = 0; row < ROWS; row++) {
+        items[row] = row / 3;
+        bits[row / 8] = (uint8_t)(bits[row / 8] | ((row % 7 < 5) << (row % 8)));
+        offsets[row + 1] = 4 * (row + 1);
+        large_offsets[row + 1] = 4 * (row + 1);
+        memset(letters + 4 * row, 'a' + row / 10, 4);
+    }
+}
+
+static void make_lent(void) {
+    hv_session_initial(&session);
+    CHECK(!hv_i64(items, ROWS, NULLS_BY(bits, 0), &flat, &error) && !hv_encode(&session, &flat, &runs, &error));
+    CHECK(!hv_slice(&session, &runs, 20, 70, &part, &error) && !hv_slice(&session, &runs, 0, 3, &constant, &error));
+    CHECK(!hv_texts(0, offsets, ROWS + 1, letters, BYTES, NULLS_BY(bits, 0), &texts, &error));
+    CHECK(!hv_large_texts(1, large_offsets, ROWS + 1, letters, BYTES, NO_NULLS, &large_texts, &error));
+    CHECK(!hv_bools(bits, sizeof bits, 0, ROWS, NULLS_BY(bits, 0), &truths, &error));
+    CHECK(!hv_decimals(pairs, 2, 10, 2, NO_NULLS, &decimals, &error));
+    CHECK(!hv_ends(&part, &ends, &error) && !hv_values(&part, &values, &error));
+    CHECK(!hv_u16(some_places, 5, NOT_NULLABLE, &places, &error));
+    CHECK(!hv_arrow_export(&session, &texts, "texts", &texts_schema, &texts_array, &error));
+    CHECK(!hv_arrow_export_dictionary(&session, &places, &texts, "codes", &codes_schema, &codes_array, &error));
+    for (size_t i = 0; i < COUNT(lent); i++) {
+        CHECK(strlen(rows_of(lent[i])) < sizeof rows_before[i]);
+        strcpy(rows_before[i], rows_of(lent[i]));
+    }
+}
+
+static void check_lent(void) {
+    for (size_t i = 0; i < COUNT(lent); i++) CHECK_ROWS(lent[i], rows_before[i]);
+}
+
+/* ---- A step for each call ---- */
+
+static hv_total total;
+static hv_value value;
+static uint8_t text[64], truth;
+static uint64_t words[ROWS + 1];
+static size_t size;
+
+#define STEP(name, call) \
+    static int32_t name(void) { return call; }
+#define STEP_NUMBERS(suffix, type) \
+    STEP(make_##suffix, hv_##suffix((const type *)items, ROWS, NULLS_BY(bits, 0), &out, &error))
+#define STEP_READ(suffix, type) STEP(read_##suffix, hv_read_##suffix(&flat, 0, (type *)words, ROWS, &error))
+
+STEP_NUMBERS(u8, uint8_t)
+STEP_NUMBERS(u16, uint16_t)
+STEP_NUMBERS(u32, uint32_t)
+STEP_NUMBERS(u64, uint64_t)
+STEP_NUMBERS(i8, int8_t)
+STEP_NUMBERS(i16, int16_t)
+STEP_NUMBERS(i32, int32_t)
+STEP_NUMBERS(i64, int64_t)
+STEP(make_bools, hv_bools(bits, sizeof bits, 3, ROWS - 3, NULLS_BY(bits, 0), &out, &error))
+STEP(make_decimals, hv_decimals(pairs, 2, 10, 2, NULLS_BY(bits, 0), &out, &error))
+STEP(make_texts, hv_texts(0, offsets, ROWS + 1, letters, BYTES, NULLS_BY(bits, 0), &out, &error))
+STEP(make_large_texts, hv_large_texts(0, large_offsets, ROWS + 1, letters, BYTES, NO_NULLS, &out, &error))
+STEP(make_runs, hv_runs(&ends, &values, hv_offset(&part), 50, &out, &error))
+STEP(clone_runs, hv_clone(&runs, &out, &error))
+STEP(clone_texts, hv_clone(&texts, &out, &error))
+STEP(encode, hv_encode(&session, &flat, &out, &error))
+STEP(decode, hv_decode(&session, &part, &out, &error))
+STEP(slice_runs, hv_slice(&session, &runs, 10, 70, &out, &error))
+STEP(slice_texts, hv_slice(&session, &texts, 10, 70, &out, &error))
+STEP(cast, hv_cast(&session, &runs, &i32_type, &out, &error))
+STEP(take, hv_take(&session, &runs, &places, &out, &error))
+STEP(take_texts, hv_take(&session, &texts, &places, &out, &error))
+STEP(filter, hv_filter(&session, &runs, &truths, &out, &error))
+STEP(filter_texts, hv_filter(&session, &texts, &truths, &out, &error))
+STEP(take_from, hv_take_from(&session, &places, &runs, &out, &error))
+STEP(compare, hv_compare(&session, &runs, HV_LE, &flat, &out, &error))
+STEP(compare_scalar, hv_compare_scalar(&session, &runs, HV_GT, &five, NO_TEXT, &out, &error))
+STEP(compare_text, hv_compare_scalar(&session, &texts, HV_GT, &letter, letters, 1, &out, &error))
+STEP(fill, hv_fill(&session, &runs, &five, NO_TEXT, &out, &error))
+STEP(fill_text, hv_fill(&session, &texts, &letter, letters, 1, &out, &error))
+STEP(sum, hv_sum(&session, &runs, &total, &error))
+STEP(is_constant, hv_is_constant(&session, &runs, &truth, &error))
+STEP(is_sorted, hv_is_sorted(&session, &runs, 0, &truth, &error))
+STEP(extreme, hv_extreme(&session, &runs, 1, &value, text, sizeof text, &error))
+STEP(extreme_text, hv_extreme(&session, &texts, 1, &value, text, sizeof text, &error))
+STEP(at, hv_at(&texts, 66, &value, text, sizeof text, &error))
+STEP_READ(i64, int64_t)
+STEP(read_decimals, hv_read_decimals(&decimals, 0, (hv_pair *)words, 2, &error))
+STEP(read_bools, hv_read_bools(&truths, words, WORDS, &error))
+STEP(read_validity, hv_read_validity(&flat, words, WORDS, &error))
+STEP(read_offsets, hv_read_offsets(&texts, 0, (int32_t *)words, ROWS + 1, &error))
+STEP(read_large_offsets, hv_read_large_offsets(&large_texts, 10, (int64_t *)words, 60, &error))
+STEP(read_bytes, hv_read_bytes(&large_texts, 0, ROWS, (uint8_t *)words, BYTES, &error))
+STEP(run_ends, hv_ends(&part, &out, &error))
+STEP(run_values, hv_values(&part, &out, &error))
+STEP(serialize, hv_serialize(&part, text, sizeof text, &size, &error))
+STEP(deserialize, hv_deserialize(&i64_type, 50, text, size, &ends, &values, &out, &error))
+STEP(export_flat, hv_arrow_export(&session, &flat, "flat", &schema, &array, &error))
+STEP(export_runs, hv_arrow_export(&session, &part, "runs", &schema, &array, &error))
+STEP(export_constant, hv_arrow_export(&session, &constant, "constant", &schema, &array, &error))
+STEP(export_texts, hv_arrow_export(&session, &texts, "texts", &schema, &array, &error))
+STEP(export_truths, hv_arrow_export(&session, &truths, "truths", &schema, &array, &error))
+STEP(export_dictionary, hv_arrow_export_dictionary(&session, &places, &texts, "codes", &schema, &array, &error))
+STEP(import_texts, hv_arrow_import(&session, &texts_schema, &texts_array, &out, &error))
+STEP(import_dictionary, hv_arrow_import(&session, &codes_schema, &codes_array, &out, &error))
+
+/* what is exported and imported again, as one step */
+static int32_t export_and_import(void) {
+    int32_t answer = hv_arrow_export(&session, &part, "runs", &schema, &array, &error);
+    if (!answer) answer = hv_arrow_import(&session, &schema, &array, &out, &error);
+    if (answer) hv_arrow_release(&schema, &array);
+    return answer;
+}
+
+typedef struct step {
+    const char *name;
+    int32_t (*call)(void);
+} step;
+
+#define NAMED(name) {#name, name}
+static const step steps[] = {
+    NAMED(make_u8), NAMED(make_u16), NAMED(make_u32), NAMED(make_u64), NAMED(make_i8), NAMED(make_i16),
+    NAMED(make_i32), NAMED(make_i64), NAMED(make_bools), NAMED(make_decimals), NAMED(make_texts),
+    NAMED(make_large_texts), NAMED(make_runs), NAMED(clone_runs), NAMED(clone_texts), NAMED(encode), NAMED(decode),
+    NAMED(slice_runs), NAMED(slice_texts), NAMED(cast), NAMED(take), NAMED(take_texts), NAMED(filter),
+    NAMED(filter_texts), NAMED(take_from), NAMED(compare), NAMED(compare_scalar), NAMED(compare_text), NAMED(fill),
+    NAMED(fill_text), NAMED(sum), NAMED(is_constant), NAMED(is_sorted), NAMED(extreme), NAMED(extreme_text),
+    NAMED(at), NAMED(read_i64), NAMED(read_decimals), NAMED(read_bools), NAMED(read_validity), NAMED(read_offsets),
+    NAMED(read_large_offsets), NAMED(read_bytes), NAMED(run_ends), NAMED(run_values), NAMED(serialize),
+    NAMED(deserialize), NAMED(export_flat), NAMED(export_runs), NAMED(export_constant), NAMED(export_texts),
+    NAMED(export_truths), NAMED(export_dictionary), NAMED(import_texts), NAMED(import_dictionary),
+    NAMED(export_and_import),
+};
+
+/* `out` holds 42 before each call, and after a refusal. */
+static void reset_out(void) {
+    const uint8_t kept[1] = {42};
+    CHECK(!hv_u8(kept, 1, NOT_NULLABLE, &out, &error));
+}
+
+/* One call, in which request `number` is refused. Whether it was: a call that makes fewer requests has none refused. */
+static bool try_step(const step *it, long number, bool rest) {
+    reset_out();
+    long blocks_before = blocks, refused_before = refused;
+    requests = 0, refuse_rest = rest, refuse_at = number;
+    int32_t answer = it->call();
+    refuse_at = -1;
+    bool was_refused = refused > refused_before;
+    if (answer != HV_OK && !(answer == HV_OUT_OF_MEMORY && was_refused)) {
+        fprintf(stderr, "%s, request %ld refused: answered %" PRId32 "\n", it->name, number, answer);
+        exit(1);
+    }
+    if (answer) {
+        CHECK_ROWS(&out, "42");
+        CHECK(!schema.release && !array.release);
+        if (blocks != blocks_before) fprintf(stderr, "%s, request %ld refused: blocks lost\n", it->name, number);
+        CHECK(blocks == blocks_before);
+    }
+    hv_arrow_release(&schema, &array);
+    check_lent();
+    return was_refused;
+}
+
+int main(void) {
+    write_items();
+    make_lent();
+    for (size_t i = 0; i < COUNT(steps); i++)
+        for (int rest = 0; rest < 2; rest++) {
+            long number = 0;
+            while (try_step(&steps[i], number, rest)) number++;
+            if (getenv("VERBOSE")) printf("%-20s %ld requests\n", steps[i].name, number);
+        }
+    hv_free(&out);
+    for (size_t i = 0; i < COUNT(lent); i++) hv_free(lent[i]);
+    hv_arrow_release(&texts_schema, &texts_array);
+    hv_arrow_release(&codes_schema, &codes_array);
+    CHECK(blocks == 0);
+    printf("%zu calls, %ld requests for memory refused, no column changed, no block lost\n", COUNT(steps), refused);
+    return 0;
+}

@@ -1,0 +1,215 @@
+//! Columns, and how they are made of rows.
+use crate::raw::{self, Handle};
+use crate::{ask, Error, Fields, Kind, Native, COLUMN_LENGTH};
+use std::cell::UnsafeCell;
+use std::ptr;
+
+/// A column. It is neither `Send` nor `Sync`: columns share buffers, which are counted without atomics. Commands run
+/// in the initial session.
+pub struct Column {
+    pub(crate) handle: UnsafeCell<Handle>, // a call that reads takes the column out of the handle and puts it back
+}
+
+impl Drop for Column {
+    fn drop(&mut self) {
+        unsafe { raw::hv_free(self.handle.get()) }
+    }
+}
+
+/// The flags as bits, 8 to a byte, and a byte where there are none.
+fn bits_of(flags: &[bool]) -> Vec<u8> {
+    let mut bits = vec![0u8; flags.len() / 8 + 1];
+    for (row, flag) in flags.iter().enumerate() {
+        bits[row / 8] |= u8::from(*flag) << (row % 8);
+    }
+    bits
+}
+
+/// What the makers take as validity: which rows are null, of how many.
+struct Nulls {
+    number: u8,
+    bits: Vec<u8>,
+}
+
+impl Nulls {
+    fn of(rows: usize, valid: Option<&[bool]>) -> Result<Nulls, Error> {
+        let flags = valid.unwrap_or(&[]);
+        if valid.is_some() && flags.len() != rows {
+            let fields = Fields {
+                first: rows as u64,
+                second: flags.len() as u64,
+                third: 0,
+            };
+            return Err(Error {
+                number: COLUMN_LENGTH,
+                fields,
+            });
+        }
+        let number = if valid.is_some() { 2 } else { 0 };
+        Ok(Nulls {
+            number,
+            bits: bits_of(flags),
+        })
+    }
+}
+
+/// Columns made of rows.
+impl Column {
+    pub(crate) fn made(
+        call: impl FnOnce(*mut Handle, *mut Fields) -> i32,
+    ) -> Result<Column, Error> {
+        let column = Column {
+            handle: UnsafeCell::new(Handle {
+                at: ptr::null_mut(),
+            }),
+        };
+        ask(|fields| call(column.handle.get(), fields))?;
+        Ok(column)
+    }
+
+    /// A call on this column and another: two handles, so that a column beside itself is cloned first.
+    pub(crate) fn beside(
+        &self,
+        other: &Column,
+        call: impl FnOnce(*mut Handle, *mut Handle, *mut Fields) -> i32,
+    ) -> Result<Column, Error> {
+        if ptr::eq(self, other) {
+            let copy = other.try_clone()?;
+            return Column::made(|out, fields| call(copy.handle.get(), out, fields));
+        }
+        Column::made(|out, fields| call(other.handle.get(), out, fields))
+    }
+
+    /// Whole numbers, of which none is null.
+    pub fn new<T: Native>(items: &[T]) -> Result<Column, Error> {
+        Column::with_validity(items, None)
+    }
+
+    /// Whole numbers, null where the flag is false.
+    pub fn with_validity<T: Native>(items: &[T], valid: Option<&[bool]>) -> Result<Column, Error> {
+        let nulls = Nulls::of(items.len(), valid)?;
+        Column::made(|out, fields| unsafe {
+            T::make(items, nulls.number, &nulls.bits, out, fields)
+        })
+    }
+
+    pub fn truths(rows: &[bool], valid: Option<&[bool]>) -> Result<Column, Error> {
+        let (nulls, truths) = (Nulls::of(rows.len(), valid)?, bits_of(rows));
+        let (bits, count) = (nulls.bits.as_ptr(), nulls.bits.len());
+        Column::made(|out, fields| unsafe {
+            raw::hv_bools(
+                truths.as_ptr(),
+                truths.len(),
+                0,
+                rows.len(),
+                nulls.number,
+                bits,
+                count,
+                0,
+                out,
+                fields,
+            )
+        })
+    }
+
+    pub fn decimals(
+        rows: &[i128],
+        precision: u8,
+        scale: i8,
+        valid: Option<&[bool]>,
+    ) -> Result<Column, Error> {
+        let nulls = Nulls::of(rows.len(), valid)?;
+        let pair = |row: &i128| raw::Pair {
+            low: *row as u64,
+            high: (*row >> 64) as i64,
+        };
+        let pairs: Vec<raw::Pair> = rows.iter().map(pair).collect();
+        let (bits, count) = (nulls.bits.as_ptr(), nulls.bits.len());
+        Column::made(|out, fields| unsafe {
+            raw::hv_decimals(
+                pairs.as_ptr(),
+                pairs.len(),
+                precision,
+                scale,
+                nulls.number,
+                bits,
+                count,
+                0,
+                out,
+                fields,
+            )
+        })
+    }
+
+    pub fn texts(rows: &[&str], valid: Option<&[bool]>) -> Result<Column, Error> {
+        let rows: Vec<&[u8]> = rows.iter().map(|row| row.as_bytes()).collect();
+        Column::cut(false, &rows, valid)
+    }
+
+    pub fn bytes(rows: &[&[u8]], valid: Option<&[bool]>) -> Result<Column, Error> {
+        Column::cut(true, rows, valid)
+    }
+
+    fn cut(binary: bool, rows: &[&[u8]], valid: Option<&[bool]>) -> Result<Column, Error> {
+        let (nulls, bytes) = (Nulls::of(rows.len(), valid)?, rows.concat());
+        let mut offsets = vec![0i64];
+        for row in rows {
+            offsets.push(offsets[offsets.len() - 1] + row.len() as i64);
+        }
+        let (bits, count) = (nulls.bits.as_ptr(), nulls.bits.len());
+        Column::made(|out, fields| unsafe {
+            let (starts, some) = (offsets.as_ptr(), bytes.as_ptr());
+            raw::hv_large_texts(
+                u8::from(binary),
+                starts,
+                offsets.len(),
+                some,
+                bytes.len(),
+                nulls.number,
+                bits,
+                count,
+                0,
+                out,
+                fields,
+            )
+        })
+    }
+
+    /// Runs of these ends and values, of which `rows` rows from row `offset` on are shown. Both are copied.
+    pub fn runs(
+        ends: &Column,
+        values: &Column,
+        offset: usize,
+        rows: usize,
+    ) -> Result<Column, Error> {
+        ends.beside(values, |values, out, fields| unsafe {
+            raw::hv_runs(ends.handle.get(), values, offset, rows, out, fields)
+        })
+    }
+
+    /// The runs that a record describes, over these ends and values.
+    pub fn deserialize(
+        kind: Kind,
+        rows: usize,
+        record: &[u8],
+        ends: &Column,
+        values: &Column,
+    ) -> Result<Column, Error> {
+        ends.beside(values, |values, out, fields| unsafe {
+            raw::hv_deserialize(
+                &kind,
+                rows,
+                record.as_ptr(),
+                record.len(),
+                ends.handle.get(),
+                values,
+                out,
+                fields,
+            )
+        })
+    }
+
+    pub fn try_clone(&self) -> Result<Column, Error> {
+        Column::made(|out, fields| unsafe { raw::hv_clone(self.handle.get(), out, fields) })
+    }
+}

@@ -1,0 +1,175 @@
+//! Questions to columns, and what is read out of them.
+use crate::raw::{self, RawTotal, RawValue};
+use crate::{ask, Column, Error, Fields, Form, Kind, Native, Session, Sum, Value, COLUMN_LENGTH};
+
+/// Questions.
+impl Column {
+    pub fn len(&self) -> usize {
+        unsafe { raw::hv_length(self.handle.get()) }
+    }
+
+    pub fn is_empty(&self) -> bool {
+        self.len() == 0
+    }
+
+    pub fn kind(&self) -> Kind {
+        unsafe { raw::hv_kind_of(self.handle.get()) }
+    }
+
+    pub fn form(&self) -> Form {
+        match unsafe { raw::hv_form(self.handle.get()) } {
+            0 => Form::Flat,
+            1 => Form::Constant,
+            2 => Form::Lists,
+            _ => Form::Runs,
+        }
+    }
+
+    /// How many rows of its runs lie before the window of a run column.
+    pub fn offset(&self) -> usize {
+        unsafe { raw::hv_offset(self.handle.get()) }
+    }
+
+    pub fn sum(&self) -> Result<Sum, Error> {
+        let (session, mut total) = (Session::initial(), RawTotal::default());
+        ask(|fields| unsafe { raw::hv_sum(&session, self.handle.get(), &mut total, fields) })?;
+        let number = match total.kind {
+            0 => None,
+            1 => Some(i128::from(total.as_unsigned)),
+            _ => Some(i128::from(total.as_signed)),
+        };
+        Ok(Sum {
+            total: number,
+            empty: total.empty != 0,
+        })
+    }
+
+    /// Are any two rows equal, null equal to null?
+    pub fn is_constant(&self) -> Result<bool, Error> {
+        let (session, mut truth) = (Session::initial(), 0);
+        ask(|fields| unsafe {
+            raw::hv_is_constant(&session, self.handle.get(), &mut truth, fields)
+        })?;
+        Ok(truth != 0)
+    }
+
+    /// Is no row above the next (`strict`: each below it), null below all else?
+    pub fn is_sorted(&self, strict: bool) -> Result<bool, Error> {
+        let (session, mut truth) = (Session::initial(), 0);
+        ask(|fields| unsafe {
+            raw::hv_is_sorted(
+                &session,
+                self.handle.get(),
+                u8::from(strict),
+                &mut truth,
+                fields,
+            )
+        })?;
+        Ok(truth != 0)
+    }
+
+    /// The least row that is not null; `Null` where there is none.
+    pub fn least(&self) -> Result<Value, Error> {
+        self.extreme(0)
+    }
+
+    pub fn greatest(&self) -> Result<Value, Error> {
+        self.extreme(1)
+    }
+
+    fn extreme(&self, greatest: u8) -> Result<Value, Error> {
+        let session = Session::initial();
+        shown(|value, text, fields| unsafe {
+            raw::hv_extreme(
+                &session,
+                self.handle.get(),
+                greatest,
+                value,
+                text.as_mut_ptr(),
+                text.len(),
+                fields,
+            )
+        })
+    }
+
+    pub fn at(&self, row: usize) -> Result<Value, Error> {
+        shown(|value, text, fields| unsafe {
+            raw::hv_at(
+                self.handle.get(),
+                row,
+                value,
+                text.as_mut_ptr(),
+                text.len(),
+                fields,
+            )
+        })
+    }
+
+    pub fn rows(&self) -> impl Iterator<Item = Result<Value, Error>> + '_ {
+        (0..self.len()).map(|row| self.at(row))
+    }
+}
+
+/// Rows and parts read out.
+impl Column {
+    /// The stored numbers of a flat column, where a row is null too.
+    pub fn numbers<T: Native>(&self) -> Result<Vec<T>, Error> {
+        let mut items = vec![T::default(); self.len()];
+        ask(|fields| unsafe { T::read(self.handle.get(), &mut items, fields) })?;
+        Ok(items)
+    }
+
+    /// Whether each row of a flat column is not null.
+    pub fn validity(&self) -> Result<Vec<bool>, Error> {
+        let mut words = vec![0u64; (self.len() + 63) / 64];
+        ask(|fields| unsafe {
+            raw::hv_read_validity(self.handle.get(), words.as_mut_ptr(), words.len(), fields)
+        })?;
+        Ok((0..self.len())
+            .map(|row| words[row / 64] >> (row % 64) & 1 == 1)
+            .collect())
+    }
+
+    /// The ends of a run column, copied.
+    pub fn ends(&self) -> Result<Column, Error> {
+        Column::made(|out, fields| unsafe { raw::hv_ends(self.handle.get(), out, fields) })
+    }
+
+    /// The values of a run column, copied.
+    pub fn values(&self) -> Result<Column, Error> {
+        Column::made(|out, fields| unsafe { raw::hv_values(self.handle.get(), out, fields) })
+    }
+
+    /// The metadata record of a run column.
+    pub fn serialize(&self) -> Result<Vec<u8>, Error> {
+        let (mut bytes, mut size) = (vec![0u8; 64], 0);
+        ask(|fields| unsafe {
+            raw::hv_serialize(
+                self.handle.get(),
+                bytes.as_mut_ptr(),
+                bytes.len(),
+                &mut size,
+                fields,
+            )
+        })?;
+        bytes.truncate(size);
+        Ok(bytes)
+    }
+}
+
+/// A row, asked for again with more room where its text has none.
+fn shown(
+    mut call: impl FnMut(&mut RawValue, &mut [u8], *mut Fields) -> i32,
+) -> Result<Value, Error> {
+    let mut text = vec![0u8; 64];
+    loop {
+        let mut value = RawValue::default();
+        match ask(|fields| call(&mut value, &mut text, fields)) {
+            Ok(()) => return Ok(Value::of(value, text)),
+            Err(error) if error.number == COLUMN_LENGTH => {
+                text.resize(error.fields.first as usize, 0)
+            }
+            Err(error) => return Err(error),
+        }
+    }
+}

@@ -1,0 +1,253 @@
+//! hivevigil.h, as Rust declares it.
+#![allow(clippy::too_many_arguments)]
+
+/// A handle: a column that the library owns, or none.
+#[repr(C)]
+pub struct Handle {
+    pub at: *mut u8,
+}
+
+#[repr(C)]
+#[derive(Clone, Copy, Debug, Default)]
+pub struct RawValue {
+    pub as_unsigned: u64,
+    pub as_signed: i64,
+    pub kind: u8,
+    pub truth: u8,
+}
+
+#[repr(C)]
+#[derive(Clone, Copy, Debug, Default)]
+pub struct RawTotal {
+    pub as_unsigned: u64,
+    pub as_signed: i64,
+    pub kind: u8,
+    pub empty: u8,
+}
+
+#[repr(C)]
+#[derive(Clone, Copy, Debug, Default)]
+pub struct Pair {
+    pub low: u64,
+    pub high: i64,
+}
+
+use crate::{Fields, Kind, Session};
+
+macro_rules! numbers {
+    ($($type:ty, $make:ident, $read:ident;)*) => {
+        extern "C" {
+            $(
+                pub fn $make(
+                    items: *const $type, len: usize, nulls: u8, bits: *const u8, bits_len: usize, first: usize,
+                    out: *mut Handle, error: *mut Fields,
+                ) -> i32;
+                pub fn $read(
+                    column: *mut Handle, start: usize, items: *mut $type, len: usize, error: *mut Fields,
+                ) -> i32;
+            )*
+        }
+    };
+}
+
+numbers! {
+    u8, hv_u8, hv_read_u8;
+    u16, hv_u16, hv_read_u16;
+    u32, hv_u32, hv_read_u32;
+    u64, hv_u64, hv_read_u64;
+    i8, hv_i8, hv_read_i8;
+    i16, hv_i16, hv_read_i16;
+    i32, hv_i32, hv_read_i32;
+    i64, hv_i64, hv_read_i64;
+}
+
+extern "C" {
+    pub fn hv_session_initial(session: *mut Session);
+    pub fn hv_bools(
+        truths: *const u8,
+        truths_len: usize,
+        start: usize,
+        count: usize,
+        nulls: u8,
+        bits: *const u8,
+        bits_len: usize,
+        first: usize,
+        out: *mut Handle,
+        error: *mut Fields,
+    ) -> i32;
+    pub fn hv_decimals(
+        pairs: *const Pair,
+        len: usize,
+        precision: u8,
+        scale: i8,
+        nulls: u8,
+        bits: *const u8,
+        bits_len: usize,
+        first: usize,
+        out: *mut Handle,
+        error: *mut Fields,
+    ) -> i32;
+    pub fn hv_large_texts(
+        binary: u8,
+        offsets: *const i64,
+        offsets_len: usize,
+        bytes: *const u8,
+        bytes_len: usize,
+        nulls: u8,
+        bits: *const u8,
+        bits_len: usize,
+        first: usize,
+        out: *mut Handle,
+        error: *mut Fields,
+    ) -> i32;
+    pub fn hv_runs(
+        ends: *mut Handle,
+        values: *mut Handle,
+        offset: usize,
+        count: usize,
+        out: *mut Handle,
+        error: *mut Fields,
+    ) -> i32;
+    pub fn hv_clone(column: *mut Handle, out: *mut Handle, error: *mut Fields) -> i32;
+    pub fn hv_encode(
+        session: *const Session,
+        column: *mut Handle,
+        out: *mut Handle,
+        error: *mut Fields,
+    ) -> i32;
+    pub fn hv_decode(
+        session: *const Session,
+        column: *mut Handle,
+        out: *mut Handle,
+        error: *mut Fields,
+    ) -> i32;
+    pub fn hv_slice(
+        session: *const Session,
+        column: *mut Handle,
+        start: usize,
+        stop: usize,
+        out: *mut Handle,
+        error: *mut Fields,
+    ) -> i32;
+    pub fn hv_cast(
+        session: *const Session,
+        column: *mut Handle,
+        kind: *const Kind,
+        out: *mut Handle,
+        error: *mut Fields,
+    ) -> i32;
+    pub fn hv_take(
+        session: *const Session,
+        column: *mut Handle,
+        indices: *mut Handle,
+        out: *mut Handle,
+        error: *mut Fields,
+    ) -> i32;
+    pub fn hv_filter(
+        session: *const Session,
+        column: *mut Handle,
+        mask: *mut Handle,
+        out: *mut Handle,
+        error: *mut Fields,
+    ) -> i32;
+    pub fn hv_take_from(
+        session: *const Session,
+        codes: *mut Handle,
+        dictionary: *mut Handle,
+        out: *mut Handle,
+        error: *mut Fields,
+    ) -> i32;
+    pub fn hv_compare(
+        session: *const Session,
+        column: *mut Handle,
+        operator: u8,
+        right: *mut Handle,
+        out: *mut Handle,
+        error: *mut Fields,
+    ) -> i32;
+    pub fn hv_compare_scalar(
+        session: *const Session,
+        column: *mut Handle,
+        operator: u8,
+        value: *const RawValue,
+        text: *const u8,
+        text_len: usize,
+        out: *mut Handle,
+        error: *mut Fields,
+    ) -> i32;
+    pub fn hv_fill(
+        session: *const Session,
+        column: *mut Handle,
+        value: *const RawValue,
+        text: *const u8,
+        text_len: usize,
+        out: *mut Handle,
+        error: *mut Fields,
+    ) -> i32;
+    pub fn hv_sum(
+        session: *const Session,
+        column: *mut Handle,
+        total: *mut RawTotal,
+        error: *mut Fields,
+    ) -> i32;
+    pub fn hv_is_constant(
+        session: *const Session,
+        column: *mut Handle,
+        truth: *mut u8,
+        error: *mut Fields,
+    ) -> i32;
+    pub fn hv_is_sorted(
+        session: *const Session,
+        column: *mut Handle,
+        strict: u8,
+        truth: *mut u8,
+        error: *mut Fields,
+    ) -> i32;
+    pub fn hv_extreme(
+        session: *const Session,
+        column: *mut Handle,
+        greatest: u8,
+        value: *mut RawValue,
+        text: *mut u8,
+        text_len: usize,
+        error: *mut Fields,
+    ) -> i32;
+    pub fn hv_at(
+        column: *mut Handle,
+        row: usize,
+        value: *mut RawValue,
+        text: *mut u8,
+        text_len: usize,
+        error: *mut Fields,
+    ) -> i32;
+    pub fn hv_length(column: *mut Handle) -> usize;
+    pub fn hv_kind_of(column: *mut Handle) -> Kind;
+    pub fn hv_form(column: *mut Handle) -> u8;
+    pub fn hv_offset(column: *mut Handle) -> usize;
+    pub fn hv_read_validity(
+        column: *mut Handle,
+        words: *mut u64,
+        len: usize,
+        error: *mut Fields,
+    ) -> i32;
+    pub fn hv_ends(column: *mut Handle, out: *mut Handle, error: *mut Fields) -> i32;
+    pub fn hv_values(column: *mut Handle, out: *mut Handle, error: *mut Fields) -> i32;
+    pub fn hv_serialize(
+        column: *mut Handle,
+        bytes: *mut u8,
+        bytes_len: usize,
+        size: *mut usize,
+        error: *mut Fields,
+    ) -> i32;
+    pub fn hv_deserialize(
+        kind: *const Kind,
+        count: usize,
+        bytes: *const u8,
+        bytes_len: usize,
+        ends: *mut Handle,
+        values: *mut Handle,
+        out: *mut Handle,
+        error: *mut Fields,
+    ) -> i32;
+    pub fn hv_free(column: *mut Handle);
+}

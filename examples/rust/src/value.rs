@@ -1,0 +1,74 @@
+//! Rows and sums.
+use crate::raw::RawValue;
+
+/// A row.
+#[derive(Clone, Debug, PartialEq, Eq)]
+pub enum Value {
+    Null,
+    /// Of an unsigned type.
+    Unsigned(u64),
+    /// Of a signed type.
+    Signed(i64),
+    Truth(bool),
+    Decimal(i128),
+    Text(String),
+    Bytes(Vec<u8>),
+}
+
+/// A sum: `total` is `None` where it left the range of 64 bits; `empty`: no row is valid, and the sum is 0.
+#[derive(Clone, Copy, Debug, PartialEq, Eq)]
+pub struct Sum {
+    pub total: Option<i128>,
+    pub empty: bool,
+}
+
+#[derive(Clone, Copy, Debug, PartialEq, Eq)]
+#[repr(u8)]
+pub enum Operator {
+    Equal = 0,
+    NotEqual = 1,
+    Greater = 2,
+    GreaterOrEqual = 3,
+    Less = 4,
+    LessOrEqual = 5,
+}
+
+impl Value {
+    /// What a call showed, with the room that it was given for a text.
+    pub(crate) fn of(raw: RawValue, mut text: Vec<u8>) -> Value {
+        match raw.kind {
+            1 => Value::Unsigned(raw.as_unsigned),
+            2 => Value::Signed(raw.as_signed),
+            3 => Value::Truth(raw.truth != 0),
+            4 => Value::Decimal((i128::from(raw.as_signed) << 64) | i128::from(raw.as_unsigned)),
+            5 => {
+                text.truncate(raw.as_unsigned as usize);
+                Value::Text(String::from_utf8(text).expect("texts are UTF-8"))
+            }
+            6 => {
+                text.truncate(raw.as_unsigned as usize);
+                Value::Bytes(text)
+            }
+            _ => Value::Null,
+        }
+    }
+
+    /// The value as C passes it, with the bytes of a text beside it.
+    pub(crate) fn passed(&self) -> (RawValue, &[u8]) {
+        let raw = |kind, as_unsigned, as_signed, truth| RawValue {
+            as_unsigned,
+            as_signed,
+            kind,
+            truth,
+        };
+        match self {
+            Value::Null => (raw(0, 0, 0, 0), &[]),
+            Value::Unsigned(item) => (raw(1, *item, 0, 0), &[]),
+            Value::Signed(item) => (raw(2, 0, *item, 0), &[]),
+            Value::Truth(item) => (raw(3, 0, 0, u8::from(*item)), &[]),
+            Value::Decimal(item) => (raw(4, *item as u64, (*item >> 64) as i64, 0), &[]),
+            Value::Text(text) => (raw(5, text.len() as u64, 0, 0), text.as_bytes()),
+            Value::Bytes(bytes) => (raw(6, bytes.len() as u64, 0, 0), bytes),
+        }
+    }
+}

@@ -1,0 +1,164 @@
+//! Answers that were worked out by hand.
+use hivevigil::{Column, Error, Fields, Form, Kind, Operator, Sum, Value};
+
+fn refused(number: i32, first: u64, second: u64, third: u64) -> Error {
+    Error {
+        number,
+        fields: Fields {
+            first,
+            second,
+            third,
+        },
+    }
+}
+
+/// 1 1 null null 2 3 3 3 null null
+fn runs() -> Result<Column, Error> {
+    let valid = [
+        true, true, false, false, true, true, true, true, false, false,
+    ];
+    Column::with_validity(&[1i32, 1, 0, 0, 2, 3, 3, 3, 0, 0], Some(&valid))?.encode()
+}
+
+fn rows(column: &Column) -> Result<Vec<Value>, Error> {
+    column.rows().collect()
+}
+
+#[test]
+fn runs_answer_as_rows() -> Result<(), Error> {
+    let runs = runs()?;
+    assert_eq!(
+        (
+            runs.form(),
+            runs.len(),
+            runs.kind().number,
+            runs.kind().nullable
+        ),
+        (Form::Runs, 10, 6, 1)
+    );
+    assert_eq!(
+        runs.sum()?,
+        Sum {
+            total: Some(13),
+            empty: false
+        }
+    );
+    assert_eq!(
+        (runs.least()?, runs.greatest()?),
+        (Value::Signed(1), Value::Signed(3))
+    );
+    assert_eq!(
+        (runs.is_constant()?, runs.is_sorted(false)?),
+        (false, false)
+    );
+    assert_eq!(
+        rows(&runs.slice(3..6)?)?,
+        [Value::Null, Value::Signed(2), Value::Signed(3)]
+    );
+    assert_eq!(
+        rows(&runs.take(&Column::new(&[9u32, 4])?)?)?,
+        [Value::Null, Value::Signed(2)]
+    );
+    let above = runs
+        .compare_value(Operator::Greater, &Value::Signed(1))?
+        .decode()?;
+    assert_eq!(runs.filter(&above)?.len(), 4);
+    assert_eq!(
+        rows(&runs.compare(Operator::Equal, &runs)?)?[1..3],
+        [Value::Truth(true), Value::Null]
+    );
+    assert_eq!(runs.fill(&Value::Signed(7))?.at(9)?, Value::Signed(7));
+    assert_eq!(runs.ends()?.numbers::<u8>()?, [2, 4, 5, 8, 10]);
+    assert_eq!(runs.decode()?.validity()?[..3], [true, true, false]);
+    assert_eq!(
+        rows(&Column::new(&[5i8, 0])?.take_from(&runs)?)?,
+        [Value::Signed(3), Value::Signed(1)]
+    );
+    assert_eq!(
+        runs.cast(Kind {
+            number: 7,
+            nullable: 1,
+            ..Kind::default()
+        })?
+        .kind()
+        .number,
+        7
+    );
+    Ok(())
+}
+
+#[test]
+fn parts_of_runs() -> Result<(), Error> {
+    let (ends, values) = (Column::new(&[2u16, 3, 5])?, Column::new(&[7i8, 8, 9])?);
+    let own = Column::runs(&ends, &values, 1, 4)?;
+    assert_eq!(rows(&own)?, [7, 8, 9, 9].map(Value::Signed));
+    assert_eq!(
+        (own.offset(), own.serialize()?),
+        (1, vec![0x08, 0x01, 0x10, 0x03, 0x18, 0x01])
+    );
+    let again = Column::deserialize(own.kind(), 4, &own.serialize()?, &ends, &own.values()?)?;
+    assert_eq!(rows(&again)?, rows(&own)?);
+    assert_eq!(rows(&own.try_clone()?)?, rows(&own)?);
+    Ok(())
+}
+
+#[test]
+fn other_types() -> Result<(), Error> {
+    let long = "a text that is longer than the room that it is given at first, so that it is asked for again";
+    let texts = Column::texts(&["one", "", long], Some(&[true, true, true]))?;
+    assert_eq!(texts.at(2)?, Value::Text(long.to_string()));
+    assert_eq!(
+        texts
+            .compare_value(Operator::Equal, &Value::Text("one".to_string()))?
+            .at(0)?,
+        Value::Truth(true)
+    );
+    assert_eq!(
+        Column::bytes(&[b"\xff"], None)?.at(0)?,
+        Value::Bytes(vec![0xff])
+    );
+    assert_eq!(
+        Column::truths(&[true, false], Some(&[false, true]))?.at(1)?,
+        Value::Truth(false)
+    );
+    assert_eq!(
+        Column::decimals(&[-1, 5], 10, 2, None)?.at(0)?,
+        Value::Decimal(-1)
+    );
+    assert_eq!(
+        Column::new::<u64>(&[])?.sum()?,
+        Sum {
+            total: Some(0),
+            empty: true
+        }
+    );
+    assert_eq!(
+        Column::new(&[u64::MAX, 1])?.sum()?,
+        Sum {
+            total: None,
+            empty: false
+        }
+    );
+    Ok(())
+}
+
+#[test]
+fn refusals_have_their_fields() -> Result<(), Error> {
+    let runs = runs()?;
+    assert_eq!(runs.at(10), Err(refused(8, 10, 10, 0)));
+    assert_eq!(runs.slice(5..11).err(), Some(refused(9, 5, 11, 10)));
+    assert_eq!(
+        Column::with_validity(&[1u8, 2], Some(&[true])).err(),
+        Some(refused(11, 2, 1, 0))
+    );
+    let (ends, values) = (Column::new(&[2u16, 2, 5])?, Column::new(&[7i8, 8, 9])?);
+    assert_eq!(
+        Column::runs(&ends, &values, 0, 5).err(),
+        Some(refused(4, 1, 0, 0))
+    );
+    assert_eq!(
+        refused(9, 5, 11, 10).to_string(),
+        "hivevigil: error 9 (5, 11, 10)"
+    );
+    Ok(())
+}

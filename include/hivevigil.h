@@ -1,0 +1,219 @@
+/* Run-end encoded columns for C. Each call is an exported function of libhivevigil.a.
+ *
+ * A column is a list of rows of one type, each a value or null. It may lie flat, as one constant, as lists, or as runs,
+ * which store each stretch of equal rows once. Calls that ask about rows answer the same in whichever form.
+ *
+ * ANSWERS. A call that can be refused answers an int32_t: 0 when it is done, else the number of an error (below). Then
+ * every column is as it was, `out` too; under 1 to 21 `*error` has the fields of the error; what else a call writes may
+ * hold anything. Under 0 `out` has the column that was made, and the one that it held before is freed. Nothing is
+ * printed, nothing ends the process, and a refused malloc is answered 21.
+ *
+ * OWNERSHIP. A handle, hv_column, owns its column. A call that is lent columns leaves them as they are; what it makes is a
+ * column of its own. What C passes (numbers, bits, bytes) is copied, and is C's own again when the call returns.
+ *
+ * WHAT IS BEHIND IT. The contracts in crates/hivevigil/src say what a call leaves and answers with 0, that a refused one
+ * leaves every column as it was, and that columns that are lent stay; the crate counts once its check ends in
+ * logic=proved. Number and fields of each refusal are part of the contract of hv_u8 to hv_i64, hv_bools, hv_decimals,
+ * hv_clone, of all commands, and of hv_sum, hv_is_constant, hv_is_sorted and hv_at; of other calls what is said here
+ * about refusals is to be tested. All of it rests on what a caller owes (next), and on the malloc, realloc and free that
+ * are linked. Never proved: that this header fits the library (C has no proof), and that all memory is freed.
+ *
+ * WHAT A CALLER OWES:
+ *  - a handle starts as HV_EMPTY, is written by this library alone, and hv_free empties it; a copy of the struct is no
+ *    second handle (to move one, copy it and set the old one to HV_EMPTY), and `at` is never followed;
+ *  - each pointer is valid for what it points to, aligned for its type, and not null, also where a length is 0: hv_some
+ *    below gives a pointer where there is no item;
+ *  - what a call writes, and each handle that it is given, overlaps no other argument: to compare a column with itself
+ *    lend hv_clone's result (the same handle twice is answered 22);
+ *  - input is initialised; what a call only writes may hold any bytes before, but for `out`, which is a handle;
+ *  - one call at a time, also where it only reads, on columns that were made one from the other, all on the thread that
+ *    made them: they share buffers, which are counted without atomics;
+ *  - malloc, realloc and free are one allocator, aligned to 16 bytes; no call comes from a signal handler, or from the
+ *    forked child of a process with threads.
+ *
+ * A flag is a uint8_t: as input 0 is false and any other number true, as output it is 0 or 1. */
+#ifndef HIVEVIGIL_H
+#define HIVEVIGIL_H
+#include <stddef.h>
+#include <stdint.h>
+#ifdef __cplusplus
+extern "C" {
+#endif
+
+/* A handle: a column that the library owns, or none. */
+typedef struct hv_column { void *at; } hv_column;
+#define HV_EMPTY {0}
+
+/* The fields of an error, in the order that the list below gives; 0 where it has fewer. */
+typedef struct hv_error { uint64_t first, second, third; } hv_error;
+
+enum {
+    HV_OK = 0,
+    HV_ENDS_NOT_UNSIGNED = 1,       /* ends of runs are a flat column of an unsigned type without null */
+    HV_LENGTHS_DIFFER = 2,          /* ends, values: there is not one value for each run */
+    HV_NO_RUNS_WINDOW = 3,          /* offset, length: there is no run, yet a window; no offset of texts: 0, 0 */
+    HV_ENDS_NOT_STRICT = 4,         /* run: its end is not above the end before; of offsets of texts, the row whose stop
+                                       is below its start, or whose offset is negative */
+    HV_WINDOW_OVERFLOW = 5,         /* offset and length add up to 2^64 or more */
+    HV_FIRST_END_BELOW_OFFSET = 6,  /* end, offset */
+    HV_LAST_END_BELOW_WINDOW = 7,   /* end, required */
+    HV_OUT_OF_BOUNDS = 8,           /* index (2^64 - 1 for one that no uint64_t has), length */
+    HV_BAD_RANGE = 9,               /* start, stop, length */
+    HV_MASK_LENGTH = 10,            /* mask, length */
+    HV_COLUMN_LENGTH = 11,          /* left, right: two lengths that belong together; of room: needed, there */
+    HV_TYPE_MISMATCH = 12,
+    HV_UNSUPPORTED = 13,            /* the call does not serve columns of this type, or of this form */
+    HV_CAST_OUT_OF_RANGE = 14,
+    HV_NULL_NOT_ALLOWED = 15,
+    HV_NULL_FILL = 16,
+    HV_BAD_METADATA = 17,
+    HV_ENDS_TYPE_NUMBER = 18,       /* number */
+    HV_RUN_COUNT = 19,              /* stated, found */
+    HV_ONLY_PRIMITIVE = 20,         /* whole numbers alone are encoded */
+    HV_OUT_OF_MEMORY = 21,
+    HV_NO_COLUMN = 22,              /* a handle that is lent has no column; no fields */
+    HV_BAD_NUMBER = 23              /* a number that stands for no type, or for no operator; no fields */
+};
+
+/* Types by number. precision and scale are of decimals; a list type is only named, and cannot be asked for. */
+enum { HV_U8, HV_U16, HV_U32, HV_U64, HV_I8, HV_I16, HV_I32, HV_I64, HV_BOOL, HV_DECIMAL, HV_UTF8, HV_BINARY, HV_LIST };
+typedef struct hv_kind { uint8_t number, nullable, precision; int8_t scale; } hv_kind;
+
+/* A value. kind HV_NULL: null; HV_UNSIGNED: as_unsigned; HV_SIGNED: as_signed; HV_TRUTH: truth; HV_DECIMAL_VALUE:
+ * as_signed * 2^64 + as_unsigned; HV_TEXT and HV_BYTES: as_unsigned bytes, which stand in a buffer beside it. A value of
+ * an unsigned type is HV_UNSIGNED, one of a signed type HV_SIGNED. Where C passes a text, its bytes are those of the
+ * buffer, and as_unsigned is not read. */
+enum { HV_NULL, HV_UNSIGNED, HV_SIGNED, HV_TRUTH, HV_DECIMAL_VALUE, HV_TEXT, HV_BYTES };
+typedef struct hv_value { uint64_t as_unsigned; int64_t as_signed; uint8_t kind, truth; } hv_value;
+
+/* A sum. kind 0: it left the range of 64 bits; 1: as_unsigned; 2: as_signed. empty: no row is valid, and the sum is 0. */
+typedef struct hv_total { uint64_t as_unsigned; int64_t as_signed; uint8_t kind, empty; } hv_total;
+
+/* A number of 128 bits: high * 2^64 + low, as in the buffers of Arrow's decimal128 on little-endian machines. */
+typedef struct hv_pair { uint64_t low; int64_t high; } hv_pair;
+
+/* Which kernels are registered, a flag for each in this order, and the numbers by which they choose. A session decides
+ * which form is left and at what cost, never an answer. {0} has no kernel; hv_session_initial sets all kernels and the
+ * numbers of the crate that is ported. */
+enum { HV_SLICE, HV_FILTER, HV_TAKE, HV_TAKE_FROM, HV_COMPARE, HV_CAST, HV_FILL_NULL, HV_SCALAR_FN, HV_SUM, HV_MIN_MAX, HV_IS_CONSTANT, HV_IS_SORTED };
+typedef struct hv_session {
+    size_t prefill_runs, min_run_filter_rows, filter_factor, sorted_runs_per_index, table_len_per_index, unsorted_min_runs, unsorted_runs_per_index;
+    uint8_t kernels[12];
+} hv_session;
+void hv_session_initial(hv_session *session);
+
+/* A pointer that is not null, for no items. */
+static inline const void *hv_some(const void *items) { static const uint64_t nothing = 0; return items ? items : &nothing; }
+
+/* ---- Making columns ----
+ * nulls: 0, the type has no null; 1, the type has null and no row is null; any other: row i is null where bit `first + i`
+ * is 0. Bit k is bit k % 8 of byte k / 8, as in Arrow. The bits are read under the last alone; refused as 11 (rows, bytes)
+ * where they are fewer than the rows. */
+#define HV_VALIDITY uint8_t nulls, const uint8_t *bits, size_t bits_len, size_t first
+int32_t hv_u8(const uint8_t *items, size_t len, HV_VALIDITY, hv_column *out, hv_error *error);
+int32_t hv_u16(const uint16_t *items, size_t len, HV_VALIDITY, hv_column *out, hv_error *error);
+int32_t hv_u32(const uint32_t *items, size_t len, HV_VALIDITY, hv_column *out, hv_error *error);
+int32_t hv_u64(const uint64_t *items, size_t len, HV_VALIDITY, hv_column *out, hv_error *error);
+int32_t hv_i8(const int8_t *items, size_t len, HV_VALIDITY, hv_column *out, hv_error *error);
+int32_t hv_i16(const int16_t *items, size_t len, HV_VALIDITY, hv_column *out, hv_error *error);
+int32_t hv_i32(const int32_t *items, size_t len, HV_VALIDITY, hv_column *out, hv_error *error);
+int32_t hv_i64(const int64_t *items, size_t len, HV_VALIDITY, hv_column *out, hv_error *error);
+/* `count` truth values, row i by bit `start + i` of `truths`; 11 (rows, bytes) where there are fewer bits */
+int32_t hv_bools(const uint8_t *truths, size_t truths_len, size_t start, size_t count, HV_VALIDITY, hv_column *out, hv_error *error);
+int32_t hv_decimals(const hv_pair *pairs, size_t len, uint8_t precision, int8_t scale, HV_VALIDITY, hv_column *out, hv_error *error);
+/* Row i is the bytes from offsets[i] to offsets[i + 1] - 1; there is one offset more than rows. 4 for offsets that fall,
+ * 8 (row, rows) for a row that is not within the bytes, 12 for a text that is not UTF-8. binary: bytes, not texts. */
+int32_t hv_texts(uint8_t binary, const int32_t *offsets, size_t offsets_len, const uint8_t *bytes, size_t bytes_len, HV_VALIDITY, hv_column *out, hv_error *error);
+int32_t hv_large_texts(uint8_t binary, const int64_t *offsets, size_t offsets_len, const uint8_t *bytes, size_t bytes_len, HV_VALIDITY, hv_column *out, hv_error *error);
+/* The run column of these ends and one value for each, of which `count` rows from row `offset` on are shown. Ends are a flat
+ * column of an unsigned type without null, each above the one before. Both are copied. */
+int32_t hv_runs(hv_column *ends, hv_column *values, size_t offset, size_t count, hv_column *out, hv_error *error);
+/* The same column in the same form, in memory of its own but for the bytes of texts, which are shared. */
+int32_t hv_clone(hv_column *column, hv_column *out, hv_error *error);
+
+/* ---- Commands: what they leave goes to `out` ----
+ * Refused exactly as is said here, with these fields, or as 21. */
+/* as few runs as there can be, with ends of the least type; 20 unless the rows are whole numbers */
+int32_t hv_encode(const hv_session *session, hv_column *column, hv_column *out, hv_error *error);
+/* the rows written out in a flat form */
+int32_t hv_decode(const hv_session *session, hv_column *column, hv_column *out, hv_error *error);
+/* the rows from start to stop - 1; 9 (start, stop, length) where start is above stop, or stop above the length */
+int32_t hv_slice(const hv_session *session, hv_column *column, size_t start, size_t stop, hv_column *out, hv_error *error);
+/* each row as the same value of this type: 13 unless both types are of whole numbers or of one kind that is no list; at the
+ * first row that is no value of the type 15 for null and 14 for a number; 23 where kind names no type, or lists */
+int32_t hv_cast(const hv_session *session, hv_column *column, const hv_kind *kind, hv_column *out, hv_error *error);
+/* the rows at the indices, a flat column of whole numbers (else 12): null at a null index; 8 (index, length) */
+int32_t hv_take(const hv_session *session, hv_column *column, hv_column *indices, hv_column *out, hv_error *error);
+/* the rows at which the mask, a flat column of truth values (else 12), is true: a null in the mask selects nothing, as in
+ * SQL's WHERE; 10 (mask, length) */
+int32_t hv_filter(const hv_session *session, hv_column *column, hv_column *mask, hv_column *out, hv_error *error);
+/* each row of `codes` is replaced by the row of the dictionary that it numbers from 0, null stays null; 12 unless the codes
+ * are whole numbers, 8 (code, length of the dictionary) */
+int32_t hv_take_from(const hv_session *session, hv_column *codes, hv_column *dictionary, hv_column *out, hv_error *error);
+/* row by row whether `left operator right`, null where either is null; 13 for lists, 12 for two types that differ in more
+ * than null, 11 (left, right) for another number of rows, 23 for no operator */
+enum { HV_EQ, HV_NE, HV_GT, HV_GE, HV_LT, HV_LE };
+int32_t hv_compare(const hv_session *session, hv_column *column, uint8_t operator_, hv_column *right, hv_column *out, hv_error *error);
+/* the same against one value, of the column's type or null; 12 where it is none of that type, or a text that is not UTF-8 */
+int32_t hv_compare_scalar(const hv_session *session, hv_column *column, uint8_t operator_, const hv_value *value, const uint8_t *text, size_t text_len, hv_column *out, hv_error *error);
+/* a value in place of each null, after which the type has no null; 12 as above, 13 for lists, 16 for null */
+int32_t hv_fill(const hv_session *session, hv_column *column, const hv_value *value, const uint8_t *text, size_t text_len, hv_column *out, hv_error *error);
+
+/* ---- Questions ---- */
+/* the sum of the rows that are not null; 13 unless they are whole numbers */
+int32_t hv_sum(const hv_session *session, hv_column *column, hv_total *total, hv_error *error);
+/* are any two rows equal, null equal to null? 13 for lists */
+int32_t hv_is_constant(const hv_session *session, hv_column *column, uint8_t *truth, hv_error *error);
+/* is no row above the next (strict: is each below it), null below all else? 13 for lists */
+int32_t hv_is_sorted(const hv_session *session, hv_column *column, uint8_t strict, uint8_t *truth, hv_error *error);
+/* the least (greatest: the greatest) row that is not null, HV_NULL where all are null; 13 for lists, 11 as with hv_at */
+int32_t hv_extreme(const hv_session *session, hv_column *column, uint8_t greatest, hv_value *value, uint8_t *text, size_t text_len, hv_error *error);
+/* row `row`, which takes no memory; 13 for lists, then 8 (row, length). A text goes to the front of `text`: 11 (bytes of the
+ * text, text_len) where it has no room there. */
+int32_t hv_at(hv_column *column, size_t row, hv_value *value, uint8_t *text, size_t text_len, hv_error *error);
+size_t hv_length(hv_column *column);       /* rows; 0 of no column */
+hv_kind hv_kind_of(hv_column *column);     /* the type; number 255 of no column */
+uint8_t hv_form(hv_column *column);        /* 0 flat, 1 a constant, 2 lists, 3 runs, 255 no column */
+size_t hv_offset(hv_column *column);       /* of runs: how many of their rows lie before the window; else 0 */
+
+/* ---- Reading many rows ----
+ * Of flat columns (13 of other forms: hv_decode writes a column flat). What is stored under null is read as it stands. */
+/* as many rows as there is room for, from row `start` on: 12 for another type, 9 (start, stop, length) past the end */
+int32_t hv_read_u8(hv_column *column, size_t start, uint8_t *items, size_t len, hv_error *error);
+int32_t hv_read_u16(hv_column *column, size_t start, uint16_t *items, size_t len, hv_error *error);
+int32_t hv_read_u32(hv_column *column, size_t start, uint32_t *items, size_t len, hv_error *error);
+int32_t hv_read_u64(hv_column *column, size_t start, uint64_t *items, size_t len, hv_error *error);
+int32_t hv_read_i8(hv_column *column, size_t start, int8_t *items, size_t len, hv_error *error);
+int32_t hv_read_i16(hv_column *column, size_t start, int16_t *items, size_t len, hv_error *error);
+int32_t hv_read_i32(hv_column *column, size_t start, int32_t *items, size_t len, hv_error *error);
+int32_t hv_read_i64(hv_column *column, size_t start, int64_t *items, size_t len, hv_error *error);
+int32_t hv_read_decimals(hv_column *column, size_t start, hv_pair *pairs, size_t len, hv_error *error);
+/* Bits, 64 to a word, all rows of the column: `len` is (length + 63) / 64, else 11 (needed, len). On a little-endian
+ * machine the words are the bytes of Arrow's bitmaps. */
+int32_t hv_read_bools(hv_column *column, uint64_t *words, size_t len, hv_error *error);
+int32_t hv_read_validity(hv_column *column, uint64_t *words, size_t len, hv_error *error);
+/* Texts and bytes, in two calls. First the offsets of `len - 1` rows from row `start` on, from 0: row k is bytes offsets[k]
+ * to offsets[k + 1] - 1, and the last offset is how many bytes there are; a null is no bytes. 9 past the end or where len
+ * is 0; 14 where an int32_t has no such offset. Then the bytes of `rows` rows one after the other: 11 (needed, len)
+ * unless len is their number. */
+int32_t hv_read_offsets(hv_column *column, size_t start, int32_t *offsets, size_t len, hv_error *error);
+int32_t hv_read_large_offsets(hv_column *column, size_t start, int64_t *offsets, size_t len, hv_error *error);
+int32_t hv_read_bytes(hv_column *column, size_t start, size_t rows, uint8_t *bytes, size_t len, hv_error *error);
+
+/* ---- Run columns ---- (13 of other forms) */
+int32_t hv_ends(hv_column *column, hv_column *out, hv_error *error);    /* the ends, copied */
+int32_t hv_values(hv_column *column, hv_column *out, hv_error *error);  /* the values, copied */
+/* The metadata record: it goes to the front of `bytes`, and *size says how many they are; 11 (needed, bytes_len) where it
+ * has no room there. */
+int32_t hv_serialize(hv_column *column, uint8_t *bytes, size_t bytes_len, size_t *size, hv_error *error);
+/* The run column of `count` rows of this type by its record, over copies of these ends and values; 17 for bytes that are no
+ * record, 18 (number), 19 (stated, found), 23 where kind names no type, or as hv_runs. */
+int32_t hv_deserialize(const hv_kind *kind, size_t count, const uint8_t *bytes, size_t bytes_len, hv_column *ends, hv_column *values, hv_column *out, hv_error *error);
+
+/* Frees the column, if there is one; the handle is empty after. */
+void hv_free(hv_column *column);
+
+#ifdef __cplusplus
+}
+#endif
+#endif
