@@ -10,8 +10,8 @@ kit=$(dirname "$(rt doc)")
 cc=${CC:-cc}
 
 if [ ! -e "$top/crates/hivevigil/out/libhivevigil.a" ]; then
-    echo "build: the first build proves all crates below the library, which takes an hour to an hour and a half;"
-    echo "build: what is proved is kept, and a later build takes seconds"
+    echo "build: the first build proves all crates below the library, which takes an hour or more;"
+    echo "build: what is proved is kept, and a later build takes two minutes"
 fi
 begin=$(date +%s)
 (cd "$top/crates/hivevigil" && rt lib)

@@ -11,12 +11,12 @@
  * OWNERSHIP. A handle, hv_column, owns its column. A call that is lent columns leaves them as they are; what it makes is a
  * column of its own. What C passes (numbers, bits, bytes) is copied, and is C's own again when the call returns.
  *
- * WHAT IS BEHIND IT. The contracts in crates/hivevigil/src say what a call leaves and answers with 0, that a refused one
- * leaves every column as it was, and that columns that are lent stay; the crate counts once its check ends in
- * logic=proved. Number and fields of each refusal are part of the contract of hv_u8 to hv_i64, hv_bools, hv_decimals,
- * hv_clone, of all commands, and of hv_sum, hv_is_constant, hv_is_sorted and hv_at; of other calls what is said here
- * about refusals is to be tested. All of it rests on what a caller owes (next), and on the malloc, realloc and free that
- * are linked. Never proved: that this header fits the library (C has no proof), and that all memory is freed.
+ * WHAT IS BEHIND IT. The contracts in crates/hivevigil/src, each proved, say what a call leaves and answers with 0, that
+ * a refused one leaves every column as it was, and that columns that are lent stay. Number and fields of each refusal are
+ * part of the contract of hv_u8 to hv_i64, hv_bools, hv_decimals, of all commands, and of hv_sum, hv_is_constant,
+ * hv_is_sorted and hv_at; of other calls what is said here about refusals is tested. All of it rests on what a caller owes
+ * (next), and on the malloc, realloc and free that are linked. Not proved: that this header fits the library (C has no
+ * proof; the names are compared, and the layouts used by tests), and that all memory is freed (tested).
  *
  * WHAT A CALLER OWES:
  *  - a handle starts as HV_EMPTY, is written by this library alone, and hv_free empties it; a copy of the struct is no
@@ -24,7 +24,7 @@
  *  - each pointer is valid for what it points to, aligned for its type, and not null, also where a length is 0: hv_some
  *    below gives a pointer where there is no item;
  *  - what a call writes, and each handle that it is given, overlaps no other argument: to compare a column with itself
- *    lend hv_clone's result (the same handle twice is answered 22);
+ *    lend hv_clone's result (hv_runs answers 22 where ends and values are one handle);
  *  - input is initialised; what a call only writes may hold any bytes before, but for `out`, which is a handle;
  *  - one call at a time, also where it only reads, on columns that were made one from the other, all on the thread that
  *    made them: they share buffers, which are counted without atomics;

@@ -1,18 +1,19 @@
 -- How a call ends: a number, and the fields of an error.
-use Rattle.std.specs.Prelude.{◌≡◌, ◌≢◌, ◌⊎◌, ◌-◌, ◌^◌, ◌<◌, ℕ, ℤ, pos, List, slice_get, Option, Some, None, Result, Ok, Err}
+use Rattle.std.specs.Prelude.{◌≡◌, ◌≢◌, ◌⊎◌, ◌-◌, ◌^◌, ◌<◌, ℕ, ℤ, pos, Bool, List, slice_get, Option, Some, None, Result, Ok, Err}
 use Rattle.std.specs.Global.{Global}
 use Rattle.column_base.specs.declared.error.VortexError.{VortexError}
 use Rattle.column_base.specs.declared.error.VortexError.TheVariants.{LengthsDiffer, NoRunsWindow, EndsNotStrict, FirstEndBelowOffset, LastEndBelowWindow, OutOfBounds, BadRange, MaskLength, ColumnLength, EndsTypeNumber, RunCount, TypeMismatch}
 use Rattle.column_base.specs.Error.{number_of}
+use Rattle.column_core.specs.Refusal.{IsErrorFor}
 use Rattle.column_core.specs.Value.{PlainColumn, Value}
-use Rattle.runend_commands.specs.declared.command.Command.TheVariants.{At}
+use Rattle.runend_commands.specs.declared.command.Command.TheVariants.{At, MinMax}
 use Rattle.runend_array.specs.declared.array_ref.ArrayRef.{ArrayRef}
 use Rattle.runend_commands.specs.declared.command.Command.{Command}
 use Rattle.runend_commands.specs.Refusal.{refusal}
 use Rattle.runend_commands.specs.Meaning.{plain}
 use Rattle.runend_array.specs.Array.{dtype_of}
 use Rattle.hivevigil.specs.Calls.{Leaves}
-use Rattle.hivevigil.specs.Values.{IsPassed, IsRoomFault}
+use Rattle.hivevigil.specs.Values.{IsFurthestRow, IsPassed, IsRoomFault}
 use Rattle.hivevigil.specs.declared.row_value.RowValue.{RowValue}
 use Rattle.hivevigil.specs.declared.error_fields.ErrorFields.{ErrorFields}
 
@@ -105,3 +106,23 @@ IsLookUpFault before row room error = (refusal {A = Global} before (At row) ≡ 
 abbrev pub EndsOnRow : ℕ → ℕ → Option (ArrayRef Global) → ℤ → ErrorFields → Type 0
 EndsOnRow row room None code fields = code ≡ pos 22
 EndsOnRow row room (Some c) code fields = ((code ≡ pos 0) × (refusal {A = Global} (plain c) (At row) ≡ None)) ⊎ ((error : VortexError) × IsLookUpFault (plain c) row room error × (code ≡ pos (number_of error)) × HasFields error fields)
+
+-- the least or the greatest row is a text or bytes that have no room
+pub record HasNoRoomFor (greatest : Bool) (rows : List (Option Value)) (room : ℕ) (error : VortexError) : Type 0 where
+  pub value : Option Value
+  pub furthest : IsFurthestRow greatest rows value
+  pub short : IsRoomFault value room error
+
+-- why that row is not shown: the command is refused, or memory was, or it has no room
+abbrev pub IsExtremeFault : Bool → PlainColumn → ℕ → VortexError → Type 0
+IsExtremeFault greatest before room error = IsErrorFor (refusal {A = Global} before MinMax) error ⊎ ((refusal {A = Global} before MinMax ≡ None) × HasNoRoomFor greatest before.rows room error)
+
+-- how the call of it ends
+abbrev pub EndsOnExtreme : Bool → ℕ → Option (ArrayRef Global) → ℤ → ErrorFields → Type 0
+EndsOnExtreme greatest room None code fields = code ≡ pos 22
+EndsOnExtreme greatest room (Some c) code fields = EndsBy (refusal {A = Global} (plain c) MinMax) code fields ⊎ ((error : VortexError) × HasNoRoomFor greatest (plain c).rows room error × (code ≡ pos (number_of error)) × HasFields error fields)
+
+-- how a call ends that has no fault: with 0, with 21, or with 22 where the handle is empty
+abbrev pub EndsAlways : Option (ArrayRef Global) → ℤ → ErrorFields → Type 0
+EndsAlways None code fields = code ≡ pos 22
+EndsAlways (Some c) code fields = EndsBy None code fields

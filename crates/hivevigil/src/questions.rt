@@ -5,13 +5,13 @@ ghost use Rattle.column_core.specs.Refusal.{IsErrorFor, IsRefusedBy};
 ghost use Rattle.column_order.specs.OrderFacts as order;
 ghost use Rattle.column_sums.specs.SumAnswer.{IsSumAnswer};
 ghost use Rattle.runend_array.specs.Array.{dtype_of, rows};
-ghost use Rattle.runend_commands.specs.declared.command.Command.TheVariants.{At, Sum, IsConstant, IsSorted};
+ghost use Rattle.runend_commands.specs.declared.command.Command.TheVariants.{At, MinMax, Sum, IsConstant, IsSorted};
 ghost use Rattle.runend_commands.specs.Meaning.{plain};
 ghost use Rattle.runend_commands.specs.Refusal.{lists_fault, refusal};
 ghost use Rattle.hivevigil.specs.Flags.{Tells, byte_of as byte_of_truth};
 ghost use Rattle.hivevigil.specs.Totals.{answer_in};
 ghost use Rattle.hivevigil.specs.Values.{IsExtremeOf, IsShownAt};
-ghost use Rattle.hivevigil.specs.Ending.{IsLookUpFault};
+ghost use Rattle.hivevigil.specs.Ending.{IsExtremeFault, IsLookUpFault};
 
 use crate::row_value::{RowValue, row_value_of};
 use crate::sessions::{Session, context};
@@ -83,6 +83,7 @@ pub(crate) fn is_sorted(
 
 /// The least or the greatest row that is not null, or null where all are. A text or bytes go to the front of
 /// `text`. Refused as the command is, and as `row_value_of`.
+#[tactic(auto, using(crate::proofs::Extremes::refused_extreme, crate::proofs::Extremes::short_extreme))]
 pub(crate) fn extreme_of(
     alloc: Global,
     session: &Session,
@@ -91,6 +92,8 @@ pub(crate) fn extreme_of(
     text: &mut [u8],
 ) -> VortexResult<RowValue>
     ensures told { IfOk result (λ value. IsExtremeOf greatest (rows array.now) text.new value) }
+    ensures accepted { IfOk result (λ _. refusal {A = Global} (plain array.now) MinMax ≡ None) }
+    ensures refused { IfErr result (λ error. IsExtremeFault greatest (plain array.now) (length text.old) error) }
     ensures len { length text.new ≡ length text.old }
 {
     let mut ctx = context(alloc, session);

@@ -4,7 +4,7 @@ ghost use Rattle.column_order.specs.OrderFacts as order;
 ghost use Rattle.column_sums.specs.SumAnswer.{IsSumAnswer};
 ghost use Rattle.runend_array.specs.Array.{column_of, dtype_of, rows};
 ghost use Rattle.runend_commands.specs.declared.command.Command.TheVariants.{Sum, IsConstant, IsSorted};
-ghost use Rattle.hivevigil.specs.Ending.{EndsOn, EndsOnRow};
+ghost use Rattle.hivevigil.specs.Ending.{EndsOn, EndsOnExtreme, EndsOnRow};
 ghost use Rattle.hivevigil.specs.Flags.{Tells, flag_of};
 ghost use Rattle.hivevigil.specs.Kinds.{IsKindOf};
 ghost use Rattle.hivevigil.specs.Reads.{form_number, offset_in};
@@ -90,6 +90,7 @@ pub extern "C" fn hv_is_sorted(
 
 /// The least row that is not null, or the greatest where `greatest` is not 0; null where all are. A text or bytes
 /// go to the front of `text`: 11, with their number and the room, where they have no room there.
+#[tactic(auto, using(crate::proofs::Extremes::extreme_empty, crate::proofs::Extremes::extreme_done, crate::proofs::Extremes::extreme_refused))]
 #[unsafe(no_mangle)]
 pub extern "C" fn hv_extreme(
     alloc: Global,
@@ -102,6 +103,7 @@ pub extern "C" fn hv_extreme(
 ) -> i32
     ensures same { column.new.column ≡ column.old.column }
     ensures told { result ≡ pos 0 → IsSomeAnd column.old.column (λ c. IsExtremeOf (flag_of greatest) (rows c) text.new value.new) }
+    ensures ended { EndsOnExtreme (flag_of greatest) (length text.old) column.old.column result error.new }
 {
     let Some(array) = column.take(alloc) else {
         return NO_COLUMN;

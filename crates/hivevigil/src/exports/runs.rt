@@ -2,7 +2,7 @@
 ghost use Rattle.std.specs.Prelude.{◌≡◌, ◌≢◌, IsSomeAnd, None, pos, take};
 ghost use Rattle.runend_array.specs.Array.{column_of};
 ghost use Rattle.runend_array.specs.SessionForm.{crate_thresholds};
-ghost use Rattle.hivevigil.specs.Ending.{WhereAll, WhereBoth};
+ghost use Rattle.hivevigil.specs.Ending.{EndsAlways, WhereAll, WhereBoth};
 ghost use Rattle.hivevigil.specs.Kinds.{dtype_by};
 ghost use Rattle.hivevigil.specs.Makers.{AreRecordedRuns, AreRunsOf, IsCopyOf};
 ghost use Rattle.hivevigil.specs.Reads.{AreEndsOf, AreRunValuesOf, IsRecordOf};
@@ -142,6 +142,7 @@ pub extern "C" fn hv_values(
 }
 
 /// A copy in the same form. Refused for want of memory alone.
+#[tactic(auto, using(crate::proofs::Extremes::always_empty, crate::proofs::Extremes::always_done, crate::proofs::Extremes::always_short))]
 #[unsafe(no_mangle)]
 pub extern "C" fn hv_clone(
     alloc: Global,
@@ -152,6 +153,7 @@ pub extern "C" fn hv_clone(
     ensures same { column.new.column ≡ column.old.column }
     ensures made { result ≡ pos 0 → WhereBoth IsCopyOf column.old.column out.new.column }
     ensures kept { result ≢ pos 0 → out.new.column ≡ out.old.column }
+    ensures ended { EndsAlways column.old.column result error.new }
 {
     let Some(array) = column.take(alloc) else {
         return NO_COLUMN;
