@@ -1,5 +1,6 @@
 """What is asked of one chunk of rows, and how the answers about two chunks, one behind the other, are joined: the
-answer over all chunks is the same however the rows are cut."""
+answer over all chunks is the same however the rows are cut. That the answers about joined rows are the joined answers
+is proved of the definitions: `crates/chunk_laws` (rows, filters, sums, least and greatest, sorted, encodings)."""
 import sys
 from dataclasses import dataclass
 from pathlib import Path
