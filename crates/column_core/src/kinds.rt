@@ -1,17 +1,29 @@
 //! Tests on the kinds of types.
-ghost use Rattle.std.specs.Prelude.{◌≡◌};
-ghost use Rattle.column_core.specs.Kinds.{is_list, is_numbers, same_kind};
+ghost use Rattle.std.specs.Prelude.{◌≡◌, ◌↔◌, IsTrue};
+ghost use Rattle.column_core.specs.Kinds.{is_list, is_numbers, list_fault, same_kind};
+ghost use Rattle.column_core.specs.Value.{IsLists};
 
-use column_base::{DType, Nullability};
+use column_base::{DType, Nullability, VortexError};
 
 /// Is it a type of lists?
 pub fn is_list_type(dtype: DType) -> bool
-    ensures { result ≡ is_list dtype }
+    ensures same { result ≡ is_list dtype }
+    ensures lists { IsTrue result ↔ IsLists dtype }
 {
     match dtype {
         DType::List(_, _) => true,
         _ => false,
     }
+}
+
+/// Why rows of this type are refused where lists are: `Unsupported` for lists, else nothing.
+pub fn fault_of_lists(dtype: DType) -> Option<VortexError>
+    ensures { result ≡ list_fault dtype }
+{
+    if is_list_type(dtype) {
+        return Some(VortexError::Unsupported);
+    }
+    None
 }
 
 /// Is it a type of whole numbers?

@@ -21,7 +21,7 @@ pub use counted::CountedEnds;
 pub use decimal::DecimalArray;
 pub use flat::FlatColumn;
 pub use flat_view::FlatView;
-pub use kinds::{is_list_type, is_number_type, is_same_kind};
+pub use kinds::{fault_of_lists, is_list_type, is_number_type, is_same_kind};
 pub use primitive::PrimitiveArray;
 pub use scalar::{Scalar, ScalarValue};
 pub use varbinview::{VarBinKind, VarBinViewArray, View};

@@ -52,3 +52,8 @@ other_count mask rows m n m_is n_is other =
 pub no_fault : {T : Type 0} (fault : Option VortexError) (result : Result T VortexError) → fault ≡ None → IsOkUnless result OutOfMemory → IsRefusedBy fault result
 no_fault fault (Ok value) none only = none
 no_fault fault (Err error) none only = inl only
+
+-- what holds of an answer, carried on
+pub if_ok : {T E : Type 0} (result : Result T E) (P Q : T → Type 0) → ((value : T) → P value → Q value) → IfOk result P → IfOk result Q
+if_ok (Ok value) P Q carried holds = carried value holds
+if_ok (Err error) P Q carried holds = tt

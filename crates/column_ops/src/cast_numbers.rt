@@ -17,12 +17,28 @@ ghost use Rattle.column_ops.specs.Written.{AreWritten};
 use crate::items_or::items_by_bits;
 use crate::keep_items::null_row;
 use crate::kept_validity::kept_validity;
-use crate::rows::row_at;
+use crate::rows::item_at;
 use column_base::match_each_native;
 use column_core::{
     BitBuffer, NativePType, Nullability, PType, PrimitiveArray, Validity, VortexError, VortexResult,
 };
 use std::alloc::Allocator;
+
+/// The numbers in the native type, with 0 stored under null. Refused, at the first row that the type
+/// does not have, as `NullNotAllowed` for null and as `CastOutOfRange` for a number; else as
+/// `OutOfMemory` alone.
+pub(crate) fn cast_values<A: Allocator + Copy>(
+    alloc: A,
+    array: &PrimitiveArray<A>,
+    ptype: PType,
+    nullability: Nullability,
+) -> VortexResult<PrimitiveArray<A>>
+    ensures refused { IsRefusedBy (first_fault (cast_row_fault (column.Primitive ptype nullability)) (single_rows (OfNumbers array.now))) result }
+    ensures made { IfOk result (λ cast. IsMade (primitive_rows array.now) (column.Primitive ptype nullability) (OfNumbers cast)) }
+{
+    let validity = array.validity();
+    match_each_native!(array.values(), items => cast_native(alloc, items.as_slice(), validity, ptype, nullability))
+}
 
 // The number as one of the type `T`.
 fn cast_number<S: NativePType, T: NativePType>(item: S) -> VortexResult<T>
@@ -169,7 +185,7 @@ fn cast_rows<S: NativePType, T: NativePType, A: Allocator + Copy>(
 {
     let mut cast = Vec::with_capacity(alloc, items.len())?;
     for row in 0..items.len() {
-        let item = row_at(items, validity, row);
+        let item = item_at(items, validity, row);
         match cast_row::<S, T>(item, nullability) {
             Ok(number) => cast.push_reserved(number.unwrap_or(T::default())),
             Err(error) => {
@@ -224,20 +240,4 @@ fn cast_native<S: NativePType, A: Allocator + Copy>(
         PType::I32 => cast_column::<S, i32, A>(alloc, items, validity, nullability),
         PType::I64 => cast_column::<S, i64, A>(alloc, items, validity, nullability),
     }
-}
-
-/// The numbers in the native type, with 0 stored under null. Refused, at the first row that the type
-/// does not have, as `NullNotAllowed` for null and as `CastOutOfRange` for a number; else as
-/// `OutOfMemory` alone.
-pub(crate) fn cast_values<A: Allocator + Copy>(
-    alloc: A,
-    array: &PrimitiveArray<A>,
-    ptype: PType,
-    nullability: Nullability,
-) -> VortexResult<PrimitiveArray<A>>
-    ensures refused { IsRefusedBy (first_fault (cast_row_fault (column.Primitive ptype nullability)) (single_rows (OfNumbers array.now))) result }
-    ensures made { IfOk result (λ cast. IsMade (primitive_rows array.now) (column.Primitive ptype nullability) (OfNumbers cast)) }
-{
-    let validity = array.validity();
-    match_each_native!(array.values(), items => cast_native(alloc, items.as_slice(), validity, ptype, nullability))
 }

@@ -9,7 +9,7 @@ ghost use Rattle.column_ops.specs.Written.{AreWritten, IsValidityOf};
 
 use crate::items_or::items_or;
 use crate::kept_validity::is_all_valid;
-use crate::rows::row_at;
+use crate::rows::item_at;
 use column_core::{BitBuffer, BitBufferMut, Mask, Validity, VortexError, VortexResult};
 use std::alloc::Allocator;
 
@@ -99,7 +99,7 @@ fn selected_rows<T: Copy + Drop, A: Allocator + Copy>(
 {
     let mut kept = Vec::with_capacity(alloc, bits.true_count())?;
     for row in bits.set_indices() {
-        kept.push_reserved(row_at(items, validity, row).unwrap_or(blank));
+        kept.push_reserved(item_at(items, validity, row).unwrap_or(blank));
     }
     Ok(kept)
 }
@@ -146,7 +146,7 @@ fn selected_flags<T: Copy + Drop, A: Allocator + Copy>(
     let mut kept = BitBufferMut::with_capacity(alloc, mask.true_count())?;
     for row in 0..items.len() {
         if mask.value(row) {
-            kept.append(row_at(items, validity, row).is_some())?;
+            kept.append(item_at(items, validity, row).is_some())?;
         }
     }
     Ok(kept.freeze())

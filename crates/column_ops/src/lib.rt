@@ -19,3 +19,5 @@ mod truths;
 mod views;
 
 pub use ops::ColumnOps;
+pub use positions::{checked_index, positions_of};
+pub use rows::item_at;

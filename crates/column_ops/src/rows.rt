@@ -9,7 +9,7 @@ use column_core::Validity;
 use std::alloc::Allocator;
 
 /// The item in a row, or `None` for null.
-pub(crate) fn row_at<T: Copy + Drop, A: Allocator>(
+pub fn item_at<T: Copy + Drop, A: Allocator>(
     items: &[T],
     validity: &Validity<A>,
     row: usize,

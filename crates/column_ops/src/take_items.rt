@@ -9,36 +9,9 @@ ghost use Rattle.column_ops.specs.Take.{ArePositions, position_numbers, take_row
 ghost use Rattle.column_ops.specs.Written.{AreWritten, IsValidityOf};
 
 use crate::kept_validity::{is_all_valid, kept_validity};
-use crate::rows::row_at;
+use crate::rows::item_at;
 use column_core::{BitBuffer, BitBufferMut, Nullability, Validity, VortexError, VortexResult};
 use std::alloc::Allocator;
-
-// With null where either has null.
-fn either(left: Nullability, right: Nullability) -> Nullability
-    ensures { result ≡ either_nullable left right }
-{
-    match left {
-        Nullability::NonNullable => right,
-        Nullability::Nullable => Nullability::Nullable,
-    }
-}
-
-// The row at a position, null for null.
-fn taken_at<T: Copy + Drop, A: Allocator>(
-    items: &[T],
-    validity: &Validity<A>,
-    position: Option<u64>,
-) -> Option<T>
-    requires within { IfSome position (λ k. k < length items.now) }
-    requires fits { HasLength (form_of validity.now) (length items.now) }
-    ensures row { result ≡ taken_row (optionals items.now (flags (form_of validity.now) (length items.now))) (option_map (λ k. pos k) position) }
-    ensures valid { nullability_in (form_of validity.now) ≡ NonNullable → IsSome position → IsSome result }
-{
-    match position {
-        None => None,
-        Some(position) => row_at(items, validity, position as usize),
-    }
-}
 
 /// The rows at these positions, null for null, with the blank item stored under null. Refused as
 /// `OutOfMemory` alone.
@@ -68,6 +41,33 @@ pub(crate) fn take_items<T: Copy + Drop, A: Allocator + Copy>(
             drop(taken);
             Err(error)
         }
+    }
+}
+
+// With null where either has null.
+fn either(left: Nullability, right: Nullability) -> Nullability
+    ensures { result ≡ either_nullable left right }
+{
+    match left {
+        Nullability::NonNullable => right,
+        Nullability::Nullable => Nullability::Nullable,
+    }
+}
+
+// The row at a position, null for null.
+fn taken_at<T: Copy + Drop, A: Allocator>(
+    items: &[T],
+    validity: &Validity<A>,
+    position: Option<u64>,
+) -> Option<T>
+    requires within { IfSome position (λ k. k < length items.now) }
+    requires fits { HasLength (form_of validity.now) (length items.now) }
+    ensures row { result ≡ taken_row (optionals items.now (flags (form_of validity.now) (length items.now))) (option_map (λ k. pos k) position) }
+    ensures valid { nullability_in (form_of validity.now) ≡ NonNullable → IsSome position → IsSome result }
+{
+    match position {
+        None => None,
+        Some(position) => item_at(items, validity, position as usize),
     }
 }
 
@@ -130,7 +130,7 @@ fn items_by_rows<T: Copy + Drop, A: Allocator + Copy>(
 {
     let mut taken = Vec::with_capacity(alloc, positions.len())?;
     for place in 0..positions.len() {
-        let position = row_at(positions, places, place);
+        let position = item_at(positions, places, place);
         taken.push_reserved(taken_at(items, validity, position).unwrap_or(blank));
     }
     Ok(taken)
@@ -180,7 +180,7 @@ fn taken_flags<T: Copy + Drop, A: Allocator + Copy>(
 {
     let mut taken = BitBufferMut::with_capacity(alloc, positions.len())?;
     for place in 0..positions.len() {
-        let position = row_at(positions, places, place);
+        let position = item_at(positions, places, place);
         taken.append(taken_at(items, validity, position).is_some())?;
     }
     Ok(taken.freeze())

@@ -80,9 +80,9 @@ impl<A: Allocator + Copy> ColumnOps<A> for BoolArray<A> {
     ) -> VortexResult<BoolArray<A>> {
         let own = items_of(alloc, self.values())?;
         let items = own.as_slice();
-        let made = take_items(alloc, items, self.validity(), false, positions, validity);
+        let taken = take_items(alloc, items, self.validity(), false, positions, validity);
         drop(own);
-        let (taken, rows) = made?;
+        let (taken, rows) = taken?;
         array_of(alloc, taken, rows)
     }
 
@@ -94,9 +94,9 @@ impl<A: Allocator + Copy> ColumnOps<A> for BoolArray<A> {
             });
         }
         let own = items_of(alloc, self.values())?;
-        let made = filter_items(alloc, own.as_slice(), self.validity(), false, mask);
+        let kept = filter_items(alloc, own.as_slice(), self.validity(), false, mask);
         drop(own);
-        let (kept, rows) = made?;
+        let (kept, rows) = kept?;
         array_of(alloc, kept, rows)
     }
 
@@ -105,18 +105,18 @@ impl<A: Allocator + Copy> ColumnOps<A> for BoolArray<A> {
             unreachable!()
         };
         let own = items_of(alloc, self.values())?;
-        let made = fill_items(alloc, own.as_slice(), self.validity(), false, *truth);
+        let filled = fill_items(alloc, own.as_slice(), self.validity(), false, *truth);
         drop(own);
-        let (filled, rows) = made?;
+        let (filled, rows) = filled?;
         array_of(alloc, filled, rows)
     }
 
     fn cast_to(&self, alloc: A, dtype: DType) -> VortexResult<BoolArray<A>> {
         let own = items_of(alloc, self.values())?;
         let validity = self.validity();
-        let made = keep_items(alloc, own.as_slice(), validity, false, dtype.nullability());
+        let kept = keep_items(alloc, own.as_slice(), validity, false, dtype.nullability());
         drop(own);
-        let (kept, rows) = made?;
+        let (kept, rows) = kept?;
         array_of(alloc, kept, rows)
     }
 }

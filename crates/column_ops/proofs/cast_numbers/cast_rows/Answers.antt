@@ -17,8 +17,8 @@ returns-in-Err-clause-refused g c =
     let own = primitive_with g.S.NativePType.PTYPE (map number c.args.items.now) (form_of c.args.validity.now) in
     let fault = cast_row_fault (column.Primitive g.T.NativePType.PTYPE c.args.nullability) in
     let row = c.loop-row.row in
-    let shown = number-of_row g.S.NativePType.PTYPE number c.args.items.now (form_of c.args.validity.now) row c.row_at-item.result c.row_at-item.ensures.row in
-    let here = single_number-at own row (option_map number c.row_at-item.result) shown in
+    let shown = number-of_row g.S.NativePType.PTYPE number c.args.items.now (form_of c.args.validity.now) row c.item_at-item.result c.item_at-item.ensures.row in
+    let here = single_number-at own row (option_map number c.item_at-item.result) shown in
     first_error-here fault (single_rows (OfNumbers own)) row _ c.in-Err.error c.loop-row.invariant.sound here c.in-Err.ensures.refused
 
 pub returns-clause-refused : goal.returns-clause-refused
@@ -39,8 +39,8 @@ loop-row-preserved g c =
     let own = primitive_with g.S.NativePType.PTYPE (map number c.args.items.now) (form_of c.args.validity.now) in
     let fault = cast_row_fault (column.Primitive g.T.NativePType.PTYPE c.args.nullability) in
     let row = c.loop-row.row in
-    let item = option_map number c.row_at-item.result in
-    let shown = number-of_row g.S.NativePType.PTYPE number c.args.items.now (form_of c.args.validity.now) row c.row_at-item.result c.row_at-item.ensures.row in
+    let item = option_map number c.item_at-item.result in
+    let shown = number-of_row g.S.NativePType.PTYPE number c.args.items.now (form_of c.args.validity.now) row c.item_at-item.result c.item_at-item.ensures.row in
     let here = single_number-at own row item shown in
     let zeroth = g.met.T.NativePType.law.zeroth c.default.result c.default.ensures in
     let old = c.loop-row.invariant in

@@ -17,9 +17,9 @@ loop-row-preserved g c =
     let before = filter_rows (take c.loop-row.row mask) (take c.loop-row.row rows) in
     elim c.if-value.branch [
       | then-value+in_ok-append w ↦
-          let more = filter_rows-selected mask rows c.loop-row.row c.value.result w.row_at.result c.value.ensures w.if-value.true w.row_at.ensures.row in
+          let more = filter_rows-selected mask rows c.loop-row.row c.value.result w.item_at.result c.value.ensures w.if-value.true w.item_at.ensures.row in
           w.kept-is ∙ w.in_ok-append.ensures.ok ∙ ap (λ old. old ++ w.is_some.result ∷ []) c.loop-row.invariant
-          ∙ ap (λ flag. map is_some before ++ flag ∷ []) w.is_some.ensures ∙ sym (map_push is_some before w.row_at.result) ∙ ap (map is_some) (sym more)
+          ∙ ap (λ flag. map is_some before ++ flag ∷ []) w.is_some.ensures ∙ sym (map_push is_some before w.item_at.result) ∙ ap (map is_some) (sym more)
       | else-value w ↦
           w.kept-is ∙ c.loop-row.invariant ∙ ap (map is_some) (sym (filter_rows-passed mask rows c.loop-row.row c.value.result c.value.ensures w.if-value.false))
     ]

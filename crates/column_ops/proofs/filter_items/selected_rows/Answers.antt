@@ -10,8 +10,8 @@ use Rattle.column_core.proofs.OptionalRows.{length-optionals}
 use Rattle.column_ops.proofs.SelectedRows.{place-next, rows-places, split-end, split-next}
 use Rattle.column_ops.proofs.filter_items.selected_rows.Goals as goal
 
-pub row_at-requires-clause-within : goal.row_at-requires-clause-within
-row_at-requires-clause-within g c =
+pub item_at-requires-clause-within : goal.item_at-requires-clause-within
+item_at-requires-clause-within g c =
     let next = place-next c.args.bits.now c.loop-row.yielded c.loop-row.row-iterator _ c.in-Some.row c.loop-row.invariant.split c.in-Some.ensures.steps in
     omega (arith, next.0, c.requires.masked)
 
@@ -27,7 +27,7 @@ loop-row-preserved g c =
     let yielded = c.loop-row.yielded in
     let inv = c.loop-row.invariant in
     let blank = c.args.blank in
-    let here = sym (get_or_from_slice_get rows row c.row_at.result None c.row_at.ensures.row) in
+    let here = sym (get_or_from_slice_get rows row c.item_at.result None c.item_at.ensures.row) in
     let read = c.unwrap_or.ensures ∙ ap (λ r. unwrap_or r blank) here in
     let before = map (λ r. unwrap_or r blank) (map (λ i. get_or rows i None) yielded) in
     let more = ap (map (λ r. unwrap_or r blank)) (map_push (λ i. get_or rows i None) yielded row) ∙ map_push (λ r. unwrap_or r blank) (map (λ i. get_or rows i None) yielded) (get_or rows row None) in

@@ -18,7 +18,7 @@ loop-place-preserved g c =
     record {
       items = c.push_reserved.ensures.items ∙ ap (λ old. old ++ c.unwrap_or.result ∷ []) inv.items
           ∙ ap (λ item. before ++ item ∷ []) (c.unwrap_or.ensures ∙ ap (λ row. unwrap_or row blank) c.taken_at.ensures.row)
-          ∙ sym (taken-more (λ row. unwrap_or row blank) rows positions c.loop-place.place c.row_at-position.result c.row_at-position.ensures.row);
+          ∙ sym (taken-more (λ row. unwrap_or row blank) rows positions c.loop-place.place c.item_at-position.result c.item_at-position.ensures.row);
       len = c.push_reserved.ensures.len ∙ ap (λ n. n + 1) inv.len;
       room = rw c.push_reserved.ensures.capacity inv.room;
     }

@@ -15,7 +15,7 @@ loop-place-preserved g c =
     let before = map is_some (take_rows rows (position_numbers (take c.loop-place.place positions))) in
     c.in_ok-append.ensures.ok ∙ ap (λ old. old ++ c.is_some.result ∷ []) c.loop-place.invariant
     ∙ ap (λ flag. before ++ flag ∷ []) (c.is_some.ensures ∙ ap is_some c.taken_at.ensures.row)
-    ∙ sym (taken-more is_some rows positions c.loop-place.place c.row_at-position.result c.row_at-position.ensures.row)
+    ∙ sym (taken-more is_some rows positions c.loop-place.place c.item_at-position.result c.item_at-position.ensures.row)
 
 pub returns-clause-flags : goal.returns-clause-flags
 returns-clause-flags g c =

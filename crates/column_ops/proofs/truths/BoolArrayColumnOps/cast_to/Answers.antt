@@ -26,8 +26,8 @@ returns-clause-refused g c =
     let sound = rw (c.as_slice.ensures.value, c.in_ok-own.ensures.same, c.values.ensures, c.validity-validity.ensures.form, c.nullability.ensures) at c.in_ok-kept.ensures.refused in
     no_fault _ c.array_of.result (first_fault-kept (λ (b : Bool). Truth b) c.args.dtype rows (λ b. refl) ∙ sound) c.array_of.ensures.only
 
-pub keep_items-made-requires : goal.keep_items-made-requires
-keep_items-made-requires g c = HasLength-arm _ _ _ _ c.validity-validity.ensures.form (ap length (c.as_slice.ensures.value ∙ c.in_ok-own.ensures.same ∙ c.values.ensures)) c.validity-validity.ensures.counted
+pub keep_items-kept-requires : goal.keep_items-kept-requires
+keep_items-kept-requires g c = HasLength-arm _ _ _ _ c.validity-validity.ensures.form (ap length (c.as_slice.ensures.value ∙ c.in_ok-own.ensures.same ∙ c.values.ensures)) c.validity-validity.ensures.counted
 
 pub returns-clause-made : goal.returns-clause-made
 returns-clause-made g c =

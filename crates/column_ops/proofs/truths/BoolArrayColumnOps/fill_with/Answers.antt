@@ -26,8 +26,8 @@ returns-clause-made g c =
 pub returns-clause-only : goal.returns-clause-only
 returns-clause-only g c = c.array_of.ensures.only
 
-pub fill_items-made-requires : goal.fill_items-made-requires
-fill_items-made-requires g c = HasLength-arm _ _ _ _ c.validity.ensures.form (ap length (c.as_slice.ensures.value ∙ c.in_ok-own.ensures.same ∙ c.values.ensures)) c.validity.ensures.counted
+pub fill_items-filled-requires : goal.fill_items-filled-requires
+fill_items-filled-requires g c = HasLength-arm _ _ _ _ c.validity.ensures.form (ap length (c.as_slice.ensures.value ∙ c.in_ok-own.ensures.same ∙ c.values.ensures)) c.validity.ensures.counted
 
 pub array_of-requires : goal.array_of-requires
 array_of-requires g c = c.in_ok-filled.ensures.filled.fits

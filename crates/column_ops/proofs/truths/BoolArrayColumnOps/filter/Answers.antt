@@ -27,11 +27,11 @@ returns-clause-made g c =
 pub returns-clause-refused : goal.returns-clause-refused
 returns-clause-refused g c = no_fault _ c.array_of.result (same_count _ _ (sym c.len.ensures ∙ c.if-len.false ∙ c.len-2.ensures.rows)) c.array_of.ensures.only
 
-pub filter_items-made-requires-clause-fits : goal.filter_items-made-requires-clause-fits
-filter_items-made-requires-clause-fits g c = HasLength-arm _ _ _ _ c.validity.ensures.form (ap length (c.as_slice.ensures.value ∙ c.in_ok-own.ensures.same ∙ c.values.ensures)) c.validity.ensures.counted
+pub filter_items-kept-requires-clause-fits : goal.filter_items-kept-requires-clause-fits
+filter_items-kept-requires-clause-fits g c = HasLength-arm _ _ _ _ c.validity.ensures.form (ap length (c.as_slice.ensures.value ∙ c.in_ok-own.ensures.same ∙ c.values.ensures)) c.validity.ensures.counted
 
 pub array_of-requires : goal.array_of-requires
 array_of-requires g c = c.in_ok-kept.ensures.filtered.fits
 
-pub filter_items-made-requires-clause-masked : goal.filter_items-made-requires-clause-masked
-filter_items-made-requires-clause-masked g c = sym c.len.ensures ∙ c.if-len.false ∙ c.len-2.ensures.bits ∙ sym (ap length (c.as_slice.ensures.value ∙ c.in_ok-own.ensures.same ∙ c.values.ensures))
+pub filter_items-kept-requires-clause-masked : goal.filter_items-kept-requires-clause-masked
+filter_items-kept-requires-clause-masked g c = sym c.len.ensures ∙ c.if-len.false ∙ c.len-2.ensures.bits ∙ sym (ap length (c.as_slice.ensures.value ∙ c.in_ok-own.ensures.same ∙ c.values.ensures))

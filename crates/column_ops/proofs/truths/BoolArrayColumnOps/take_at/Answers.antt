@@ -28,14 +28,14 @@ returns-clause-made g c =
 pub returns-clause-only : goal.returns-clause-only
 returns-clause-only g c = c.array_of.ensures.only
 
-pub take_items-made-requires-clause-fits : goal.take_items-made-requires-clause-fits
-take_items-made-requires-clause-fits g c = HasLength-arm _ _ _ _ c.validity.ensures.form (ap length (c.as_slice-items.ensures.value ∙ c.in_ok-own.ensures.same ∙ c.values.ensures)) c.validity.ensures.counted
+pub take_items-taken-requires-clause-fits : goal.take_items-taken-requires-clause-fits
+take_items-taken-requires-clause-fits g c = HasLength-arm _ _ _ _ c.validity.ensures.form (ap length (c.as_slice-items.ensures.value ∙ c.in_ok-own.ensures.same ∙ c.values.ensures)) c.validity.ensures.counted
 
-pub take_items-made-requires-clause-counted : goal.take_items-made-requires-clause-counted
-take_items-made-requires-clause-counted g c = c.requires.counted
+pub take_items-taken-requires-clause-counted : goal.take_items-taken-requires-clause-counted
+take_items-taken-requires-clause-counted g c = c.requires.counted
 
-pub take_items-made-requires-clause-within : goal.take_items-made-requires-clause-within
-take_items-made-requires-clause-within g c =
+pub take_items-taken-requires-clause-within : goal.take_items-taken-requires-clause-within
+take_items-taken-requires-clause-within g c =
     subst (ArePositions (optionals c.args.positions.now (flags (form_of c.args.validity.now) (length c.args.positions.now))))
     (length-rows (λ (b : Bool). Truth b) c.args.self.now.bits c.args.self.now.validity c.validity.ensures.counted
     ∙ sym (ap length (c.as_slice-items.ensures.value ∙ c.in_ok-own.ensures.same ∙ c.values.ensures))) c.requires.within

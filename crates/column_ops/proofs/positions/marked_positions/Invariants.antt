@@ -1,13 +1,12 @@
 use Rattle.std.proofs.Common.{◌≡◌, ◌≤◌, None, pos, length, map, take, vec_capacity, vec_len}
 use Rattle.std.specs.Prelude.{unwrap_or}
-use Rattle.column_base.specs.Validity.{form_of}
-use Rattle.column_core.specs.PrimitiveForm.{optional_numbers, primitive_with}
+use Rattle.column_core.specs.Optionals.{optionals}
 use Rattle.column_ops.specs.Take.{take_fault}
-use Rattle.column_ops.proofs.positions.optional_positions.Given as goal
+use Rattle.column_ops.proofs.positions.marked_positions.Given as goal
 
 abbrev pub invariant-loop-place : goal.invariant-loop-place
 invariant-loop-place g l =
-    let passed = take l.place (optional_numbers (primitive_with g.T.NativePType.PTYPE (map g.T.NativePType.number l.indices) (form_of l.validity))) in
+    let passed = take l.place (optionals (map g.T.NativePType.number l.indices) l.marks) in
     record {
       same : map pos l.positions.items ≡ map (λ row. unwrap_or row (pos 0)) passed;
       sound : take_fault passed l.count ≡ None;

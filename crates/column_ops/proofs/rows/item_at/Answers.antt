@@ -1,6 +1,6 @@
 use Rattle.column_base.specs.Validity.{form_of}
 use Rattle.column_ops.proofs.RowItems.{row-valid, row-null}
-use Rattle.column_ops.proofs.rows.row_at.Goals as goal
+use Rattle.column_ops.proofs.rows.item_at.Goals as goal
 
 pub returns-then-is_valid-clause-row : goal.returns-then-is_valid-clause-row
 returns-then-is_valid-clause-row g c =
