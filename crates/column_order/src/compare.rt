@@ -23,6 +23,55 @@ use column_core::{
 };
 use std::alloc::Allocator;
 
+/// Does the operator hold of each row and the scalar? Null where the row or the scalar is null. The
+/// answer has null where either type has, and false is stored under null. Refused as `TypeMismatch`
+/// exactly where the two types differ in more than nullability, else as `OutOfMemory` alone.
+pub fn compare_scalar<A: Allocator + Copy>(
+    column: FlatView<'_, A>,
+    alloc: A,
+    operator: CompareOperator,
+    right: &Scalar<A>,
+) -> VortexResult<BoolArray<A>>
+    ensures refused { IsRefusedBy (compare_scalar_fault (leaf_dtype (leaf_in column.entry)) right.now.dtype) result }
+    ensures rows { IfOk result (λ truths. map (option_map Single) (bool_rows truths) ≡ compare_with operator (single_rows (leaf_in column.entry)) (option_map Single right.now.value)) }
+    ensures dtype { IfOk result (λ truths. bool_dtype truths ≡ compare_dtype (leaf_dtype (leaf_in column.entry)) right.now.dtype) }
+    ensures stored { IfOk result IsStoredComparison }
+{
+    if let Some(error) = kind_fault(column.dtype(), right.dtype()) {
+        return Err(error);
+    }
+    let dtype = right.dtype();
+    let right = right.view();
+    if is_null(&right) {
+        compare_to_null(column, alloc, operator, &right, dtype)
+    } else {
+        compare_to_value(column, alloc, operator, &right, dtype)
+    }
+}
+
+/// Does the operator hold of each row and the row beside it? Null where either row is null. The answer
+/// has null where either type has, and false is stored under null. Refused, in this order, as
+/// `TypeMismatch` where the two types differ in more than nullability, and as `ColumnLength`, with the
+/// number of rows of the column and of the right one, where these differ; else as `OutOfMemory` alone.
+pub fn compare_column<A: Allocator + Copy>(
+    column: FlatView<'_, A>,
+    alloc: A,
+    operator: CompareOperator,
+    right: FlatView<'_, A>,
+) -> VortexResult<BoolArray<A>>
+    ensures refused { IsRefusedBy (compare_column_fault (leaf_dtype (leaf_in column.entry)) (leaf_dtype (leaf_in right.entry))
+        (length (leaf_rows (leaf_in column.entry))) (length (leaf_rows (leaf_in right.entry)))) result }
+    ensures rows { IfOk result (λ truths. map (option_map Single) (bool_rows truths) ≡ compare_rows operator (single_rows (leaf_in column.entry)) (single_rows (leaf_in right.entry))) }
+    ensures dtype { IfOk result (λ truths. bool_dtype truths ≡ compare_dtype (leaf_dtype (leaf_in column.entry)) (leaf_dtype (leaf_in right.entry))) }
+    ensures stored { IfOk result IsStoredComparison }
+{
+    let fault = column_fault(column.dtype(), right.dtype(), column.len(), right.len());
+    if let Some(error) = fault {
+        return Err(error);
+    }
+    compare_beside(column, alloc, operator, right)
+}
+
 // Whether a comparison has null: where either type has.
 fn joined_nullability(left: DType, right: DType) -> Nullability
     ensures { result ≡ either_nullability (nullability_of left) (nullability_of right) }
@@ -82,32 +131,6 @@ fn compare_to_value<A: Allocator + Copy>(
     Ok(BoolArray::new_unchecked(bits.freeze(), validity))
 }
 
-/// Does the operator hold of each row and the scalar? Null where the row or the scalar is null. The
-/// answer has null where either type has, and false is stored under null. Refused as `TypeMismatch`
-/// exactly where the two types differ in more than nullability, else as `OutOfMemory` alone.
-pub fn compare_scalar<A: Allocator + Copy>(
-    column: FlatView<'_, A>,
-    alloc: A,
-    operator: CompareOperator,
-    right: &Scalar<A>,
-) -> VortexResult<BoolArray<A>>
-    ensures refused { IsRefusedBy (compare_scalar_fault (leaf_dtype (leaf_in column.entry)) right.now.dtype) result }
-    ensures rows { IfOk result (λ truths. map (option_map Single) (bool_rows truths) ≡ compare_with operator (single_rows (leaf_in column.entry)) (option_map Single right.now.value)) }
-    ensures dtype { IfOk result (λ truths. bool_dtype truths ≡ compare_dtype (leaf_dtype (leaf_in column.entry)) right.now.dtype) }
-    ensures stored { IfOk result IsStoredComparison }
-{
-    if let Some(error) = kind_fault(column.dtype(), right.dtype()) {
-        return Err(error);
-    }
-    let dtype = right.dtype();
-    let right = right.view();
-    if is_null(&right) {
-        compare_to_null(column, alloc, operator, &right, dtype)
-    } else {
-        compare_to_value(column, alloc, operator, &right, dtype)
-    }
-}
-
 // The rows of two columns compared, each with the one beside it.
 fn compare_beside<A: Allocator + Copy>(
     column: FlatView<'_, A>,
@@ -130,27 +153,4 @@ fn compare_beside<A: Allocator + Copy>(
     }
     let nullability = joined_nullability(column.dtype(), right.dtype());
     Ok(column_of_truths(bits, flags, nullability))
-}
-
-/// Does the operator hold of each row and the row beside it? Null where either row is null. The answer
-/// has null where either type has, and false is stored under null. Refused, in this order, as
-/// `TypeMismatch` where the two types differ in more than nullability, and as `ColumnLength`, with the
-/// number of rows of the column and of the right one, where these differ; else as `OutOfMemory` alone.
-pub fn compare_column<A: Allocator + Copy>(
-    column: FlatView<'_, A>,
-    alloc: A,
-    operator: CompareOperator,
-    right: FlatView<'_, A>,
-) -> VortexResult<BoolArray<A>>
-    ensures refused { IsRefusedBy (compare_column_fault (leaf_dtype (leaf_in column.entry)) (leaf_dtype (leaf_in right.entry))
-        (length (leaf_rows (leaf_in column.entry))) (length (leaf_rows (leaf_in right.entry)))) result }
-    ensures rows { IfOk result (λ truths. map (option_map Single) (bool_rows truths) ≡ compare_rows operator (single_rows (leaf_in column.entry)) (single_rows (leaf_in right.entry))) }
-    ensures dtype { IfOk result (λ truths. bool_dtype truths ≡ compare_dtype (leaf_dtype (leaf_in column.entry)) (leaf_dtype (leaf_in right.entry))) }
-    ensures stored { IfOk result IsStoredComparison }
-{
-    let fault = column_fault(column.dtype(), right.dtype(), column.len(), right.len());
-    if let Some(error) = fault {
-        return Err(error);
-    }
-    compare_beside(column, alloc, operator, right)
 }

@@ -16,15 +16,6 @@ use std::ops::Range;
 // rows are compared at once.
 const BLOCK: usize = 256;
 
-// The end of the block that begins at `start`.
-fn block_end(start: usize, stop: usize) -> usize
-    requires { start < stop }
-    ensures low { start < result }
-    ensures high { result ≤ stop }
-{
-    start + BLOCK.min(stop - start)
-}
-
 /// Are any two of the rows from `range.start` to `range.end - 1` equal, null equal to null? Takes no
 /// memory.
 pub(crate) fn is_constant_of<T: FlatItem, A: Allocator>(
@@ -209,4 +200,13 @@ fn is_sorted_flagged<T: FlatItem, A: Allocator>(
         return false;
     }
     is_sorted_valid(items, from, stop, strict)
+}
+
+// The end of the block that begins at `start`.
+fn block_end(start: usize, stop: usize) -> usize
+    requires { start < stop }
+    ensures low { start < result }
+    ensures high { result ≤ stop }
+{
+    start + BLOCK.min(stop - start)
 }

@@ -10,6 +10,30 @@ use column_core::ScalarView;
 use std::alloc::Allocator;
 use std::cmp::Ordering;
 
+/// How the left row stands to the right one: null is equal to null and below all else, numbers are
+/// ordered by value, false is below true, and texts and bytes are ordered by their bytes. Of rows of
+/// two kinds, the first in the order of `ScalarView` is below. Lists have no order, and any two of them
+/// count as equal.
+pub fn compare_views<A: Allocator>(left: &ScalarView<'_, A>, right: &ScalarView<'_, A>) -> Ordering
+    ensures { result ≡ row_cmp (sees left.now) (sees right.now) }
+{
+    match (left, right) {
+        (ScalarView::Bool(left), ScalarView::Bool(right)) => left.cmp(right),
+        (ScalarView::Unsigned(left), ScalarView::Unsigned(right)) => left.cmp(right),
+        (ScalarView::Signed(left), ScalarView::Signed(right)) => left.cmp(right),
+        (ScalarView::Unsigned(left), ScalarView::Signed(right)) => {
+            wide_order(i128::from(*left), i128::from(*right))
+        }
+        (ScalarView::Signed(left), ScalarView::Unsigned(right)) => {
+            wide_order(i128::from(*left), i128::from(*right))
+        }
+        (ScalarView::Decimal(left), ScalarView::Decimal(right)) => left.cmp(right),
+        (ScalarView::Utf8(left), ScalarView::Utf8(right)) => text_order(left, right),
+        (ScalarView::Binary(left), ScalarView::Binary(right)) => bytes_order(left, right),
+        _ => kind_order(left, right),
+    }
+}
+
 // Where a view stands among the kinds, null first.
 fn kind_of<A: Allocator>(view: &ScalarView<'_, A>) -> u8
     ensures { result ≡ row_index (sees view.now) }
@@ -52,28 +76,4 @@ fn bytes_order(left: &[u8], right: &[u8]) -> Ordering
     ensures { result ≡ slice_cmp nat_cmp left.now right.now }
 {
     left.cmp(right)
-}
-
-/// How the left row stands to the right one: null is equal to null and below all else, numbers are
-/// ordered by value, false is below true, and texts and bytes are ordered by their bytes. Of rows of
-/// two kinds, the first in the order of `ScalarView` is below. Lists have no order, and any two of them
-/// count as equal.
-pub fn compare_views<A: Allocator>(left: &ScalarView<'_, A>, right: &ScalarView<'_, A>) -> Ordering
-    ensures { result ≡ row_cmp (sees left.now) (sees right.now) }
-{
-    match (left, right) {
-        (ScalarView::Bool(left), ScalarView::Bool(right)) => left.cmp(right),
-        (ScalarView::Unsigned(left), ScalarView::Unsigned(right)) => left.cmp(right),
-        (ScalarView::Signed(left), ScalarView::Signed(right)) => left.cmp(right),
-        (ScalarView::Unsigned(left), ScalarView::Signed(right)) => {
-            wide_order(i128::from(*left), i128::from(*right))
-        }
-        (ScalarView::Signed(left), ScalarView::Unsigned(right)) => {
-            wide_order(i128::from(*left), i128::from(*right))
-        }
-        (ScalarView::Decimal(left), ScalarView::Decimal(right)) => left.cmp(right),
-        (ScalarView::Utf8(left), ScalarView::Utf8(right)) => text_order(left, right),
-        (ScalarView::Binary(left), ScalarView::Binary(right)) => bytes_order(left, right),
-        _ => kind_order(left, right),
-    }
 }

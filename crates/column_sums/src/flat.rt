@@ -65,16 +65,6 @@ impl<'a, A: Allocator> UnsignedRuns for UnsignedRows<'a, A> {
     }
 }
 
-fn sum_numbers<A: Allocator>(array: &PrimitiveArray<A>) -> SumAnswer
-    ensures { result ≡ answer_of (sum_range array.now.ptype) (optional_numbers array.now) }
-{
-    if array.ptype().is_unsigned_int() {
-        sum_unsigned_in_runs(&UnsignedRows { array }, &mut UnsignedSum::new())
-    } else {
-        sum_signed_in_runs(&SignedRows { array }, &mut SignedSum::new())
-    }
-}
-
 /// The sum of the rows of a flat column of whole numbers, added one at a time. Refused as
 /// `Unsupported` exactly for columns of other types. It takes no memory.
 pub fn sum_flat<A: Allocator>(column: &FlatColumn<A>) -> VortexResult<SumAnswer>
@@ -96,5 +86,15 @@ pub fn sum_view<A: Allocator>(column: FlatView<'_, A>) -> VortexResult<SumAnswer
         FlatView::Bool(_) | FlatView::Decimal(_) | FlatView::VarBinView(_) => {
             Err(VortexError::Unsupported)
         }
+    }
+}
+
+fn sum_numbers<A: Allocator>(array: &PrimitiveArray<A>) -> SumAnswer
+    ensures { result ≡ answer_of (sum_range array.now.ptype) (optional_numbers array.now) }
+{
+    if array.ptype().is_unsigned_int() {
+        sum_unsigned_in_runs(&UnsignedRows { array }, &mut UnsignedSum::new())
+    } else {
+        sum_signed_in_runs(&SignedRows { array }, &mut SignedSum::new())
     }
 }

@@ -62,6 +62,43 @@ impl<T: NativePType, A: Allocator + Copy> Encoder<T, A> {
     }
 }
 
+/// The validity of rows with these flags, of a type with that nullability.
+pub fn validity_with<A: Allocator>(nullability: Nullability, bits: BitBuffer<A>) -> Validity<A>
+    requires { nullability ≡ NonNullable → All (λ flag. flag ≡ true) bits }
+    ensures flags { flags (form_of result) (length bits) ≡ bits }
+    ensures fits { HasLength (form_of result) (length bits) }
+    ensures normal { IsNormal (form_of result) }
+    ensures nullability { nullability_in (form_of result) ≡ nullability }
+    ensures some { HasRowIfAllNull (form_of result) (length bits) }
+{
+    match nullability {
+        Nullability::NonNullable => Validity::NonNullable,
+        Nullability::Nullable => Validity::from_bits(bits),
+    }
+}
+
+/// The ends and the values of the runs, both flat. Refused as `OutOfMemory` alone.
+pub fn encode_plain<A: Allocator + Copy>(
+    alloc: A,
+    array: &PrimitiveArray<A>,
+) -> VortexResult<(PrimitiveArray<A>, PrimitiveArray<A>)>
+    ensures only { IsOkUnless result VortexError.OutOfMemory }
+    ensures encoding { IfOk result (λ parts. IsFlatEncoding array.now parts.0 parts.1) }
+{
+    let validity = array.validity();
+    match_each_native!(array.values(), items => encode_as(alloc, items.as_slice(), validity))
+}
+
+/// Does the validity say of at least one row that all are null?
+pub fn is_all_null<A: Allocator>(array: &PrimitiveArray<A>) -> bool
+    ensures { IsTrue result ↔ IsAllInvalid array.now }
+{
+    match array.validity() {
+        Validity::AllInvalid => !array.is_empty(),
+        _ => false,
+    }
+}
+
 // The runs of the rows.
 fn encode_items<T: NativePType, A: Allocator + Copy>(
     alloc: A,
@@ -163,21 +200,6 @@ fn encode_nullable<T: NativePType, A: Allocator + Copy>(
     Ok(runs)
 }
 
-/// The validity of rows with these flags, of a type with that nullability.
-pub fn validity_with<A: Allocator>(nullability: Nullability, bits: BitBuffer<A>) -> Validity<A>
-    requires { nullability ≡ NonNullable → All (λ flag. flag ≡ true) bits }
-    ensures flags { flags (form_of result) (length bits) ≡ bits }
-    ensures fits { HasLength (form_of result) (length bits) }
-    ensures normal { IsNormal (form_of result) }
-    ensures nullability { nullability_in (form_of result) ≡ nullability }
-    ensures some { HasRowIfAllNull (form_of result) (length bits) }
-{
-    match nullability {
-        Nullability::NonNullable => Validity::NonNullable,
-        Nullability::Nullable => Validity::from_bits(bits),
-    }
-}
-
 fn encode_as<T: NativePType, A: Allocator + Copy>(
     alloc: A,
     items: &[T],
@@ -199,26 +221,4 @@ fn encode_as<T: NativePType, A: Allocator + Copy>(
         PrimitiveArray::new_unchecked(ends, Validity::NonNullable),
         PrimitiveArray::new_unchecked(T::wrap(values), validity),
     ))
-}
-
-/// The ends and the values of the runs, both flat. Refused as `OutOfMemory` alone.
-pub fn encode_plain<A: Allocator + Copy>(
-    alloc: A,
-    array: &PrimitiveArray<A>,
-) -> VortexResult<(PrimitiveArray<A>, PrimitiveArray<A>)>
-    ensures only { IsOkUnless result VortexError.OutOfMemory }
-    ensures encoding { IfOk result (λ parts. IsFlatEncoding array.now parts.0 parts.1) }
-{
-    let validity = array.validity();
-    match_each_native!(array.values(), items => encode_as(alloc, items.as_slice(), validity))
-}
-
-/// Does the validity say of at least one row that all are null?
-pub fn is_all_null<A: Allocator>(array: &PrimitiveArray<A>) -> bool
-    ensures { IsTrue result ↔ IsAllInvalid array.now }
-{
-    match array.validity() {
-        Validity::AllInvalid => !array.is_empty(),
-        _ => false,
-    }
 }

@@ -2,6 +2,7 @@
 #![tactic(auto)]
 
 mod encode;
+pub mod laws;
 mod narrow;
 mod searches;
 mod shown;
@@ -9,10 +10,7 @@ mod trimmed;
 mod validate;
 
 pub use encode::{encode_plain, is_all_null, validity_with};
-pub use searches::{
-    ended_before, first_past, first_past_of, first_past_of_524288_runs, first_past_of_four_runs,
-    first_past_of_one_run, last_end_of,
-};
+pub use searches::{ended_before, first_past, first_past_of, last_end_of};
 pub use shown::shown_at;
 pub use trimmed::{TrimmedEnds, trimmed_ends_iter};
 pub use validate::validate_ends;

@@ -12,6 +12,22 @@ use column_base::match_each_unsigned;
 use column_core::{PrimitiveArray, PrimitiveValues, UnsignedPType, VortexError, VortexResult};
 use std::alloc::Allocator;
 
+/// Do these ends and so many values make runs that show `count` rows from `offset` on? Else the first
+/// fault. Takes no memory.
+pub fn validate_ends<A: Allocator>(
+    ends: &PrimitiveArray<A>,
+    values: usize,
+    offset: usize,
+    count: usize,
+) -> VortexResult<()>
+    requires { IsEndsType (primitive_dtype ends.now) }
+    ensures { MatchResult result
+        (λ _. IsWindow (ends_of ends.now) offset count × (values ≡ length (ends_of ends.now)))
+        (λ error. WindowFault (ends_of ends.now) values offset count error) }
+{
+    validate_among(ends.values(), values, offset, count)
+}
+
 // The first run whose end is not above the end before it.
 fn first_fall<E: UnsignedPType>(ends: &[E]) -> Option<usize>
     ensures { MatchOption result (IsStrictlyIncreasing (map E.natural ends.now)) (λ run. IsFirstFall (map E.natural ends.now) run) }
@@ -72,22 +88,6 @@ fn validate_window<E: UnsignedPType>(
         });
     }
     Ok(())
-}
-
-/// Do these ends and so many values make runs that show `count` rows from `offset` on? Else the first
-/// fault. Takes no memory.
-pub fn validate_ends<A: Allocator>(
-    ends: &PrimitiveArray<A>,
-    values: usize,
-    offset: usize,
-    count: usize,
-) -> VortexResult<()>
-    requires { IsEndsType (primitive_dtype ends.now) }
-    ensures { MatchResult result
-        (λ _. IsWindow (ends_of ends.now) offset count × (values ≡ length (ends_of ends.now)))
-        (λ error. WindowFault (ends_of ends.now) values offset count error) }
-{
-    validate_among(ends.values(), values, offset, count)
 }
 
 #[tactic(auto, using(crate::proofs::Ends::ends_stored))]

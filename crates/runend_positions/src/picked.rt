@@ -15,6 +15,60 @@ use crate::table::runs_by_table;
 use column_core::{CountedEnds, Mask, NativePType, UnsignedPType, VortexError, VortexResult};
 use std::alloc::Allocator;
 
+/// The strategy for these indices over so many runs that show `length` rows: the first that the
+/// thresholds allow.
+pub fn picked_strategy<T: NativePType, A: Allocator>(
+    indices: &[T],
+    mask: &Mask<A>,
+    runs: usize,
+    length: usize,
+    thresholds: TakeThresholds,
+) -> Strategy
+    requires masked { item_count (mask_bits mask.now) ≡ item_count indices.now }
+    requires in_bounds { AreInBounds (optional_indices T.number indices.now (mask_bits mask.now)) (2 ^ 64) }
+    ensures { IsPicked (optional_indices T.number indices.now (mask_bits mask.now)) runs length thresholds result }
+{
+    let count = mask.true_count();
+    if prefers_sorted_merge(indices, mask, count, runs, thresholds) {
+        return Strategy::SortedMerge;
+    }
+    if is_within(length, count, thresholds.table_len_per_index) {
+        return Strategy::Table;
+    }
+    if prefers_sort_and_merge(count, runs, thresholds) {
+        return Strategy::SortAndMerge;
+    }
+    Strategy::Binary
+}
+
+/// The run of each valid index among `length` rows, where `offset` is the position of row 0, by the
+/// strategy that the thresholds pick. At a null index that is the run of row 0 out of a table, and
+/// else 0. It tests no more ends than the picked strategy; a table costs the tests that it takes to
+/// make it. Refused as `OutOfMemory` alone.
+pub fn physical_indices<E: UnsignedPType, T: NativePType, A: Allocator + Copy>(
+    ends: &mut CountedEnds<'_, E>,
+    alloc: A,
+    offset: usize,
+    length: usize,
+    indices: &[T],
+    mask: &Mask<A>,
+    thresholds: TakeThresholds,
+) -> VortexResult<Vec<u64, A>>
+    requires window { IsWindow ends.old.ends offset length }
+    requires some { 0 < length }
+    requires masked { item_count (mask_bits mask.now) ≡ item_count indices.now }
+    requires in_bounds { AreInBounds (optional_indices T.number indices.now (mask_bits mask.now)) length }
+    ensures only { IsOkUnless result VortexError.OutOfMemory }
+    ensures picked { let places = optional_indices T.number indices.now (mask_bits mask.now) in (strategy : Strategy)
+        × IsPicked places (item_count ends.old.ends) length thresholds strategy
+        × IfOk result (λ runs. runs.items ≡ answer_of strategy ends.old.ends offset places)
+        × (ends.new.tests ≤ ends.old.tests + most_tests strategy (valid_count places) (item_count ends.old.ends) length) }
+    ensures same { ends.new.ends ≡ ends.old.ends }
+{
+    let strategy = picked_strategy(indices, mask, ends.len(), length, thresholds);
+    physical_indices_by(strategy, ends, alloc, offset, length, indices, mask)
+}
+
 // Are so many runs or rows at most `per_index` for each of so many valid indices?
 fn is_within(total: usize, count: usize, per_index: usize) -> bool
     ensures { IsTrue result ↔ (total ≤ count * per_index) }
@@ -50,32 +104,6 @@ fn prefers_sort_and_merge(count: usize, runs: usize, thresholds: TakeThresholds)
     is_within(runs, count, thresholds.unsorted_runs_per_index)
 }
 
-/// The strategy for these indices over so many runs that show `length` rows: the first that the
-/// thresholds allow.
-pub fn picked_strategy<T: NativePType, A: Allocator>(
-    indices: &[T],
-    mask: &Mask<A>,
-    runs: usize,
-    length: usize,
-    thresholds: TakeThresholds,
-) -> Strategy
-    requires masked { item_count (mask_bits mask.now) ≡ item_count indices.now }
-    requires in_bounds { AreInBounds (optional_indices T.number indices.now (mask_bits mask.now)) (2 ^ 64) }
-    ensures { IsPicked (optional_indices T.number indices.now (mask_bits mask.now)) runs length thresholds result }
-{
-    let count = mask.true_count();
-    if prefers_sorted_merge(indices, mask, count, runs, thresholds) {
-        return Strategy::SortedMerge;
-    }
-    if is_within(length, count, thresholds.table_len_per_index) {
-        return Strategy::Table;
-    }
-    if prefers_sort_and_merge(count, runs, thresholds) {
-        return Strategy::SortAndMerge;
-    }
-    Strategy::Binary
-}
-
 // What a strategy answers.
 fn physical_indices_by<E: UnsignedPType, T: NativePType, A: Allocator + Copy>(
     strategy: Strategy,
@@ -105,32 +133,4 @@ fn physical_indices_by<E: UnsignedPType, T: NativePType, A: Allocator + Copy>(
         }
         Strategy::Binary => physical_indices_binary(ends, alloc, offset, indices, mask),
     }
-}
-
-/// The run of each valid index among `length` rows, where `offset` is the position of row 0, by the
-/// strategy that the thresholds pick. At a null index that is the run of row 0 out of a table, and
-/// else 0. It tests no more ends than the picked strategy; a table costs the tests that it takes to
-/// make it. Refused as `OutOfMemory` alone.
-pub fn physical_indices<E: UnsignedPType, T: NativePType, A: Allocator + Copy>(
-    ends: &mut CountedEnds<'_, E>,
-    alloc: A,
-    offset: usize,
-    length: usize,
-    indices: &[T],
-    mask: &Mask<A>,
-    thresholds: TakeThresholds,
-) -> VortexResult<Vec<u64, A>>
-    requires window { IsWindow ends.old.ends offset length }
-    requires some { 0 < length }
-    requires masked { item_count (mask_bits mask.now) ≡ item_count indices.now }
-    requires in_bounds { AreInBounds (optional_indices T.number indices.now (mask_bits mask.now)) length }
-    ensures only { IsOkUnless result VortexError.OutOfMemory }
-    ensures picked { let places = optional_indices T.number indices.now (mask_bits mask.now) in (strategy : Strategy)
-        × IsPicked places (item_count ends.old.ends) length thresholds strategy
-        × IfOk result (λ runs. runs.items ≡ answer_of strategy ends.old.ends offset places)
-        × (ends.new.tests ≤ ends.old.tests + most_tests strategy (valid_count places) (item_count ends.old.ends) length) }
-    ensures same { ends.new.ends ≡ ends.old.ends }
-{
-    let strategy = picked_strategy(indices, mask, ends.len(), length, thresholds);
-    physical_indices_by(strategy, ends, alloc, offset, length, indices, mask)
 }

@@ -8,7 +8,7 @@ use std::alloc::Allocator;
 
 /// The row that the index at `place` names, or `None` where the index is null.
 #[inline]
-pub fn row_at<T: NativePType, A: Allocator>(
+pub fn indexed_row<T: NativePType, A: Allocator>(
     indices: &[T],
     mask: &Mask<A>,
     place: usize,
@@ -46,7 +46,7 @@ fn is_valid<const ALL: bool, A: Allocator>(mask: &Mask<A>, place: usize) -> bool
     mask.value(place)
 }
 
-/// The same as `row_at`, where `ALL` says that no index is null.
+/// The same as `indexed_row`, where `ALL` says that no index is null.
 #[inline(always)]
 pub(crate) fn named_row<const ALL: bool, T: NativePType, A: Allocator>(
     indices: &[T],

@@ -5,7 +5,7 @@ use Rattle.runend_positions.specs.declared.strategy.Strategy.{Strategy}
 use Rattle.runend_positions.specs.declared.strategy.Strategy.TheVariants.{SortedMerge, Table, SortAndMerge, Binary}
 use Rattle.runend_positions.specs.Indices.{optional_indices, runs_of, valid_count}
 use Rattle.runend_positions.specs.Pick.{IsPicked, answer_of, most_tests, run_of_null}
-use Rattle.runend_positions.proofs.bounded.physical_indices_by_table.Goals as goal
+use Rattle.runend_positions.proofs.laws.counts.physical_indices_by_table.Goals as goal
 
 -- a table takes 15 tests, and sorted indices fewer; the other two are not picked
 by_table : (indices : List (Option ℤ)) (runs old new : ℕ) (strategy : Strategy) → runs ≡ 4 → valid_count indices ≡ 4

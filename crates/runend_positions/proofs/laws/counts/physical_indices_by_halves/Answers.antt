@@ -6,7 +6,7 @@ use Rattle.runend_positions.specs.declared.strategy.Strategy.TheVariants.{Sorted
 use Rattle.runend_positions.specs.Indices.{optional_indices, runs_of, valid_count}
 use Rattle.runend_positions.specs.Pick.{IsPicked, answer_of, most_tests}
 use Rattle.runend_positions.proofs.Places.{searches_within}
-use Rattle.runend_positions.proofs.bounded.physical_indices_by_halves.Goals as goal
+use Rattle.runend_positions.proofs.laws.counts.physical_indices_by_halves.Goals as goal
 
 -- four searches take 12 tests; the other three are not picked
 by_halves : (indices : List (Option ℤ)) (runs old new : ℕ) (strategy : Strategy) → runs ≡ 4 → valid_count indices ≡ 4

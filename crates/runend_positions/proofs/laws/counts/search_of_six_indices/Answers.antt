@@ -2,7 +2,7 @@ use Rattle.std.proofs.Common.{length, arith}
 use Rattle.column_base.specs.Mask.{mask_bits}
 use Rattle.runend_positions.specs.Indices.{optional_indices, valid_count}
 use Rattle.runend_positions.proofs.Places.{searches_within}
-use Rattle.runend_positions.proofs.bounded.search_of_six_indices.Goals as goal
+use Rattle.runend_positions.proofs.laws.counts.search_of_six_indices.Goals as goal
 
 pub returns-clause-cost : goal.returns-clause-cost
 returns-clause-cost g c =
