@@ -1,3 +1,4 @@
+pub mod FlatForms
 pub mod ListItems
 pub mod ListRows
 pub mod ListParts

@@ -19,10 +19,8 @@ use Rattle.column_core.specs.declared.view.ScalarView.{ScalarView}
 use Rattle.column_core.specs.declared.view.ScalarView.TheVariants as view
 use Rattle.column_core.specs.Optionals.{optionals}
 use Rattle.column_core.specs.PrimitiveForm.{PrimitiveForm}
-use Rattle.column_core.specs.BoolForm.{BoolForm}
-use Rattle.column_core.specs.DecimalForm.{DecimalForm}
-use Rattle.column_core.specs.VarBinForm.{VarBinForm, kind_dtype, varbin_value, view_bytes}
-use Rattle.column_core.specs.Leaf.{OfNumbers, OfTruths, OfDecimals, OfVarBins}
+use Rattle.column_core.specs.VarBinForm.{kind_dtype, varbin_value, view_bytes}
+use Rattle.column_core.specs.Leaf.{Leaf, OfNumbers, OfTruths, OfDecimals, OfVarBins, leaf_count, leaf_validity}
 use Rattle.column_core.proofs.OptionalRows.{length-optionals}
 use Rattle.runend_codec.specs.Window.{run_at}
 use Rattle.runend_array.specs.Lists.{AreLists, ByRows, Lists, RowValidityForm, list_at, list_count, list_rows, row_flag_at, row_flags_of}
@@ -89,21 +87,15 @@ IsValidityOf-items {B} c value items form n rows counted fits nullability =
       nullability = nullability;
     }
 
-pub IsValidityOf-numbers : (form : PrimitiveForm) → HasLength form.validity (length form.numbers) → IsValidityOf (OfLeaf (OfNumbers form)) (ByRows form.validity)
-IsValidityOf-numbers form fits = IsValidityOf-items (OfLeaf (OfNumbers form)) (λ (n : ℤ). Number n) form.numbers form.validity (length form.numbers) refl refl fits refl
-
-pub IsValidityOf-truths : (form : BoolForm) → HasLength form.validity (length form.bits) → IsValidityOf (OfLeaf (OfTruths form)) (ByRows form.validity)
-IsValidityOf-truths form fits = IsValidityOf-items (OfLeaf (OfTruths form)) (λ (b : Bool). Truth b) form.bits form.validity (length form.bits) refl refl fits refl
-
-pub IsValidityOf-decimals : (form : DecimalForm) → HasLength form.validity (length form.numbers) → IsValidityOf (OfLeaf (OfDecimals form)) (ByRows form.validity)
-IsValidityOf-decimals form fits = IsValidityOf-items (OfLeaf (OfDecimals form)) (λ (n : ℤ). DecimalNumber n) form.numbers form.validity (length form.numbers) refl refl fits refl
-
 kind-nullability : (kind : VarBinKind) (n : Nullability) → n ≡ nullability_of (kind_dtype kind n)
 kind-nullability Utf8 n = refl
 kind-nullability Binary n = refl
 
-pub IsValidityOf-varbins : (form : VarBinForm) → HasLength form.validity (length form.views) → IsValidityOf (OfLeaf (OfVarBins form)) (ByRows form.validity)
-IsValidityOf-varbins form fits =
+pub IsValidityOf-leaf : (leaf : Leaf) → HasLength (leaf_validity leaf) (leaf_count leaf) → IsValidityOf (OfLeaf leaf) (ByRows (leaf_validity leaf))
+IsValidityOf-leaf (OfNumbers form) fits = IsValidityOf-items (OfLeaf (OfNumbers form)) (λ (n : ℤ). Number n) form.numbers form.validity (length form.numbers) refl refl fits refl
+IsValidityOf-leaf (OfTruths form) fits = IsValidityOf-items (OfLeaf (OfTruths form)) (λ (b : Bool). Truth b) form.bits form.validity (length form.bits) refl refl fits refl
+IsValidityOf-leaf (OfDecimals form) fits = IsValidityOf-items (OfLeaf (OfDecimals form)) (λ (n : ℤ). DecimalNumber n) form.numbers form.validity (length form.numbers) refl refl fits refl
+IsValidityOf-leaf (OfVarBins form) fits =
     IsValidityOf-items (OfLeaf (OfVarBins form)) (varbin_value form.kind) (map (view_bytes form.buffers) form.views) form.validity (length form.views) refl
     (length-map form.views (view_bytes form.buffers)) fits (kind-nullability form.kind (nullability_in form.validity))
 

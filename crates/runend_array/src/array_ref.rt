@@ -11,7 +11,7 @@ ghost use Rattle.runend_array.specs.Column.{OfConstant, OfLeaf, OfLists, IsLeaf,
 ghost use Rattle.runend_array.specs.Encoding.{IsComputedFlat};
 
 use crate::array::RunEndArray;
-use crate::canonical::{Canonical, decimals_shown, views_shown};
+use crate::canonical::{Canonical, array_of};
 use crate::constant::ConstantArray;
 use crate::lists::ListViewArray;
 use crate::session::ExecutionCtx;
@@ -20,7 +20,7 @@ use column_core::{
     BoolArray, DType, DecimalArray, FlatColumn, FlatView, PrimitiveArray, ScalarView,
     VarBinViewArray, VortexError, VortexResult,
 };
-use runend_decode::{decode_numbers, decode_truths};
+use runend_decode::decode_flat;
 use std::alloc::Allocator;
 
 /// A column in one of its forms: flat, lists, one value in each row, or run-end encoded.
@@ -42,13 +42,10 @@ impl<A: Allocator + Copy> ArrayRef<A> {
         ensures { result ≡ length (rows self.now) }
     {
         match self {
-            ArrayRef::Primitive(array) => array.len(),
-            ArrayRef::Bool(array) => array.len(),
-            ArrayRef::Decimal(array) => array.len(),
-            ArrayRef::VarBinView(array) => array.len(),
             ArrayRef::ListView(lists) => lists.len(),
             ArrayRef::Constant(array) => array.len(),
             ArrayRef::RunEnd(array) => array.len(),
+            _ => self.lent_flat().len(),
         }
     }
 
@@ -65,13 +62,10 @@ impl<A: Allocator + Copy> ArrayRef<A> {
         ensures { result ≡ dtype_of self.now }
     {
         match self {
-            ArrayRef::Primitive(array) => array.dtype(),
-            ArrayRef::Bool(array) => array.dtype(),
-            ArrayRef::Decimal(array) => array.dtype(),
-            ArrayRef::VarBinView(array) => array.dtype(),
             ArrayRef::ListView(lists) => lists.dtype(),
             ArrayRef::Constant(array) => array.dtype(),
             ArrayRef::RunEnd(array) => array.values_dtype(),
+            _ => self.lent_flat().dtype(),
         }
     }
 
@@ -98,6 +92,17 @@ impl<A: Allocator + Copy> ArrayRef<A> {
         }
     }
 
+    // The same of an array that has none of the other forms.
+    pub(crate) fn lent_flat(&self) -> FlatView<'_, A>
+        requires { IsLeaf (column_of self.now) }
+        ensures { column_of self.now ≡ OfLeaf (leaf_in result) }
+    {
+        match self.flat_view() {
+            Some(flat) => flat,
+            None => unreachable!(),
+        }
+    }
+
     /// The row at `index`, borrowed from the array. Refused as `OutOfBounds`, with the index and the
     /// number of rows, exactly from that number on. Takes no memory.
     #[cycle(scalar_at)]
@@ -108,30 +113,6 @@ impl<A: Allocator + Copy> ArrayRef<A> {
         ensures only { IsOkUnless result (VortexError.OutOfBounds (pos index) (length (rows self.now))) }
     {
         match self {
-            ArrayRef::Primitive(array) => {
-                if index >= array.len() {
-                    return Err(out_of_bounds(index, array.len()));
-                }
-                Ok(array.get(index))
-            }
-            ArrayRef::Bool(array) => {
-                if index >= array.len() {
-                    return Err(out_of_bounds(index, array.len()));
-                }
-                Ok(array.get(index))
-            }
-            ArrayRef::Decimal(array) => {
-                if index >= array.len() {
-                    return Err(out_of_bounds(index, array.len()));
-                }
-                Ok(array.get(index))
-            }
-            ArrayRef::VarBinView(array) => {
-                if index >= array.len() {
-                    return Err(out_of_bounds(index, array.len()));
-                }
-                Ok(array.get(index))
-            }
             ArrayRef::ListView(lists) => {
                 if index >= lists.len() {
                     return Err(out_of_bounds(index, lists.len()));
@@ -145,6 +126,13 @@ impl<A: Allocator + Copy> ArrayRef<A> {
                 Ok(array.scalar_view())
             }
             ArrayRef::RunEnd(array) => array.row_at(index),
+            _ => {
+                let flat = self.lent_flat();
+                if index >= flat.len() {
+                    return Err(out_of_bounds(index, flat.len()));
+                }
+                Ok(flat.get(index))
+            }
         }
     }
 
@@ -163,22 +151,6 @@ impl<A: Allocator + Copy> ArrayRef<A> {
         ensures form { IfOk result (λ array. column_of array ≡ column_of self.now) }
     {
         match self {
-            ArrayRef::Primitive(array) => match array.try_clone(alloc) {
-                Ok(copy) => Ok(ArrayRef::Primitive(copy)),
-                Err(error) => Err(error),
-            },
-            ArrayRef::Bool(array) => match array.try_clone(alloc) {
-                Ok(copy) => Ok(ArrayRef::Bool(copy)),
-                Err(error) => Err(error),
-            },
-            ArrayRef::Decimal(array) => match array.try_clone(alloc) {
-                Ok(copy) => Ok(ArrayRef::Decimal(copy)),
-                Err(error) => Err(error),
-            },
-            ArrayRef::VarBinView(array) => match array.try_clone(alloc) {
-                Ok(copy) => Ok(ArrayRef::VarBinView(copy)),
-                Err(error) => Err(error),
-            },
             ArrayRef::ListView(lists) => match lists.clone_in(alloc) {
                 Ok(copy) => of_lists(alloc, copy),
                 Err(error) => Err(error),
@@ -191,6 +163,10 @@ impl<A: Allocator + Copy> ArrayRef<A> {
                 Ok(copy) => ArrayRef::of_runs(alloc, copy),
                 Err(error) => Err(error),
             },
+            _ => {
+                let copy = self.lent_flat().try_clone(alloc)?;
+                Ok(array_of(copy))
+            }
         }
     }
 
@@ -205,10 +181,20 @@ impl<A: Allocator + Copy> ArrayRef<A> {
         ensures form { IfOk result (λ array. IsCanonical (column_of self.now) (column_of array)) }
         ensures session { ctx.new ≡ ctx.old }
     {
-        let alloc = *ctx.allocator();
+        let flat = self.to_canonical(ctx)?;
+        flat.into_array(*ctx.allocator())
+    }
+
+    /// The same rows, as the flat form that they are in. Refused as `OutOfMemory` alone.
+    pub fn to_canonical(&self, ctx: &mut ExecutionCtx<A>) -> VortexResult<Canonical<A>>
+        ensures only { IsOkUnless result VortexError.OutOfMemory }
+        ensures rows { IfOk result (λ flat. column_rows (canonical_column flat) ≡ rows self.now) }
+        ensures dtype { IfOk result (λ flat. column_dtype (canonical_column flat) ≡ dtype_of self.now) }
+        ensures form { IfOk result (λ flat. IsCanonical (column_of self.now) (canonical_column flat)) }
+        ensures session { ctx.new ≡ ctx.old }
+    {
         let prefill_runs = ctx.session().thresholds().prefill_runs;
-        let flat = self.canonicalize_in(alloc, prefill_runs)?;
-        flat.into_array(alloc)
+        self.canonicalize_in(*ctx.allocator(), prefill_runs)
     }
 
     // From `prefill_runs` runs on the rows of truth values start as the value of most runs.
@@ -223,28 +209,16 @@ impl<A: Allocator + Copy> ArrayRef<A> {
         ensures form { IfOk result (λ flat. IsCanonical (column_of self.now) (canonical_column flat)) }
     {
         match self {
-            ArrayRef::Primitive(array) => {
-                let copy = array.try_clone(alloc)?;
-                Ok(Canonical::Flat(FlatColumn::Primitive(copy)))
-            }
-            ArrayRef::Bool(array) => {
-                let copy = array.try_clone(alloc)?;
-                Ok(Canonical::Flat(FlatColumn::Bool(copy)))
-            }
-            ArrayRef::Decimal(array) => {
-                let copy = array.try_clone(alloc)?;
-                Ok(Canonical::Flat(FlatColumn::Decimal(copy)))
-            }
-            ArrayRef::VarBinView(array) => {
-                let copy = array.try_clone(alloc)?;
-                Ok(Canonical::Flat(FlatColumn::VarBinView(copy)))
-            }
             ArrayRef::ListView(lists) => {
                 let copy = lists.clone_in(alloc)?;
                 Ok(Canonical::List(copy))
             }
             ArrayRef::Constant(array) => write_constant(alloc, array),
             ArrayRef::RunEnd(array) => array.canonicalize_in(alloc, prefill_runs),
+            _ => {
+                let copy = self.lent_flat().try_clone(alloc)?;
+                Ok(Canonical::Flat(copy))
+            }
         }
     }
 
@@ -269,30 +243,6 @@ impl<A: Allocator + Copy> ArrayRef<A> {
         ensures form { IfOk result (λ flat. IsComputedFlat (canonical_column flat)) }
     {
         match self {
-            ArrayRef::Primitive(values) => {
-                prove_eq!(values.len(), ends.len());
-                match decode_numbers(alloc, ends, values, offset, count) {
-                    Ok(array) => Ok(Canonical::Flat(FlatColumn::Primitive(array))),
-                    Err(error) => Err(error),
-                }
-            }
-            ArrayRef::Bool(values) => {
-                prove_eq!(values.len(), ends.len());
-                match decode_truths(alloc, ends, values, offset, count, prefill_runs) {
-                    Ok(array) => Ok(Canonical::Flat(FlatColumn::Bool(array))),
-                    Err(error) => Err(error),
-                }
-            }
-            ArrayRef::Decimal(values) => {
-                prove_eq!(values.len(), ends.len());
-                let array = decimals_shown(alloc, ends, values, offset, count)?;
-                Ok(Canonical::Flat(FlatColumn::Decimal(array)))
-            }
-            ArrayRef::VarBinView(values) => {
-                prove_eq!(values.len(), ends.len());
-                let array = views_shown(alloc, ends, values, offset, count)?;
-                Ok(Canonical::Flat(FlatColumn::VarBinView(array)))
-            }
             ArrayRef::ListView(lists) => {
                 let shown = lists.shown_by(alloc, ends, offset, count)?;
                 Ok(Canonical::List(shown))
@@ -304,6 +254,11 @@ impl<A: Allocator + Copy> ArrayRef<A> {
             ArrayRef::RunEnd(array) => {
                 let values = array.canonicalize_in(alloc, prefill_runs)?;
                 values.shown_by(alloc, ends, offset, count, prefill_runs)
+            }
+            _ => {
+                let values = self.lent_flat();
+                let array = decode_flat(alloc, ends, values, offset, count, prefill_runs)?;
+                Ok(Canonical::Flat(array))
             }
         }
     }

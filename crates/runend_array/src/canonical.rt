@@ -1,24 +1,19 @@
 //! Arrays in a flat form.
 ghost use Rattle.std.specs.Prelude.{◌≡◌, length, IfOk, IsOkUnless};
 ghost use Rattle.column_core.specs.FlatColumn.{leaf_of};
-ghost use Rattle.column_core.specs.Leaf.{OfDecimals, OfVarBins};
 ghost use Rattle.runend_array.specs.Array.{column_of};
 ghost use Rattle.column_core.specs.PrimitiveForm.{primitive_dtype};
 ghost use Rattle.runend_codec.specs.Window.{IsWindow};
 ghost use Rattle.runend_codec.specs.Ends.{IsEndsType, ends_of};
 ghost use Rattle.runend_array.specs.Column.{OfLeaf, column_dtype, column_rows};
 ghost use Rattle.runend_codec.specs.Window.{run_rows};
-ghost use Rattle.runend_codec.specs.Encoding.{IsDecodedLeaf};
 ghost use Rattle.runend_array.specs.Encoding.{IsComputedFlat};
 ghost use Rattle.runend_array.specs.Canonical.{canonical_column};
 
 use crate::array_ref::{ArrayRef, of_lists};
 use crate::lists::ListViewArray;
-use bytes::Bytes;
-use column_core::{
-    DecimalArray, FlatColumn, PrimitiveArray, VarBinViewArray, View, VortexError, VortexResult,
-};
-use runend_decode::{decode_flat, decode_rows};
+use column_core::{FlatColumn, PrimitiveArray, VortexError, VortexResult};
+use runend_decode::decode_flat;
 use std::alloc::Allocator;
 
 /// An array in a flat form: rows that are stored one by one, or lists.
@@ -73,8 +68,9 @@ impl<A: Allocator + Copy> Canonical<A> {
     {
         match self {
             Canonical::Flat(values) => {
-                let array = decode_flat(alloc, ends, values, offset, count, prefill_runs)?;
-                Ok(Canonical::Flat(array))
+                let array = decode_flat(alloc, ends, values.view(), offset, count, prefill_runs);
+                drop(values);
+                Ok(Canonical::Flat(array?))
             }
             Canonical::List(lists) => {
                 let made = lists.shown_by(alloc, ends, offset, count);
@@ -84,73 +80,4 @@ impl<A: Allocator + Copy> Canonical<A> {
             }
         }
     }
-}
-
-/// The rows that runs of these decimals show, from row `offset` on, `count` many, with 0 under null. The
-/// values are left as they are. Refused as `OutOfMemory` alone.
-pub(crate) fn decimals_shown<A: Allocator + Copy>(
-    alloc: A,
-    ends: &PrimitiveArray<A>,
-    values: &DecimalArray<A>,
-    offset: usize,
-    count: usize,
-) -> VortexResult<DecimalArray<A>>
-    requires plain { IsEndsType (primitive_dtype ends.now) }
-    requires window { IsWindow (ends_of ends.now) offset count }
-    requires paired { length values.now.numbers ≡ length ends.now.numbers }
-    ensures only { IsOkUnless result VortexError.OutOfMemory }
-    ensures flat { IfOk result (λ array. IsDecodedLeaf (ends_of ends.now) (OfDecimals values.now) offset count (OfDecimals array)) }
-{
-    let validity = values.validity();
-    let (numbers, rows) = decode_rows(alloc, ends, values.values(), validity, 0, offset, count)?;
-    Ok(DecimalArray::new_unchecked(numbers, values.decimal_dtype(), rows))
-}
-
-/// The rows that runs of these texts or bytes show, from row `offset` on, `count` many, with the view of
-/// nothing under null. The values are left as they are, and the bytes of their buffers shared. Refused as
-/// `OutOfMemory` alone.
-pub(crate) fn views_shown<A: Allocator + Copy>(
-    alloc: A,
-    ends: &PrimitiveArray<A>,
-    values: &VarBinViewArray<A>,
-    offset: usize,
-    count: usize,
-) -> VortexResult<VarBinViewArray<A>>
-    requires plain { IsEndsType (primitive_dtype ends.now) }
-    requires window { IsWindow (ends_of ends.now) offset count }
-    requires paired { length values.now.views ≡ length ends.now.numbers }
-    ensures only { IsOkUnless result VortexError.OutOfMemory }
-    ensures flat { IfOk result (λ array. IsDecodedLeaf (ends_of ends.now) (OfVarBins values.now) offset count (OfVarBins array)) }
-{
-    let blank = View {
-        buffer: 0,
-        start: 0,
-        size: 0,
-    };
-    let validity = values.validity();
-    let (views, rows) = decode_rows(alloc, ends, values.views(), validity, blank, offset, count)?;
-    match buffers_of(alloc, values) {
-        Ok(buffers) => Ok(VarBinViewArray::new_unchecked(views, buffers, values.kind(), rows)),
-        Err(error) => {
-            drop(rows);
-            drop(views);
-            Err(error)
-        }
-    }
-}
-
-// The buffers of a column, whose bytes are shared.
-fn buffers_of<A: Allocator + Copy>(
-    alloc: A,
-    values: &VarBinViewArray<A>,
-) -> VortexResult<Vec<Bytes<A>, A>>
-    ensures only { IsOkUnless result VortexError.OutOfMemory }
-    ensures shared { IfOk result (λ buffers. buffers.items ≡ values.now.buffers) }
-{
-    // No row of a column still has all of its buffers.
-    let no_row = values.slice(alloc, 0..0)?;
-    let (views, buffers, _, validity) = no_row.into_parts();
-    drop(validity);
-    drop(views);
-    Ok(buffers)
 }

@@ -89,6 +89,7 @@ pub fn decode_column<A: Allocator + Copy>(
         drop(values);
         return Ok(ArrayRef::Constant(nulls));
     }
-    let array = decode_flat(alloc, ends, values, offset, count, prefill_runs)?;
-    Ok(array_of(array))
+    let array = decode_flat(alloc, ends, values.view(), offset, count, prefill_runs);
+    drop(values);
+    Ok(array_of(array?))
 }

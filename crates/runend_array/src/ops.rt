@@ -9,10 +9,8 @@ ghost use Rattle.runend_array.specs.Column.{IsPlainEnds, end_numbers};
 
 use crate::array_ref::ArrayRef;
 use column_core::PrimitiveValues;
+pub use runend_codec::first_past;
 use runend_codec::{ended_before, first_past_of};
-pub use runend_codec::{
-    first_past, first_past_of_524288_runs, first_past_of_four_runs, first_past_of_one_run,
-};
 use std::alloc::Allocator;
 
 /// The run of a row, over a column of strictly increasing ends: the first run that ends past it, or

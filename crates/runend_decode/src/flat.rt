@@ -2,6 +2,7 @@
 ghost use Rattle.std.specs.Prelude.{◌≡◌, ◌↔◌, IfOk, IsOkUnless, IsTrue, count_by, length};
 ghost use Rattle.column_base.specs.ValidityForm.{HasLength, flags};
 ghost use Rattle.column_core.specs.FlatColumn.{leaf_of};
+ghost use Rattle.column_core.specs.FlatView.{leaf_in};
 ghost use Rattle.column_core.specs.Leaf.{OfDecimals, OfVarBins, leaf_count, leaf_dtype, leaf_rows, leaf_validity};
 ghost use Rattle.column_core.specs.PrimitiveForm.{primitive_dtype};
 ghost use Rattle.runend_codec.specs.Window.{IsWindow};
@@ -12,9 +13,10 @@ ghost use Rattle.column_core.specs.Leaf.{single_rows};
 
 use crate::decode::{decode_numbers, decode_rows};
 use crate::decode_bool::decode_truths;
+use bytes::Bytes;
 use column_core::{
-    DecimalArray, FlatColumn, PrimitiveArray, Validity, VarBinViewArray, View, VortexError,
-    VortexResult,
+    DecimalArray, FlatColumn, FlatView, PrimitiveArray, Validity, VarBinViewArray, View,
+    VortexError, VortexResult,
 };
 use std::alloc::Allocator;
 
@@ -37,78 +39,89 @@ fn decode_decimals<A: Allocator + Copy>(
     Ok(DecimalArray::new_unchecked(numbers, values.decimal_dtype(), rows))
 }
 
-// The rows that runs of texts or bytes show, the view of nothing under null. The buffers are kept.
+// The rows that runs of texts or bytes show, the view of nothing under null. The bytes of the buffers are
+// shared.
 fn decode_views<A: Allocator + Copy>(
     alloc: A,
     ends: &PrimitiveArray<A>,
-    values: VarBinViewArray<A>,
+    values: &VarBinViewArray<A>,
     offset: usize,
     count: usize,
 ) -> VortexResult<VarBinViewArray<A>>
     requires plain { IsEndsType (primitive_dtype ends.now) }
     requires window { IsWindow (ends_of ends.now) offset count }
-    requires paired { length values.views ≡ length ends.now.numbers }
+    requires paired { length values.now.views ≡ length ends.now.numbers }
     ensures only { IsOkUnless result VortexError.OutOfMemory }
-    ensures flat { IfOk result (λ array. IsDecodedLeaf (ends_of ends.now) (OfVarBins values) offset count (OfVarBins array)) }
+    ensures flat { IfOk result (λ array. IsDecodedLeaf (ends_of ends.now) (OfVarBins values.now) offset count (OfVarBins array)) }
 {
-    let (views, buffers, kind, validity) = values.into_parts();
     let blank = View {
         buffer: 0,
         start: 0,
         size: 0,
     };
-    let decoded = decode_rows(
-        alloc,
-        ends,
-        views.as_slice(),
-        &validity,
-        blank,
-        offset,
-        count,
-    );
-    drop(views);
+    let validity = values.validity();
+    let (views, rows) = decode_rows(alloc, ends, values.views(), validity, blank, offset, count)?;
+    match buffers_of(alloc, values) {
+        Ok(buffers) => Ok(VarBinViewArray::new_unchecked(views, buffers, values.kind(), rows)),
+        Err(error) => {
+            drop(rows);
+            drop(views);
+            Err(error)
+        }
+    }
+}
+
+// The buffers of a column, whose bytes are shared.
+fn buffers_of<A: Allocator + Copy>(
+    alloc: A,
+    values: &VarBinViewArray<A>,
+) -> VortexResult<Vec<Bytes<A>, A>>
+    ensures only { IsOkUnless result VortexError.OutOfMemory }
+    ensures shared { IfOk result (λ buffers. buffers.items ≡ values.now.buffers) }
+{
+    // No row of a column still has all of its buffers.
+    let no_row = values.slice(alloc, 0..0)?;
+    let (views, buffers, _, validity) = no_row.into_parts();
     drop(validity);
-    let (rows_views, rows) = decoded?;
-    Ok(VarBinViewArray::new_unchecked(rows_views, buffers, kind, rows))
+    drop(views);
+    Ok(buffers)
 }
 
 /// The rows that runs show, from row `offset` on, `count` many, as a flat column with 0, false or the
-/// view of nothing under null. Of truth values, the rows start as the value of most runs from `prefill_runs`
-/// runs on; the answer is the same. Refused as `OutOfMemory` alone.
+/// view of nothing under null. The values are left as they are; of texts and bytes, the bytes are shared. Of
+/// truth values, the rows start as the value of most runs from `prefill_runs` runs on; the answer is the same.
+/// Refused as `OutOfMemory` alone.
 pub fn decode_flat<A: Allocator + Copy>(
     alloc: A,
     ends: &PrimitiveArray<A>,
-    values: FlatColumn<A>,
+    values: FlatView<'_, A>,
     offset: usize,
     count: usize,
     prefill_runs: usize,
 ) -> VortexResult<FlatColumn<A>>
     requires plain { IsEndsType (primitive_dtype ends.now) }
     requires window { IsWindow (ends_of ends.now) offset count }
-    requires paired { length (leaf_rows (leaf_of values)) ≡ length ends.now.numbers }
+    requires paired { length (leaf_rows (leaf_in values)) ≡ length ends.now.numbers }
     ensures only { IsOkUnless result VortexError.OutOfMemory }
-    ensures flat { IfOk result (λ array. IsDecodedLeaf (ends_of ends.now) (leaf_of values) offset count (leaf_of array)) }
+    ensures flat { IfOk result (λ array. IsDecodedLeaf (ends_of ends.now) (leaf_in values.entry) offset count (leaf_of array)) }
 {
     match values {
-        FlatColumn::Primitive(values) => {
+        FlatView::Primitive(values) => {
             prove_eq!(values.len(), ends.len());
-            let array = decode_numbers(alloc, ends, &values, offset, count);
-            drop(values);
-            Ok(FlatColumn::Primitive(array?))
+            let array = decode_numbers(alloc, ends, values, offset, count)?;
+            Ok(FlatColumn::Primitive(array))
         }
-        FlatColumn::Bool(values) => {
+        FlatView::Bool(values) => {
             prove_eq!(values.len(), ends.len());
-            let array = decode_truths(alloc, ends, &values, offset, count, prefill_runs);
-            drop(values);
-            Ok(FlatColumn::Bool(array?))
+            let array = decode_truths(alloc, ends, values, offset, count, prefill_runs)?;
+            Ok(FlatColumn::Bool(array))
         }
-        FlatColumn::Decimal(values) => {
+        FlatView::Decimal(values) => {
             prove_eq!(values.len(), ends.len());
-            let array = decode_decimals(alloc, ends, &values, offset, count);
-            drop(values);
-            Ok(FlatColumn::Decimal(array?))
+            let array = decode_decimals(alloc, ends, values, offset, count)?;
+            Ok(FlatColumn::Decimal(array))
         }
-        FlatColumn::VarBinView(values) => {
+        FlatView::VarBinView(values) => {
             prove_eq!(values.len(), ends.len());
             let array = decode_views(alloc, ends, values, offset, count)?;
             Ok(FlatColumn::VarBinView(array))

@@ -1,5 +1,5 @@
 -- What is known of an answer that is passed on, and of a column's rows.
-use Rattle.std.proofs.Common.{◌≡◌, ◌<◌, ℕ, zero, suc, refl, arith}
+use Rattle.std.proofs.Common.{◌≡◌, ℕ, zero, suc, refl}
 use Rattle.std.specs.Prelude.{Result, Ok, Err, IfOk, IsErr}
 use Rattle.runend_visible.specs.VisibleForm.{window_start}
 
@@ -17,8 +17,3 @@ no_value P (Err error) refused = tt
 pub start_of_rows : (count offset : ℕ) → ¬ (count ≡ 0) → offset ≡ window_start count offset
 start_of_rows zero offset some = absurd (some refl)
 start_of_rows (suc n) offset some = refl
-
--- there is a row where there are not none
-pub some_rows : (count : ℕ) → ¬ (count ≡ 0) → 0 < count
-some_rows zero some = absurd (some refl)
-some_rows (suc n) some = omega arith

@@ -1,31 +1,17 @@
 -- The window over the visible runs of a run column: the same rows, with a row in each run.
-use Rattle.std.proofs.Common.{◌≡◌, ℕ, zero, suc, ◌+◌, ◌-◌, ◌<◌, List, Option, Some, length, map, refl, sym, subst, ap, ◌∙◌, arith}
-use Rattle.std.specs.Prelude.{slice_range}
+use Rattle.std.proofs.Common.{◌≡◌, ℕ, zero, suc, ◌<◌, List, Option, Some, length, map, refl, sym, subst, ap, ◌∙◌, arith}
 use Rattle.std.proofs.lemmas.List.{length-map}
 use Rattle.column_core.specs.PrimitiveForm.{PrimitiveForm}
 use Rattle.column_core.specs.Value.{Value}
 use Rattle.runend_codec.specs.Ends.{ends_of}
 use Rattle.runend_codec.specs.Visible.{visible}
-use Rattle.runend_codec.specs.Window.{run_at, run_rows, IsWindow}
-use Rattle.runend_codec.proofs.SlicedRuns.{slice_range-none, IsWindow-of_none}
-use Rattle.runend_codec.proofs.VisibleRuns.{length-visible, row_of_visible, visible_is}
+use Rattle.runend_codec.specs.Window.{run_rows, IsWindow}
+use Rattle.runend_codec.proofs.SlicedRuns.{IsWindow-of_none}
+use Rattle.runend_codec.proofs.VisibleRuns.{length-visible, row_of_visible}
 use Rattle.runend_codec.proofs.VisibleLaws.{length-visible_ends, rows_of_visible, run-among, window_of_visible}
 use Rattle.runend_array.specs.Column.{AreRuns, Runs, column_of_runs, column_rows}
 use Rattle.runend_join.specs.Joined.{AllHaveRows}
 use Rattle.runend_visible.specs.VisibleForm.{visible_ends, visible_values, window_start}
-
--- no rows have no visible items
-pub visible-none : {B : Type 0} (ends : List ℕ) (offset count : ℕ) (items : List B) → count ≡ 0 → slice_range items 0 0 ≡ visible ends offset count items
-visible-none ends offset zero items none = slice_range-none items 0 0 refl
-visible-none ends offset (suc n) items none = absurd (omega arith)
-
--- the items between the run of the first row and that of the last
-pub visible-between : {B : Type 0} (ends : List ℕ) (offset count : ℕ) (items : List B) (start stop : ℕ) → 0 < count
-    → start ≡ run_at ends (offset + 0) → stop ≡ run_at ends (offset + count - 1) + 1 → slice_range items start stop ≡ visible ends offset count items
-visible-between ends offset count items start stop some first last =
-    let place : offset + 0 ≡ offset = omega arith in
-    let from : start ≡ run_at ends offset = first ∙ ap (run_at ends) place in
-    ap (λ (k : ℕ). slice_range items k stop) from ∙ ap (λ (k : ℕ). slice_range items (run_at ends offset) k) last ∙ sym (visible_is ends offset count items some)
 
 -- the visible runs are a window over as many rows
 window_at : (ends : List ℕ) (offset count : ℕ) → IsWindow ends offset count → IsWindow (visible ends offset count ends) (window_start count offset) count

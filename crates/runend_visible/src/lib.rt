@@ -6,4 +6,4 @@ mod over;
 mod visible;
 
 pub use over::{least_runs, over_least_runs, over_runs, over_visible_runs};
-pub use visible::{ends_of_visible, lent_numbers, visible_offset, visible_runs, visible_values};
+pub use visible::{ends_of_visible, lent_numbers, visible_offset, visible_values};

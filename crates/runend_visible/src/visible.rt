@@ -1,35 +1,18 @@
 //! Which runs of a run column are visible, and their ends and values.
-ghost use Rattle.std.specs.Prelude.{◌≡◌, ◌≤◌, length, slice_range, IfOk, IfSome, IsOkUnless};
+ghost use Rattle.std.specs.Prelude.{◌≡◌, length, IfOk, IfSome, IsOkUnless};
 ghost use Rattle.column_core.specs.FlatColumn.{leaf_of};
 ghost use Rattle.column_core.specs.Leaf.{OfNumbers, leaf_dtype, single_rows};
 ghost use Rattle.column_core.specs.PrimitiveForm.{primitive_dtype};
 ghost use Rattle.column_core.specs.Value.{IsLists};
 ghost use Rattle.runend_codec.specs.Ends.{IsEndsType, ends_of};
 ghost use Rattle.runend_codec.specs.Window.{IsWindow};
-ghost use Rattle.runend_array.specs.Column.{AreRuns, column_dtype, column_rows};
+ghost use Rattle.runend_array.specs.Column.{AreRuns, column_dtype};
 ghost use Rattle.runend_join.specs.Joined.{AllHaveRows};
 ghost use Rattle.runend_visible.specs.VisibleForm.{visible_ends, visible_values as values_of_visible, window_start};
 
 use column_core::{FlatColumn, PrimitiveArray, VortexError, VortexResult};
 use runend_array::{ArrayRef, Canonical, RunEndArray, RunEndArrayExt, RunEndArraySlotsExt};
 use std::alloc::Allocator;
-use std::ops::Range;
-
-/// The visible runs: from the run of the first row to one past that of the last, and `0..0` where there is no
-/// row.
-pub fn visible_runs<A: Allocator + Copy>(array: &RunEndArray<A>) -> Range<usize>
-    ensures ordered { result.start ≤ result.end }
-    ensures in_bounds { result.end ≤ length array.now.ends }
-    ensures ends { slice_range array.now.ends result.start result.end ≡ visible_ends array.now }
-    ensures values { slice_range (column_rows array.now.values) result.start result.end ≡ values_of_visible array.now }
-    ensures valid { AreRuns array.now }
-{
-    let _ = array.ends();
-    if array.is_empty() {
-        return 0..0;
-    }
-    array.runs_of_rows(0, array.len())
-}
 
 /// Where the window over the visible runs begins, in rows: at the column's offset, and at 0 where there is no
 /// row.
@@ -54,7 +37,7 @@ pub fn ends_of_visible<A: Allocator + Copy>(
     ensures shown { AllHaveRows (visible_ends array.now) (window_start array.now.count array.now.offset) array.now.count }
     ensures counted { IfOk result (λ ends. length ends.numbers ≡ length (visible_ends array.now)) }
 {
-    let runs = visible_runs(array);
+    let runs = array.visible_runs();
     array.ends_between(alloc, runs.start, runs.end)
 }
 
@@ -70,7 +53,7 @@ pub fn visible_values<A: Allocator + Copy>(
     ensures dtype { IfOk result (λ values. leaf_dtype (leaf_of values) ≡ column_dtype array.now.values) }
     ensures valid { AreRuns array.now }
 {
-    let runs = visible_runs(array);
+    let runs = array.visible_runs();
     match array.values().rows_between(alloc, runs.start, runs.end)? {
         Canonical::Flat(values) => Ok(values),
         Canonical::List(_) => unreachable!(),
@@ -83,7 +66,7 @@ pub fn lent_numbers<A: Allocator + Copy>(array: &RunEndArray<A>) -> Option<&Prim
     ensures dtype { IfSome result (λ numbers. primitive_dtype numbers.now ≡ column_dtype array.now.values) }
     ensures valid { AreRuns array.now }
 {
-    let runs = visible_runs(array);
+    let runs = array.visible_runs();
     match array.values() {
         ArrayRef::Primitive(numbers) if runs.start == 0 && runs.end == numbers.len() => Some(
             numbers,

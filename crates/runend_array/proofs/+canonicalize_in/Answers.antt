@@ -1,15 +1,19 @@
 use Rattle.std.proofs.Common.{rules, arith, ◌≡◌, ◌<◌, ℕ, List, length, ap, sym, ◌∙◌}
-use Rattle.std.specs.Prelude.{unsigned_abs}
+use Rattle.std.specs.Prelude.{option_map, unsigned_abs}
 use Rattle.std.proofs.lemmas.List.{length-map}
 use Rattle.std.proofs.lemmas.Result.{IfOk-weaker}
+use Rattle.column_core.specs.FlatView.{leaf_in}
+use Rattle.column_core.specs.Leaf.{leaf_rows}
 use Rattle.column_core.specs.PrimitiveForm.{primitive_dtype}
+use Rattle.column_core.specs.Value.{Single}
 use Rattle.runend_codec.specs.Ends.{IsEndsType, ends_of}
 use Rattle.runend_codec.specs.Window.{IsWindow, run_rows}
 use Rattle.runend_array.specs.Array.{rows}
-use Rattle.runend_array.specs.Column.{end_numbers}
+use Rattle.runend_array.specs.Column.{column_rows, end_numbers}
 use Rattle.runend_array.specs.Lists.{Lists, list_count, list_dtype, list_rows}
 use Rattle.runend_array.specs.Falls.{deep_le-parts}
 use Rattle.runend_array.specs.declared.array.RunEndArray.TheDeep.{size-ArrayRef, size-RunEndArray}
+use Rattle.runend_array.proofs.FlatForms.{IsLeaf-of_rest}
 use Rattle.runend_array.proofs.ListRows.{length-list_rows}
 use Rattle.runend_array.proofs.+canonicalize_in.Goals as goal
 
@@ -51,42 +55,6 @@ array_ref::ArrayRef::shown_by-returns-in_ok-shown-in-ListView-clause-rows g t c 
     let ends = ends_of c.args.ends.now in
     rw c.in-ListView.is (c.in_ok-shown-in-ListView.ensures.rows ∙ ap (λ (lists : Lists). run_rows ends (list_rows lists) c.args.offset c.args.count) c.deref.ensures)
 
-pub array_ref::ArrayRef::shown_by-returns-in-Ok-clause-rows : goal.array_ref::ArrayRef::shown_by-returns-in-Ok-clause-rows
-array_ref::ArrayRef::shown_by-returns-in-Ok-clause-rows g t c = rw c.in-Primitive.is c.in-Ok.ensures.flat.rows
-
-pub array_ref::ArrayRef::shown_by-returns-in-Ok-clause-dtype : goal.array_ref::ArrayRef::shown_by-returns-in-Ok-clause-dtype
-array_ref::ArrayRef::shown_by-returns-in-Ok-clause-dtype g t c = rw c.in-Primitive.is c.in-Ok.ensures.flat.dtype
-
-pub array_ref::ArrayRef::shown_by-returns-in-Ok-clause-form : goal.array_ref::ArrayRef::shown_by-returns-in-Ok-clause-form
-array_ref::ArrayRef::shown_by-returns-in-Ok-clause-form g t c = c.in-Ok.ensures.flat.computed
-
-pub array_ref::ArrayRef::shown_by-returns-in-Ok-decode_truths-clause-rows : goal.array_ref::ArrayRef::shown_by-returns-in-Ok-decode_truths-clause-rows
-array_ref::ArrayRef::shown_by-returns-in-Ok-decode_truths-clause-rows g t c = rw c.in-Bool.is c.in-Ok-decode_truths.ensures.flat.rows
-
-pub array_ref::ArrayRef::shown_by-returns-in-Ok-decode_truths-clause-dtype : goal.array_ref::ArrayRef::shown_by-returns-in-Ok-decode_truths-clause-dtype
-array_ref::ArrayRef::shown_by-returns-in-Ok-decode_truths-clause-dtype g t c = rw c.in-Bool.is c.in-Ok-decode_truths.ensures.flat.dtype
-
-pub array_ref::ArrayRef::shown_by-returns-in-Ok-decode_truths-clause-form : goal.array_ref::ArrayRef::shown_by-returns-in-Ok-decode_truths-clause-form
-array_ref::ArrayRef::shown_by-returns-in-Ok-decode_truths-clause-form g t c = c.in-Ok-decode_truths.ensures.flat.computed
-
-pub array_ref::ArrayRef::shown_by-returns-in_ok-array-in-Decimal-clause-rows : goal.array_ref::ArrayRef::shown_by-returns-in_ok-array-in-Decimal-clause-rows
-array_ref::ArrayRef::shown_by-returns-in_ok-array-in-Decimal-clause-rows g t c = rw c.in-Decimal.is c.in_ok-array-in-Decimal.ensures.flat.rows
-
-pub array_ref::ArrayRef::shown_by-returns-in_ok-array-in-Decimal-clause-dtype : goal.array_ref::ArrayRef::shown_by-returns-in_ok-array-in-Decimal-clause-dtype
-array_ref::ArrayRef::shown_by-returns-in_ok-array-in-Decimal-clause-dtype g t c = rw c.in-Decimal.is c.in_ok-array-in-Decimal.ensures.flat.dtype
-
-pub array_ref::ArrayRef::shown_by-returns-in_ok-array-in-Decimal-clause-form : goal.array_ref::ArrayRef::shown_by-returns-in_ok-array-in-Decimal-clause-form
-array_ref::ArrayRef::shown_by-returns-in_ok-array-in-Decimal-clause-form g t c = c.in_ok-array-in-Decimal.ensures.flat.computed
-
-pub array_ref::ArrayRef::shown_by-returns-in_ok-array-in-VarBinView-clause-rows : goal.array_ref::ArrayRef::shown_by-returns-in_ok-array-in-VarBinView-clause-rows
-array_ref::ArrayRef::shown_by-returns-in_ok-array-in-VarBinView-clause-rows g t c = rw c.in-VarBinView.is c.in_ok-array-in-VarBinView.ensures.flat.rows
-
-pub array_ref::ArrayRef::shown_by-returns-in_ok-array-in-VarBinView-clause-dtype : goal.array_ref::ArrayRef::shown_by-returns-in_ok-array-in-VarBinView-clause-dtype
-array_ref::ArrayRef::shown_by-returns-in_ok-array-in-VarBinView-clause-dtype g t c = rw c.in-VarBinView.is c.in_ok-array-in-VarBinView.ensures.flat.dtype
-
-pub array_ref::ArrayRef::shown_by-returns-in_ok-array-in-VarBinView-clause-form : goal.array_ref::ArrayRef::shown_by-returns-in_ok-array-in-VarBinView-clause-form
-array_ref::ArrayRef::shown_by-returns-in_ok-array-in-VarBinView-clause-form g t c = c.in_ok-array-in-VarBinView.ensures.flat.computed
-
 pub array_ref::ArrayRef::shown_by-returns-in_ok-shown-in-ListView-clause-dtype : goal.array_ref::ArrayRef::shown_by-returns-in_ok-shown-in-ListView-clause-dtype
 array_ref::ArrayRef::shown_by-returns-in_ok-shown-in-ListView-clause-dtype g t c = rw c.in-ListView.is (c.in_ok-shown-in-ListView.ensures.dtype ∙ ap list_dtype c.deref.ensures)
 
@@ -110,3 +78,19 @@ array_ref::ArrayRef::shown_by-returns-in_ok-values-in-RunEnd-clause-dtype g t c 
 
 pub array_ref::ArrayRef::shown_by-returns-in_ok-values-in-RunEnd-clause-form : goal.array_ref::ArrayRef::shown_by-returns-in_ok-values-in-RunEnd-clause-form
 array_ref::ArrayRef::shown_by-returns-in_ok-values-in-RunEnd-clause-form g t c = c.shown_by-in-RunEnd.ensures.form
+
+pub array_ref::ArrayRef::shown_by-lent_flat-values-requires : goal.array_ref::ArrayRef::shown_by-lent_flat-values-requires
+array_ref::ArrayRef::shown_by-lent_flat-values-requires g t c = IsLeaf-of_rest c.args.self.now c.in_default.not-ListView c.in_default.not-Constant c.in_default.not-RunEnd
+
+pub array_ref::ArrayRef::shown_by-decode_flat-requires-clause-paired : goal.array_ref::ArrayRef::shown_by-decode_flat-requires-clause-paired
+array_ref::ArrayRef::shown_by-decode_flat-requires-clause-paired g t c =
+    sym (length-map (leaf_rows (leaf_in c.lent_flat-values.result)) (option_map Single)) ∙ ap (λ column. length (column_rows column)) (sym c.lent_flat-values.ensures) ∙ c.requires.paired
+
+pub array_ref::ArrayRef::shown_by-returns-in_ok-array-in_default-clause-rows : goal.array_ref::ArrayRef::shown_by-returns-in_ok-array-in_default-clause-rows
+array_ref::ArrayRef::shown_by-returns-in_ok-array-in_default-clause-rows g t c = rw c.lent_flat-values.ensures c.in_ok-array-in_default.ensures.flat.rows
+
+pub array_ref::ArrayRef::shown_by-returns-in_ok-array-in_default-clause-dtype : goal.array_ref::ArrayRef::shown_by-returns-in_ok-array-in_default-clause-dtype
+array_ref::ArrayRef::shown_by-returns-in_ok-array-in_default-clause-dtype g t c = rw c.lent_flat-values.ensures c.in_ok-array-in_default.ensures.flat.dtype
+
+pub array_ref::ArrayRef::shown_by-returns-in_ok-array-in_default-clause-form : goal.array_ref::ArrayRef::shown_by-returns-in_ok-array-in_default-clause-form
+array_ref::ArrayRef::shown_by-returns-in_ok-array-in_default-clause-form g t c = c.in_ok-array-in_default.ensures.flat.computed

@@ -1,13 +1,12 @@
 use Rattle.std.proofs.Common.{◌≡◌, ◌<◌, ◌≤◌, Some, length, arith, ap, ◌∙◌, sym}
 use Rattle.std.specs.Prelude.{slice_get}
-use Rattle.column_core.specs.PrimitiveForm.{primitive_rows}
-use Rattle.column_core.specs.BoolForm.{bool_rows}
-use Rattle.column_core.specs.DecimalForm.{decimal_rows}
-use Rattle.column_core.specs.VarBinForm.{varbin_rows}
+use Rattle.column_core.specs.FlatView.{leaf_in}
+use Rattle.column_core.specs.Leaf.{leaf_rows}
 use Rattle.runend_array.specs.Array.{column_of, rows}
 use Rattle.runend_array.specs.Column.{column_rows, end_numbers, runs_of}
 use Rattle.runend_array.specs.Lists.{list_at, list_count, list_rows}
 use Rattle.runend_codec.proofs.Lists.{slice_get-replicate}
+use Rattle.runend_array.proofs.FlatForms.{IsLeaf-of_rest}
 use Rattle.runend_array.proofs.ListRows.{slice_get-made, length-list_rows}
 use Rattle.runend_codec.proofs.RunAt.{run_of_row_within}
 use Rattle.runend_codec.proofs.RunRows.{length-run_rows, slice_get-run_rows_of_window}
@@ -37,18 +36,18 @@ array_ref::ArrayRef::scalar_at-returns-in-RunEnd-clause-refused g t c = rw c.in-
 pub array_ref::ArrayRef::scalar_at-returns-in-RunEnd-clause-only : goal.array_ref::ArrayRef::scalar_at-returns-in-RunEnd-clause-only
 array_ref::ArrayRef::scalar_at-returns-in-RunEnd-clause-only g t c = rw c.in-RunEnd.is (rw length-run_rows (rw c.deref-in-RunEnd.ensures at c.row_at.ensures.only))
 
-pub array_ref::ArrayRef::scalar_at-returns-else-index-len-5-clause-row : goal.array_ref::ArrayRef::scalar_at-returns-else-index-len-5-clause-row
-array_ref::ArrayRef::scalar_at-returns-else-index-len-5-clause-row g t c =
+pub array_ref::ArrayRef::scalar_at-returns-else-index-len-clause-row : goal.array_ref::ArrayRef::scalar_at-returns-else-index-len-clause-row
+array_ref::ArrayRef::scalar_at-returns-else-index-len-clause-row g t c =
     let lists = c.in-ListView.lists.value in
-    let counted : c.len-in-ListView.result ≡ list_count lists = c.len-in-ListView.ensures.offsets ∙ ap list_count c.deref.ensures in
-    let within : c.args.index < list_count lists = omega (arith, counted, c.if-index-len-5.false) in
+    let counted : c.len.result ≡ list_count lists = c.len.ensures.offsets ∙ ap list_count c.deref.ensures in
+    let within : c.args.index < list_count lists = omega (arith, counted, c.if-index-len.false) in
     rw c.in-ListView.is
     (slice_get-made (list_at lists) (list_count lists) c.args.index within
-    ∙ ap Some (sym (c.get-in-ListView.ensures.row ∙ ap (λ l. list_at l c.args.index) c.deref-in-ListView.ensures)))
+    ∙ ap Some (sym (c.get.ensures.row ∙ ap (λ l. list_at l c.args.index) c.deref-in-ListView.ensures)))
 
-pub array_ref::ArrayRef::scalar_at-returns-else-index-len-6-clause-row : goal.array_ref::ArrayRef::scalar_at-returns-else-index-len-6-clause-row
-array_ref::ArrayRef::scalar_at-returns-else-index-len-6-clause-row g t c =
-    let within : c.args.index < c.in-Constant.array.count = omega (arith, c.len-in-Constant.ensures, c.if-index-len-6.false) in
+pub array_ref::ArrayRef::scalar_at-returns-else-index-len-2-clause-row : goal.array_ref::ArrayRef::scalar_at-returns-else-index-len-2-clause-row
+array_ref::ArrayRef::scalar_at-returns-else-index-len-2-clause-row g t c =
+    let within : c.args.index < c.in-Constant.array.count = omega (arith, c.len-in-Constant.ensures, c.if-index-len-2.false) in
     rw c.in-Constant.is (slice_get-replicate c.in-Constant.array.count c.args.index _ within ∙ ap Some (sym c.scalar_view.ensures.value))
 
 pub array::RunEndArray::row_at-returns-clause-of_type : goal.array::RunEndArray::row_at-returns-clause-of_type
@@ -59,23 +58,21 @@ array::RunEndArray::row_at-returns-clause-refused g t c = rw (← c.self.view_is
 
 pub array_ref::ArrayRef::scalar_at-returns-else-index-len-clause-refused : goal.array_ref::ArrayRef::scalar_at-returns-else-index-len-clause-refused
 array_ref::ArrayRef::scalar_at-returns-else-index-len-clause-refused g t c =
-    rw c.in-Primitive.is (within_is_no_refusal-flat c.get.result _ c.args.index c.len.result (primitive_rows c.in-Primitive.array) c.len.ensures.rows c.if-index-len.false)
+    let lists = c.in-ListView.lists.value in
+    let counted : c.len.result ≡ list_count lists = c.len.ensures.offsets ∙ ap list_count c.deref.ensures in
+    rw c.in-ListView.is
+    (within_is_no_refusal c.get.result _ c.args.index (length (list_rows lists)) (omega (arith, counted, length-list_rows lists, c.if-index-len.false)))
 
-pub array_ref::ArrayRef::scalar_at-returns-else-index-len-2-clause-refused : goal.array_ref::ArrayRef::scalar_at-returns-else-index-len-2-clause-refused
-array_ref::ArrayRef::scalar_at-returns-else-index-len-2-clause-refused g t c =
-    rw c.in-Bool.is (within_is_no_refusal-flat c.get-in-Bool.result _ c.args.index c.len-in-Bool.result (bool_rows c.in-Bool.array) c.len-in-Bool.ensures.rows c.if-index-len-2.false)
+pub array_ref::ArrayRef::scalar_at-lent_flat-flat-requires : goal.array_ref::ArrayRef::scalar_at-lent_flat-flat-requires
+array_ref::ArrayRef::scalar_at-lent_flat-flat-requires g t c = IsLeaf-of_rest c.args.self.now c.in_default.not-ListView c.in_default.not-Constant c.in_default.not-RunEnd
+
+pub array_ref::ArrayRef::scalar_at-returns-else-index-len-3-clause-row : goal.array_ref::ArrayRef::scalar_at-returns-else-index-len-3-clause-row
+array_ref::ArrayRef::scalar_at-returns-else-index-len-3-clause-row g t c = rw c.lent_flat-flat.ensures c.get-in_default.ensures.row
+
+pub array_ref::ArrayRef::scalar_at-returns-else-index-len-3-clause-of_type : goal.array_ref::ArrayRef::scalar_at-returns-else-index-len-3-clause-of_type
+array_ref::ArrayRef::scalar_at-returns-else-index-len-3-clause-of_type g t c = rw c.lent_flat-flat.ensures c.get-in_default.ensures.of_type
 
 pub array_ref::ArrayRef::scalar_at-returns-else-index-len-3-clause-refused : goal.array_ref::ArrayRef::scalar_at-returns-else-index-len-3-clause-refused
 array_ref::ArrayRef::scalar_at-returns-else-index-len-3-clause-refused g t c =
-    rw c.in-Decimal.is (within_is_no_refusal-flat c.get-in-Decimal.result _ c.args.index c.len-in-Decimal.result (decimal_rows c.in-Decimal.array) c.len-in-Decimal.ensures.rows c.if-index-len-3.false)
-
-pub array_ref::ArrayRef::scalar_at-returns-else-index-len-4-clause-refused : goal.array_ref::ArrayRef::scalar_at-returns-else-index-len-4-clause-refused
-array_ref::ArrayRef::scalar_at-returns-else-index-len-4-clause-refused g t c =
-    rw c.in-VarBinView.is (within_is_no_refusal-flat c.get-in-VarBinView.result _ c.args.index c.len-in-VarBinView.result (varbin_rows c.in-VarBinView.array) c.len-in-VarBinView.ensures.rows c.if-index-len-4.false)
-
-pub array_ref::ArrayRef::scalar_at-returns-else-index-len-5-clause-refused : goal.array_ref::ArrayRef::scalar_at-returns-else-index-len-5-clause-refused
-array_ref::ArrayRef::scalar_at-returns-else-index-len-5-clause-refused g t c =
-    let lists = c.in-ListView.lists.value in
-    let counted : c.len-in-ListView.result ≡ list_count lists = c.len-in-ListView.ensures.offsets ∙ ap list_count c.deref.ensures in
-    rw c.in-ListView.is
-    (within_is_no_refusal c.get-in-ListView.result _ c.args.index (length (list_rows lists)) (omega (arith, counted, length-list_rows lists, c.if-index-len-5.false)))
+    rw c.lent_flat-flat.ensures
+    (within_is_no_refusal-flat c.get-in_default.result _ c.args.index c.len-in_default.result (leaf_rows (leaf_in c.lent_flat-flat.result)) c.len-in_default.ensures c.if-index-len-3.false)

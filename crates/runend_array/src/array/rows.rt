@@ -5,10 +5,11 @@ ghost use Rattle.runend_codec.specs.Ends.{IsEndsType, ends_of};
 ghost use Rattle.column_core.specs.ScalarView.{sees, IsViewOf};
 ghost use Rattle.runend_array.specs.Array.{IsRowValidity, column_of, rows, validity_of};
 ghost use Rattle.runend_array.specs.RowFlags.{IsValidityForm, IsValidityOf};
+ghost use Rattle.runend_codec.specs.Visible.{visible};
 ghost use Rattle.runend_codec.specs.Window.{IsWindow};
-ghost use Rattle.runend_array.specs.Column.{IsPlainEnds, column_dtype, column_of_runs, column_rows, end_numbers, end_ptype};
+ghost use Rattle.runend_array.specs.Column.{AreRuns, IsPlainEnds, column_dtype, column_of_runs, column_rows, end_numbers, end_ptype};
 ghost use Rattle.runend_array.specs.Canonical.{IsFlatPart, canonical_column};
-ghost use Rattle.runend_array.specs.RowRuns.{first_run, last_run};
+ghost use Rattle.runend_array.specs.RowRuns.{first_run, first_visible, last_run, stop_visible};
 ghost use Rattle.runend_array.specs.Encoding.{IsComputedFlat};
 
 use super::{RunEndArray, plain_ends};
@@ -16,6 +17,7 @@ use crate::array_ref::{ArrayRef, out_of_bounds};
 use crate::canonical::Canonical;
 use crate::lists::validity_in_runs;
 use crate::ops;
+use crate::session::ExecutionCtx;
 use crate::validities::RowValidity;
 use column_core::{DType, PrimitiveArray, ScalarView, VortexError, VortexResult};
 use std::alloc::Allocator;
@@ -60,6 +62,15 @@ impl<A: Allocator + Copy> RunEndArray<A> {
             Ok(view) => Ok(view),
             Err(_) => unreachable!(),
         }
+    }
+
+    /// A run column that is equal in form, in memory of its own. Refused as `OutOfMemory` alone.
+    pub fn try_clone(&self, ctx: &mut ExecutionCtx<A>) -> VortexResult<RunEndArray<A>>
+        ensures only { IsOkUnless result VortexError.OutOfMemory }
+        ensures form { IfOk result (λ array. array ≡ self.now) }
+        ensures session { ctx.new ≡ ctx.old }
+    {
+        self.clone_in(*ctx.allocator())
     }
 
     #[cycle(clone_in)]
@@ -115,6 +126,23 @@ impl<A: Allocator + Copy> RunEndArray<A> {
         let first = ops::find_physical_index(&self.ends, self.offset + start);
         let stop = ops::find_slice_end_index(&self.ends, self.offset + stop);
         first..stop
+    }
+
+    /// The visible runs: from the run of the first row to one past that of the last, and `0..0` where there
+    /// is no row.
+    pub fn visible_runs(&self) -> Range<usize>
+        ensures first { result.start ≡ first_visible self.now.ends self.now.offset self.now.count }
+        ensures stop { result.end ≡ stop_visible self.now.ends self.now.offset self.now.count }
+        ensures ordered { result.start ≤ result.end }
+        ensures in_bounds { result.end ≤ length self.now.ends }
+        ensures ends { slice_range self.now.ends result.start result.end ≡ visible self.now.ends self.now.offset self.now.count self.now.ends }
+        ensures values { slice_range (column_rows self.now.values) result.start result.end ≡ visible self.now.ends self.now.offset self.now.count (column_rows self.now.values) }
+        ensures valid { AreRuns self.now }
+    {
+        if self.length == 0 {
+            return 0..0;
+        }
+        self.runs_of_rows(0, self.length)
     }
 
     /// The ends of the runs from `first` to `stop - 1`. Refused as `OutOfMemory` alone.

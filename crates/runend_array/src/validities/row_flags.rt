@@ -60,13 +60,10 @@ impl<A: Allocator + Copy> ArrayRef<A> {
         ensures plain { IfOk result (λ rows. IsRowValidity rows) }
     {
         match self {
-            ArrayRef::Primitive(array) => copy_told(alloc, array.validity()),
-            ArrayRef::Bool(array) => copy_told(alloc, array.validity()),
-            ArrayRef::Decimal(array) => copy_told(alloc, array.validity()),
-            ArrayRef::VarBinView(array) => copy_told(alloc, array.validity()),
             ArrayRef::ListView(lists) => lists.validity().clone_in(alloc),
             ArrayRef::Constant(array) => Ok(validity_of_constant(array)),
             ArrayRef::RunEnd(array) => array.validity_in(alloc),
+            _ => copy_told(alloc, self.lent_flat().validity()),
         }
     }
 }

@@ -1,4 +1,4 @@
-use Rattle.std.proofs.Common.{sym, ◌∙◌}
+use Rattle.std.proofs.Common.{ap, length, sym, ◌∙◌}
 use Rattle.std.specs.Prelude.{option_map, unsigned_abs}
 use Rattle.std.proofs.lemmas.List.{length-map}
 use Rattle.column_core.specs.FlatColumn.{leaf_of}
@@ -22,3 +22,6 @@ returns-then-has_nulls_alone-clause-rows g c =
     let paired = length-map (leaf_rows values) (option_map Single) ∙ c.requires.paired ∙ sym (length-map c.args.ends.now.numbers unsigned_abs) in
     rw c.null_constant-nulls.ensures
     (run_rows-of_nulls (ends_of c.args.ends.now) (single_rows values) c.args.offset c.args.count c.requires.window paired nulls)
+
+pub decode_flat-array-requires-clause-paired : goal.decode_flat-array-requires-clause-paired
+decode_flat-array-requires-clause-paired g c = ap (λ leaf. length (leaf_rows leaf)) c.view.ensures ∙ c.requires.paired
