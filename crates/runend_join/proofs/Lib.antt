@@ -3,3 +3,4 @@ pub mod Joining
 pub mod JoinedParts
 pub mod RunReads
 pub mod Moved
+pub mod Marked

@@ -1,5 +1,5 @@
 -- What single runs show, read by number and flag.
-use Rattle.std.proofs.Common.{◌≡◌, ◌≢◌, ◌+◌, ◌-◌, ◌<◌, ◌≤◌, ℕ, ℤ, pos, List, Bool, true, false, Some, get_or, length, map, refl, sym, subst, ◌∙◌, ap, arith, inl, inr}
+use Rattle.std.proofs.Common.{◌≡◌, ◌≢◌, ◌+◌, ◌-◌, ◌<◌, ◌≤◌, ℕ, ℤ, pos, List, Bool, true, false, Option, Some, None, get_or, length, map, refl, sym, subst, ◌∙◌, ap, arith, inl, inr, if◌then◌else◌}
 use Rattle.std.specs.List.{slice_get, AllAdjacentBelow}
 use Rattle.std.specs.Option.{option_map}
 use Rattle.std.proofs.lemmas.Bool.{cases_lt}
@@ -14,7 +14,10 @@ use Rattle.runend_codec.specs.Ends.{IsEndsType}
 use Rattle.runend_codec.proofs.Arms.{length-arm}
 use Rattle.runend_codec.proofs.Blanked.{AreBlankAtNulls-at}
 use Rattle.runend_codec.proofs.StoredNumbers.{flags-read}
-use Rattle.runend_join.specs.Joined.{optional_of}
+
+-- the number, or null
+abbrev pub optional_of : Bool → ℤ → Option ℤ
+optional_of valid number = if valid then Some number else None
 
 -- a run shows the number that is read, or null by the flag that is read
 pub shown-read : {S : Type 0} (number : S → ℤ) (items : List S) (form : ValidityForm) (run : ℕ) (x : S) (valid : Bool) → HasLength form (length items) → run < length items

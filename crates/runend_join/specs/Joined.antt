@@ -1,5 +1,5 @@
 -- Joined runs: equal neighbours are one run, so that the runs are in least form.
-use Rattle.std.specs.Prelude.{◌≡◌, ℕ, ◌<◌, ℤ, List, length, Bool, Option, Some, None, if◌then◌else◌}
+use Rattle.std.specs.Prelude.{◌≡◌, ℕ, ◌<◌, List, length}
 use Rattle.column_core.specs.PrimitiveForm.{PrimitiveForm, primitive_dtype}
 use Rattle.column_core.specs.Computed.{IsComputed}
 use Rattle.runend_codec.specs.Cover.{IsTightCover}
@@ -11,10 +11,6 @@ use Rattle.runend_codec.specs.Window.{run_rows}
 -- each run has a row of the window
 abbrev pub AllHaveRows : List ℕ → ℕ → ℕ → Type 0
 AllHaveRows ends offset count = (run : ℕ) → run < length ends → HasRow ends offset count run
-
--- the number, or null
-abbrev pub optional_of : Bool → ℤ → Option ℤ
-optional_of valid number = if valid then Some number else None
 
 -- the tight exact cover of the rows that runs show, with ends and values of the same types, the values as a call computes them
 pub record AreJoined (ends values : PrimitiveForm) (offset count : ℕ) (joined_ends joined_values : PrimitiveForm) : Type 0 where

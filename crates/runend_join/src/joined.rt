@@ -1,5 +1,5 @@
 //! The loops that join runs: each run shows a row, and is looked at once.
-ghost use Rattle.std.specs.Prelude.{◌≡◌, ◌+◌, ◌-◌, ◌<◌, ◌≤◌, ◌++◌, ◌↔◌, [], ◌∷◌, ℕ, Some, pos, true, false, All, IfOk, OnOk, IsOkUnless, IsTrue, length, map, min, slice_get, slice_index, unsigned_abs};
+ghost use Rattle.std.specs.Prelude.{◌≡◌, ◌+◌, ◌-◌, ◌<◌, ◌≤◌, ◌++◌, ◌↔◌, [], ◌∷◌, ℕ, Some, pos, true, false, All, IfOk, IsOkUnless, IsTrue, drop, length, map, min, replicate, slice_get, slice_index, take, unsigned_abs};
 ghost use Rattle.std.specs.Prelude.{◌≢◌};
 ghost use Rattle.std.specs.List.{AllAdjacentBelow};
 ghost use Rattle.column_base.specs.Types.{HasNumber};
@@ -8,9 +8,11 @@ ghost use Rattle.column_base.specs.Validity.{form_of};
 ghost use Rattle.column_core.specs.PrimitiveForm.{AreZeroAtNulls, optionals};
 ghost use Rattle.runend_codec.specs.Cover.{IsTightCover};
 ghost use Rattle.runend_codec.specs.Window.{run_rows, IsWindow};
-ghost use Rattle.runend_join.specs.Joined.{AllHaveRows, optional_of};
+ghost use Rattle.runend_join.specs.Joined.{AllHaveRows};
 
-use column_core::{BitBufferMut, NativePType, UnsignedPType, Validity, VortexError, VortexResult};
+use column_core::{
+    BitBuffer, BitBufferMut, NativePType, UnsignedPType, Validity, VortexError, VortexResult,
+};
 use std::alloc::Allocator;
 
 /// The runs that are closed, in order.
@@ -22,40 +24,6 @@ pub(crate) struct JoinedRuns<E: Drop, T: Drop, A: Allocator> {
     pub(crate) values: Vec<T, A>,
     /// Whether each run shows a number.
     pub(crate) flags: BitBufferMut<A>,
-}
-
-impl<E: UnsignedPType, T: NativePType, A: Allocator + Copy> JoinedRuns<E, T, A> {
-    // No runs, and room for `runs`.
-    fn with_room(alloc: A, runs: usize) -> VortexResult<Self>
-        ensures only { IsOkUnless result VortexError.OutOfMemory }
-        ensures ends { IfOk result (λ joined. joined.ends.items ≡ []) }
-        ensures values { IfOk result (λ joined. joined.values.items ≡ []) }
-        ensures flags { IfOk result (λ joined. joined.flags ≡ []) }
-    {
-        Ok(JoinedRuns {
-            ends: Vec::with_capacity(alloc, runs)?,
-            values: Vec::with_capacity(alloc, runs)?,
-            flags: BitBufferMut::with_capacity(alloc, runs)?,
-        })
-    }
-
-    // Closes a run that shows the number, or null with the number 0, and ends at `end`.
-    fn close(&mut self, valid: bool, number: T, end: E) -> VortexResult<()>
-        requires paired { length self.old.flags ≡ length self.old.values.items }
-        requires blank { valid ≡ false → T.number number ≡ pos 0 }
-        ensures only { IsOkUnless result VortexError.OutOfMemory }
-        ensures ends { OnOk result (self.new.ends.items ≡ self.old.ends.items ++ end ∷ []) }
-        ensures paired { OnOk result (length self.new.flags ≡ length self.new.values.items) }
-        ensures values { OnOk result (optionals (map T.number self.new.values.items) self.new.flags
-            ≡ optionals (map T.number self.old.values.items) self.old.flags ++ optional_of valid (T.number number) ∷ []) }
-        ensures zeroed { OnOk result (AreZeroAtNulls (map T.number self.old.values.items) self.old.flags
-            → AreZeroAtNulls (map T.number self.new.values.items) self.new.flags) }
-    {
-        self.ends.push(end)?;
-        self.flags.append(valid)?;
-        self.values.push(number)?;
-        Ok(())
-    }
 }
 
 // So many rows, as an end.
@@ -74,20 +42,6 @@ fn end_in_window<E: UnsignedPType>(ends: &[E], run: usize, offset: usize, count:
 {
     let rows = ends[run].to_u64().saturating_sub(offset as u64);
     end_of(rows.min(count as u64))
-}
-
-// Does a run show another value than the other one?
-fn shows_other<T: NativePType>(valid: bool, number: T, other_valid: bool, other: T) -> bool
-    ensures yes { result ≡ true → optional_of other_valid (T.number other) ≢ optional_of valid (T.number number) }
-    ensures no { result ≡ false → optional_of valid (T.number number) ≡ optional_of other_valid (T.number other) }
-{
-    if !valid {
-        return other_valid;
-    }
-    if !other_valid {
-        return true;
-    }
-    number != other
 }
 
 /// The ends and the numbers of the joined runs, where none is null.
@@ -149,24 +103,144 @@ pub(crate) fn join_nullable<E: UnsignedPType, T: NativePType, A: Allocator + Cop
     ensures paired { IfOk result (λ runs. length runs.flags ≡ length runs.values.items) }
     ensures zeroed { IfOk result (λ runs. AreZeroAtNulls (map T.number runs.values.items) runs.flags) }
 {
-    let runs = items.len();
-    let mut joined = JoinedRuns::with_room(alloc, runs)?;
-    if runs == 0 {
-        return Ok(joined);
+    match validity {
+        Validity::NonNullable => join_alike(alloc, ends, items, true, offset, count),
+        Validity::AllValid => join_alike(alloc, ends, items, true, offset, count),
+        Validity::AllInvalid => join_alike(alloc, ends, items, false, offset, count),
+        Validity::Bits(marks) => join_marked(alloc, ends, items, marks, offset, count),
     }
-    let mut open = items[0];
-    let mut valid = validity.is_valid(0);
+}
+
+// The same, where all runs show numbers, or all null.
+fn join_alike<E: UnsignedPType, T: NativePType, A: Allocator + Copy>(
+    alloc: A,
+    ends: &[E],
+    items: &[T],
+    valid: bool,
+    offset: usize,
+    count: usize,
+) -> VortexResult<JoinedRuns<E, T, A>>
+    requires fits { All (λ end. HasNumber E.PTYPE (E.number end)) ends.now }
+    requires window { IsWindow (map unsigned_abs (map E.number ends.now)) offset count }
+    requires paired { length items.now ≡ length ends.now }
+    requires shown { AllHaveRows (map unsigned_abs (map E.number ends.now)) offset count }
+    requires zeroed { AreZeroAtNulls (map T.number items.now) (replicate (length items.now) valid) }
+    ensures only { IsOkUnless result VortexError.OutOfMemory }
+    ensures cover { IfOk result (λ runs. IsTightCover
+        (run_rows (map unsigned_abs (map E.number ends.now)) (optionals (map T.number items.now) (replicate (length items.now) valid)) offset count)
+        (map unsigned_abs (map E.number runs.ends.items)) (optionals (map T.number runs.values.items) runs.flags)) }
+    ensures paired { IfOk result (λ runs. length runs.flags ≡ length runs.values.items) }
+    ensures zeroed { IfOk result (λ runs. AreZeroAtNulls (map T.number runs.values.items) runs.flags) }
+{
+    let marks = BitBufferMut::full(alloc, valid, items.len())?.freeze();
+    join_marked(alloc, ends, items, &marks, offset, count)
+}
+
+// The same, where each run has a bit that says whether it shows a number.
+fn join_marked<E: UnsignedPType, T: NativePType, A: Allocator + Copy>(
+    alloc: A,
+    ends: &[E],
+    items: &[T],
+    marks: &BitBuffer<A>,
+    offset: usize,
+    count: usize,
+) -> VortexResult<JoinedRuns<E, T, A>>
+    requires fits { All (λ end. HasNumber E.PTYPE (E.number end)) ends.now }
+    requires window { IsWindow (map unsigned_abs (map E.number ends.now)) offset count }
+    requires paired { length items.now ≡ length ends.now }
+    requires shown { AllHaveRows (map unsigned_abs (map E.number ends.now)) offset count }
+    requires counted { length marks.now ≡ length items.now }
+    requires zeroed { AreZeroAtNulls (map T.number items.now) marks.now }
+    ensures only { IsOkUnless result VortexError.OutOfMemory }
+    ensures cover { IfOk result (λ runs. IsTightCover
+        (run_rows (map unsigned_abs (map E.number ends.now)) (optionals (map T.number items.now) marks.now) offset count)
+        (map unsigned_abs (map E.number runs.ends.items)) (optionals (map T.number runs.values.items) runs.flags)) }
+    ensures paired { IfOk result (λ runs. length runs.flags ≡ length runs.values.items) }
+    ensures zeroed { IfOk result (λ runs. AreZeroAtNulls (map T.number runs.values.items) runs.flags) }
+{
+    let runs = items.len();
+    let mut joined_ends = Vec::with_capacity(alloc, runs)?;
+    let mut values = Vec::with_capacity(alloc, runs)?;
+    let mut flags = BitBufferMut::full(alloc, true, runs)?;
+    if runs == 0 {
+        return Ok(JoinedRuns {
+            ends: joined_ends,
+            values,
+            flags,
+        });
+    }
     for run in 1..runs {
-        let item = items[run];
-        let flag = validity.is_valid(run);
-        if shows_other(flag, item, valid, open) {
-            joined.close(valid, open, end_in_window(ends, run - 1, offset, count))?;
-            open = item;
-            valid = flag;
+        if shows_other(items, marks, run) {
+            put_flag(
+                &mut flags,
+                values.len(),
+                shows_number(items, marks, run - 1),
+            );
+            joined_ends.push_reserved(end_in_window(ends, run - 1, offset, count));
+            values.push_reserved(items[run - 1]);
         }
     }
-    joined.close(valid, open, end_in_window(ends, runs - 1, offset, count))?;
-    Ok(joined)
+    put_flag(
+        &mut flags,
+        values.len(),
+        shows_number(items, marks, runs - 1),
+    );
+    joined_ends.push_reserved(end_in_window(ends, runs - 1, offset, count));
+    values.push_reserved(items[runs - 1]);
+    flags.truncate(values.len());
+    Ok(JoinedRuns {
+        ends: joined_ends,
+        values,
+        flags,
+    })
+}
+
+// Does a run show another value than the one before it?
+#[inline(always)]
+fn shows_other<T: NativePType, A: Allocator>(items: &[T], marks: &BitBuffer<A>, run: usize) -> bool
+    requires later { 0 < run }
+    requires within { run < length items.now }
+    requires counted { length marks.now ≡ length items.now }
+    requires zeroed { AreZeroAtNulls (map T.number items.now) marks.now }
+    ensures yes { result ≡ true → slice_get (optionals (map T.number items.now) marks.now) (run - 1) ≢ slice_get (optionals (map T.number items.now) marks.now) run }
+    ensures no { result ≡ false → slice_get (optionals (map T.number items.now) marks.now) (run - 1) ≡ slice_get (optionals (map T.number items.now) marks.now) run }
+{
+    // Marks are looked at only where the numbers are equal, which they seldom are: the number of a null is 0.
+    if items[run] != items[run - 1] {
+        return true;
+    }
+    marks.value(run) != marks.value(run - 1)
+}
+
+// Does a run show a number?
+#[inline(always)]
+fn shows_number<T: NativePType, A: Allocator>(items: &[T], marks: &BitBuffer<A>, run: usize) -> bool
+    requires within { run < length items.now }
+    requires counted { length marks.now ≡ length items.now }
+    requires zeroed { AreZeroAtNulls (map T.number items.now) marks.now }
+    ensures { slice_get marks.now run ≡ Some result }
+{
+    // The number of a null is 0, and marks are read in more steps than numbers.
+    if items[run] != T::default() {
+        return true;
+    }
+    marks.value(run)
+}
+
+// Makes the flag at `place` this one, where it and all behind it are true.
+#[inline(always)]
+fn put_flag<A: Allocator + Copy>(flags: &mut BitBufferMut<A>, place: usize, flag: bool)
+    requires within { place < length flags.old }
+    requires rest { drop place flags.old ≡ replicate (length flags.old - place) true }
+    ensures put { take (place + 1) flags.new ≡ take place flags.old ++ flag ∷ [] }
+    ensures rest { drop (place + 1) flags.new ≡ replicate (length flags.new - (place + 1)) true }
+    ensures len { length flags.new ≡ length flags.old }
+{
+    // Read for its range: there is a number past each place.
+    let _count = flags.len();
+    if !flag {
+        flags.fill_range(place, place + 1, false);
+    }
 }
 
 // So many stored numbers are compared with those before them until the answer is looked at: a loop without a branch

@@ -3,8 +3,7 @@ use mathlib.Core.Bool.{beq}
 use Rattle.column_base.specs.ValidityForm.{flags, flag_at}
 use Rattle.column_base.specs.Validity.{form_of}
 use Rattle.column_core.specs.PrimitiveForm.{optionals}
-use Rattle.runend_join.specs.Joined.{optional_of}
-use Rattle.runend_join.proofs.RunReads.{AllAdjacentBelow-more, blank-read, flags-equal, numbers-equal, shown-read}
+use Rattle.runend_join.proofs.RunReads.{AllAdjacentBelow-more, blank-read, flags-equal, numbers-equal, optional_of, shown-read}
 use Rattle.runend_join.proofs.joined.differ_between.Goals as goal
 use Rattle.runend_join.proofs.joined.differ_between.Goals.{then-eq+else-is_valid, else-eq}
 
