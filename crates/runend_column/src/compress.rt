@@ -3,7 +3,8 @@ ghost use Rattle.std.specs.Prelude.{◌≡◌, ℕ, List, length as item_count, 
 ghost use Rattle.column_base.specs.declared.dtype.DType.TheVariants as column;
 ghost use Rattle.column_base.specs.Mask.{mask_bits};
 ghost use Rattle.column_core.specs.Computed.{HasRowIfAllNull, IsComputed};
-ghost use Rattle.column_core.specs.Leaf.{OfDecimals, OfVarBins, leaf_dtype, single_rows};
+ghost use Rattle.column_core.specs.FlatColumn.{leaf_of};
+ghost use Rattle.column_core.specs.Leaf.{OfDecimals, OfVarBins, leaf_dtype, leaf_rows, single_rows};
 ghost use Rattle.column_core.specs.PrimitiveForm.{primitive_dtype};
 ghost use Rattle.runend_codec.specs.Encoding.{number_rows};
 ghost use Rattle.runend_codec.specs.Ends.{IsEndsType, ends_of};
@@ -43,16 +44,7 @@ pub fn runend_decode_primitive<A: Allocator + Copy>(
     ensures session { ctx.new ≡ ctx.old }
 {
     prove_eq!(values.len(), ends.len());
-    let decoded = decode_column(
-        *ctx.allocator(),
-        &ends,
-        FlatColumn::Primitive(values),
-        offset,
-        length,
-        0,
-    );
-    drop(ends);
-    decoded
+    decode_runs(ends, FlatColumn::Primitive(values), offset, length, ctx)
 }
 
 /// The rows that runs of decimals show, from row `offset` on, `length` many. A constant null where there is a
@@ -75,16 +67,7 @@ pub fn runend_decode_decimal<A: Allocator + Copy>(
     ensures session { ctx.new ≡ ctx.old }
 {
     prove_eq!(values.len(), ends.len());
-    let decoded = decode_column(
-        *ctx.allocator(),
-        &ends,
-        FlatColumn::Decimal(values),
-        offset,
-        length,
-        0,
-    );
-    drop(ends);
-    decoded
+    decode_runs(ends, FlatColumn::Decimal(values), offset, length, ctx)
 }
 
 /// The rows that runs of texts or bytes show, from row `offset` on, `length` many. A constant null where there is a
@@ -107,14 +90,31 @@ pub fn runend_decode_varbinview<A: Allocator + Copy>(
     ensures session { ctx.new ≡ ctx.old }
 {
     prove_eq!(values.len(), ends.len());
-    let decoded = decode_column(
-        *ctx.allocator(),
-        &ends,
-        FlatColumn::VarBinView(values),
-        offset,
-        length,
-        0,
-    );
+    decode_runs(ends, FlatColumn::VarBinView(values), offset, length, ctx)
+}
+
+/// The rows that runs of flat values show, from row `offset` on, `length` many. A constant null where there is a
+/// run and all values are null, else a flat column with 0, false or the view of nothing under null. Truth values
+/// are prefilled from the session's number of runs on. Refused as `OutOfMemory` alone.
+pub(crate) fn decode_runs<A: Allocator + Copy>(
+    ends: PrimitiveArray<A>,
+    values: FlatColumn<A>,
+    offset: usize,
+    length: usize,
+    ctx: &mut ExecutionCtx<A>,
+) -> VortexResult<ArrayRef<A>>
+    requires plain { IsEndsType (primitive_dtype ends) }
+    requires window { IsWindow (ends_of ends) offset length }
+    requires paired { item_count (leaf_rows (leaf_of values)) ≡ item_count ends.numbers }
+    ensures only { IsOkUnless result VortexError.OutOfMemory }
+    ensures rows { IfOk result (λ array. rows array ≡ run_rows (ends_of ends) (single_rows (leaf_of values)) offset length) }
+    ensures dtype { IfOk result (λ array. dtype_of array ≡ leaf_dtype (leaf_of values)) }
+    ensures form { IfOk result (λ array. IsDecodedForm (single_rows (leaf_of values)) (column_of array)) }
+    ensures session { ctx.new ≡ ctx.old }
+{
+    let alloc = *ctx.allocator();
+    let prefill_runs = ctx.session().thresholds().prefill_runs;
+    let decoded = decode_column(alloc, &ends, values, offset, length, prefill_runs);
     drop(ends);
     decoded
 }

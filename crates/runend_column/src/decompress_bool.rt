@@ -10,11 +10,11 @@ ghost use Rattle.runend_codec.specs.Window.{IsWindow, run_rows};
 ghost use Rattle.runend_array.specs.Array.{column_of, dtype_of, rows};
 ghost use Rattle.runend_array.specs.Encoding.{IsDecodedForm};
 
+use crate::compress::decode_runs;
 use column_core::{
     BitBuffer, BoolArray, DType, FlatColumn, Mask, Nullability, PrimitiveArray, VortexError,
     VortexResult,
 };
-use runend_array::compress::decode_column;
 use runend_array::{ArrayRef, ExecutionCtx, null_constant};
 use runend_decode::{decode_typed_bits, masks_all};
 use std::alloc::Allocator;
@@ -39,17 +39,7 @@ pub fn runend_decode_bools<A: Allocator + Copy>(
     ensures session { ctx.new ≡ ctx.old }
 {
     prove_eq!(values.len(), ends.len());
-    let prefill_runs = ctx.session().thresholds().prefill_runs;
-    let decoded = decode_column(
-        *ctx.allocator(),
-        &ends,
-        FlatColumn::Bool(values),
-        offset,
-        length,
-        prefill_runs,
-    );
-    drop(ends);
-    decoded
+    decode_runs(ends, FlatColumn::Bool(values), offset, length, ctx)
 }
 
 /// The rows of runs whose ends come from an iterator: a constant null where there is a run and the mask

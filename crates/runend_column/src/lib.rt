@@ -1,18 +1,16 @@
 //! One run column: its decoders, single rows, the validity, the data beside its slots, its slices and its metadata
-//! record. And what a session needs of every kernel: that it is registered, and the thresholds by which kernels choose.
+//! record.
 #![tactic(auto)]
 
 pub mod compress;
 mod data;
 pub mod decompress_bool;
-mod kernel;
 mod probe;
 mod record;
 mod slices;
 mod valid_rows;
 
 pub use data::{RunEndData, RunEndDataParts};
-pub use kernel::initialize;
 pub use probe::RunEndProbe;
 pub use record::{deserialize, serialize};
 pub use slices::slice;

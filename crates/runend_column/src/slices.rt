@@ -1,5 +1,5 @@
 //! Slices of run columns.
-ghost use Rattle.std.specs.Prelude.{◌≡◌, ◌+◌, ◌-◌, ◌<◌, ◌≤◌, ◌↔◌, length, slice_range, IfOk, IsErrOf, IsOkUnless, IsTrue};
+ghost use Rattle.std.specs.Prelude.{◌≡◌, ◌+◌, ◌-◌, ◌<◌, ◌≤◌, ◌↔◌, length, slice_range, IfOk, IsErrOf, IsOkUnless};
 ghost use Rattle.column_core.specs.Value.{IsLists};
 ghost use Rattle.column_core.specs.Ranges.{IsBadRange};
 ghost use Rattle.column_core.specs.Refusal.{IsRefusedBy, range_fault};
@@ -8,8 +8,9 @@ ghost use Rattle.runend_array.specs.Array.{column_of, dtype_of, rows};
 ghost use Rattle.runend_array.specs.Column.{column_dtype, column_of_runs, column_rows};
 ghost use Rattle.runend_column.specs.SliceForm.{IsOfRuns, IsSliceForm, RepeatsRun};
 
+use column_core::is_list_type;
 use runend_array::{
-    ArrayRef, ConstantArray, DType, ExecutionCtx, RunEnd, RunEndArray, RunEndArrayExt,
+    ArrayRef, ConstantArray, ExecutionCtx, RunEnd, RunEndArray, RunEndArrayExt,
     RunEndArraySlotsExt, Scalar, VortexError, VortexResult,
 };
 use std::alloc::Allocator;
@@ -79,7 +80,7 @@ fn rows_between<A: Allocator + Copy>(
     ensures form { IfOk result (λ part. IsSliceForm array.now start stop (column_of part)) }
     ensures session { ctx.new ≡ ctx.old }
 {
-    let single = !is_lists(array.values().dtype());
+    let single = !is_list_type(array.values().dtype());
     let runs = array.runs_of_rows(start, stop);
     let count = stop - start;
     if single && runs.end - runs.start == 1 {
@@ -88,16 +89,6 @@ fn rows_between<A: Allocator + Copy>(
     }
     let part = runs_between(array, runs, array.offset() + start, count, ctx)?;
     Ok(part)
-}
-
-// Is it a type of lists?
-fn is_lists(dtype: DType) -> bool
-    ensures { IsTrue result ↔ IsLists dtype }
-{
-    match dtype {
-        DType::List(_, _) => true,
-        _ => false,
-    }
 }
 
 // The value of a run, in each of `count` rows.
