@@ -1,5 +1,3 @@
-pub mod CheckedIndices
-pub mod RowPositions
 pub mod PassedOn
 pub mod FilterFaults
 pub mod ComputedRows

@@ -1,15 +1,13 @@
 -- A filter takes the rows at the places of the true bits.
 use Rattle.std.proofs.Common.{◌≡◌, ◌∙◌, ℕ, ℤ, zero, suc, pos, ◌+◌, ◌-◌, ◌<◌, ◌≤◌, List, [], ◌∷◌, Bool, true, false, cond, count_by, Option, Some, None, length, map, get_or, drop, replicate, arith, ap, refl, add-one}
-use Rattle.std.specs.Prelude.{◌≤ℤ◌, ◌<ℤ◌, filter, slice_index_or, All, IfSome}
+use Rattle.std.specs.Prelude.{filter, slice_index_or, All, IfSome}
 use Rattle.std.specs.List.{range_with_len}
-use Rattle.std.proofs.lemmas.Int.{ints}
 use Rattle.std.proofs.lemmas.List.Elements.{All-cons, All-head, All-nil, All-tail}
 use Rattle.std.proofs.lemmas.List.Sums.{sum_by-cons}
 use Rattle.column_base.specs.Bits.{set_indices_of}
 use Rattle.column_core.specs.Optionals.{optionals}
 use Rattle.column_ops.specs.Filter.{filter_rows}
 use Rattle.column_ops.specs.Take.{ArePositions, position_numbers, take_rows}
-use Rattle.runend_positions.specs.Indices.{AreInBounds, optional_indices}
 
 -- the places from one on at which a bit is true, in ascending order
 abbrev set_indices_from : ℕ → List Bool → List ℕ
@@ -93,22 +91,15 @@ take_rows-numbers : {B : Type 0} (rows : List (Option B)) (places : List ℕ) �
 take_rows-numbers rows [] = refl
 take_rows-numbers {B} rows (place ∷ places) = ap (λ (xs : List (Option B)). get_or rows place None ∷ xs) (take_rows-numbers rows places)
 
-bounds-numbers : (count : ℕ) (places : List ℕ) → All (λ i. i < count) places → AreInBounds (optionals (map (λ (n : ℕ). pos n) places) (replicate (length places) true)) count
-bounds-numbers count [] within = All-nil (λ i. IfSome i (λ n. (pos 0 ≤ℤ n) × (n <ℤ pos count)))
-bounds-numbers count (place ∷ places) within =
-    let here = All-head (λ i. i < count) place places within in
-    All-cons (λ i. IfSome i (λ n. (pos 0 ≤ℤ n) × (n <ℤ pos count))) (Some (pos place)) (optionals (map (λ (n : ℕ). pos n) places) (replicate (length places) true)) (omega (arith, ints), omega (arith, ints))
-    (bounds-numbers count places (All-tail (λ i. i < count) place places within))
-
 pub take_rows-places : {B : Type 0} (bits : List Bool) (rows : List (Option B)) (places : List ℕ) → length bits ≡ length rows → places ≡ set_indices_of bits
-    → take_rows rows (optional_indices (λ (n : ℕ). pos n) places (replicate (length places) true)) ≡ filter_rows bits rows
+    → take_rows rows (optionals (map (λ (n : ℕ). pos n) places) (replicate (length places) true)) ≡ filter_rows bits rows
 take_rows-places bits rows places long is = take_rows-numbers rows places ∙ ap (map (λ i. get_or rows i None)) is ∙ rows-places bits rows long
 
-pub bounds-places : (bits : List Bool) (count : ℕ) (places : List ℕ) → length bits ≡ count → places ≡ set_indices_of bits
-    → AreInBounds (optional_indices (λ (n : ℕ). pos n) places (replicate (length places) true)) count
-bounds-places bits count places long is =
+-- each place is that of a bit
+pub within-places : (bits : List Bool) (places : List ℕ) → places ≡ set_indices_of bits → All (λ i. i < length bits) places
+within-places bits places is =
     let all : length bits - 0 ≡ length bits = omega arith in
-    bounds-numbers count places (rw (is, ← long) (rw all at (within-from bits (length bits) 0 (omega arith))))
+    rw is (rw all at (within-from bits (length bits) 0 (omega arith)))
 
 -- the same places, as positions of which none is null
 numbers-positions : (places : List ℕ) → position_numbers (optionals places (replicate (length places) true)) ≡ optionals (map (λ (n : ℕ). pos n) places) (replicate (length places) true)
@@ -126,6 +117,4 @@ positions-numbers count (place ∷ places) within =
     (positions-numbers count places (All-tail (λ i. i < count) place places within))
 
 pub positions-places : (bits : List Bool) (count : ℕ) (places : List ℕ) → length bits ≡ count → places ≡ set_indices_of bits → ArePositions (optionals places (replicate (length places) true)) count
-positions-places bits count places long is =
-    let all : length bits - 0 ≡ length bits = omega arith in
-    positions-numbers count places (rw (is, ← long) (rw all at (within-from bits (length bits) 0 (omega arith))))
+positions-places bits count places long is = positions-numbers count places (rw (← long) (within-places bits places is))

@@ -1,33 +1,32 @@
-//! Columns of any form, row by row.
-ghost use Rattle.std.specs.Prelude.{◌≡◌, ◌↔◌, IfOk, IsOkUnless, IsTrue};
+//! Columns of any form but lists, written row by row.
+ghost use Rattle.std.specs.Prelude.{◌≡◌, IfOk, IsOkUnless};
 ghost use Rattle.column_core.specs.FlatColumn.{leaf_of};
+ghost use Rattle.column_core.specs.Kinds.{list_fault};
 ghost use Rattle.column_core.specs.Leaf.{leaf_dtype, single_rows};
+ghost use Rattle.column_core.specs.Refusal.{IsRefusedBy};
 ghost use Rattle.column_core.specs.Value.{IsLists};
 ghost use Rattle.runend_array.specs.Array.{dtype_of, rows};
 
-use column_core::{DType, FlatColumn, VortexError, VortexResult};
-use runend_array::{ArrayRef, Canonical};
+use column_core::{FlatColumn, VortexError, VortexResult, fault_of_lists};
+use runend_array::{ArrayRef, Canonical, ExecutionCtx};
 use std::alloc::Allocator;
 
-/// Is it a type of lists?
-pub fn is_lists(dtype: DType) -> bool
-    ensures { IsTrue result ↔ IsLists dtype }
-{
-    match dtype {
-        DType::List(_, _) => true,
-        _ => false,
-    }
-}
-
-/// The rows of a column that has no lists, as a flat column in memory of its own. Refused as `OutOfMemory`
-/// alone.
-pub fn flat_rows<A: Allocator + Copy>(column: &ArrayRef<A>, alloc: A) -> VortexResult<FlatColumn<A>>
-    requires single { ¬ IsLists (dtype_of column.now) }
-    ensures only { IsOkUnless result VortexError.OutOfMemory }
+/// The rows of a column, stored one by one in memory of their own. Refused as `Unsupported` exactly for
+/// lists, before any memory is taken, else as `OutOfMemory` alone.
+pub fn flat_rows<A: Allocator + Copy>(
+    column: &ArrayRef<A>,
+    ctx: &mut ExecutionCtx<A>,
+) -> VortexResult<FlatColumn<A>>
+    ensures refused { IsRefusedBy (list_fault (dtype_of column.now)) result }
+    ensures only { ¬ IsLists (dtype_of column.now) → IsOkUnless result VortexError.OutOfMemory }
     ensures rows { IfOk result (λ flat. single_rows (leaf_of flat) ≡ rows column.now) }
     ensures dtype { IfOk result (λ flat. leaf_dtype (leaf_of flat) ≡ dtype_of column.now) }
+    ensures session { ctx.new ≡ ctx.old }
 {
-    match column.rows_between(alloc, 0, column.len())? {
+    if let Some(error) = fault_of_lists(column.dtype()) {
+        return Err(error);
+    }
+    match column.to_canonical(ctx)? {
         Canonical::Flat(flat) => Ok(flat),
         Canonical::List(_) => unreachable!(),
     }

@@ -9,8 +9,8 @@ ghost use Rattle.runend_array.specs.Array.{column_of, dtype_of, rows};
 ghost use Rattle.runend_array.specs.Column.{plain_of};
 ghost use Rattle.runend_array.specs.Encoding.{IsComputedFlat};
 
-use crate::decoded::{flat_rows, is_lists};
-use column_core::{DType, Scalar, VortexError, VortexResult};
+use crate::decoded::flat_rows;
+use column_core::{DType, Scalar, VortexError, VortexResult, is_list_type};
 use column_ops::ColumnOps;
 use runend_array::{ArrayRef, ExecutionCtx, array_of};
 use std::alloc::Allocator;
@@ -29,14 +29,13 @@ pub fn fill_rows<A: Allocator + Copy>(
     ensures form { IfOk result (λ filled. IsComputedFlat (column_of filled)) }
     ensures session { ctx.new ≡ ctx.old }
 {
-    if is_lists(array.dtype()) {
+    if is_list_type(array.dtype()) {
         return Err(VortexError::Unsupported);
     }
-    let alloc = *ctx.allocator();
-    let flat = flat_rows(array, alloc)?;
-    let made = flat.fill_null(alloc, value);
+    let flat = flat_rows(array, ctx)?;
+    let filled = flat.fill_null(*ctx.allocator(), value);
     drop(flat);
-    let filled = made?;
+    let filled = filled?;
     Ok(array_of(filled))
 }
 
@@ -54,13 +53,12 @@ pub fn cast_rows<A: Allocator + Copy>(
     ensures form { IfOk result (λ cast. IsComputedFlat (column_of cast)) }
     ensures session { ctx.new ≡ ctx.old }
 {
-    if is_lists(array.dtype()) {
+    if is_list_type(array.dtype()) {
         return Err(VortexError::Unsupported);
     }
-    let alloc = *ctx.allocator();
-    let flat = flat_rows(array, alloc)?;
-    let made = flat.cast(alloc, dtype);
+    let flat = flat_rows(array, ctx)?;
+    let cast = flat.cast(*ctx.allocator(), dtype);
     drop(flat);
-    let cast = made?;
+    let cast = cast?;
     Ok(array_of(cast))
 }

@@ -11,7 +11,7 @@ mod places;
 mod run_values;
 
 pub use any_rows::{filter_rows, take_rows};
-pub use decoded::{flat_rows, is_lists};
+pub use decoded::flat_rows;
 pub use fill_and_cast::{cast_rows, fill_rows};
 pub use part::part_of;
 pub use places::set_places;

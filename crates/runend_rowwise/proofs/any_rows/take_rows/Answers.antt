@@ -1,229 +1,72 @@
-use Rattle.std.proofs.Common.{◌≡◌, ◌∙◌, ℤ, length, map, subst, sym, ap, pos}
-use Rattle.std.specs.Prelude.{IfOk}
-use Rattle.std.proofs.lemmas.List.{map-id}
-use Rattle.column_base.specs.declared.dtype.PType.TheVariants.{U8, U16, U32, U64, I8, I16, I32, I64}
-use Rattle.column_base.specs.Numbers.{numbers, ptype_of}
+use Rattle.std.proofs.Common.{◌∙◌, ℕ, List, ap, length, subst, sym}
+use Rattle.column_base.specs.declared.dtype.Nullability.{Nullability}
+use Rattle.column_base.specs.Types.{nullability_of, with_nullability}
+use Rattle.column_base.specs.ValidityForm.{HasLength, flags}
 use Rattle.column_base.specs.Validity.{form_of}
-use Rattle.column_core.specs.PrimitiveForm.{PrimitiveForm, optional_numbers, primitive_dtype}
-use Rattle.column_core.specs.Refusal.{IsRefusedBy}
-use Rattle.column_ops.specs.Nullable.{take_dtype}
-use Rattle.column_ops.specs.Take.{take_fault, take_rows as rows_at_indices}
+use Rattle.column_core.specs.Optionals.{optionals}
+use Rattle.column_core.specs.PrimitiveForm.{optional_numbers}
+use Rattle.column_core.specs.Refusal.{IsErrorFor}
+use Rattle.column_ops.specs.Nullable.{either_nullable}
+use Rattle.column_ops.specs.Take.{ArePositions, position_numbers, take_fault, take_rows}
+use Rattle.column_ops.proofs.IndexPositions.{refused-passed_on}
 use Rattle.runend_array.specs.Array.{dtype_of, rows}
-use Rattle.runend_rowwise.proofs.CheckedIndices.{same-primitive}
+use Rattle.runend_array.specs.Column.{column_dtype, column_rows}
+use Rattle.runend_array.specs.Encoding.{IsComputedFlat}
+use Rattle.runend_rowwise.proofs.ComputedRows.{ok_then}
+use Rattle.runend_rowwise.proofs.PassedOn.{no_value, refused_by_none}
 use Rattle.runend_rowwise.proofs.any_rows.take_rows.Goals as goal
 
-pub returns-in-U8-match_each_native-clause-refused : goal.returns-in-U8-match_each_native-clause-refused
-returns-in-U8-match_each_native-clause-refused g c =
-    let arm = c.in-U8-match_each_native.is in
-    let typed = sym (ap ptype_of arm) ∙ c.values.ensures.typed in
-    let shown = ap (map pos) c.as_slice.ensures.value ∙ sym (ap numbers arm) ∙ c.values.ensures.shows in
-    let same = same-primitive U8 (map pos c.as_slice.result.now) (form_of c.validity-validity.result.now) c.args.indices.now typed shown c.validity-validity.ensures.form in
-    subst (λ (p : PrimitiveForm). IsRefusedBy (take_fault (optional_numbers p) (length (rows c.args.array.now))) c.take_native_rows.result) same c.take_native_rows.ensures.refused
+pub take_values-taken-requires-clause-counted : goal.take_values-taken-requires-clause-counted
+take_values-taken-requires-clause-counted g c =
+    subst (λ (xs : List ℕ). HasLength (form_of c.in_ok-positions.places) (length xs)) (sym c.as_slice.ensures.value) c.in_ok-positions.ensures.positions.fits
 
-pub returns-in-U8-match_each_native-clause-rows : goal.returns-in-U8-match_each_native-clause-rows
-returns-in-U8-match_each_native-clause-rows g c =
-    let arm = c.in-U8-match_each_native.is in
-    let typed = sym (ap ptype_of arm) ∙ c.values.ensures.typed in
-    let shown = ap (map pos) c.as_slice.ensures.value ∙ sym (ap numbers arm) ∙ c.values.ensures.shows in
-    let same = same-primitive U8 (map pos c.as_slice.result.now) (form_of c.validity-validity.result.now) c.args.indices.now typed shown c.validity-validity.ensures.form in
-    subst (λ (p : PrimitiveForm). IfOk c.take_native_rows.result (λ taken. rows taken ≡ rows_at_indices (rows c.args.array.now) (optional_numbers p))) same c.take_native_rows.ensures.rows
+pub take_values-taken-requires-clause-within : goal.take_values-taken-requires-clause-within
+take_values-taken-requires-clause-within g c =
+    let form = form_of c.in_ok-positions.places in
+    let positions = c.as_slice.result.now in
+    let within = subst (λ (xs : List ℕ). ArePositions (optionals xs (flags form (length xs))) c.len.result) (sym c.as_slice.ensures.value) c.in_ok-positions.ensures.positions.within in
+    subst (λ (n : ℕ). ArePositions (optionals positions (flags form (length positions))) n) c.len.ensures within
 
-pub returns-in-U8-match_each_native-clause-dtype : goal.returns-in-U8-match_each_native-clause-dtype
-returns-in-U8-match_each_native-clause-dtype g c =
-    let arm = c.in-U8-match_each_native.is in
-    let typed = sym (ap ptype_of arm) ∙ c.values.ensures.typed in
-    let shown = ap (map pos) c.as_slice.ensures.value ∙ sym (ap numbers arm) ∙ c.values.ensures.shows in
-    let same = same-primitive U8 (map pos c.as_slice.result.now) (form_of c.validity-validity.result.now) c.args.indices.now typed shown c.validity-validity.ensures.form in
-    subst (λ (p : PrimitiveForm). IfOk c.take_native_rows.result (λ taken. dtype_of taken ≡ take_dtype (dtype_of c.args.array.now) (primitive_dtype p))) same c.take_native_rows.ensures.dtype
+pub returns-clause-refused : goal.returns-clause-refused
+returns-clause-refused g c =
+    refused_by_none _ c.into_array.result (sym (ap (take_fault (optional_numbers c.args.indices.now)) c.len.ensures) ∙ c.in_ok-positions.ensures.refused) c.into_array.ensures.only
 
-pub returns-in-U16-match_each_native-clause-refused : goal.returns-in-U16-match_each_native-clause-refused
-returns-in-U16-match_each_native-clause-refused g c =
-    let arm = c.in-U16-match_each_native.is in
-    let typed = sym (ap ptype_of arm) ∙ c.values.ensures.typed in
-    let shown = ap (map pos) c.as_slice-2.ensures.value ∙ sym (ap numbers arm) ∙ c.values.ensures.shows in
-    let same = same-primitive U16 (map pos c.as_slice-2.result.now) (form_of c.validity-validity.result.now) c.args.indices.now typed shown c.validity-validity.ensures.form in
-    subst (λ (p : PrimitiveForm). IsRefusedBy (take_fault (optional_numbers p) (length (rows c.args.array.now))) c.take_native_rows-2.result) same c.take_native_rows-2.ensures.refused
+pub returns-clause-rows : goal.returns-clause-rows
+returns-clause-rows g c =
+    let form = form_of c.in_ok-positions.places in
+    let shown = ap (λ (xs : List ℕ). position_numbers (optionals xs (flags form (length xs)))) c.as_slice.ensures.value ∙ c.in_ok-positions.ensures.positions.shown in
+    let taken = c.in_ok-taken.ensures.made.rows ∙ ap (take_rows (rows c.args.array.now)) shown in
+    ok_then c.into_array.result _ _ (λ array same. ap column_rows same ∙ taken) c.into_array.ensures.form
 
-pub returns-in-U16-match_each_native-clause-rows : goal.returns-in-U16-match_each_native-clause-rows
-returns-in-U16-match_each_native-clause-rows g c =
-    let arm = c.in-U16-match_each_native.is in
-    let typed = sym (ap ptype_of arm) ∙ c.values.ensures.typed in
-    let shown = ap (map pos) c.as_slice-2.ensures.value ∙ sym (ap numbers arm) ∙ c.values.ensures.shows in
-    let same = same-primitive U16 (map pos c.as_slice-2.result.now) (form_of c.validity-validity.result.now) c.args.indices.now typed shown c.validity-validity.ensures.form in
-    subst (λ (p : PrimitiveForm). IfOk c.take_native_rows-2.result (λ taken. rows taken ≡ rows_at_indices (rows c.args.array.now) (optional_numbers p))) same c.take_native_rows-2.ensures.rows
+pub returns-clause-dtype : goal.returns-clause-dtype
+returns-clause-dtype g c =
+    let dtype = dtype_of c.args.array.now in
+    let nullable = ap (λ (n : Nullability). with_nullability dtype (either_nullable (nullability_of dtype) n)) c.in_ok-positions.ensures.positions.nullability in
+    ok_then c.into_array.result _ _ (λ array same. ap column_dtype same ∙ c.in_ok-taken.ensures.made.dtype ∙ nullable) c.into_array.ensures.form
 
-pub returns-in-U16-match_each_native-clause-dtype : goal.returns-in-U16-match_each_native-clause-dtype
-returns-in-U16-match_each_native-clause-dtype g c =
-    let arm = c.in-U16-match_each_native.is in
-    let typed = sym (ap ptype_of arm) ∙ c.values.ensures.typed in
-    let shown = ap (map pos) c.as_slice-2.ensures.value ∙ sym (ap numbers arm) ∙ c.values.ensures.shows in
-    let same = same-primitive U16 (map pos c.as_slice-2.result.now) (form_of c.validity-validity.result.now) c.args.indices.now typed shown c.validity-validity.ensures.form in
-    subst (λ (p : PrimitiveForm). IfOk c.take_native_rows-2.result (λ taken. dtype_of taken ≡ take_dtype (dtype_of c.args.array.now) (primitive_dtype p))) same c.take_native_rows-2.ensures.dtype
+pub returns-clause-flat : goal.returns-clause-flat
+returns-clause-flat g c = ok_then c.into_array.result _ _ (λ array same. subst IsComputedFlat (sym same) c.in_ok-taken.ensures.made.form) c.into_array.ensures.form
 
-pub returns-in-U32-match_each_native-clause-refused : goal.returns-in-U32-match_each_native-clause-refused
-returns-in-U32-match_each_native-clause-refused g c =
-    let arm = c.in-U32-match_each_native.is in
-    let typed = sym (ap ptype_of arm) ∙ c.values.ensures.typed in
-    let shown = ap (map pos) c.as_slice-3.ensures.value ∙ sym (ap numbers arm) ∙ c.values.ensures.shows in
-    let same = same-primitive U32 (map pos c.as_slice-3.result.now) (form_of c.validity-validity.result.now) c.args.indices.now typed shown c.validity-validity.ensures.form in
-    subst (λ (p : PrimitiveForm). IsRefusedBy (take_fault (optional_numbers p) (length (rows c.args.array.now))) c.take_native_rows-3.result) same c.take_native_rows-3.ensures.refused
+pub returns-in_err-positions-clause-refused : goal.returns-in_err-positions-clause-refused
+returns-in_err-positions-clause-refused g c =
+    let error = c.in_err-positions.field-0.0 in
+    refused-passed_on _ error c.from_residual.result c.from_residual.ensures.1
+    (subst (λ (n : ℕ). IsErrorFor (take_fault (optional_numbers c.args.indices.now) n) error) c.len.ensures c.in_err-positions.ensures.refused)
 
-pub returns-in-U32-match_each_native-clause-rows : goal.returns-in-U32-match_each_native-clause-rows
-returns-in-U32-match_each_native-clause-rows g c =
-    let arm = c.in-U32-match_each_native.is in
-    let typed = sym (ap ptype_of arm) ∙ c.values.ensures.typed in
-    let shown = ap (map pos) c.as_slice-3.ensures.value ∙ sym (ap numbers arm) ∙ c.values.ensures.shows in
-    let same = same-primitive U32 (map pos c.as_slice-3.result.now) (form_of c.validity-validity.result.now) c.args.indices.now typed shown c.validity-validity.ensures.form in
-    subst (λ (p : PrimitiveForm). IfOk c.take_native_rows-3.result (λ taken. rows taken ≡ rows_at_indices (rows c.args.array.now) (optional_numbers p))) same c.take_native_rows-3.ensures.rows
+pub returns-in_err-positions-clause-rows : goal.returns-in_err-positions-clause-rows
+returns-in_err-positions-clause-rows g c = no_value _ c.from_residual.result c.from_residual.ensures.0
 
-pub returns-in-U32-match_each_native-clause-dtype : goal.returns-in-U32-match_each_native-clause-dtype
-returns-in-U32-match_each_native-clause-dtype g c =
-    let arm = c.in-U32-match_each_native.is in
-    let typed = sym (ap ptype_of arm) ∙ c.values.ensures.typed in
-    let shown = ap (map pos) c.as_slice-3.ensures.value ∙ sym (ap numbers arm) ∙ c.values.ensures.shows in
-    let same = same-primitive U32 (map pos c.as_slice-3.result.now) (form_of c.validity-validity.result.now) c.args.indices.now typed shown c.validity-validity.ensures.form in
-    subst (λ (p : PrimitiveForm). IfOk c.take_native_rows-3.result (λ taken. dtype_of taken ≡ take_dtype (dtype_of c.args.array.now) (primitive_dtype p))) same c.take_native_rows-3.ensures.dtype
+pub returns-in_err-positions-clause-dtype : goal.returns-in_err-positions-clause-dtype
+returns-in_err-positions-clause-dtype g c = no_value _ c.from_residual.result c.from_residual.ensures.0
 
-pub returns-in-U64-match_each_native-clause-refused : goal.returns-in-U64-match_each_native-clause-refused
-returns-in-U64-match_each_native-clause-refused g c =
-    let arm = c.in-U64-match_each_native.is in
-    let typed = sym (ap ptype_of arm) ∙ c.values.ensures.typed in
-    let shown = ap (map pos) c.as_slice-4.ensures.value ∙ sym (ap numbers arm) ∙ c.values.ensures.shows in
-    let same = same-primitive U64 (map pos c.as_slice-4.result.now) (form_of c.validity-validity.result.now) c.args.indices.now typed shown c.validity-validity.ensures.form in
-    subst (λ (p : PrimitiveForm). IsRefusedBy (take_fault (optional_numbers p) (length (rows c.args.array.now))) c.take_native_rows-4.result) same c.take_native_rows-4.ensures.refused
+pub returns-in_err-positions-clause-flat : goal.returns-in_err-positions-clause-flat
+returns-in_err-positions-clause-flat g c = no_value _ c.from_residual.result c.from_residual.ensures.0
 
-pub returns-in-U64-match_each_native-clause-rows : goal.returns-in-U64-match_each_native-clause-rows
-returns-in-U64-match_each_native-clause-rows g c =
-    let arm = c.in-U64-match_each_native.is in
-    let typed = sym (ap ptype_of arm) ∙ c.values.ensures.typed in
-    let shown = ap (map pos) c.as_slice-4.ensures.value ∙ sym (ap numbers arm) ∙ c.values.ensures.shows in
-    let same = same-primitive U64 (map pos c.as_slice-4.result.now) (form_of c.validity-validity.result.now) c.args.indices.now typed shown c.validity-validity.ensures.form in
-    subst (λ (p : PrimitiveForm). IfOk c.take_native_rows-4.result (λ taken. rows taken ≡ rows_at_indices (rows c.args.array.now) (optional_numbers p))) same c.take_native_rows-4.ensures.rows
+pub returns-in_err-taken-clause-rows : goal.returns-in_err-taken-clause-rows
+returns-in_err-taken-clause-rows g c = no_value _ c.from_residual-in_err-taken.result c.from_residual-in_err-taken.ensures.0
 
-pub returns-in-U64-match_each_native-clause-dtype : goal.returns-in-U64-match_each_native-clause-dtype
-returns-in-U64-match_each_native-clause-dtype g c =
-    let arm = c.in-U64-match_each_native.is in
-    let typed = sym (ap ptype_of arm) ∙ c.values.ensures.typed in
-    let shown = ap (map pos) c.as_slice-4.ensures.value ∙ sym (ap numbers arm) ∙ c.values.ensures.shows in
-    let same = same-primitive U64 (map pos c.as_slice-4.result.now) (form_of c.validity-validity.result.now) c.args.indices.now typed shown c.validity-validity.ensures.form in
-    subst (λ (p : PrimitiveForm). IfOk c.take_native_rows-4.result (λ taken. dtype_of taken ≡ take_dtype (dtype_of c.args.array.now) (primitive_dtype p))) same c.take_native_rows-4.ensures.dtype
+pub returns-in_err-taken-clause-dtype : goal.returns-in_err-taken-clause-dtype
+returns-in_err-taken-clause-dtype g c = no_value _ c.from_residual-in_err-taken.result c.from_residual-in_err-taken.ensures.0
 
-pub returns-in-I8-match_each_native-clause-refused : goal.returns-in-I8-match_each_native-clause-refused
-returns-in-I8-match_each_native-clause-refused g c =
-    let arm = c.in-I8-match_each_native.is in
-    let typed = sym (ap ptype_of arm) ∙ c.values.ensures.typed in
-    let shown = map-id c.as_slice-5.result.now ∙ c.as_slice-5.ensures.value ∙ sym (ap numbers arm) ∙ c.values.ensures.shows in
-    let same = same-primitive I8 (map (λ (n : ℤ). n) c.as_slice-5.result.now) (form_of c.validity-validity.result.now) c.args.indices.now typed shown c.validity-validity.ensures.form in
-    subst (λ (p : PrimitiveForm). IsRefusedBy (take_fault (optional_numbers p) (length (rows c.args.array.now))) c.take_native_rows-5.result) same c.take_native_rows-5.ensures.refused
-
-pub returns-in-I8-match_each_native-clause-rows : goal.returns-in-I8-match_each_native-clause-rows
-returns-in-I8-match_each_native-clause-rows g c =
-    let arm = c.in-I8-match_each_native.is in
-    let typed = sym (ap ptype_of arm) ∙ c.values.ensures.typed in
-    let shown = map-id c.as_slice-5.result.now ∙ c.as_slice-5.ensures.value ∙ sym (ap numbers arm) ∙ c.values.ensures.shows in
-    let same = same-primitive I8 (map (λ (n : ℤ). n) c.as_slice-5.result.now) (form_of c.validity-validity.result.now) c.args.indices.now typed shown c.validity-validity.ensures.form in
-    subst (λ (p : PrimitiveForm). IfOk c.take_native_rows-5.result (λ taken. rows taken ≡ rows_at_indices (rows c.args.array.now) (optional_numbers p))) same c.take_native_rows-5.ensures.rows
-
-pub returns-in-I8-match_each_native-clause-dtype : goal.returns-in-I8-match_each_native-clause-dtype
-returns-in-I8-match_each_native-clause-dtype g c =
-    let arm = c.in-I8-match_each_native.is in
-    let typed = sym (ap ptype_of arm) ∙ c.values.ensures.typed in
-    let shown = map-id c.as_slice-5.result.now ∙ c.as_slice-5.ensures.value ∙ sym (ap numbers arm) ∙ c.values.ensures.shows in
-    let same = same-primitive I8 (map (λ (n : ℤ). n) c.as_slice-5.result.now) (form_of c.validity-validity.result.now) c.args.indices.now typed shown c.validity-validity.ensures.form in
-    subst (λ (p : PrimitiveForm). IfOk c.take_native_rows-5.result (λ taken. dtype_of taken ≡ take_dtype (dtype_of c.args.array.now) (primitive_dtype p))) same c.take_native_rows-5.ensures.dtype
-
-pub returns-in-I16-match_each_native-clause-refused : goal.returns-in-I16-match_each_native-clause-refused
-returns-in-I16-match_each_native-clause-refused g c =
-    let arm = c.in-I16-match_each_native.is in
-    let typed = sym (ap ptype_of arm) ∙ c.values.ensures.typed in
-    let shown = map-id c.as_slice-6.result.now ∙ c.as_slice-6.ensures.value ∙ sym (ap numbers arm) ∙ c.values.ensures.shows in
-    let same = same-primitive I16 (map (λ (n : ℤ). n) c.as_slice-6.result.now) (form_of c.validity-validity.result.now) c.args.indices.now typed shown c.validity-validity.ensures.form in
-    subst (λ (p : PrimitiveForm). IsRefusedBy (take_fault (optional_numbers p) (length (rows c.args.array.now))) c.take_native_rows-6.result) same c.take_native_rows-6.ensures.refused
-
-pub returns-in-I16-match_each_native-clause-rows : goal.returns-in-I16-match_each_native-clause-rows
-returns-in-I16-match_each_native-clause-rows g c =
-    let arm = c.in-I16-match_each_native.is in
-    let typed = sym (ap ptype_of arm) ∙ c.values.ensures.typed in
-    let shown = map-id c.as_slice-6.result.now ∙ c.as_slice-6.ensures.value ∙ sym (ap numbers arm) ∙ c.values.ensures.shows in
-    let same = same-primitive I16 (map (λ (n : ℤ). n) c.as_slice-6.result.now) (form_of c.validity-validity.result.now) c.args.indices.now typed shown c.validity-validity.ensures.form in
-    subst (λ (p : PrimitiveForm). IfOk c.take_native_rows-6.result (λ taken. rows taken ≡ rows_at_indices (rows c.args.array.now) (optional_numbers p))) same c.take_native_rows-6.ensures.rows
-
-pub returns-in-I16-match_each_native-clause-dtype : goal.returns-in-I16-match_each_native-clause-dtype
-returns-in-I16-match_each_native-clause-dtype g c =
-    let arm = c.in-I16-match_each_native.is in
-    let typed = sym (ap ptype_of arm) ∙ c.values.ensures.typed in
-    let shown = map-id c.as_slice-6.result.now ∙ c.as_slice-6.ensures.value ∙ sym (ap numbers arm) ∙ c.values.ensures.shows in
-    let same = same-primitive I16 (map (λ (n : ℤ). n) c.as_slice-6.result.now) (form_of c.validity-validity.result.now) c.args.indices.now typed shown c.validity-validity.ensures.form in
-    subst (λ (p : PrimitiveForm). IfOk c.take_native_rows-6.result (λ taken. dtype_of taken ≡ take_dtype (dtype_of c.args.array.now) (primitive_dtype p))) same c.take_native_rows-6.ensures.dtype
-
-pub returns-in-I32-match_each_native-clause-refused : goal.returns-in-I32-match_each_native-clause-refused
-returns-in-I32-match_each_native-clause-refused g c =
-    let arm = c.in-I32-match_each_native.is in
-    let typed = sym (ap ptype_of arm) ∙ c.values.ensures.typed in
-    let shown = map-id c.as_slice-7.result.now ∙ c.as_slice-7.ensures.value ∙ sym (ap numbers arm) ∙ c.values.ensures.shows in
-    let same = same-primitive I32 (map (λ (n : ℤ). n) c.as_slice-7.result.now) (form_of c.validity-validity.result.now) c.args.indices.now typed shown c.validity-validity.ensures.form in
-    subst (λ (p : PrimitiveForm). IsRefusedBy (take_fault (optional_numbers p) (length (rows c.args.array.now))) c.take_native_rows-7.result) same c.take_native_rows-7.ensures.refused
-
-pub returns-in-I32-match_each_native-clause-rows : goal.returns-in-I32-match_each_native-clause-rows
-returns-in-I32-match_each_native-clause-rows g c =
-    let arm = c.in-I32-match_each_native.is in
-    let typed = sym (ap ptype_of arm) ∙ c.values.ensures.typed in
-    let shown = map-id c.as_slice-7.result.now ∙ c.as_slice-7.ensures.value ∙ sym (ap numbers arm) ∙ c.values.ensures.shows in
-    let same = same-primitive I32 (map (λ (n : ℤ). n) c.as_slice-7.result.now) (form_of c.validity-validity.result.now) c.args.indices.now typed shown c.validity-validity.ensures.form in
-    subst (λ (p : PrimitiveForm). IfOk c.take_native_rows-7.result (λ taken. rows taken ≡ rows_at_indices (rows c.args.array.now) (optional_numbers p))) same c.take_native_rows-7.ensures.rows
-
-pub returns-in-I32-match_each_native-clause-dtype : goal.returns-in-I32-match_each_native-clause-dtype
-returns-in-I32-match_each_native-clause-dtype g c =
-    let arm = c.in-I32-match_each_native.is in
-    let typed = sym (ap ptype_of arm) ∙ c.values.ensures.typed in
-    let shown = map-id c.as_slice-7.result.now ∙ c.as_slice-7.ensures.value ∙ sym (ap numbers arm) ∙ c.values.ensures.shows in
-    let same = same-primitive I32 (map (λ (n : ℤ). n) c.as_slice-7.result.now) (form_of c.validity-validity.result.now) c.args.indices.now typed shown c.validity-validity.ensures.form in
-    subst (λ (p : PrimitiveForm). IfOk c.take_native_rows-7.result (λ taken. dtype_of taken ≡ take_dtype (dtype_of c.args.array.now) (primitive_dtype p))) same c.take_native_rows-7.ensures.dtype
-
-pub returns-in-I64-match_each_native-clause-refused : goal.returns-in-I64-match_each_native-clause-refused
-returns-in-I64-match_each_native-clause-refused g c =
-    let arm = c.in-I64-match_each_native.is in
-    let typed = sym (ap ptype_of arm) ∙ c.values.ensures.typed in
-    let shown = map-id c.as_slice-8.result.now ∙ c.as_slice-8.ensures.value ∙ sym (ap numbers arm) ∙ c.values.ensures.shows in
-    let same = same-primitive I64 (map (λ (n : ℤ). n) c.as_slice-8.result.now) (form_of c.validity-validity.result.now) c.args.indices.now typed shown c.validity-validity.ensures.form in
-    subst (λ (p : PrimitiveForm). IsRefusedBy (take_fault (optional_numbers p) (length (rows c.args.array.now))) c.take_native_rows-8.result) same c.take_native_rows-8.ensures.refused
-
-pub returns-in-I64-match_each_native-clause-rows : goal.returns-in-I64-match_each_native-clause-rows
-returns-in-I64-match_each_native-clause-rows g c =
-    let arm = c.in-I64-match_each_native.is in
-    let typed = sym (ap ptype_of arm) ∙ c.values.ensures.typed in
-    let shown = map-id c.as_slice-8.result.now ∙ c.as_slice-8.ensures.value ∙ sym (ap numbers arm) ∙ c.values.ensures.shows in
-    let same = same-primitive I64 (map (λ (n : ℤ). n) c.as_slice-8.result.now) (form_of c.validity-validity.result.now) c.args.indices.now typed shown c.validity-validity.ensures.form in
-    subst (λ (p : PrimitiveForm). IfOk c.take_native_rows-8.result (λ taken. rows taken ≡ rows_at_indices (rows c.args.array.now) (optional_numbers p))) same c.take_native_rows-8.ensures.rows
-
-pub returns-in-I64-match_each_native-clause-dtype : goal.returns-in-I64-match_each_native-clause-dtype
-returns-in-I64-match_each_native-clause-dtype g c =
-    let arm = c.in-I64-match_each_native.is in
-    let typed = sym (ap ptype_of arm) ∙ c.values.ensures.typed in
-    let shown = map-id c.as_slice-8.result.now ∙ c.as_slice-8.ensures.value ∙ sym (ap numbers arm) ∙ c.values.ensures.shows in
-    let same = same-primitive I64 (map (λ (n : ℤ). n) c.as_slice-8.result.now) (form_of c.validity-validity.result.now) c.args.indices.now typed shown c.validity-validity.ensures.form in
-    subst (λ (p : PrimitiveForm). IfOk c.take_native_rows-8.result (λ taken. dtype_of taken ≡ take_dtype (dtype_of c.args.array.now) (primitive_dtype p))) same c.take_native_rows-8.ensures.dtype
-
-pub returns-in-U8-match_each_native-clause-flat : goal.returns-in-U8-match_each_native-clause-flat
-returns-in-U8-match_each_native-clause-flat g c = c.take_native_rows.ensures.flat
-
-pub returns-in-U16-match_each_native-clause-flat : goal.returns-in-U16-match_each_native-clause-flat
-returns-in-U16-match_each_native-clause-flat g c = c.take_native_rows-2.ensures.flat
-
-pub returns-in-U32-match_each_native-clause-flat : goal.returns-in-U32-match_each_native-clause-flat
-returns-in-U32-match_each_native-clause-flat g c = c.take_native_rows-3.ensures.flat
-
-pub returns-in-U64-match_each_native-clause-flat : goal.returns-in-U64-match_each_native-clause-flat
-returns-in-U64-match_each_native-clause-flat g c = c.take_native_rows-4.ensures.flat
-
-pub returns-in-I8-match_each_native-clause-flat : goal.returns-in-I8-match_each_native-clause-flat
-returns-in-I8-match_each_native-clause-flat g c = c.take_native_rows-5.ensures.flat
-
-pub returns-in-I16-match_each_native-clause-flat : goal.returns-in-I16-match_each_native-clause-flat
-returns-in-I16-match_each_native-clause-flat g c = c.take_native_rows-6.ensures.flat
-
-pub returns-in-I32-match_each_native-clause-flat : goal.returns-in-I32-match_each_native-clause-flat
-returns-in-I32-match_each_native-clause-flat g c = c.take_native_rows-7.ensures.flat
-
-pub returns-in-I64-match_each_native-clause-flat : goal.returns-in-I64-match_each_native-clause-flat
-returns-in-I64-match_each_native-clause-flat g c = c.take_native_rows-8.ensures.flat
+pub returns-in_err-taken-clause-flat : goal.returns-in_err-taken-clause-flat
+returns-in_err-taken-clause-flat g c = no_value _ c.from_residual-in_err-taken.result c.from_residual-in_err-taken.ensures.0

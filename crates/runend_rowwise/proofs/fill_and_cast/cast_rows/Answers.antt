@@ -26,9 +26,9 @@ pub returns-clause-rows : goal.returns-clause-rows
 returns-clause-rows g c =
     ap column_rows c.array_of.ensures ∙ ap (map (option_map (λ (v : FlatValue). Single v))) c.in_ok-cast.ensures.made.rows ∙ c.in_ok-flat.ensures.rows
 
-pub returns-then-is_lists : goal.returns-then-is_lists
-returns-then-is_lists g c =
-    let lists = subst IsLists c.dtype.ensures (c.is_lists.ensures.0 c.if-is_lists.true) in
+pub returns-then-is_list_type : goal.returns-then-is_list_type
+returns-then-is_list_type g c =
+    let lists = subst IsLists c.dtype.ensures (c.is_list_type.ensures.lists.0 c.if-is_list_type.true) in
     record {
       refused = inr (lists_fault (dtype_of c.args.array.now) c.args.dtype (rows c.args.array.now) lists);
       rows = tt;
@@ -36,9 +36,6 @@ returns-then-is_lists g c =
       form = tt;
       session = λ i. c.args.ctx.now;
     }
-
-pub flat_rows-requires : goal.flat_rows-requires
-flat_rows-requires g c = record { single = λ lists. let yes = c.is_lists.ensures.1 (subst IsLists (sym c.dtype.ensures) lists) in let no = c.if-is_lists.false in cc }
 
 pub returns-clause-dtype : goal.returns-clause-dtype
 returns-clause-dtype g c = ap column_dtype c.array_of.ensures ∙ c.in_ok-cast.ensures.made.dtype
@@ -63,7 +60,7 @@ returns-in_err-flat-clause-form g c = no_value _ c.from_residual.result c.from_r
 
 pub returns-in_err-flat-clause-refused : goal.returns-in_err-flat-clause-refused
 returns-in_err-flat-clause-refused g c =
-    refused-passed_on (cast_fault (plain_of (column_of c.args.array.now)) c.args.dtype) c.in_err-flat.field-0.0 c.from_residual.result c.from_residual.ensures.1 (inl c.in_err-flat.ensures.only)
+    refused-passed_on (cast_fault (plain_of (column_of c.args.array.now)) c.args.dtype) c.in_err-flat.field-0.0 c.from_residual.result c.from_residual.ensures.1 (inl (c.in_err-flat.ensures.only (λ lists. let yes = c.is_list_type.ensures.lists.1 (subst IsLists (sym c.dtype.ensures) lists) in let no = c.if-is_list_type.false in cc)))
 
 pub returns-in_err-flat-clause-rows : goal.returns-in_err-flat-clause-rows
 returns-in_err-flat-clause-rows g c = no_value _ c.from_residual.result c.from_residual.ensures.0

@@ -23,9 +23,9 @@ returns-clause-dtype g c =
     ap column_dtype c.array_of.ensures
     ∙ flat_dtype (leaf_of c.in_ok-flat.flat) (leaf_of c.in_ok-filled.filled) c.args.value.now c.in_ok-filled.ensures.refused c.in_ok-filled.ensures.made (dtype_of c.args.array.now) c.in_ok-flat.ensures.dtype
 
-pub returns-then-is_lists : goal.returns-then-is_lists
-returns-then-is_lists g c =
-    let lists = subst IsLists c.dtype.ensures (c.is_lists.ensures.0 c.if-is_lists.true) in
+pub returns-then-is_list_type : goal.returns-then-is_list_type
+returns-then-is_list_type g c =
+    let lists = subst IsLists c.dtype.ensures (c.is_list_type.ensures.lists.0 c.if-is_list_type.true) in
     record {
       refused = inr (lists_refused (dtype_of c.args.array.now) c.args.value.now lists);
       rows = tt;
@@ -33,9 +33,6 @@ returns-then-is_lists g c =
       form = tt;
       session = λ i. c.args.ctx.now;
     }
-
-pub flat_rows-requires : goal.flat_rows-requires
-flat_rows-requires g c = record { single = λ lists. let yes = c.is_lists.ensures.1 (subst IsLists (sym c.dtype.ensures) lists) in let no = c.if-is_lists.false in cc }
 
 pub returns-in_err-filled-clause-refused : goal.returns-in_err-filled-clause-refused
 returns-in_err-filled-clause-refused g c =
@@ -67,7 +64,7 @@ returns-in_err-flat-clause-form g c = no_value _ c.from_residual.result c.from_r
 
 pub returns-in_err-flat-clause-refused : goal.returns-in_err-flat-clause-refused
 returns-in_err-flat-clause-refused g c =
-    refused-passed_on (fill_fault (dtype_of c.args.array.now) c.args.value.now) c.in_err-flat.field-0.0 c.from_residual.result c.from_residual.ensures.1 (inl c.in_err-flat.ensures.only)
+    refused-passed_on (fill_fault (dtype_of c.args.array.now) c.args.value.now) c.in_err-flat.field-0.0 c.from_residual.result c.from_residual.ensures.1 (inl (c.in_err-flat.ensures.only (λ lists. let yes = c.is_list_type.ensures.lists.1 (subst IsLists (sym c.dtype.ensures) lists) in let no = c.if-is_list_type.false in cc)))
 
 pub returns-in_err-flat-clause-rows : goal.returns-in_err-flat-clause-rows
 returns-in_err-flat-clause-rows g c = no_value _ c.from_residual.result c.from_residual.ensures.0

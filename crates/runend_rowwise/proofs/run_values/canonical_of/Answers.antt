@@ -4,7 +4,7 @@ use Rattle.runend_array.specs.Canonical.{IsFlatPart, canonical_column}
 use Rattle.runend_array.specs.Column.{column_dtype, column_rows}
 use Rattle.runend_rowwise.proofs.ComputedRows.{ok_then}
 use Rattle.runend_rowwise.proofs.WholeRows.{slice_range-all}
-use Rattle.runend_rowwise.proofs.run_values.flat_rows.Goals as goal
+use Rattle.runend_rowwise.proofs.run_values.canonical_of.Goals as goal
 
 pub returns-clause-rows : goal.returns-clause-rows
 returns-clause-rows g c =
