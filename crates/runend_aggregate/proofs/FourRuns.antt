@@ -12,7 +12,8 @@ use Rattle.column_sums.specs.SumRange.{SumRange, SignedRange}
 use Rattle.column_sums.specs.declared.answer.SumAnswer.{SumAnswer}
 use Rattle.column_sums.proofs.SingleRows.{sum_range-signed}
 use Rattle.runend_array.specs.Column.{Runs, column_rows}
-use Rattle.runend_aggregate.specs.ShownRuns.{AreFourRuns, first_visible, runs_from, stop_visible, visible_runs}
+use Rattle.runend_array.specs.RowRuns.{first_visible, stop_visible}
+use Rattle.runend_aggregate.specs.ShownRuns.{AreFourRuns, runs_from, visible_runs}
 use Rattle.runend_aggregate.specs.SignOf.{IsSignedType}
 
 abbrev visible_with : List ℕ → List (Option ℤ) → ℕ → ℕ → List (Option ℤ × ℕ)

@@ -13,7 +13,8 @@ use Rattle.runend_codec.proofs.RunAt.{ended_before, ends_after, ends_past, run_a
 use Rattle.runend_codec.proofs.RunRows.{Covers-run_rows}
 use Rattle.runend_codec.proofs.ShownRuns.{equal_from_Covers}
 use Rattle.runend_array.specs.Column.{Runs, AreRuns, column_of_runs, column_rows}
-use Rattle.runend_aggregate.specs.ShownRuns.{first_visible, stop_visible, rows_before, rows_showing, runs_from, visible_runs}
+use Rattle.runend_array.specs.RowRuns.{first_visible, stop_visible}
+use Rattle.runend_aggregate.specs.ShownRuns.{rows_before, rows_showing, runs_from, visible_runs}
 
 pub append-nil : {X : Type 0} (xs : List X) → xs ≡ xs ++ []
 append-nil [] = refl

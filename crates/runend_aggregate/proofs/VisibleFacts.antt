@@ -13,7 +13,7 @@ use Rattle.runend_codec.proofs.RunRows.{length-run_rows}
 use Rattle.runend_codec.proofs.SlicedRuns.{slice_range-none}
 use Rattle.runend_codec.proofs.VisibleLaws.{all_rows, same_values, sorted, strictly_sorted}
 use Rattle.runend_array.specs.Column.{Column, Runs, AreRuns, column_of_runs, column_rows}
-use Rattle.runend_aggregate.specs.ShownRuns.{first_visible, stop_visible}
+use Rattle.runend_array.specs.RowRuns.{first_visible, stop_visible}
 use Rattle.runend_aggregate.proofs.SameRows.{not_above, not_below}
 
 -- the values of the visible runs, as a range of all values

@@ -1,3 +1,2 @@
-pub mod OrderFault
 pub mod ShownRuns
 pub mod SignOf

@@ -2,18 +2,8 @@
 use Rattle.std.specs.Prelude.{◌≡◌, ℕ, zero, suc, ◌+◌, ◌-◌, ℤ, pos, List, [], ◌∷◌, Option, None, Some, map, min, option_map, slice_index, slice_index_or}
 use Rattle.column_core.specs.Value.{Single}
 use Rattle.column_sums.specs.SumAnswer.{number_in}
-use Rattle.runend_codec.specs.Window.{run_at}
 use Rattle.runend_array.specs.Column.{Constant, Runs, column_rows}
-
--- the run of the first row of a window; where there is no row, 0
-abbrev pub first_visible : List ℕ → ℕ → ℕ → ℕ
-first_visible ends offset zero = 0
-first_visible ends offset (suc n) = run_at ends offset
-
--- one past the run of the last row; where there is no row, 0
-abbrev pub stop_visible : List ℕ → ℕ → ℕ → ℕ
-stop_visible ends offset zero = 0
-stop_visible ends offset (suc n) = run_at ends (offset + n) + 1
+use Rattle.runend_array.specs.RowRuns.{first_visible, stop_visible}
 
 -- how many rows of a window of `count` rows from position `offset` on lie before a run
 abbrev pub rows_before : List ℕ → ℕ → ℕ → ℕ → ℕ

@@ -63,6 +63,23 @@ impl UnsignedRuns for UnsignedRun {
     }
 }
 
+/// The sum of the rows of a constant column, as `sum` answers it of runs: its value is added once, as
+/// often as there are rows. Refused as `Unsupported` exactly for columns of other types than whole
+/// numbers. It takes no memory.
+pub fn sum_of_constant<A: Allocator>(array: &ConstantArray<A>) -> VortexResult<SumAnswer>
+    ensures refused { IsRefusedBy (sum_fault array.now.dtype) result }
+    ensures no_memory { result ≢ Err VortexError.OutOfMemory }
+    ensures answer { IfOk result (IsSumAnswer array.now.dtype (column_rows (OfConstant array.now))) }
+{
+    match array.dtype() {
+        DType::Primitive(ptype, _) if ptype.is_unsigned_int() => {
+            Ok(sum_unsigned_constant(array, &mut UnsignedSum::new()))
+        }
+        DType::Primitive(_, _) => Ok(sum_signed_constant(array, &mut SignedSum::new())),
+        _ => Err(VortexError::Unsupported),
+    }
+}
+
 // The number of a constant that has no unsigned numbers.
 fn signed_number<A: Allocator>(array: &ConstantArray<A>) -> Option<i64>
     requires { ¬ IsUnsignedType array.now.dtype }
@@ -111,21 +128,4 @@ fn sum_unsigned_constant<A: Allocator>(array: &ConstantArray<A>, sum: &mut Unsig
         row_count: array.len(),
     };
     sum_unsigned_in_runs(&run, sum)
-}
-
-/// The sum of the rows of a constant column, as `sum` answers it of runs: its value is added once, as
-/// often as there are rows. Refused as `Unsupported` exactly for columns of other types than whole
-/// numbers. It takes no memory.
-pub fn sum_of_constant<A: Allocator>(array: &ConstantArray<A>) -> VortexResult<SumAnswer>
-    ensures refused { IsRefusedBy (sum_fault array.now.dtype) result }
-    ensures no_memory { result ≢ Err VortexError.OutOfMemory }
-    ensures answer { IfOk result (IsSumAnswer array.now.dtype (column_rows (OfConstant array.now))) }
-{
-    match array.dtype() {
-        DType::Primitive(ptype, _) if ptype.is_unsigned_int() => {
-            Ok(sum_unsigned_constant(array, &mut UnsignedSum::new()))
-        }
-        DType::Primitive(_, _) => Ok(sum_signed_constant(array, &mut SignedSum::new())),
-        _ => Err(VortexError::Unsupported),
-    }
 }

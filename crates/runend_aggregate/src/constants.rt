@@ -4,12 +4,64 @@ ghost use Rattle.column_core.specs.Refusal.{IsRefusedBy};
 ghost use Rattle.column_core.specs.ScalarView.{sees, IsViewOf};
 ghost use Rattle.column_order.specs.OrderFacts.{IsConstant, IsFurthest, IsGreatest, IsLeast, IsSorted};
 ghost use Rattle.runend_array.specs.Column.{OfConstant, column_rows};
-ghost use Rattle.runend_aggregate.specs.OrderFault.{order_fault};
+ghost use Rattle.column_core.specs.Kinds.{list_fault};
 
-use crate::rows::fault_of;
-use column_core::{ScalarView, VortexError, VortexResult};
+use column_core::{ScalarView, VortexError, VortexResult, fault_of_lists};
 use runend_array::ConstantArray;
 use std::alloc::Allocator;
+
+/// The least and the greatest of the rows that are not null, borrowed from the column, as `min_max`
+/// answers them of runs: the value twice, or `None` where there is no row or all are null. Refused as
+/// `Unsupported` exactly for lists.
+pub fn min_max_of_constant<A: Allocator + Copy>(
+    array: &ConstantArray<A>,
+) -> VortexResult<Option<(ScalarView<'_, A>, ScalarView<'_, A>)>>
+    ensures refused { IsRefusedBy (list_fault array.now.dtype) result }
+    ensures no_memory { result ≢ Err VortexError.OutOfMemory }
+    ensures none { IfOk result (λ found. IfNone found (All (λ row. row ≡ None) (column_rows (OfConstant array.now)))) }
+    ensures least { IfOk result (λ found. IfSome found (λ ends. IsLeast (column_rows (OfConstant array.now)) (sees ends.0))) }
+    ensures greatest { IfOk result (λ found. IfSome found (λ ends. IsGreatest (column_rows (OfConstant array.now)) (sees ends.1))) }
+    ensures least_of_type { IfOk result (λ found. IfSome found (λ ends. IsViewOf array.now.dtype ends.0)) }
+    ensures greatest_of_type { IfOk result (λ found. IfSome found (λ ends. IsViewOf array.now.dtype ends.1)) }
+{
+    if let Some(error) = fault_of_lists(array.dtype()) {
+        return Err(error);
+    }
+    match shown_in(array) {
+        Some(row) => Ok(Some((row, row))),
+        None => Ok(None),
+    }
+}
+
+/// Are any two rows of a constant column equal? They are. Refused as `Unsupported` exactly for lists,
+/// as `is_constant` is of runs.
+pub fn is_constant_of_constant<A: Allocator>(array: &ConstantArray<A>) -> VortexResult<bool>
+    ensures refused { IsRefusedBy (list_fault array.now.dtype) result }
+    ensures no_memory { result ≢ Err VortexError.OutOfMemory }
+    ensures answer { IfOk result (λ constant. IsTrue constant ↔ IsConstant (column_rows (OfConstant array.now))) }
+{
+    match fault_of_lists(array.dtype()) {
+        Some(error) => Err(error),
+        None => Ok(true),
+    }
+}
+
+/// Is no row of a constant column above the next, or, where `strict` is asked, is each below the next?
+/// Equal rows are sorted, and strictly so only where there are fewer than two. Refused as
+/// `Unsupported` exactly for lists, as `is_sorted` is of runs.
+pub fn is_sorted_of_constant<A: Allocator>(
+    array: &ConstantArray<A>,
+    strict: bool,
+) -> VortexResult<bool>
+    ensures refused { IsRefusedBy (list_fault array.now.dtype) result }
+    ensures no_memory { result ≢ Err VortexError.OutOfMemory }
+    ensures answer { IfOk result (λ sorted. IsTrue sorted ↔ IsSorted strict (column_rows (OfConstant array.now))) }
+{
+    match fault_of_lists(array.dtype()) {
+        Some(error) => Err(error),
+        None => Ok(!strict || array.len() < 2),
+    }
+}
 
 // What the rows show, or `None` where there is no row or all are null.
 fn shown_in<A: Allocator>(array: &ConstantArray<A>) -> Option<ScalarView<'_, A>>
@@ -24,58 +76,5 @@ fn shown_in<A: Allocator>(array: &ConstantArray<A>) -> Option<ScalarView<'_, A>>
     match array.scalar().view() {
         ScalarView::Null => None,
         row => Some(row),
-    }
-}
-
-/// The least and the greatest of the rows that are not null, borrowed from the column, as `min_max`
-/// answers them of runs: the value twice, or `None` where there is no row or all are null. Refused as
-/// `Unsupported` exactly for lists.
-pub fn min_max_of_constant<A: Allocator + Copy>(
-    array: &ConstantArray<A>,
-) -> VortexResult<Option<(ScalarView<'_, A>, ScalarView<'_, A>)>>
-    ensures refused { IsRefusedBy (order_fault array.now.dtype) result }
-    ensures no_memory { result ≢ Err VortexError.OutOfMemory }
-    ensures none { IfOk result (λ found. IfNone found (All (λ row. row ≡ None) (column_rows (OfConstant array.now)))) }
-    ensures least { IfOk result (λ found. IfSome found (λ ends. IsLeast (column_rows (OfConstant array.now)) (sees ends.0))) }
-    ensures greatest { IfOk result (λ found. IfSome found (λ ends. IsGreatest (column_rows (OfConstant array.now)) (sees ends.1))) }
-    ensures least_of_type { IfOk result (λ found. IfSome found (λ ends. IsViewOf array.now.dtype ends.0)) }
-    ensures greatest_of_type { IfOk result (λ found. IfSome found (λ ends. IsViewOf array.now.dtype ends.1)) }
-{
-    if let Some(error) = fault_of(array.dtype()) {
-        return Err(error);
-    }
-    match shown_in(array) {
-        Some(row) => Ok(Some((row, row))),
-        None => Ok(None),
-    }
-}
-
-/// Are any two rows of a constant column equal? They are. Refused as `Unsupported` exactly for lists,
-/// as `is_constant` is of runs.
-pub fn is_constant_of_constant<A: Allocator>(array: &ConstantArray<A>) -> VortexResult<bool>
-    ensures refused { IsRefusedBy (order_fault array.now.dtype) result }
-    ensures no_memory { result ≢ Err VortexError.OutOfMemory }
-    ensures answer { IfOk result (λ constant. IsTrue constant ↔ IsConstant (column_rows (OfConstant array.now))) }
-{
-    match fault_of(array.dtype()) {
-        Some(error) => Err(error),
-        None => Ok(true),
-    }
-}
-
-/// Is no row of a constant column above the next, or, where `strict` is asked, is each below the next?
-/// Equal rows are sorted, and strictly so only where there are fewer than two. Refused as
-/// `Unsupported` exactly for lists, as `is_sorted` is of runs.
-pub fn is_sorted_of_constant<A: Allocator>(
-    array: &ConstantArray<A>,
-    strict: bool,
-) -> VortexResult<bool>
-    ensures refused { IsRefusedBy (order_fault array.now.dtype) result }
-    ensures no_memory { result ≢ Err VortexError.OutOfMemory }
-    ensures answer { IfOk result (λ sorted. IsTrue sorted ↔ IsSorted strict (column_rows (OfConstant array.now))) }
-{
-    match fault_of(array.dtype()) {
-        Some(error) => Err(error),
-        None => Ok(!strict || array.len() < 2),
     }
 }

@@ -5,15 +5,37 @@ ghost use Rattle.column_core.specs.ScalarView.{sees, IsViewOf};
 ghost use Rattle.column_order.specs.OrderFacts.{IsFurthest, IsGreatest, IsLeast};
 ghost use Rattle.runend_array.specs.Array.{dtype_of, rows};
 ghost use Rattle.runend_array.specs.Column.{column_dtype, column_of_runs, column_rows};
-ghost use Rattle.runend_aggregate.specs.OrderFault.{order_fault};
+ghost use Rattle.column_core.specs.Kinds.{list_fault};
 
-use crate::rows::{fault_of, is_past_best, row_of};
-use crate::visible::visible_runs;
-use column_core::{ScalarView, VortexError, VortexResult};
+use crate::rows::{is_past_best, row_of};
+use column_core::{ScalarView, VortexError, VortexResult, fault_of_lists};
 use runend_array::{ArrayRef, ExecutionCtx, RunEndArray, RunEndArrayExt, RunEndArraySlotsExt};
 use std::alloc::Allocator;
 use std::cmp::Ordering;
 use std::ops::Range;
+
+/// The least and the greatest of the rows that are not null, borrowed from the column, or `None` where
+/// all rows are null. Work is by visible runs. Refused as `Unsupported` exactly for lists. It takes no
+/// memory, whatever the form of the run values.
+pub fn min_max<'a, A: Allocator + Copy>(
+    array: &'a RunEndArray<A>,
+    ctx: &mut ExecutionCtx<A>,
+) -> VortexResult<Option<(ScalarView<'a, A>, ScalarView<'a, A>)>>
+    ensures refused { IsRefusedBy (list_fault (column_dtype array.now.values)) result }
+    ensures no_memory { result ≢ Err VortexError.OutOfMemory }
+    ensures none { IfOk result (λ found. IfNone found (All (λ row. row ≡ None) (column_rows (column_of_runs array.now)))) }
+    ensures least { IfOk result (λ found. IfSome found (λ ends. IsLeast (column_rows (column_of_runs array.now)) (sees ends.0))) }
+    ensures greatest { IfOk result (λ found. IfSome found (λ ends. IsGreatest (column_rows (column_of_runs array.now)) (sees ends.1))) }
+    ensures least_of_type { IfOk result (λ found. IfSome found (λ ends. IsViewOf (column_dtype array.now.values) ends.0)) }
+    ensures greatest_of_type { IfOk result (λ found. IfSome found (λ ends. IsViewOf (column_dtype array.now.values) ends.1)) }
+    ensures session { ctx.new ≡ ctx.old }
+{
+    let _ = &ctx;
+    if let Some(error) = fault_of_lists(array.dtype()) {
+        return Err(error);
+    }
+    Ok(ends_of(array.values(), array.visible_runs()))
+}
 
 // A row that is no null, and past which no such row is on that side, or `None` where all rows are null.
 fn furthest<A: Allocator + Copy>(
@@ -74,27 +96,4 @@ fn ends_of<A: Allocator + Copy>(
         Some(flat) => column_order::min_max(flat, range),
         None => looked_up_ends(values, range),
     }
-}
-
-/// The least and the greatest of the rows that are not null, borrowed from the column, or `None` where
-/// all rows are null. Work is by visible runs. Refused as `Unsupported` exactly for lists. It takes no
-/// memory, whatever the form of the run values.
-pub fn min_max<'a, A: Allocator + Copy>(
-    array: &'a RunEndArray<A>,
-    ctx: &mut ExecutionCtx<A>,
-) -> VortexResult<Option<(ScalarView<'a, A>, ScalarView<'a, A>)>>
-    ensures refused { IsRefusedBy (order_fault (column_dtype array.now.values)) result }
-    ensures no_memory { result ≢ Err VortexError.OutOfMemory }
-    ensures none { IfOk result (λ found. IfNone found (All (λ row. row ≡ None) (column_rows (column_of_runs array.now)))) }
-    ensures least { IfOk result (λ found. IfSome found (λ ends. IsLeast (column_rows (column_of_runs array.now)) (sees ends.0))) }
-    ensures greatest { IfOk result (λ found. IfSome found (λ ends. IsGreatest (column_rows (column_of_runs array.now)) (sees ends.1))) }
-    ensures least_of_type { IfOk result (λ found. IfSome found (λ ends. IsViewOf (column_dtype array.now.values) ends.0)) }
-    ensures greatest_of_type { IfOk result (λ found. IfSome found (λ ends. IsViewOf (column_dtype array.now.values) ends.1)) }
-    ensures session { ctx.new ≡ ctx.old }
-{
-    let _ = &ctx;
-    if let Some(error) = fault_of(array.dtype()) {
-        return Err(error);
-    }
-    Ok(ends_of(array.values(), visible_runs(array)))
 }

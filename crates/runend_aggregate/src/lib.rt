@@ -6,7 +6,7 @@
 mod constant_sums;
 mod constants;
 mod extremes;
-mod four_runs;
+pub mod laws;
 mod order;
 mod rows;
 mod signed_sums;
@@ -18,6 +18,5 @@ pub use column_sums::{SignedSum, SumAnswer, SumValue, UnsignedSum};
 pub use constant_sums::sum_of_constant;
 pub use constants::{is_constant_of_constant, is_sorted_of_constant, min_max_of_constant};
 pub use extremes::min_max;
-pub use four_runs::{sum_in_four_runs, sum_of_four_runs};
 pub use order::{is_constant, is_sorted};
 pub use sums::{sum, sum_signed_runs, sum_unsigned_runs};

@@ -6,15 +6,57 @@ ghost use Rattle.column_order.specs.OrderFacts.{IsConstant, IsSorted};
 ghost use Rattle.column_order.specs.Steps.{is_step_of};
 ghost use Rattle.runend_array.specs.Array.{dtype_of, rows};
 ghost use Rattle.runend_array.specs.Column.{column_dtype, column_of_runs, column_rows};
-ghost use Rattle.runend_aggregate.specs.OrderFault.{order_fault};
+ghost use Rattle.column_core.specs.Kinds.{list_fault};
 
-use crate::rows::{fault_of, order_at};
-use crate::visible::visible_runs;
-use column_core::{VortexError, VortexResult};
+use crate::rows::order_at;
+use column_core::{VortexError, VortexResult, fault_of_lists};
 use runend_array::{ArrayRef, ExecutionCtx, RunEndArray, RunEndArrayExt, RunEndArraySlotsExt};
 use std::alloc::Allocator;
 use std::cmp::Ordering;
 use std::ops::Range;
+
+/// Are any two rows equal, null equal to null? No rows are constant. Work is by visible runs. Refused
+/// as `Unsupported` exactly for lists. It takes no memory, whatever the form of the run values.
+pub fn is_constant<A: Allocator + Copy>(
+    array: &RunEndArray<A>,
+    ctx: &mut ExecutionCtx<A>,
+) -> VortexResult<bool>
+    ensures refused { IsRefusedBy (list_fault (column_dtype array.now.values)) result }
+    ensures no_memory { result ≢ Err VortexError.OutOfMemory }
+    ensures answer { IfOk result (λ constant. IsTrue constant ↔ IsConstant (column_rows (column_of_runs array.now))) }
+    ensures session { ctx.new ≡ ctx.old }
+{
+    let _ = &ctx;
+    if let Some(error) = fault_of_lists(array.dtype()) {
+        return Err(error);
+    }
+    Ok(are_equal(array.values(), array.visible_runs()))
+}
+
+/// Is no row above the next, or, where `strict` is asked, is each below the next? No rows are sorted.
+/// Work is by visible runs. Refused as `Unsupported` exactly for lists. It takes no memory, whatever the
+/// form of the run values.
+pub fn is_sorted<A: Allocator + Copy>(
+    array: &RunEndArray<A>,
+    strict: bool,
+    ctx: &mut ExecutionCtx<A>,
+) -> VortexResult<bool>
+    ensures refused { IsRefusedBy (list_fault (column_dtype array.now.values)) result }
+    ensures no_memory { result ≢ Err VortexError.OutOfMemory }
+    ensures answer { IfOk result (λ sorted. IsTrue sorted ↔ IsSorted strict (column_rows (column_of_runs array.now))) }
+    ensures session { ctx.new ≡ ctx.old }
+{
+    let _ = &ctx;
+    if let Some(error) = fault_of_lists(array.dtype()) {
+        return Err(error);
+    }
+    let runs = array.visible_runs();
+    // In strict order each run has one row.
+    if strict && runs.end - runs.start != array.len() {
+        return Ok(false);
+    }
+    Ok(are_sorted(array.values(), runs, strict))
+}
 
 // Are any two of the rows from `range.start` to `range.end - 1`, each looked up, equal?
 fn are_looked_up_equal<A: Allocator + Copy>(values: &ArrayRef<A>, range: Range<usize>) -> bool
@@ -42,24 +84,6 @@ fn are_equal<A: Allocator + Copy>(values: &ArrayRef<A>, range: Range<usize>) -> 
         Some(flat) => column_order::is_constant(flat, range),
         None => are_looked_up_equal(values, range),
     }
-}
-
-/// Are any two rows equal, null equal to null? No rows are constant. Work is by visible runs. Refused
-/// as `Unsupported` exactly for lists. It takes no memory, whatever the form of the run values.
-pub fn is_constant<A: Allocator + Copy>(
-    array: &RunEndArray<A>,
-    ctx: &mut ExecutionCtx<A>,
-) -> VortexResult<bool>
-    ensures refused { IsRefusedBy (order_fault (column_dtype array.now.values)) result }
-    ensures no_memory { result ≢ Err VortexError.OutOfMemory }
-    ensures answer { IfOk result (λ constant. IsTrue constant ↔ IsConstant (column_rows (column_of_runs array.now))) }
-    ensures session { ctx.new ≡ ctx.old }
-{
-    let _ = &ctx;
-    if let Some(error) = fault_of(array.dtype()) {
-        return Err(error);
-    }
-    Ok(are_equal(array.values(), visible_runs(array)))
 }
 
 // May a row that stands so to the next one be there?
@@ -104,29 +128,4 @@ fn are_sorted<A: Allocator + Copy>(values: &ArrayRef<A>, range: Range<usize>, st
         Some(flat) => column_order::is_sorted(flat, range, strict),
         None => are_looked_up_sorted(values, range, strict),
     }
-}
-
-/// Is no row above the next, or, where `strict` is asked, is each below the next? No rows are sorted.
-/// Work is by visible runs. Refused as `Unsupported` exactly for lists. It takes no memory, whatever the
-/// form of the run values.
-pub fn is_sorted<A: Allocator + Copy>(
-    array: &RunEndArray<A>,
-    strict: bool,
-    ctx: &mut ExecutionCtx<A>,
-) -> VortexResult<bool>
-    ensures refused { IsRefusedBy (order_fault (column_dtype array.now.values)) result }
-    ensures no_memory { result ≢ Err VortexError.OutOfMemory }
-    ensures answer { IfOk result (λ sorted. IsTrue sorted ↔ IsSorted strict (column_rows (column_of_runs array.now))) }
-    ensures session { ctx.new ≡ ctx.old }
-{
-    let _ = &ctx;
-    if let Some(error) = fault_of(array.dtype()) {
-        return Err(error);
-    }
-    let runs = visible_runs(array);
-    // In strict order each run has one row.
-    if strict && runs.end - runs.start != array.len() {
-        return Ok(false);
-    }
-    Ok(are_sorted(array.values(), runs, strict))
 }

@@ -4,23 +4,12 @@ ghost use Rattle.column_core.specs.ScalarView.{sees, IsViewOf};
 ghost use Rattle.column_core.specs.Kinds.{is_list};
 ghost use Rattle.column_order.specs.Steps.{HasOrderAt, is_past};
 ghost use Rattle.runend_array.specs.Array.{dtype_of, rows};
-ghost use Rattle.runend_aggregate.specs.OrderFault.{order_fault};
 
-use column_core::{DType, ScalarView, VortexError};
+use column_core::ScalarView;
 use column_order::compare_views;
 use runend_array::ArrayRef;
 use std::alloc::Allocator;
 use std::cmp::Ordering;
-
-/// Why a column of this type has no order.
-pub(crate) fn fault_of(dtype: DType) -> Option<VortexError>
-    ensures { result ≡ order_fault dtype }
-{
-    match dtype {
-        DType::List(_, _) => Some(VortexError::Unsupported),
-        _ => None,
-    }
-}
 
 /// The row at an index that there is.
 pub(crate) fn row_of<A: Allocator + Copy>(values: &ArrayRef<A>, row: usize) -> ScalarView<'_, A>

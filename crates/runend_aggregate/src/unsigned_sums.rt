@@ -11,7 +11,8 @@ ghost use Rattle.column_sums.specs.SumRange.{UnsignedRange};
 ghost use Rattle.runend_codec.specs.Window.{IsWindow};
 ghost use Rattle.runend_array.specs.Array.{dtype_of, rows};
 ghost use Rattle.runend_array.specs.Column.{AreRuns, OfLeaf, column_dtype, column_rows};
-ghost use Rattle.runend_aggregate.specs.ShownRuns.{first_visible, runs_from, stop_visible, visible_runs};
+ghost use Rattle.runend_array.specs.RowRuns.{first_visible, stop_visible};
+ghost use Rattle.runend_aggregate.specs.ShownRuns.{runs_from, visible_runs};
 ghost use Rattle.runend_aggregate.specs.SignOf.{IsSignedType, IsUnsignedType};
 
 use crate::visible;
@@ -183,7 +184,7 @@ fn sum_numbers<E: UnsignedPType, N: UnsignedNumbers, A: Allocator + Copy>(
     ensures calls { sum.new.calls ≡ sum.old.calls ++ calls_of UnsignedRange (visible_runs array.now) }
     ensures few { length sum.new.calls ≤ length sum.old.calls + length (valid_runs (visible_runs array.now)) }
 {
-    let runs = visible::visible_runs(array);
+    let runs = array.visible_runs();
     let visible = UnsignedVisible {
         ends,
         numbers,

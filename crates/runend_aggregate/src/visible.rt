@@ -1,32 +1,16 @@
 //! Which runs of a column are visible, and what they show.
-ghost use Rattle.std.specs.Prelude.{◌≡◌, ◌-◌, ◌<◌, ◌≤◌, Some, length, map, min, option_map, pos, slice_get, slice_index};
+ghost use Rattle.std.specs.Prelude.{◌≡◌, ◌-◌, ◌<◌, Some, length, map, min, option_map, pos, slice_get, slice_index};
 ghost use Rattle.column_base.specs.Types.{IsUnsigned};
 ghost use Rattle.column_sums.specs.SumAnswer.{number_in};
 ghost use Rattle.runend_codec.specs.Ends.{ends_of};
 ghost use Rattle.runend_array.specs.Array.{dtype_of, rows};
 ghost use Rattle.runend_array.specs.Column.{AreRuns};
-ghost use Rattle.runend_aggregate.specs.ShownRuns.{first_visible, rows_before, rows_showing, stop_visible};
+ghost use Rattle.runend_aggregate.specs.ShownRuns.{rows_before, rows_showing};
 ghost use Rattle.runend_aggregate.specs.SignOf.{IsSignedType, IsUnsignedType};
 
 use column_core::{PrimitiveArray, ScalarView, UnsignedPType};
 use runend_array::{ArrayRef, RunEndArray, RunEndArrayExt, RunEndArraySlotsExt};
 use std::alloc::Allocator;
-use std::ops::Range;
-
-/// The visible runs: from the run of the first row to one past that of the last.
-pub(crate) fn visible_runs<A: Allocator + Copy>(array: &RunEndArray<A>) -> Range<usize>
-    ensures first { result.start ≡ first_visible array.now.ends array.now.offset array.now.count }
-    ensures stop { result.end ≡ stop_visible array.now.ends array.now.offset array.now.count }
-    ensures ordered { result.start ≤ result.end }
-    ensures in_bounds { result.end ≤ length array.now.ends }
-    ensures valid { AreRuns array.now }
-{
-    let _ = array.ends();
-    if array.is_empty() {
-        return 0..0;
-    }
-    array.runs_of_rows(0, array.len())
-}
 
 /// The ends, as the flat column that they are.
 pub(crate) fn plain_ends<A: Allocator + Copy>(array: &RunEndArray<A>) -> &PrimitiveArray<A>

@@ -1,5 +1,4 @@
 pub mod CastRows
-pub mod CodePositions
 pub mod CodeRows
 pub mod ComparedRows
 pub mod FilledRows

@@ -13,7 +13,7 @@ use Rattle.column_base.specs.Types.{nullability_of, with_nullability}
 use Rattle.column_core.specs.Refusal.{IsErrorFor, IsRefusedBy}
 use Rattle.column_core.specs.Value.{IsLists, MayBeNull}
 use Rattle.column_core.specs.SameType.{same_dtype-decides}
-use Rattle.column_core.specs.Kinds.{is_list, same_kind}
+use Rattle.column_core.specs.Kinds.{is_list, is_numbers, same_kind}
 use Rattle.column_order.specs.CompareFault.{compare_column_fault, compare_scalar_fault, length_fault}
 use Rattle.column_order.specs.Comparing.{compare_dtype, either_nullability}
 
@@ -30,6 +30,15 @@ no_lists (column.Decimal d n) right none = λ h. h
 no_lists (column.Utf8 n) right none = λ h. h
 no_lists (column.Binary n) right none = λ h. h
 no_lists (column.List e n) right none = cc
+
+-- whole numbers are no lists
+pub numbers_single : (t : DType) → is_numbers t ≡ true → ¬ IsLists t
+numbers_single (column.Bool n) numbers = λ h. h
+numbers_single (column.Primitive t n) numbers = λ h. h
+numbers_single (column.Decimal d n) numbers = λ h. h
+numbers_single (column.Utf8 n) numbers = λ h. h
+numbers_single (column.Binary n) numbers = λ h. h
+numbers_single (column.List e n) numbers = cc
 
 lists_kept : (t : DType) → IsLists t → IsLists (with_nullability t NonNullable)
 lists_kept (column.Bool n) h = h

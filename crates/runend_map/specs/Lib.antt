@@ -2,5 +2,4 @@ pub mod Asked
 pub mod Codes
 pub mod ComparisonForm
 pub mod Owed
-pub mod Positions
 pub mod TakenForm

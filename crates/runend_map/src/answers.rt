@@ -15,24 +15,8 @@ ghost use Rattle.runend_map.specs.Owed.{number_row, truth_row};
 use column_core::{
     BitBufferMut, BoolArray, NativePType, PrimitiveArray, Validity, VortexError, VortexResult,
 };
+use column_ops::item_at;
 use std::alloc::Allocator;
-
-// The item in a row, or `None` for null.
-fn row_at<S: Copy + Drop, A: Allocator>(
-    items: &[S],
-    validity: &Validity<A>,
-    row: usize,
-) -> Option<S>
-    requires within { row < length items.now }
-    requires fits { HasLength (form_of validity.now) (length items.now) }
-    ensures { slice_get (optionals items.now (flags (form_of validity.now) (length items.now))) row ≡ Some result }
-{
-    if validity.is_valid(row) {
-        Some(items[row])
-    } else {
-        None
-    }
-}
 
 /// What the function answers to each row, in order. It is called once for each. Refused as `OutOfMemory`
 /// alone.
@@ -49,7 +33,7 @@ pub(crate) fn answers<S: Copy + Drop, R: Drop, F: Fn(Option<S>) -> R, A: Allocat
 {
     let mut answers = Vec::with_capacity(alloc, items.len())?;
     for row in 0..items.len() {
-        let answer = function(row_at(items, validity, row));
+        let answer = function(item_at(items, validity, row));
         answers.push(answer)?;
     }
     Ok(answers)

@@ -9,10 +9,9 @@ ghost use Rattle.runend_array.specs.Column.{AreRuns, column_dtype, column_of_run
 ghost use Rattle.runend_visible.specs.LeastForm.{IsRunForm};
 ghost use Rattle.runend_visible.specs.VisibleForm.{visible_values as values_of_visible};
 
-use column_core::{DType, FlatColumn, PrimitiveArray, VortexError, VortexResult};
+use column_core::{DType, FlatColumn, PrimitiveArray, VortexError, VortexResult, is_list_type};
 use column_ops::ColumnOps;
 use runend_array::{ArrayRef, ExecutionCtx, RunEndArray, RunEndArrayExt};
-use runend_rowwise::is_lists;
 use runend_visible::{lent_numbers, over_runs, visible_values};
 use std::alloc::Allocator;
 
@@ -34,7 +33,7 @@ pub fn cast<A: Allocator + Copy>(
     ensures form { IfOk result (λ cast. IsRunForm dtype array.now (column_of cast)) }
     ensures session { ctx.new ≡ ctx.old }
 {
-    if is_lists(array.dtype()) {
+    if is_list_type(array.dtype()) {
         return Err(VortexError::Unsupported);
     }
     let alloc = *ctx.allocator();
@@ -42,9 +41,9 @@ pub fn cast<A: Allocator + Copy>(
         return cast_lent(array, numbers, dtype, alloc);
     }
     let values = visible_values(array, alloc)?;
-    let made = values.cast(alloc, dtype);
+    let cast = values.cast(alloc, dtype);
     drop(values);
-    let cast = made?;
+    let cast = cast?;
     over_runs(array, cast, alloc)
 }
 

@@ -15,12 +15,45 @@ ghost use Rattle.runend_map.specs.Codes.{keeps_runs};
 ghost use Rattle.runend_map.specs.TakenForm.{IsTakenForm};
 ghost use Rattle.runend_visible.specs.VisibleForm.{visible_ends, visible_values as values_of_visible, window_start};
 
-use crate::positions::rows_at_codes;
 use crate::visible::shown_rows;
 use column_core::{DType, FlatColumn, PrimitiveArray, VortexError, VortexResult, is_number_type};
+use column_ops::ColumnOps;
 use runend_array::{ArrayRef, ExecutionCtx, RunEndArray, RunEndArrayExt, array_of};
 use runend_visible::{lent_numbers, over_runs, visible_values};
 use std::alloc::Allocator;
+
+/// The dictionary's row for each code, null for null, in a type with null where the dictionary's or the codes'
+/// has. Of a dictionary of whole numbers it is a run column in least form: no run is hidden, neighbours differ
+/// (null equal to null), the offset is 0 and the last end the length; of one of truth values it is a run column
+/// of the visible runs; both have flat values and ends of the same type. Of any other it is a flat column.
+/// Only codes of visible runs are looked at.
+///
+/// Refused as `TypeMismatch` unless the codes are whole numbers; then as `OutOfBounds`, with the code and the
+/// number of rows of the dictionary, at the first code that is no null and is negative or not below that
+/// number; else as `OutOfMemory` alone.
+pub(crate) fn take_from_flat<A: Allocator + Copy>(
+    codes: &RunEndArray<A>,
+    dictionary: &FlatColumn<A>,
+    ctx: &mut ExecutionCtx<A>,
+) -> VortexResult<ArrayRef<A>>
+    ensures refused { IsRefusedBy (code_fault (plain_of (column_of_runs codes.now)) (length (leaf_rows (leaf_of dictionary.now)))) result }
+    ensures rows { IfOk result (λ taken. rows taken ≡ code_rows (single_rows (leaf_of dictionary.now)) (column_rows (column_of_runs codes.now))) }
+    ensures dtype { IfOk result (λ taken. dtype_of taken ≡ take_dtype (leaf_dtype (leaf_of dictionary.now)) (column_dtype codes.now.values)) }
+    ensures form { IfOk result (λ taken. IsTakenForm (keeps_runs (leaf_dtype (leaf_of dictionary.now))) (leaf_dtype (leaf_of dictionary.now)) codes.now (column_of taken)) }
+    ensures session { ctx.new ≡ ctx.old }
+{
+    if !is_number_type(codes.dtype()) {
+        return Err(VortexError::TypeMismatch);
+    }
+    let alloc = *ctx.allocator();
+    if let Some(indices) = lent_numbers(codes) {
+        return take_at_codes(codes, indices, dictionary, alloc);
+    }
+    let indices = visible_codes(codes, alloc)?;
+    let taken = take_at_codes(codes, &indices, dictionary, alloc);
+    drop(indices);
+    taken
+}
 
 // Is it a type over whose values runs of codes are kept?
 fn is_kept_type(dtype: DType) -> bool
@@ -69,45 +102,13 @@ fn placed<A: Allocator + Copy>(
         let part = over_runs(codes, taken, alloc)?;
         Ok(part)
     } else {
-        let flat = shown_rows(codes, taken, alloc)?;
+        // Truth values, which alone are prefilled, are put over the runs.
+        let flat = shown_rows(codes, taken, alloc, 0)?;
         Ok(array_of(flat))
     }
 }
 
-/// The dictionary's row for each code, null for null, in a type with null where the dictionary's or the codes'
-/// has. Of a dictionary of whole numbers it is a run column in least form: no run is hidden, neighbours differ
-/// (null equal to null), the offset is 0 and the last end the length; of one of truth values it is a run column
-/// of the visible runs; both have flat values and ends of the same type. Of any other it is a flat column.
-/// Only codes of visible runs are looked at.
-///
-/// Refused as `TypeMismatch` unless the codes are whole numbers; then as `OutOfBounds`, with the code and the
-/// number of rows of the dictionary, at the first code that is no null and is negative or not below that
-/// number; else as `OutOfMemory` alone.
-pub(crate) fn take_from_flat<A: Allocator + Copy>(
-    codes: &RunEndArray<A>,
-    dictionary: &FlatColumn<A>,
-    ctx: &mut ExecutionCtx<A>,
-) -> VortexResult<ArrayRef<A>>
-    ensures refused { IsRefusedBy (code_fault (plain_of (column_of_runs codes.now)) (length (leaf_rows (leaf_of dictionary.now)))) result }
-    ensures rows { IfOk result (λ taken. rows taken ≡ code_rows (single_rows (leaf_of dictionary.now)) (column_rows (column_of_runs codes.now))) }
-    ensures dtype { IfOk result (λ taken. dtype_of taken ≡ take_dtype (leaf_dtype (leaf_of dictionary.now)) (column_dtype codes.now.values)) }
-    ensures form { IfOk result (λ taken. IsTakenForm (keeps_runs (leaf_dtype (leaf_of dictionary.now))) (leaf_dtype (leaf_of dictionary.now)) codes.now (column_of taken)) }
-    ensures session { ctx.new ≡ ctx.old }
-{
-    if !is_number_type(codes.dtype()) {
-        return Err(VortexError::TypeMismatch);
-    }
-    let alloc = *ctx.allocator();
-    if let Some(indices) = lent_numbers(codes) {
-        return take_at_codes(codes, indices, dictionary, alloc);
-    }
-    let indices = visible_codes(codes, alloc)?;
-    let taken = take_at_codes(codes, &indices, dictionary, alloc);
-    drop(indices);
-    taken
-}
-
-// The same, where these are the codes of the visible runs.
+// What `take_from_flat` answers, from the codes of the visible runs.
 fn take_at_codes<A: Allocator + Copy>(
     codes: &RunEndArray<A>,
     indices: &PrimitiveArray<A>,
@@ -123,6 +124,6 @@ fn take_at_codes<A: Allocator + Copy>(
     ensures dtype { IfOk result (λ taken. dtype_of taken ≡ take_dtype (leaf_dtype (leaf_of dictionary.now)) (column_dtype codes.now.values)) }
     ensures form { IfOk result (λ taken. IsTakenForm (keeps_runs (leaf_dtype (leaf_of dictionary.now))) (leaf_dtype (leaf_of dictionary.now)) codes.now (column_of taken)) }
 {
-    let taken = rows_at_codes(dictionary, alloc, indices)?;
+    let taken = dictionary.take(alloc, indices)?;
     placed(codes, taken, is_kept_type(dictionary.dtype()), alloc)
 }

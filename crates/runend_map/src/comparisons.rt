@@ -26,6 +26,38 @@ use runend_rowwise::flat_rows;
 use runend_visible::visible_values;
 use std::alloc::Allocator;
 
+/// Does the operator hold of each row and the row of `right` beside it? Null where either row is null. The
+/// answer has null where either type has. A right side that is a constant is compared with each visible run
+/// once, and the answer is a constant null where there is a row and all answers are null; else, and with
+/// every other right side, it is flat. With a constant null no value is looked at, and no memory is taken
+/// where there is a row.
+///
+/// Refused as `Unsupported` for lists; then as `TypeMismatch` where the two types differ in more than
+/// nullability; then as `ColumnLength`, with the number of rows of this column and of the right one, where
+/// these differ; else as `OutOfMemory` alone.
+pub fn compare<A: Allocator + Copy>(
+    array: &RunEndArray<A>,
+    operator: CompareOperator,
+    right: &ArrayRef<A>,
+    ctx: &mut ExecutionCtx<A>,
+) -> VortexResult<ArrayRef<A>>
+    ensures refused { IsRefusedBy (compare_column_fault (column_dtype array.now.values) (dtype_of right.now)
+        (length (column_rows (column_of_runs array.now))) (length (rows right.now))) result }
+    ensures null { IsNullConstant (column_of right.now) → result ≢ Err VortexError.OutOfMemory }
+    ensures rows { IfOk result (λ truths. rows truths ≡ compare_rows operator (column_rows (column_of_runs array.now)) (rows right.now)) }
+    ensures dtype { IfOk result (λ truths. dtype_of truths ≡ compare_dtype (column_dtype array.now.values) (dtype_of right.now)) }
+    ensures form { IfOk result (λ truths. IsComparisonForm (column_of right.now) (column_of truths)) }
+    ensures session { ctx.new ≡ ctx.old }
+{
+    if let Some(error) = fault_beside(array, right) {
+        return Err(error);
+    }
+    match right {
+        ArrayRef::Constant(constant) => compare_to_scalar(array, operator, constant.scalar(), ctx),
+        _ => compare_beside(array, operator, right, ctx),
+    }
+}
+
 // Why a column is not compared with another one.
 fn fault_beside<A: Allocator + Copy>(
     array: &RunEndArray<A>,
@@ -76,9 +108,9 @@ fn compare_to_scalar<A: Allocator + Copy>(
     }
     let alloc = *ctx.allocator();
     let values = visible_values(array, alloc)?;
-    let made = values.compare_scalar(alloc, operator, right);
+    let truths = values.compare_scalar(alloc, operator, right);
     drop(values);
-    let truths = made?;
+    let truths = truths?;
     shown_truths(array, truths, ctx)
 }
 
@@ -87,16 +119,17 @@ fn compare_flat<A: Allocator + Copy>(
     left: &FlatColumn<A>,
     operator: CompareOperator,
     right: &ArrayRef<A>,
-    alloc: A,
+    ctx: &mut ExecutionCtx<A>,
 ) -> VortexResult<BoolArray<A>>
     requires kind { compare_column_fault (leaf_dtype (leaf_of left.now)) (dtype_of right.now) (length (leaf_rows (leaf_of left.now))) (length (rows right.now)) ≡ None }
     ensures only { IsOkUnless result VortexError.OutOfMemory }
     ensures rows { IfOk result (λ truths. single_rows (OfTruths truths) ≡ compare_rows operator (single_rows (leaf_of left.now)) (rows right.now)) }
     ensures dtype { IfOk result (λ truths. bool_dtype truths ≡ compare_dtype (leaf_dtype (leaf_of left.now)) (dtype_of right.now)) }
     ensures computed { IfOk result (λ truths. IsComputedLeaf (OfTruths truths)) }
+    ensures session { ctx.new ≡ ctx.old }
 {
-    let right = flat_rows(right, alloc)?;
-    let truths = left.compare_column(alloc, operator, &right);
+    let right = flat_rows(right, ctx)?;
+    let truths = left.compare_column(*ctx.allocator(), operator, &right);
     drop(right);
     truths
 }
@@ -117,42 +150,11 @@ fn compare_beside<A: Allocator + Copy>(
     ensures session { ctx.new ≡ ctx.old }
 {
     let alloc = *ctx.allocator();
+    let prefill_runs = ctx.session().thresholds().prefill_runs;
     let values = visible_values(array, alloc)?;
-    let left = shown_rows(array, values, alloc)?;
-    let made = compare_flat(&left, operator, right, alloc);
+    let left = shown_rows(array, values, alloc, prefill_runs)?;
+    let truths = compare_flat(&left, operator, right, ctx);
     drop(left);
-    let truths = made?;
+    let truths = truths?;
     Ok(ArrayRef::Bool(truths))
-}
-
-/// Does the operator hold of each row and the row of `right` beside it? Null where either row is null. The
-/// answer has null where either type has. A right side that is a constant is compared with each visible run
-/// once, and the answer is a constant null where there is a row and all answers are null; else, and with
-/// every other right side, it is flat. With a constant null no value is looked at, and no memory is taken
-/// where there is a row.
-///
-/// Refused as `Unsupported` for lists; then as `TypeMismatch` where the two types differ in more than
-/// nullability; then as `ColumnLength`, with the number of rows of this column and of the right one, where
-/// these differ; else as `OutOfMemory` alone.
-pub fn compare<A: Allocator + Copy>(
-    array: &RunEndArray<A>,
-    operator: CompareOperator,
-    right: &ArrayRef<A>,
-    ctx: &mut ExecutionCtx<A>,
-) -> VortexResult<ArrayRef<A>>
-    ensures refused { IsRefusedBy (compare_column_fault (column_dtype array.now.values) (dtype_of right.now)
-        (length (column_rows (column_of_runs array.now))) (length (rows right.now))) result }
-    ensures null { IsNullConstant (column_of right.now) → result ≢ Err VortexError.OutOfMemory }
-    ensures rows { IfOk result (λ truths. rows truths ≡ compare_rows operator (column_rows (column_of_runs array.now)) (rows right.now)) }
-    ensures dtype { IfOk result (λ truths. dtype_of truths ≡ compare_dtype (column_dtype array.now.values) (dtype_of right.now)) }
-    ensures form { IfOk result (λ truths. IsComparisonForm (column_of right.now) (column_of truths)) }
-    ensures session { ctx.new ≡ ctx.old }
-{
-    if let Some(error) = fault_beside(array, right) {
-        return Err(error);
-    }
-    match right {
-        ArrayRef::Constant(constant) => compare_to_scalar(array, operator, constant.scalar(), ctx),
-        _ => compare_beside(array, operator, right, ctx),
-    }
 }

@@ -15,58 +15,13 @@ ghost use Rattle.runend_map.specs.TakenForm.{IsTakenForm};
 
 use crate::codes::take_from_flat;
 use crate::visible::shown_rows;
-use column_core::{FlatColumn, PrimitiveArray, VortexError, VortexResult, is_number_type};
+use column_core::{
+    FlatColumn, PrimitiveArray, VortexError, VortexResult, is_list_type, is_number_type,
+};
 use runend_array::{ArrayRef, ExecutionCtx, RunEndArray, RunEndArrayExt};
-use runend_rowwise::{flat_rows, is_lists, take_rows};
+use runend_rowwise::{flat_rows, take_rows};
 use runend_visible::visible_values;
 use std::alloc::Allocator;
-
-// The codes of a flat column of whole numbers.
-fn numbers_of<A: Allocator>(flat: FlatColumn<A>) -> PrimitiveArray<A>
-    requires numbers { is_numbers (leaf_dtype (leaf_of flat)) ≡ true }
-    ensures codes { code_numbers (single_rows (leaf_of flat)) ≡ optional_numbers result }
-    ensures dtype { primitive_dtype result ≡ leaf_dtype (leaf_of flat) }
-{
-    match flat {
-        FlatColumn::Primitive(numbers) => numbers,
-        _ => unreachable!(),
-    }
-}
-
-// The codes of all rows, of which only those of visible runs are looked at. Refused as `OutOfMemory` alone.
-fn codes_of_runs<A: Allocator + Copy>(
-    codes: &RunEndArray<A>,
-    alloc: A,
-) -> VortexResult<PrimitiveArray<A>>
-    requires numbers { is_numbers (column_dtype codes.now.values) ≡ true }
-    ensures only { IsOkUnless result VortexError.OutOfMemory }
-    ensures codes { IfOk result (λ indices. code_numbers (column_rows (column_of_runs codes.now)) ≡ optional_numbers indices) }
-    ensures dtype { IfOk result (λ indices. primitive_dtype indices ≡ column_dtype codes.now.values) }
-{
-    let values = visible_values(codes, alloc)?;
-    let shown = shown_rows(codes, values, alloc)?;
-    Ok(numbers_of(shown))
-}
-
-// The dictionary's row for each code, null for null, flat.
-fn take_each<A: Allocator + Copy>(
-    codes: &RunEndArray<A>,
-    dictionary: &ArrayRef<A>,
-    ctx: &mut ExecutionCtx<A>,
-) -> VortexResult<ArrayRef<A>>
-    requires numbers { is_numbers (column_dtype codes.now.values) ≡ true }
-    ensures refused { IsRefusedBy (code_fault (plain_of (column_of_runs codes.now)) (length (rows dictionary.now))) result }
-    ensures rows { IfOk result (λ taken. rows taken ≡ code_rows (rows dictionary.now) (column_rows (column_of_runs codes.now))) }
-    ensures dtype { IfOk result (λ taken. dtype_of taken ≡ take_dtype (dtype_of dictionary.now) (column_dtype codes.now.values)) }
-    ensures flat { IfOk result (λ taken. IsComputedFlat (column_of taken)) }
-    ensures session { ctx.new ≡ ctx.old }
-{
-    let alloc = *ctx.allocator();
-    let indices = codes_of_runs(codes, alloc)?;
-    let taken = take_rows(dictionary, &indices, ctx);
-    drop(indices);
-    taken
-}
 
 /// The dictionary's row for each code, null for null, in a type with null where the dictionary's or the codes'
 /// has. Of a dictionary of whole numbers it is a run column in least form: no run is hidden, neighbours differ
@@ -93,11 +48,10 @@ pub fn take_from<A: Allocator + Copy>(
     if !is_number_type(codes.dtype()) {
         return Err(VortexError::TypeMismatch);
     }
-    if is_lists(dictionary.dtype()) {
+    if is_list_type(dictionary.dtype()) {
         return take_each(codes, dictionary, ctx);
     }
-    let alloc = *ctx.allocator();
-    let flat = flat_rows(dictionary, alloc)?;
+    let flat = flat_rows(dictionary, ctx)?;
     let taken = take_from_flat(codes, &flat, ctx);
     drop(flat);
     taken
@@ -124,9 +78,56 @@ pub fn take_from_rows<A: Allocator + Copy>(
     if !is_number_type(codes.dtype()) {
         return Err(VortexError::TypeMismatch);
     }
-    let alloc = *ctx.allocator();
-    let flat = flat_rows(codes, alloc)?;
+    let flat = flat_rows(codes, ctx)?;
     let indices = numbers_of(flat);
+    let taken = take_rows(dictionary, &indices, ctx);
+    drop(indices);
+    taken
+}
+
+// The codes of a flat column of whole numbers.
+fn numbers_of<A: Allocator>(flat: FlatColumn<A>) -> PrimitiveArray<A>
+    requires numbers { is_numbers (leaf_dtype (leaf_of flat)) ≡ true }
+    ensures codes { code_numbers (single_rows (leaf_of flat)) ≡ optional_numbers result }
+    ensures dtype { primitive_dtype result ≡ leaf_dtype (leaf_of flat) }
+{
+    match flat {
+        FlatColumn::Primitive(numbers) => numbers,
+        _ => unreachable!(),
+    }
+}
+
+// The codes of all rows, of which only those of visible runs are looked at. Refused as `OutOfMemory` alone.
+fn codes_of_runs<A: Allocator + Copy>(
+    codes: &RunEndArray<A>,
+    alloc: A,
+) -> VortexResult<PrimitiveArray<A>>
+    requires numbers { is_numbers (column_dtype codes.now.values) ≡ true }
+    ensures only { IsOkUnless result VortexError.OutOfMemory }
+    ensures codes { IfOk result (λ indices. code_numbers (column_rows (column_of_runs codes.now)) ≡ optional_numbers indices) }
+    ensures dtype { IfOk result (λ indices. primitive_dtype indices ≡ column_dtype codes.now.values) }
+{
+    let values = visible_values(codes, alloc)?;
+    // Whole numbers are not prefilled.
+    let shown = shown_rows(codes, values, alloc, 0)?;
+    Ok(numbers_of(shown))
+}
+
+// The dictionary's row for each code, null for null, flat.
+fn take_each<A: Allocator + Copy>(
+    codes: &RunEndArray<A>,
+    dictionary: &ArrayRef<A>,
+    ctx: &mut ExecutionCtx<A>,
+) -> VortexResult<ArrayRef<A>>
+    requires numbers { is_numbers (column_dtype codes.now.values) ≡ true }
+    ensures refused { IsRefusedBy (code_fault (plain_of (column_of_runs codes.now)) (length (rows dictionary.now))) result }
+    ensures rows { IfOk result (λ taken. rows taken ≡ code_rows (rows dictionary.now) (column_rows (column_of_runs codes.now))) }
+    ensures dtype { IfOk result (λ taken. dtype_of taken ≡ take_dtype (dtype_of dictionary.now) (column_dtype codes.now.values)) }
+    ensures flat { IfOk result (λ taken. IsComputedFlat (column_of taken)) }
+    ensures session { ctx.new ≡ ctx.old }
+{
+    let alloc = *ctx.allocator();
+    let indices = codes_of_runs(codes, alloc)?;
     let taken = take_rows(dictionary, &indices, ctx);
     drop(indices);
     taken

@@ -10,10 +10,9 @@ ghost use Rattle.runend_array.specs.Column.{AreRuns, column_dtype, column_of_run
 ghost use Rattle.runend_visible.specs.LeastForm.{IsRunForm};
 ghost use Rattle.runend_visible.specs.VisibleForm.{visible_values as values_of_visible};
 
-use column_core::{FlatColumn, PrimitiveArray, Scalar, VortexError, VortexResult};
+use column_core::{FlatColumn, PrimitiveArray, Scalar, VortexError, VortexResult, is_list_type};
 use column_ops::ColumnOps;
 use runend_array::{ArrayRef, ExecutionCtx, RunEndArray, RunEndArrayExt};
-use runend_rowwise::is_lists;
 use runend_visible::{lent_numbers, over_runs, visible_values};
 use std::alloc::Allocator;
 
@@ -35,7 +34,7 @@ pub fn fill_null<A: Allocator + Copy>(
     ensures form { IfOk result (λ filled. IsRunForm (fill_dtype (column_dtype array.now.values)) array.now (column_of filled)) }
     ensures session { ctx.new ≡ ctx.old }
 {
-    if is_lists(array.dtype()) {
+    if is_list_type(array.dtype()) {
         return Err(VortexError::Unsupported);
     }
     let alloc = *ctx.allocator();
@@ -43,9 +42,9 @@ pub fn fill_null<A: Allocator + Copy>(
         return fill_lent(array, numbers, value, alloc);
     }
     let values = visible_values(array, alloc)?;
-    let made = values.fill_null(alloc, value);
+    let filled = values.fill_null(alloc, value);
     drop(values);
-    let filled = made?;
+    let filled = filled?;
     over_runs(array, filled, alloc)
 }
 

@@ -9,7 +9,6 @@ mod codes;
 mod comparisons;
 mod dictionary;
 mod fill;
-mod positions;
 mod scalar_fn;
 mod visible;
 

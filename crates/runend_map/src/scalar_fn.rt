@@ -20,6 +20,56 @@ use runend_rowwise::flat_rows;
 use runend_visible::{over_visible_runs, visible_values};
 use std::alloc::Allocator;
 
+/// What the function answers to each row, in a type with null: of a run column, where scalar functions are
+/// registered, a run column of the visible runs with flat values, else a flat column. The function is called
+/// once for each visible run, or, of other columns, once for each row, and on no other value.
+///
+/// Refused as `TypeMismatch` unless the column has native numbers of the type `S`; else as `OutOfMemory` alone.
+pub fn map_rows<S: NativePType, T: NativePType, F: Fn(Option<S>) -> Option<T>, A: Allocator + Copy>(
+    column: &ArrayRef<A>,
+    function: &F,
+    ctx: &mut ExecutionCtx<A>,
+) -> VortexResult<ArrayRef<A>>
+    requires { is_native S.PTYPE (dtype_of column.now) ≡ true → MayAsk (number_row S.number) (λ row. F.pre function.now row) (rows column.now) }
+    ensures refused { IsRefusedBy (native_fault S.PTYPE (dtype_of column.now)) result }
+    ensures rows { IfOk result (λ mapped. AllZip (IsOwed (number_row S.number) (number_row T.number) (λ row answer. F.post function.now row answer)) (rows column.now) (rows mapped)) }
+    ensures dtype { IfOk result (λ mapped. dtype_of mapped ≡ types.Primitive T.PTYPE Nullable) }
+    ensures form { IfOk result (λ mapped. IsMappedForm ctx.old (column_of column.now) (column_of mapped)) }
+    ensures session { ctx.new ≡ ctx.old }
+{
+    if !is_type_of::<S>(column.dtype()) {
+        return Err(VortexError::TypeMismatch);
+    }
+    let answers = asked_answers(column, function, ctx)?;
+    let mapped = column_of_numbers(*ctx.allocator(), answers.as_slice());
+    drop(answers);
+    let mapped = mapped?;
+    answered(column, FlatColumn::Primitive(mapped), ctx)
+}
+
+/// The same of a function that answers truth values.
+pub fn map_rows_bool<S: NativePType, F: Fn(Option<S>) -> Option<bool>, A: Allocator + Copy>(
+    column: &ArrayRef<A>,
+    function: &F,
+    ctx: &mut ExecutionCtx<A>,
+) -> VortexResult<ArrayRef<A>>
+    requires { is_native S.PTYPE (dtype_of column.now) ≡ true → MayAsk (number_row S.number) (λ row. F.pre function.now row) (rows column.now) }
+    ensures refused { IsRefusedBy (native_fault S.PTYPE (dtype_of column.now)) result }
+    ensures rows { IfOk result (λ mapped. AllZip (IsOwed (number_row S.number) truth_row (λ row answer. F.post function.now row answer)) (rows column.now) (rows mapped)) }
+    ensures dtype { IfOk result (λ mapped. dtype_of mapped ≡ types.Bool Nullable) }
+    ensures form { IfOk result (λ mapped. IsMappedForm ctx.old (column_of column.now) (column_of mapped)) }
+    ensures session { ctx.new ≡ ctx.old }
+{
+    if !is_type_of::<S>(column.dtype()) {
+        return Err(VortexError::TypeMismatch);
+    }
+    let answers = asked_answers(column, function, ctx)?;
+    let mapped = column_of_truths(*ctx.allocator(), answers.as_slice());
+    drop(answers);
+    let mapped = mapped?;
+    answered(column, FlatColumn::Bool(mapped), ctx)
+}
+
 // Is it the type of these native numbers?
 fn is_type_of<S: NativePType>(dtype: DType) -> bool
     ensures { result ≡ is_native S.PTYPE dtype }
@@ -31,16 +81,20 @@ fn is_type_of<S: NativePType>(dtype: DType) -> bool
 }
 
 // The rows that a function is asked for. Refused as `OutOfMemory` alone.
-fn asked_values<A: Allocator + Copy>(column: &ArrayRef<A>, alloc: A) -> VortexResult<FlatColumn<A>>
+fn asked_values<A: Allocator + Copy>(
+    column: &ArrayRef<A>,
+    ctx: &mut ExecutionCtx<A>,
+) -> VortexResult<FlatColumn<A>>
     requires single { ¬ IsLists (dtype_of column.now) }
     ensures only { IsOkUnless result VortexError.OutOfMemory }
     ensures rows { IfOk result (λ values. single_rows (leaf_of values) ≡ asked_rows (column_of column.now)) }
     ensures dtype { IfOk result (λ values. leaf_dtype (leaf_of values) ≡ dtype_of column.now) }
     ensures valid { HasValidRuns (column_of column.now) }
+    ensures session { ctx.new ≡ ctx.old }
 {
     match column {
-        ArrayRef::RunEnd(runs) => visible_values(runs, alloc),
-        _ => flat_rows(column, alloc),
+        ArrayRef::RunEnd(runs) => visible_values(runs, *ctx.allocator()),
+        _ => flat_rows(column, ctx),
     }
 }
 
@@ -68,16 +122,17 @@ fn answers_to<S: NativePType, R: Drop, F: Fn(Option<S>) -> R, A: Allocator + Cop
 fn asked_answers<S: NativePType, R: Drop, F: Fn(Option<S>) -> R, A: Allocator + Copy>(
     column: &ArrayRef<A>,
     function: &F,
-    alloc: A,
+    ctx: &mut ExecutionCtx<A>,
 ) -> VortexResult<Vec<R, A>>
     requires native { is_native S.PTYPE (dtype_of column.now) ≡ true }
     requires callable { MayAsk (number_row S.number) (λ row. F.pre function.now row) (rows column.now) }
     ensures only { IsOkUnless result VortexError.OutOfMemory }
     ensures each { IfOk result (λ answers. AllZip (IsAsked (number_row S.number) (λ row answer. F.post function.now row answer)) (asked_rows (column_of column.now)) answers.items) }
     ensures valid { HasValidRuns (column_of column.now) }
+    ensures session { ctx.new ≡ ctx.old }
 {
-    let values = asked_values(column, alloc)?;
-    let answers = answers_to(&values, function, alloc);
+    let values = asked_values(column, ctx)?;
+    let answers = answers_to(&values, function, *ctx.allocator());
     drop(values);
     answers
 }
@@ -103,59 +158,8 @@ fn answered<A: Allocator + Copy>(
     if ctx.session().is_registered(Kernel::ScalarFn) {
         over_visible_runs(runs, answers, alloc)
     } else {
-        let flat = shown_rows(runs, answers, alloc)?;
+        let prefill_runs = ctx.session().thresholds().prefill_runs;
+        let flat = shown_rows(runs, answers, alloc, prefill_runs)?;
         Ok(array_of(flat))
     }
-}
-
-/// What the function answers to each row, in a type with null: of a run column, where scalar functions are
-/// registered, a run column of the visible runs with flat values, else a flat column. The function is called
-/// once for each visible run, or, of other columns, once for each row, and on no other value.
-///
-/// Refused as `TypeMismatch` unless the column has native numbers of the type `S`; else as `OutOfMemory` alone.
-pub fn map_rows<S: NativePType, T: NativePType, F: Fn(Option<S>) -> Option<T>, A: Allocator + Copy>(
-    column: &ArrayRef<A>,
-    function: &F,
-    ctx: &mut ExecutionCtx<A>,
-) -> VortexResult<ArrayRef<A>>
-    requires { is_native S.PTYPE (dtype_of column.now) ≡ true → MayAsk (number_row S.number) (λ row. F.pre function.now row) (rows column.now) }
-    ensures refused { IsRefusedBy (native_fault S.PTYPE (dtype_of column.now)) result }
-    ensures rows { IfOk result (λ mapped. AllZip (IsOwed (number_row S.number) (number_row T.number) (λ row answer. F.post function.now row answer)) (rows column.now) (rows mapped)) }
-    ensures dtype { IfOk result (λ mapped. dtype_of mapped ≡ types.Primitive T.PTYPE Nullable) }
-    ensures form { IfOk result (λ mapped. IsMappedForm ctx.old (column_of column.now) (column_of mapped)) }
-    ensures session { ctx.new ≡ ctx.old }
-{
-    if !is_type_of::<S>(column.dtype()) {
-        return Err(VortexError::TypeMismatch);
-    }
-    let alloc = *ctx.allocator();
-    let answers = asked_answers(column, function, alloc)?;
-    let made = column_of_numbers(alloc, answers.as_slice());
-    drop(answers);
-    let mapped = made?;
-    answered(column, FlatColumn::Primitive(mapped), ctx)
-}
-
-/// The same of a function that answers truth values.
-pub fn map_rows_bool<S: NativePType, F: Fn(Option<S>) -> Option<bool>, A: Allocator + Copy>(
-    column: &ArrayRef<A>,
-    function: &F,
-    ctx: &mut ExecutionCtx<A>,
-) -> VortexResult<ArrayRef<A>>
-    requires { is_native S.PTYPE (dtype_of column.now) ≡ true → MayAsk (number_row S.number) (λ row. F.pre function.now row) (rows column.now) }
-    ensures refused { IsRefusedBy (native_fault S.PTYPE (dtype_of column.now)) result }
-    ensures rows { IfOk result (λ mapped. AllZip (IsOwed (number_row S.number) truth_row (λ row answer. F.post function.now row answer)) (rows column.now) (rows mapped)) }
-    ensures dtype { IfOk result (λ mapped. dtype_of mapped ≡ types.Bool Nullable) }
-    ensures form { IfOk result (λ mapped. IsMappedForm ctx.old (column_of column.now) (column_of mapped)) }
-    ensures session { ctx.new ≡ ctx.old }
-{
-    if !is_type_of::<S>(column.dtype()) {
-        return Err(VortexError::TypeMismatch);
-    }
-    let alloc = *ctx.allocator();
-    let answers = asked_answers(column, function, alloc)?;
-    let made = column_of_truths(alloc, answers.as_slice());
-    drop(answers);
-    let mapped = made?;
-    answered(column, FlatColumn::Bool(mapped), ctx)
 }

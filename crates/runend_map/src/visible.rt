@@ -16,12 +16,14 @@ use runend_decode::decode_flat;
 use runend_visible::{ends_of_visible, visible_offset};
 use std::alloc::Allocator;
 
-/// The rows that the visible runs show over these values, one for each, as a flat column. Refused as
+/// The rows that the visible runs show over these values, one for each, as a flat column. Of truth values, the
+/// rows start as the value of most runs from `prefill_runs` runs on; the answer is the same. Refused as
 /// `OutOfMemory` alone.
 pub(crate) fn shown_rows<A: Allocator + Copy>(
     array: &RunEndArray<A>,
     values: FlatColumn<A>,
     alloc: A,
+    prefill_runs: usize,
 ) -> VortexResult<FlatColumn<A>>
     requires paired { length (leaf_rows (leaf_of values)) ≡ length (values_of_visible array.now) }
     ensures only { IsOkUnless result VortexError.OutOfMemory }
@@ -36,9 +38,17 @@ pub(crate) fn shown_rows<A: Allocator + Copy>(
             return Err(error);
         }
     };
-    // No session is at hand, and by default truth values are prefilled from 0 runs on.
-    let flat = decode_flat(alloc, &ends, values, visible_offset(array), array.len(), 0);
+    let offset = visible_offset(array);
+    let flat = decode_flat(
+        alloc,
+        &ends,
+        values.view(),
+        offset,
+        array.len(),
+        prefill_runs,
+    );
     drop(ends);
+    drop(values);
     flat
 }
 

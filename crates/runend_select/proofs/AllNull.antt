@@ -17,7 +17,7 @@ use Rattle.column_ops.specs.Take.{take_rows}
 use Rattle.runend_array.specs.Column.{Column, OfLeaf, OfConstant, OfLists, OfRuns}
 use Rattle.runend_array.specs.Encoding.{IsComputedFlat}
 use Rattle.runend_positions.specs.Indices.{optional_indices}
-use Rattle.runend_rowwise.proofs.CheckedIndices.{length-indices}
+use Rattle.runend_select.proofs.CheckedIndices.{length-indices}
 use Rattle.runend_select.specs.TakeForm.{AreAllNull, IsTakeForm}
 
 -- of rows that are there, none is null only by its form

@@ -1,3 +1,4 @@
+pub mod CheckedIndices
 pub mod Selected
 pub mod Reached
 pub mod FirstBits

@@ -22,6 +22,40 @@ use runend_array::{
 use runend_rowwise::set_places;
 use std::alloc::Allocator;
 
+/// The rows at which the mask is true, in order. Runs of whole numbers are left in least form: as few as
+/// can be, none hidden and no neighbours equal (null is equal to null), at offset 0, the last end the
+/// number of rows, with ends of the same type and flat values. Of other types the column is unchanged
+/// under `AllTrue`, has no runs and offset 0 under `AllFalse`, and else the runs with a selected row are
+/// left, at offset 0 and with flat values. Where few rows are selected by the session's thresholds, a
+/// mask of bits takes them one by one into a flat column.
+///
+/// Refused as `MaskLength`, with the mask's length and the number of rows, exactly where they differ,
+/// however little memory there is; else as `OutOfMemory` alone.
+pub fn filter<A: Allocator + Copy>(
+    array: &RunEndArray<A>,
+    mask: &Mask<A>,
+    ctx: &mut ExecutionCtx<A>,
+) -> VortexResult<ArrayRef<A>>
+    ensures refused { IsRefusedBy (filter_fault (length (mask_bits mask.now)) (length (column_rows (column_of_runs array.now)))) result }
+    ensures first { (error : VortexError) → filter_fault (length (mask_bits mask.now)) (length (column_rows (column_of_runs array.now))) ≡ Some error → IsErrOf result error }
+    ensures rows { IfOk result (λ kept. rows kept ≡ filter_rows (mask_bits mask.now) (column_rows (column_of_runs array.now))) }
+    ensures dtype { IfOk result (λ kept. dtype_of kept ≡ column_dtype array.now.values) }
+    ensures form { IfOk result (λ kept. IsFilterForm ctx.old.thresholds array.now mask.now (column_of kept)) }
+    ensures session { ctx.new ≡ ctx.old }
+{
+    if mask.len() != array.len() {
+        return Err(VortexError::MaskLength {
+            mask: mask.len(),
+            length: array.len(),
+        });
+    }
+    match mask {
+        Mask::AllTrue(_) => all_rows(array, ctx),
+        Mask::AllFalse(_) => without_rows(array, ctx),
+        Mask::Values(bits) => filter_bits(array, bits, ctx),
+    }
+}
+
 // Are so few rows selected, of so many runs, that they are taken one by one?
 fn takes_directly(selected: usize, runs: usize, thresholds: Thresholds) -> bool
     ensures { IsTrue result ↔ TakesDirectly selected runs thresholds }
@@ -83,15 +117,7 @@ fn unchanged<A: Allocator + Copy>(
     ensures form { IfOk result (λ copy. column_of copy ≡ column_of_runs array.now) }
     ensures session { ctx.new ≡ ctx.old }
 {
-    let ends = array.ends().try_clone(ctx)?;
-    let values = match array.values().try_clone(ctx) {
-        Ok(values) => values,
-        Err(error) => {
-            drop(ends);
-            return Err(error);
-        }
-    };
-    let copy = RunEnd::new_unchecked(ends, values, array.offset(), array.len());
+    let copy = array.try_clone(ctx)?;
     ArrayRef::of_runs(*ctx.allocator(), copy)
 }
 
@@ -145,38 +171,4 @@ fn without_rows<A: Allocator + Copy>(
     let ends = ArrayRef::Primitive(ends);
     let none = RunEnd::new_unchecked(ends, values, 0, 0);
     ArrayRef::of_runs(alloc, none)
-}
-
-/// The rows at which the mask is true, in order. Runs of whole numbers are left in least form: as few as
-/// can be, none hidden and no neighbours equal (null is equal to null), at offset 0, the last end the
-/// number of rows, with ends of the same type and flat values. Of other types the column is unchanged
-/// under `AllTrue`, has no runs and offset 0 under `AllFalse`, and else the runs with a selected row are
-/// left, at offset 0 and with flat values. Where few rows are selected by the session's thresholds, a
-/// mask of bits takes them one by one into a flat column.
-///
-/// Refused as `MaskLength`, with the mask's length and the number of rows, exactly where they differ,
-/// however little memory there is; else as `OutOfMemory` alone.
-pub fn filter<A: Allocator + Copy>(
-    array: &RunEndArray<A>,
-    mask: &Mask<A>,
-    ctx: &mut ExecutionCtx<A>,
-) -> VortexResult<ArrayRef<A>>
-    ensures refused { IsRefusedBy (filter_fault (length (mask_bits mask.now)) (length (column_rows (column_of_runs array.now)))) result }
-    ensures first { (error : VortexError) → filter_fault (length (mask_bits mask.now)) (length (column_rows (column_of_runs array.now))) ≡ Some error → IsErrOf result error }
-    ensures rows { IfOk result (λ kept. rows kept ≡ filter_rows (mask_bits mask.now) (column_rows (column_of_runs array.now))) }
-    ensures dtype { IfOk result (λ kept. dtype_of kept ≡ column_dtype array.now.values) }
-    ensures form { IfOk result (λ kept. IsFilterForm ctx.old.thresholds array.now mask.now (column_of kept)) }
-    ensures session { ctx.new ≡ ctx.old }
-{
-    if mask.len() != array.len() {
-        return Err(VortexError::MaskLength {
-            mask: mask.len(),
-            length: array.len(),
-        });
-    }
-    match mask {
-        Mask::AllTrue(_) => all_rows(array, ctx),
-        Mask::AllFalse(_) => without_rows(array, ctx),
-        Mask::Values(bits) => filter_bits(array, bits, ctx),
-    }
 }

@@ -23,6 +23,40 @@ use runend_rowwise::{select_values, selected_by};
 use runend_visible::{least_runs, over_least_runs, visible_values};
 use std::alloc::Allocator;
 
+/// The runs with a selected row: of whole numbers in least form, of other types as they are. Refused as
+/// `OutOfMemory` alone.
+pub(crate) fn selected_runs<A: Allocator + Copy>(
+    alloc: A,
+    array: &RunEndArray<A>,
+    bits: &BitBuffer<A>,
+) -> VortexResult<RunEndArray<A>>
+    requires masked { length bits.now ≡ array.now.count }
+    ensures only { IsOkUnless result VortexError.OutOfMemory }
+    ensures rows { IfOk result (λ kept. column_rows (column_of_runs kept) ≡ filter_rows bits.now (column_rows (column_of_runs array.now))) }
+    ensures dtype { IfOk result (λ kept. column_dtype kept.values ≡ column_dtype array.now.values) }
+    ensures form { IfOk result (λ kept. AreLeftRuns (is_numbers (column_dtype array.now.values)) array.now bits.now kept) }
+{
+    if is_number_type(array.dtype()) {
+        return least_kept(alloc, array, bits);
+    }
+    kept_column(alloc, array, bits)
+}
+
+/// All rows of a column of whole numbers, in least form. Refused as `OutOfMemory` alone.
+pub(crate) fn least_column<A: Allocator + Copy>(
+    alloc: A,
+    array: &RunEndArray<A>,
+) -> VortexResult<ArrayRef<A>>
+    requires numbers { is_numbers (column_dtype array.now.values) ≡ true }
+    ensures only { IsOkUnless result VortexError.OutOfMemory }
+    ensures rows { IfOk result (λ least. rows least ≡ column_rows (column_of_runs array.now)) }
+    ensures dtype { IfOk result (λ least. dtype_of least ≡ column_dtype array.now.values) }
+    ensures form { IfOk result (λ least. IsLeastForm array.now.ends_type (column_of least)) }
+{
+    let numbers = visible_numbers(alloc, array)?;
+    over_least_runs(array, numbers, alloc)
+}
+
 // The values at which the mask is true, as a column.
 fn kept_values<A: Allocator + Copy>(
     alloc: A,
@@ -115,25 +149,6 @@ fn least_kept<A: Allocator + Copy>(
     least_runs(alloc, ends, numbers, 0, bits.true_count())
 }
 
-/// The runs with a selected row: of whole numbers in least form, of other types as they are. Refused as
-/// `OutOfMemory` alone.
-pub(crate) fn selected_runs<A: Allocator + Copy>(
-    alloc: A,
-    array: &RunEndArray<A>,
-    bits: &BitBuffer<A>,
-) -> VortexResult<RunEndArray<A>>
-    requires masked { length bits.now ≡ array.now.count }
-    ensures only { IsOkUnless result VortexError.OutOfMemory }
-    ensures rows { IfOk result (λ kept. column_rows (column_of_runs kept) ≡ filter_rows bits.now (column_rows (column_of_runs array.now))) }
-    ensures dtype { IfOk result (λ kept. column_dtype kept.values ≡ column_dtype array.now.values) }
-    ensures form { IfOk result (λ kept. AreLeftRuns (is_numbers (column_dtype array.now.values)) array.now bits.now kept) }
-{
-    if is_number_type(array.dtype()) {
-        return least_kept(alloc, array, bits);
-    }
-    kept_column(alloc, array, bits)
-}
-
 // The whole numbers of the visible runs, with 0 under null.
 fn visible_numbers<A: Allocator + Copy>(
     alloc: A,
@@ -151,19 +166,4 @@ fn visible_numbers<A: Allocator + Copy>(
     let numbers = selected_by(alloc, &shown, &Mask::AllTrue(shown.len()));
     drop(shown);
     numbers
-}
-
-/// All rows of a column of whole numbers, in least form. Refused as `OutOfMemory` alone.
-pub(crate) fn least_column<A: Allocator + Copy>(
-    alloc: A,
-    array: &RunEndArray<A>,
-) -> VortexResult<ArrayRef<A>>
-    requires numbers { is_numbers (column_dtype array.now.values) ≡ true }
-    ensures only { IsOkUnless result VortexError.OutOfMemory }
-    ensures rows { IfOk result (λ least. rows least ≡ column_rows (column_of_runs array.now)) }
-    ensures dtype { IfOk result (λ least. dtype_of least ≡ column_dtype array.now.values) }
-    ensures form { IfOk result (λ least. IsLeastForm array.now.ends_type (column_of least)) }
-{
-    let numbers = visible_numbers(alloc, array)?;
-    over_least_runs(array, numbers, alloc)
 }

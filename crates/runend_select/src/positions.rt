@@ -12,18 +12,6 @@ use runend_array::{ExecutionCtx, Thresholds};
 use runend_positions::TakeThresholds;
 use std::alloc::Allocator;
 
-// The thresholds by which a strategy is picked.
-fn take_thresholds(thresholds: Thresholds) -> TakeThresholds
-    ensures { result ≡ picks_of thresholds }
-{
-    TakeThresholds {
-        sorted_runs_per_index: thresholds.sorted_runs_per_index,
-        table_len_per_index: thresholds.table_len_per_index,
-        unsorted_min_runs: thresholds.unsorted_min_runs,
-        unsorted_runs_per_index: thresholds.unsorted_runs_per_index,
-    }
-}
-
 /// The run of each valid index among `length` rows, where `offset` is the position of row 0, by the
 /// strategy that the thresholds of the session pick. At a null index that is the run of row 0 out of a
 /// table, and else 0. It tests no more ends than the picked strategy; a table costs the tests that it
@@ -51,4 +39,16 @@ pub fn physical_indices<E: UnsignedPType, T: NativePType, A: Allocator + Copy>(
     let alloc = *ctx.allocator();
     let picks = take_thresholds(ctx.session().thresholds());
     runend_positions::physical_indices(ends, alloc, offset, length, indices, mask, picks)
+}
+
+// The thresholds by which a strategy is picked.
+fn take_thresholds(thresholds: Thresholds) -> TakeThresholds
+    ensures { result ≡ picks_of thresholds }
+{
+    TakeThresholds {
+        sorted_runs_per_index: thresholds.sorted_runs_per_index,
+        table_len_per_index: thresholds.table_len_per_index,
+        unsorted_min_runs: thresholds.unsorted_min_runs,
+        unsorted_runs_per_index: thresholds.unsorted_runs_per_index,
+    }
 }

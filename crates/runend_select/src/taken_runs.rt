@@ -27,6 +27,29 @@ use runend_decode::copies_of;
 use runend_rowwise::take_values;
 use std::alloc::Allocator;
 
+/// The rows at the indices, null for null, in a flat form. Refused as `OutOfMemory` alone.
+pub(crate) fn taken_rows<T: NativePType, A: Allocator + Copy>(
+    array: &RunEndArray<A>,
+    indices: &[T],
+    validity: &Validity<A>,
+    ctx: &mut ExecutionCtx<A>,
+) -> VortexResult<Canonical<A>>
+    requires fits { HasLength (form_of validity.now) (length indices.now) }
+    requires in_bounds { AreInBounds (optional_indices T.number indices.now (flags (form_of validity.now) (length indices.now))) array.now.count }
+    ensures only { IsOkUnless result VortexError.OutOfMemory }
+    ensures made { IfOk result (λ taken. IsComputedAs
+        (take_rows (column_rows (column_of_runs array.now)) (optional_indices T.number indices.now (flags (form_of validity.now) (length indices.now))))
+        (dtype_with (column_dtype array.now.values) (either_nullable (nullability_of (column_dtype array.now.values)) (nullability_in (form_of validity.now))))
+        (canonical_column taken)) }
+    ensures session { ctx.new ≡ ctx.old }
+{
+    let alloc = *ctx.allocator();
+    let runs = runs_of_indices(array, indices, validity, ctx)?;
+    let taken = take_values(alloc, array.values(), runs.as_slice(), validity);
+    drop(runs);
+    taken
+}
+
 // Which indices are valid, of so many.
 fn mask_of<A: Allocator + Copy>(
     alloc: A,
@@ -116,27 +139,4 @@ fn runs_of_indices<T: NativePType, A: Allocator + Copy>(
     let runs = runs_among(ends, array.offset(), array.len(), indices, &mask, ctx);
     drop(mask);
     runs
-}
-
-/// The rows at the indices, null for null, in a flat form. Refused as `OutOfMemory` alone.
-pub(crate) fn taken_rows<T: NativePType, A: Allocator + Copy>(
-    array: &RunEndArray<A>,
-    indices: &[T],
-    validity: &Validity<A>,
-    ctx: &mut ExecutionCtx<A>,
-) -> VortexResult<Canonical<A>>
-    requires fits { HasLength (form_of validity.now) (length indices.now) }
-    requires in_bounds { AreInBounds (optional_indices T.number indices.now (flags (form_of validity.now) (length indices.now))) array.now.count }
-    ensures only { IsOkUnless result VortexError.OutOfMemory }
-    ensures made { IfOk result (λ taken. IsComputedAs
-        (take_rows (column_rows (column_of_runs array.now)) (optional_indices T.number indices.now (flags (form_of validity.now) (length indices.now))))
-        (dtype_with (column_dtype array.now.values) (either_nullable (nullability_of (column_dtype array.now.values)) (nullability_in (form_of validity.now))))
-        (canonical_column taken)) }
-    ensures session { ctx.new ≡ ctx.old }
-{
-    let alloc = *ctx.allocator();
-    let runs = runs_of_indices(array, indices, validity, ctx)?;
-    let taken = take_values(alloc, array.values(), runs.as_slice(), validity);
-    drop(runs);
-    taken
 }

@@ -20,21 +20,54 @@ use column_base::match_each_native;
 use column_core::{
     DType, NativePType, Nullability, PrimitiveArray, Scalar, Validity, VortexError, VortexResult,
 };
+use column_ops::checked_index;
 use runend_array::{ArrayRef, ConstantArray, ExecutionCtx, RunEndArray, RunEndArrayExt};
 use std::alloc::Allocator;
 
-// Is it an index of one of `count` rows?
-#[inline(always)]
-fn check_index(index: i128, count: usize) -> VortexResult<()>
-    ensures { IsToldBy (index_fault count (Some index)) result }
+/// The rows at the indices, null for null: a constant null where there is an index and each is null,
+/// else flat. The type has null where the column's or the indices' has. Refused as `OutOfMemory` alone.
+pub fn take_indices_unchecked<T: NativePType, A: Allocator + Copy>(
+    array: &RunEndArray<A>,
+    indices: &[T],
+    validity: &Validity<A>,
+    ctx: &mut ExecutionCtx<A>,
+) -> VortexResult<ArrayRef<A>>
+    requires fits { HasLength (form_of validity.now) (length indices.now) }
+    requires in_bounds { AreInBounds (optional_indices T.number indices.now (flags (form_of validity.now) (length indices.now))) (length (column_rows (column_of_runs array.now))) }
+    ensures only { IsOkUnless result VortexError.OutOfMemory }
+    ensures rows { IfOk result (λ taken. rows taken ≡ take_rows (column_rows (column_of_runs array.now)) (optional_indices T.number indices.now (flags (form_of validity.now) (length indices.now)))) }
+    ensures dtype { IfOk result (λ taken. dtype_of taken ≡ dtype_with (column_dtype array.now.values) (either_nullable (nullability_of (column_dtype array.now.values)) (nullability_in (form_of validity.now)))) }
+    ensures form { IfOk result (λ taken. IsTakeForm (optional_indices T.number indices.now (flags (form_of validity.now) (length indices.now))) (column_of taken)) }
+    ensures session { ctx.new ≡ ctx.old }
 {
-    if index < 0 || index >= count as i128 {
-        return Err(VortexError::OutOfBounds {
-            index,
-            length: count,
-        });
+    if are_all_null(validity, indices.len()) {
+        let nulls = null_rows(array.dtype(), indices.len());
+        return Ok(ArrayRef::Constant(nulls));
     }
-    Ok(())
+    let alloc = *ctx.allocator();
+    let taken = taken_rows(array, indices, validity, ctx)?;
+    taken.into_array(alloc)
+}
+
+/// The rows at the indices, null for null: a constant null where there is an index and each is null,
+/// else flat. The type has null where the column's or the indices' has.
+///
+/// Refused as `OutOfBounds`, with the index and the number of rows, at the first valid index that is
+/// negative or not below that number, however little memory there is; else as `OutOfMemory` alone.
+pub fn take<A: Allocator + Copy>(
+    array: &RunEndArray<A>,
+    indices: &PrimitiveArray<A>,
+    ctx: &mut ExecutionCtx<A>,
+) -> VortexResult<ArrayRef<A>>
+    ensures refused { IsRefusedBy (take_fault (optional_numbers indices.now) (length (column_rows (column_of_runs array.now)))) result }
+    ensures first { (error : VortexError) → take_fault (optional_numbers indices.now) (length (column_rows (column_of_runs array.now))) ≡ Some error → IsErrOf result error }
+    ensures rows { IfOk result (λ taken. rows taken ≡ take_rows (column_rows (column_of_runs array.now)) (optional_numbers indices.now)) }
+    ensures dtype { IfOk result (λ taken. dtype_of taken ≡ take_dtype (column_dtype array.now.values) (primitive_dtype indices.now)) }
+    ensures form { IfOk result (λ taken. IsTakeForm (optional_numbers indices.now) (column_of taken)) }
+    ensures session { ctx.new ≡ ctx.old }
+{
+    let validity = indices.validity();
+    match_each_native!(indices.values(), items => take_native(array, items.as_slice(), validity, ctx))
 }
 
 // Is the index at a place valid? No bit is read where all are.
@@ -64,10 +97,13 @@ fn check_place<const ALL: bool, T: NativePType, A: Allocator>(
     ensures { (index : Option ℤ) × (slice_get (optional_indices T.number indices.now (flags (form_of validity.now) (length indices.now))) place ≡ Some index)
         × IsToldBy (index_fault count index) result }
 {
-    if is_valid::<ALL, A>(validity, place) {
-        return check_index(indices[place].widen(), count);
+    if !is_valid::<ALL, A>(validity, place) {
+        return Ok(());
     }
-    Ok(())
+    match checked_index(indices[place].widen(), count) {
+        Ok(_) => Ok(()),
+        Err(error) => Err(error),
+    }
 }
 
 // Is each index null, or one of `count` rows? Refused as `OutOfBounds`, with the index and the number of
@@ -125,31 +161,6 @@ fn null_rows<A: Allocator>(dtype: DType, count: usize) -> ConstantArray<A>
     ConstantArray::new(Scalar::try_new(nullable, None).unwrap(), count)
 }
 
-/// The rows at the indices, null for null: a constant null where there is an index and each is null,
-/// else flat. The type has null where the column's or the indices' has. Refused as `OutOfMemory` alone.
-pub fn take_indices_unchecked<T: NativePType, A: Allocator + Copy>(
-    array: &RunEndArray<A>,
-    indices: &[T],
-    validity: &Validity<A>,
-    ctx: &mut ExecutionCtx<A>,
-) -> VortexResult<ArrayRef<A>>
-    requires fits { HasLength (form_of validity.now) (length indices.now) }
-    requires in_bounds { AreInBounds (optional_indices T.number indices.now (flags (form_of validity.now) (length indices.now))) (length (column_rows (column_of_runs array.now))) }
-    ensures only { IsOkUnless result VortexError.OutOfMemory }
-    ensures rows { IfOk result (λ taken. rows taken ≡ take_rows (column_rows (column_of_runs array.now)) (optional_indices T.number indices.now (flags (form_of validity.now) (length indices.now)))) }
-    ensures dtype { IfOk result (λ taken. dtype_of taken ≡ dtype_with (column_dtype array.now.values) (either_nullable (nullability_of (column_dtype array.now.values)) (nullability_in (form_of validity.now)))) }
-    ensures form { IfOk result (λ taken. IsTakeForm (optional_indices T.number indices.now (flags (form_of validity.now) (length indices.now))) (column_of taken)) }
-    ensures session { ctx.new ≡ ctx.old }
-{
-    if are_all_null(validity, indices.len()) {
-        let nulls = null_rows(array.dtype(), indices.len());
-        return Ok(ArrayRef::Constant(nulls));
-    }
-    let alloc = *ctx.allocator();
-    let taken = taken_rows(array, indices, validity, ctx)?;
-    taken.into_array(alloc)
-}
-
 // The rows at indices of one native type.
 fn take_native<T: NativePType, A: Allocator + Copy>(
     array: &RunEndArray<A>,
@@ -167,25 +178,4 @@ fn take_native<T: NativePType, A: Allocator + Copy>(
 {
     check_indices(indices, validity, array.len())?;
     take_indices_unchecked(array, indices, validity, ctx)
-}
-
-/// The rows at the indices, null for null: a constant null where there is an index and each is null,
-/// else flat. The type has null where the column's or the indices' has.
-///
-/// Refused as `OutOfBounds`, with the index and the number of rows, at the first valid index that is
-/// negative or not below that number, however little memory there is; else as `OutOfMemory` alone.
-pub fn take<A: Allocator + Copy>(
-    array: &RunEndArray<A>,
-    indices: &PrimitiveArray<A>,
-    ctx: &mut ExecutionCtx<A>,
-) -> VortexResult<ArrayRef<A>>
-    ensures refused { IsRefusedBy (take_fault (optional_numbers indices.now) (length (column_rows (column_of_runs array.now)))) result }
-    ensures first { (error : VortexError) → take_fault (optional_numbers indices.now) (length (column_rows (column_of_runs array.now))) ≡ Some error → IsErrOf result error }
-    ensures rows { IfOk result (λ taken. rows taken ≡ take_rows (column_rows (column_of_runs array.now)) (optional_numbers indices.now)) }
-    ensures dtype { IfOk result (λ taken. dtype_of taken ≡ take_dtype (column_dtype array.now.values) (primitive_dtype indices.now)) }
-    ensures form { IfOk result (λ taken. IsTakeForm (optional_numbers indices.now) (column_of taken)) }
-    ensures session { ctx.new ≡ ctx.old }
-{
-    let validity = indices.validity();
-    match_each_native!(indices.values(), items => take_native(array, items.as_slice(), validity, ctx))
 }

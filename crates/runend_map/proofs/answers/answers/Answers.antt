@@ -9,16 +9,16 @@ use Rattle.runend_map.proofs.answers.answers.Goals as goal
 
 pub loop-row-preserved : goal.loop-row-preserved
 loop-row-preserved g c =
-    zipped_next (λ row answer. g.F.Fn.post c.args.function.now (row, tt) answer) (optionals c.args.items.now (flags (form_of c.args.validity.now) (length c.args.items.now))) c.loop-row.row c.row_at.result
-    c.function-answer.result c.loop-row.answers.items c.push.new.self.items c.row_at.ensures c.loop-row.invariant c.function-answer.ensures c.in_ok-push.ensures.items
+    zipped_next (λ row answer. g.F.Fn.post c.args.function.now (row, tt) answer) (optionals c.args.items.now (flags (form_of c.args.validity.now) (length c.args.items.now))) c.loop-row.row c.item_at.result
+    c.function-answer.result c.loop-row.answers.items c.push.new.self.items c.item_at.ensures.row c.loop-row.invariant c.function-answer.ensures c.in_ok-push.ensures.items
 
 pub returns-clause-each : goal.returns-clause-each
 returns-clause-each g c =
     let all = passed_all c.args.items.now (flags (form_of c.args.validity.now) (length c.args.items.now)) c.loop-row.row (omega arith) in
     rw all at c.loop-row.invariant
 
-pub row_at-requires-clause-fits : goal.row_at-requires-clause-fits
-row_at-requires-clause-fits g c = c.requires.fits
+pub item_at-requires-clause-fits : goal.item_at-requires-clause-fits
+item_at-requires-clause-fits g c = c.requires.fits
 
 pub returns-clause-only : goal.returns-clause-only
 returns-clause-only g c = tt
@@ -31,5 +31,5 @@ returns-in_err-push-clause-each g c = no_value _ c.from_residual-in_err-push.res
 
 pub function-answer-requires : goal.function-answer-requires
 function-answer-requires g c =
-    all_at (λ row. g.F.Fn.pre c.args.function.now (row, tt)) (optionals c.args.items.now (flags (form_of c.args.validity.now) (length c.args.items.now))) c.loop-row.row c.row_at.result c.row_at.ensures
+    all_at (λ row. g.F.Fn.pre c.args.function.now (row, tt)) (optionals c.args.items.now (flags (form_of c.args.validity.now) (length c.args.items.now))) c.loop-row.row c.item_at.result c.item_at.ensures.row
     c.requires.callable

@@ -41,10 +41,10 @@ returns-in_err-cast-clause-refused g c =
     (subst (λ (o : Option VortexError). IsErrorFor o c.in_err-cast.field-0.0)
     (same_fault c.args.array.now (leaf_of c.in_ok-values.values) c.in_ok-values.ensures.valid c.in_ok-values.ensures.rows c.args.dtype c.in_ok-values.ensures.dtype) c.in_err-cast.ensures.refused)
 
-pub returns-then-is_lists : goal.returns-then-is_lists
-returns-then-is_lists g c =
+pub returns-then-is_list_type : goal.returns-then-is_list_type
+returns-then-is_list_type g c =
     let r = c.args.array.now in
-    let lists = subst IsLists c.dtype.ensures (c.is_lists.ensures.0 c.if-is_lists.true) in
+    let lists = subst IsLists c.dtype.ensures (c.is_list_type.ensures.lists.0 c.if-is_list_type.true) in
     record {
       refused = inr (lists_fault (column_dtype r.values) c.args.dtype (column_rows (column_of_runs r)) lists);
       rows = tt;
@@ -54,7 +54,7 @@ returns-then-is_lists g c =
     }
 
 pub visible_values-requires : goal.visible_values-requires
-visible_values-requires g c = record { single = λ lists. let yes = c.is_lists.ensures.1 (subst IsLists (sym c.dtype.ensures) lists) in let no = c.if-is_lists.false in cc }
+visible_values-requires g c = record { single = λ lists. let yes = c.is_list_type.ensures.lists.1 (subst IsLists (sym c.dtype.ensures) lists) in let no = c.if-is_list_type.false in cc }
 
 pub returns-clause-dtype : goal.returns-clause-dtype
 returns-clause-dtype g c = if_ok c.over_runs.result (λ cast same. same ∙ c.in_ok-cast.ensures.made.dtype) c.over_runs.ensures.dtype

@@ -9,8 +9,8 @@ use Rattle.column_base.specs.declared.dtype.DType.{DType}
 use Rattle.runend_rowwise.proofs.PassedOn.{no_value, only_error}
 use Rattle.runend_map.proofs.comparisons.compare_beside.Goals as goal
 
-pub compare_flat-made-requires : goal.compare_flat-made-requires
-compare_flat-made-requires g c =
+pub compare_flat-truths-requires : goal.compare_flat-truths-requires
+compare_flat-truths-requires g c =
     let r = c.args.array.now in
     let left = leaf_of c.in_ok-left.left in
     let left_rows = own_rows r (single_rows (leaf_of c.in_ok-values.values)) (single_rows left) c.in_ok-values.ensures.valid c.in_ok-values.ensures.rows c.in_ok-left.ensures.rows in

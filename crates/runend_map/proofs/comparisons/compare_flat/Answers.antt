@@ -10,12 +10,6 @@ use Rattle.runend_map.proofs.OneKind.{no_column_fault, no_lists_beside}
 use Rattle.runend_rowwise.proofs.PassedOn.{no_value, only_error}
 use Rattle.runend_map.proofs.comparisons.compare_flat.Goals as goal
 
-pub flat_rows-requires : goal.flat_rows-requires
-flat_rows-requires g c = record {
-  single = no_lists_beside (leaf_dtype (leaf_of c.args.left.now)) (dtype_of c.args.right.now)
-      (no_column_fault (leaf_dtype (leaf_of c.args.left.now)) (dtype_of c.args.right.now) (length (leaf_rows (leaf_of c.args.left.now))) (length (rows c.args.right.now)) c.requires.kind).0;
-}
-
 pub returns-clause-only : goal.returns-clause-only
 returns-clause-only g c =
     let left = leaf_of c.args.left.now in
@@ -41,7 +35,10 @@ pub returns-in_err-right-clause-dtype : goal.returns-in_err-right-clause-dtype
 returns-in_err-right-clause-dtype g c = no_value _ c.from_residual.result c.from_residual.ensures.0
 
 pub returns-in_err-right-clause-only : goal.returns-in_err-right-clause-only
-returns-in_err-right-clause-only g c = only_error c.from_residual.result c.in_err-right.field-0.0 _ c.from_residual.ensures.1 c.in_err-right.ensures.only
+returns-in_err-right-clause-only g c =
+    let single = no_lists_beside (leaf_dtype (leaf_of c.args.left.now)) (dtype_of c.args.right.now)
+    (no_column_fault (leaf_dtype (leaf_of c.args.left.now)) (dtype_of c.args.right.now) (length (leaf_rows (leaf_of c.args.left.now))) (length (rows c.args.right.now)) c.requires.kind).0 in
+    only_error c.from_residual.result c.in_err-right.field-0.0 _ c.from_residual.ensures.1 (c.in_err-right.ensures.only single)
 
 pub returns-in_err-right-clause-rows : goal.returns-in_err-right-clause-rows
 returns-in_err-right-clause-rows g c = no_value _ c.from_residual.result c.from_residual.ensures.0

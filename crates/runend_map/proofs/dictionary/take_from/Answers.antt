@@ -45,30 +45,27 @@ returns-clause-form g c =
     c.take_from_flat-taken.ensures.form
 
 pub returns-clause-session : goal.returns-clause-session
-returns-clause-session g c = c.take_from_flat-taken.ensures.session
+returns-clause-session g c = c.take_from_flat-taken.ensures.session ∙ c.in_ok-flat.ensures.session
 
-pub returns-then-is_lists-clause-refused : goal.returns-then-is_lists-clause-refused
-returns-then-is_lists-clause-refused g c = c.take_each.ensures.refused
+pub returns-then-is_list_type-clause-refused : goal.returns-then-is_list_type-clause-refused
+returns-then-is_list_type-clause-refused g c = c.take_each.ensures.refused
 
-pub returns-then-is_lists-clause-typed : goal.returns-then-is_lists-clause-typed
-returns-then-is_lists-clause-typed g c = λ other. absurd (false≢true (sym other ∙ sym (c.is_number_type.ensures ∙ ap is_numbers c.dtype.ensures) ∙ c.if-not-is_number_type.false))
+pub returns-then-is_list_type-clause-typed : goal.returns-then-is_list_type-clause-typed
+returns-then-is_list_type-clause-typed g c = λ other. absurd (false≢true (sym other ∙ sym (c.is_number_type.ensures ∙ ap is_numbers c.dtype.ensures) ∙ c.if-not-is_number_type.false))
 
-pub returns-then-is_lists-clause-rows : goal.returns-then-is_lists-clause-rows
-returns-then-is_lists-clause-rows g c = c.take_each.ensures.rows
+pub returns-then-is_list_type-clause-rows : goal.returns-then-is_list_type-clause-rows
+returns-then-is_list_type-clause-rows g c = c.take_each.ensures.rows
 
-pub returns-then-is_lists-clause-dtype : goal.returns-then-is_lists-clause-dtype
-returns-then-is_lists-clause-dtype g c = c.take_each.ensures.dtype
+pub returns-then-is_list_type-clause-dtype : goal.returns-then-is_list_type-clause-dtype
+returns-then-is_list_type-clause-dtype g c = c.take_each.ensures.dtype
 
-pub returns-then-is_lists-clause-form : goal.returns-then-is_lists-clause-form
-returns-then-is_lists-clause-form g c =
-    let lists = subst IsLists c.dtype-2.ensures (c.is_lists.ensures.0 c.if-is_lists.true) in
+pub returns-then-is_list_type-clause-form : goal.returns-then-is_list_type-clause-form
+returns-then-is_list_type-clause-form g c =
+    let lists = subst IsLists c.dtype-2.ensures (c.is_list_type.ensures.lists.0 c.if-is_list_type.true) in
     if_ok c.take_each.result (λ taken flat. lists_taken (dtype_of c.args.dictionary.now) c.args.codes.now (column_of taken) lists flat) c.take_each.ensures.flat
 
 pub take_each-requires : goal.take_each-requires
 take_each-requires g c = record { numbers = sym (c.is_number_type.ensures ∙ ap is_numbers c.dtype.ensures) ∙ c.if-not-is_number_type.false }
-
-pub flat_rows-requires : goal.flat_rows-requires
-flat_rows-requires g c = record { single = λ lists. let yes = c.is_lists.ensures.1 (subst IsLists (sym c.dtype-2.ensures) lists) in let no = c.if-is_lists.false in cc }
 
 pub returns-then-not-is_number_type : goal.returns-then-not-is_number_type
 returns-then-not-is_number_type g c =
@@ -86,7 +83,7 @@ returns-then-not-is_number_type g c =
 pub returns-in_err-flat-clause-refused : goal.returns-in_err-flat-clause-refused
 returns-in_err-flat-clause-refused g c =
     refused-passed_on (code_fault (plain_of (column_of_runs c.args.codes.now)) (length (rows c.args.dictionary.now))) c.in_err-flat.field-0.0 c.from_residual.result c.from_residual.ensures.1
-    (inl c.in_err-flat.ensures.only)
+    (inl (c.in_err-flat.ensures.only (λ lists. let yes = c.is_list_type.ensures.lists.1 (subst IsLists (sym c.dtype-2.ensures) lists) in let no = c.if-is_list_type.false in cc)))
 
 pub returns-in_err-flat-clause-typed : goal.returns-in_err-flat-clause-typed
 returns-in_err-flat-clause-typed g c = λ other. absurd (false≢true (sym other ∙ sym (c.is_number_type.ensures ∙ ap is_numbers c.dtype.ensures) ∙ c.if-not-is_number_type.false))

@@ -5,8 +5,9 @@ use Rattle.column_ops.specs.Cast.{is_numbers}
 use Rattle.column_ops.specs.Codes.{code_fault, code_numbers}
 use Rattle.column_ops.specs.Take.{take_fault}
 use Rattle.column_ops.proofs.IndexPositions.{refused-passed_on}
-use Rattle.runend_array.specs.Array.{column_of, rows}
+use Rattle.runend_array.specs.Array.{column_of, dtype_of, rows}
 use Rattle.runend_array.specs.Column.{plain_of}
+use Rattle.runend_map.proofs.OneKind.{numbers_single}
 use Rattle.runend_rowwise.proofs.PassedOn.{no_value}
 use Rattle.runend_map.proofs.dictionary.take_from_rows.Goals as goal
 
@@ -26,7 +27,7 @@ returns-then-not-is_number_type g c =
 pub returns-in_err-flat-clause-refused : goal.returns-in_err-flat-clause-refused
 returns-in_err-flat-clause-refused g c =
     refused-passed_on (code_fault (plain_of (column_of c.args.codes.now)) (length (rows c.args.dictionary.now))) c.in_err-flat.field-0.0 c.from_residual.result c.from_residual.ensures.1
-    (inl c.in_err-flat.ensures.only)
+    (inl (c.in_err-flat.ensures.only (numbers_single (dtype_of c.args.codes.now) (sym (c.is_number_type.ensures ∙ ap is_numbers c.dtype.ensures) ∙ c.if-not-is_number_type.false))))
 
 pub returns-clause-typed : goal.returns-clause-typed
 returns-clause-typed g c = λ other. absurd (false≢true (sym other ∙ sym (c.is_number_type.ensures ∙ ap is_numbers c.dtype.ensures) ∙ c.if-not-is_number_type.false))

@@ -36,9 +36,9 @@ returns-clause-dtype g c =
     same ∙ filled_dtype c.args.array.now (leaf_of c.in_ok-values.values) (leaf_of c.in_ok-filled.filled) c.args.value.now c.in_ok-filled.ensures.refused c.in_ok-filled.ensures.made
     c.in_ok-values.ensures.dtype) c.over_runs.ensures.dtype
 
-pub returns-then-is_lists : goal.returns-then-is_lists
-returns-then-is_lists g c =
-    let lists = subst IsLists c.dtype.ensures (c.is_lists.ensures.0 c.if-is_lists.true) in
+pub returns-then-is_list_type : goal.returns-then-is_list_type
+returns-then-is_list_type g c =
+    let lists = subst IsLists c.dtype.ensures (c.is_list_type.ensures.lists.0 c.if-is_list_type.true) in
     record {
       refused = inr (lists_refused (column_dtype c.args.array.now.values) c.args.value.now lists);
       rows = tt;
@@ -48,7 +48,7 @@ returns-then-is_lists g c =
     }
 
 pub visible_values-requires : goal.visible_values-requires
-visible_values-requires g c = record { single = λ lists. let yes = c.is_lists.ensures.1 (subst IsLists (sym c.dtype.ensures) lists) in let no = c.if-is_lists.false in cc }
+visible_values-requires g c = record { single = λ lists. let yes = c.is_list_type.ensures.lists.1 (subst IsLists (sym c.dtype.ensures) lists) in let no = c.if-is_list_type.false in cc }
 
 pub returns-in_err-filled-clause-refused : goal.returns-in_err-filled-clause-refused
 returns-in_err-filled-clause-refused g c =

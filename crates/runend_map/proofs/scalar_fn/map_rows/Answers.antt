@@ -1,8 +1,10 @@
-use Rattle.std.proofs.Common.{◌∙◌, map, refl, ap, sym, inl}
+use Rattle.std.proofs.Common.{◌∙◌, map, refl, ap, subst, sym, inl}
+use Rattle.std.specs.Prelude.{IfOk}
 use Rattle.column_core.specs.Leaf.{OfNumbers, single_rows}
 use Rattle.runend_array.specs.Array.{column_of, rows, dtype_of}
+use Rattle.runend_array.specs.SessionForm.{SessionForm}
 use Rattle.runend_map.specs.Asked.{asked_rows}
-use Rattle.runend_map.specs.Owed.{number_row, is_native, native_fault}
+use Rattle.runend_map.specs.Owed.{IsMappedForm, number_row, is_native, native_fault}
 use Rattle.runend_map.proofs.KeptRows.{if_ok}
 use Rattle.runend_map.proofs.OwedRows.{answers_count, owed_rows, no_native_fault}
 use Rattle.runend_map.proofs.OneKind.{no_fault}
@@ -37,7 +39,8 @@ pub returns-clause-dtype : goal.returns-clause-dtype
 returns-clause-dtype g c = if_ok c.answered.result (λ mapped same. same ∙ c.in_ok-mapped.ensures.dtype) c.answered.ensures.dtype
 
 pub returns-clause-form : goal.returns-clause-form
-returns-clause-form g c = c.answered.ensures.form
+returns-clause-form g c =
+    subst (λ (s : SessionForm). IfOk c.answered.result (λ mapped. IsMappedForm s (column_of c.args.column.now) (column_of mapped))) c.in_ok-answers.ensures.session c.answered.ensures.form
 
 pub returns-in_err-answers-clause-dtype : goal.returns-in_err-answers-clause-dtype
 returns-in_err-answers-clause-dtype g c = no_value _ c.from_residual.result c.from_residual.ensures.0

@@ -1,8 +1,8 @@
 use Rattle.runend_rowwise.proofs.PassedOn.{no_value, only_error}
 use Rattle.runend_select.proofs.filters.unchanged.Goals as goal
 
-pub returns-in_err-ends-clause-only : goal.returns-in_err-ends-clause-only
-returns-in_err-ends-clause-only g c = only_error c.from_residual.result c.in_err-ends.field-0.0 _ c.from_residual.ensures.1 c.in_err-ends.ensures.only
+pub returns-in_err-copy-clause-only : goal.returns-in_err-copy-clause-only
+returns-in_err-copy-clause-only g c = only_error c.from_residual.result c.in_err-copy.field-0.0 _ c.from_residual.ensures.1 c.in_err-copy.ensures.only
 
-pub returns-in_err-ends-clause-form : goal.returns-in_err-ends-clause-form
-returns-in_err-ends-clause-form g c = no_value _ c.from_residual.result c.from_residual.ensures.0
+pub returns-in_err-copy-clause-form : goal.returns-in_err-copy-clause-form
+returns-in_err-copy-clause-form g c = no_value _ c.from_residual.result c.from_residual.ensures.0

@@ -6,7 +6,7 @@ use Rattle.column_base.proofs.ValidityRows.{length-flags}
 use Rattle.column_ops.specs.Take.{index_fault, take_fault}
 use Rattle.column_ops.proofs.IndexPositions.{first_fault-here, first_fault-next}
 use Rattle.runend_positions.specs.Indices.{optional_indices}
-use Rattle.runend_rowwise.proofs.CheckedIndices.{length-indices}
+use Rattle.runend_select.proofs.CheckedIndices.{length-indices}
 use Rattle.runend_select.proofs.PassedOn.{told-passed_on}
 use Rattle.runend_select.proofs.takes.check_each.Goals as goal
 

@@ -12,7 +12,7 @@ use Rattle.column_ops.specs.Take.{take_fault, take_rows}
 use Rattle.runend_array.specs.Array.{column_of, dtype_of, rows}
 use Rattle.runend_array.specs.Column.{column_dtype, column_of_runs, column_rows}
 use Rattle.runend_select.specs.TakeForm.{IsTakeForm}
-use Rattle.runend_rowwise.proofs.CheckedIndices.{same-primitive}
+use Rattle.runend_select.proofs.CheckedIndices.{same-primitive}
 use Rattle.runend_select.proofs.takes.take.Goals as goal
 
 pub returns-in-U8-match_each_native-clause-refused : goal.returns-in-U8-match_each_native-clause-refused

@@ -7,7 +7,7 @@ use Rattle.runend_array.specs.Column.{column_of_runs, column_rows}
 use Rattle.runend_codec.proofs.RunRows.{length-run_rows}
 use Rattle.runend_array.specs.Array.{column_of}
 use Rattle.runend_select.specs.TakeForm.{IsTakeForm}
-use Rattle.runend_rowwise.proofs.CheckedIndices.{AreInBounds-checked, same-fault, same-indices}
+use Rattle.runend_select.proofs.CheckedIndices.{AreInBounds-checked, same-fault, same-indices}
 use Rattle.runend_rowwise.proofs.ComputedRows.{ok_then}
 use Rattle.runend_select.proofs.PassedOn.{first-none, first-told, told-passed_on}
 use Rattle.runend_rowwise.proofs.PassedOn.{no_value, refused_by_none}

@@ -4,7 +4,7 @@ use Rattle.column_sums.specs.SumRange.{SignedRange}
 use Rattle.runend_array.specs.Column.{Runs, column_dtype, column_of_runs, column_rows}
 use Rattle.runend_aggregate.specs.ShownRuns.{AreFourRuns, visible_runs}
 use Rattle.runend_aggregate.proofs.FourRuns.{answer_is, visible-four}
-use Rattle.runend_aggregate.proofs.four_runs.sum_of_four_runs.Goals as goal
+use Rattle.runend_aggregate.proofs.laws.sum_of_four_runs.Goals as goal
 
 -- the visible runs
 visible_are : (r : Runs) → AreFourRuns r → r.offset ≡ 0 → r.count ≡ 12 → visible_runs r ≡ (Some (pos 4), 3) ∷ (None, 3) ∷ (Some (pos 4), 2) ∷ (Some (pos 5), 4) ∷ []
