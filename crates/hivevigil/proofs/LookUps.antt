@@ -12,7 +12,8 @@ use Rattle.column_core.specs.Refusal.{row_fault}
 use Rattle.column_core.specs.Value.{PlainColumn, Value}
 use Rattle.runend_array.specs.declared.array_ref.ArrayRef.{ArrayRef}
 use Rattle.runend_commands.specs.declared.command.Command.TheVariants.{At}
-use Rattle.runend_commands.specs.Refusal.{lists_fault, refusal}
+use Rattle.column_core.specs.Kinds.{list_fault}
+use Rattle.runend_commands.specs.Refusal.{refusal}
 use Rattle.runend_commands.specs.Meaning.{plain}
 use Rattle.hivevigil.specs.Ending.{EndsOnRow, HasFields, HasNoRoom, IsLookUpFault}
 use Rattle.hivevigil.specs.Values.{IsRoomFault}
@@ -28,19 +29,19 @@ outside : (row count : ℕ) → count ≤ row → row_fault row count ≡ Some (
 outside row count above = ap (λ (b : Bool). cond b None (Some (OutOfBounds (pos row) count))) (le-ltb row count above)
 
 -- the rows are no lists, and the row is there
-pub no_fault : (before : PlainColumn) (row : ℕ) (value : Option Value) → lists_fault before.dtype ≡ None → slice_get before.rows row ≡ Some value → refusal {A = Global} before (At row) ≡ None
+pub no_fault : (before : PlainColumn) (row : ℕ) (value : Option Value) → list_fault before.dtype ≡ None → slice_get before.rows row ≡ Some value → refusal {A = Global} before (At row) ≡ None
 no_fault before row value flat found = ap (λ (f : Option VortexError). option_or f (row_fault row (length before.rows))) flat ∙ inside row (length before.rows) (slice_get_within before.rows row value found)
 
 -- the rows are lists
-pub list_fault : (before : PlainColumn) (row room : ℕ) (error : VortexError) → lists_fault before.dtype ≡ Some error → IsLookUpFault before row room error
-list_fault before row room error lists = inl (ap (λ (f : Option VortexError). option_or f (row_fault row (length before.rows))) lists)
+pub refused_lists : (before : PlainColumn) (row room : ℕ) (error : VortexError) → list_fault before.dtype ≡ Some error → IsLookUpFault before row room error
+refused_lists before row room error lists = inl (ap (λ (f : Option VortexError). option_or f (row_fault row (length before.rows))) lists)
 
 -- there is no such row
-pub outside_fault : (before : PlainColumn) (row room : ℕ) → lists_fault before.dtype ≡ None → length before.rows ≤ row → IsLookUpFault before row room (OutOfBounds (pos row) (length before.rows))
+pub outside_fault : (before : PlainColumn) (row room : ℕ) → list_fault before.dtype ≡ None → length before.rows ≤ row → IsLookUpFault before row room (OutOfBounds (pos row) (length before.rows))
 outside_fault before row room flat above = inl (ap (λ (f : Option VortexError). option_or f (row_fault row (length before.rows))) flat ∙ outside row (length before.rows) above)
 
 -- its bytes have no room
-pub room_fault : (before : PlainColumn) (row room : ℕ) (value : Option Value) (error : VortexError) → lists_fault before.dtype ≡ None → slice_get before.rows row ≡ Some value → IsRoomFault value room error → IsLookUpFault before row room error
+pub room_fault : (before : PlainColumn) (row room : ℕ) (value : Option Value) (error : VortexError) → list_fault before.dtype ≡ None → slice_get before.rows row ≡ Some value → IsRoomFault value room error → IsLookUpFault before row room error
 room_fault before row room value error flat found short = inr (no_fault before row value flat found, subst (λ (o : Option (Option Value)). HasNoRoom o room error) (sym found) short)
 
 -- how the call ends

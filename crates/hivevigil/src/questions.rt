@@ -7,7 +7,8 @@ ghost use Rattle.column_sums.specs.SumAnswer.{IsSumAnswer};
 ghost use Rattle.runend_array.specs.Array.{dtype_of, rows};
 ghost use Rattle.runend_commands.specs.declared.command.Command.TheVariants.{At, MinMax, Sum, IsConstant, IsSorted};
 ghost use Rattle.runend_commands.specs.Meaning.{plain};
-ghost use Rattle.runend_commands.specs.Refusal.{lists_fault, refusal};
+ghost use Rattle.column_core.specs.Kinds.{list_fault};
+ghost use Rattle.runend_commands.specs.Refusal.{refusal};
 ghost use Rattle.hivevigil.specs.Flags.{Tells, byte_of as byte_of_truth};
 ghost use Rattle.hivevigil.specs.Totals.{answer_in};
 ghost use Rattle.hivevigil.specs.Values.{IsExtremeOf, IsShownAt};
@@ -16,7 +17,7 @@ ghost use Rattle.hivevigil.specs.Ending.{IsExtremeFault, IsLookUpFault};
 use crate::row_value::{RowValue, row_value_of};
 use crate::sessions::{Session, context};
 use crate::totals::{Total, total_of};
-use column_core::{DType, ScalarView, VortexError, VortexResult};
+use column_core::{DType, ScalarView, VortexError, VortexResult, fault_of_lists};
 use runend_array::ArrayRef;
 use runend_commands::{Answer, Command, Outcome, outcome_of};
 use std::alloc::Global;
@@ -118,7 +119,7 @@ pub(crate) fn extreme_of(
 
 /// The row at `row`, which takes no memory. A text or bytes go to the front of `text`. Refused as the look-up
 /// of a row is, and then as `row_value_of`.
-#[tactic(auto, using(crate::proofs::LookUps::list_fault, crate::proofs::LookUps::outside_fault, crate::proofs::LookUps::room_fault, crate::proofs::LookUps::no_fault))]
+#[tactic(auto, using(crate::proofs::LookUps::refused_lists, crate::proofs::LookUps::outside_fault, crate::proofs::LookUps::room_fault, crate::proofs::LookUps::no_fault))]
 pub(crate) fn row_at(
     array: &ArrayRef<Global>,
     row: usize,
@@ -136,12 +137,12 @@ pub(crate) fn row_at(
 
 // Refused as `Unsupported` for lists.
 fn check_no_lists(dtype: DType) -> VortexResult<()>
-    ensures ok { IfOk result (λ _. lists_fault dtype ≡ None) }
-    ensures err { IfErr result (λ error. lists_fault dtype ≡ Some error) }
+    ensures ok { IfOk result (λ _. list_fault dtype ≡ None) }
+    ensures err { IfErr result (λ error. list_fault dtype ≡ Some error) }
 {
-    match dtype {
-        DType::List(_, _) => Err(VortexError::Unsupported),
-        _ => Ok(()),
+    match fault_of_lists(dtype) {
+        Some(error) => Err(error),
+        None => Ok(()),
     }
 }
 

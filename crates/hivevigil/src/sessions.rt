@@ -6,6 +6,7 @@ ghost use Rattle.runend_array.specs.SessionForm.{crate_thresholds, is_registered
 ghost use Rattle.runend_array.specs.declared.session.Kernel.{Kernel};
 
 use runend_array::{ExecutionCtx, Kernel, Thresholds, VortexSession};
+use runend_commands::{KERNELS, default_thresholds};
 use std::alloc::Global;
 
 /// A flag for each kernel, in the order of the kernels, 0 where it is not registered, and the thresholds by
@@ -22,21 +23,6 @@ pub struct Session {
     pub unsorted_runs_per_index: usize,
     pub kernels: [u8; 12],
 }
-
-const KERNELS: [Kernel; 12] = [
-    Kernel::Slice,
-    Kernel::Filter,
-    Kernel::Take,
-    Kernel::TakeFrom,
-    Kernel::Compare,
-    Kernel::Cast,
-    Kernel::FillNull,
-    Kernel::ScalarFn,
-    Kernel::Sum,
-    Kernel::MinMax,
-    Kernel::IsConstant,
-    Kernel::IsSorted,
-];
 
 /// The context of this session.
 pub(crate) fn context(alloc: Global, session: &Session) -> ExecutionCtx<Global>
@@ -68,14 +54,15 @@ pub(crate) fn initial() -> Session
     ensures thresholds { thresholds_in result ≡ crate_thresholds }
     ensures kernels { HasAllKernels result }
 {
+    let thresholds = default_thresholds();
     Session {
-        prefill_runs: 32,
-        min_run_filter_rows: 25,
-        filter_factor: 10,
-        sorted_runs_per_index: 16,
-        table_len_per_index: 8,
-        unsorted_min_runs: 524_288,
-        unsorted_runs_per_index: 4,
+        prefill_runs: thresholds.prefill_runs,
+        min_run_filter_rows: thresholds.min_run_filter_rows,
+        filter_factor: thresholds.filter_factor,
+        sorted_runs_per_index: thresholds.sorted_runs_per_index,
+        table_len_per_index: thresholds.table_len_per_index,
+        unsorted_min_runs: thresholds.unsorted_min_runs,
+        unsorted_runs_per_index: thresholds.unsorted_runs_per_index,
         kernels: [1; 12],
     }
 }

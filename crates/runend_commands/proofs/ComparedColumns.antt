@@ -15,14 +15,14 @@ use Rattle.column_order.specs.CompareFault.{compare_column_fault, compare_scalar
 use Rattle.column_order.specs.Comparing.{compare_rows, compare_with}
 use Rattle.column_order.specs.declared.operator.CompareOperator.{CompareOperator}
 use Rattle.column_order.proofs.RowRanges.{length-single_rows}
-use Rattle.runend_aggregate.specs.OrderFault.{order_fault}
+use Rattle.column_core.specs.Kinds.{list_fault}
 use Rattle.runend_codec.proofs.RunRows.{length-run_rows}
 use Rattle.runend_array.specs.Column.{Constant, OfConstant, Runs, column_dtype, column_of_runs, column_rows}
 use Rattle.runend_map.proofs.ComparedRows.{constant_rows}
 use Rattle.runend_map.proofs.OneKind.{no_column_fault, no_lists, no_lists_beside}
 
 -- lists are not compared, whatever with
-pub lists_not_compared : (left right : DType) (error : VortexError) → order_fault left ≡ Some error → compare_scalar_fault left right ≡ Some error
+pub lists_not_compared : (left right : DType) (error : VortexError) → list_fault left ≡ Some error → compare_scalar_fault left right ≡ Some error
 lists_not_compared (column.List e n) right error has = has
 lists_not_compared (column.Bool n) right error has = cc
 lists_not_compared (column.Primitive t n) right error has = cc
@@ -31,7 +31,7 @@ lists_not_compared (column.Utf8 n) right error has = cc
 lists_not_compared (column.Binary n) right error has = cc
 
 -- other types have an order
-ordered : (t : DType) → ¬ IsLists t → order_fault t ≡ None
+ordered : (t : DType) → ¬ IsLists t → list_fault t ≡ None
 ordered (column.List e n) single = absurd (single tt)
 ordered (column.Bool n) single = refl
 ordered (column.Primitive t n) single = refl
@@ -40,7 +40,7 @@ ordered (column.Utf8 n) single = refl
 ordered (column.Binary n) single = refl
 
 -- and so do the types of two columns that can be compared
-pub both_ordered : (left right : DType) (left_count right_count : ℕ) → compare_column_fault left right left_count right_count ≡ None → (order_fault left ≡ None) × (order_fault right ≡ None)
+pub both_ordered : (left right : DType) (left_count right_count : ℕ) → compare_column_fault left right left_count right_count ≡ None → (list_fault left ≡ None) × (list_fault right ≡ None)
 both_ordered left right left_count right_count none =
     let kinds = (no_column_fault left right left_count right_count none).0 in
     (ordered left (no_lists left right kinds), ordered right (no_lists_beside left right kinds))

@@ -15,16 +15,16 @@ use Rattle.column_core.specs.declared.varbinview.VarBinKind.{VarBinKind}
 use Rattle.column_core.specs.declared.varbinview.VarBinKind.TheVariants.{Utf8, Binary}
 use Rattle.column_core.specs.declared.view.ScalarView.{ScalarView}
 use Rattle.column_order.specs.OrderFacts.{IsGreatest, IsLeast}
-use Rattle.runend_aggregate.specs.OrderFault.{order_fault}
+use Rattle.column_core.specs.Kinds.{list_fault}
 use Rattle.runend_commands.specs.Extremes.{AreCopiesOf, AreExtremesIfAny}
 
 -- a type whose rows have an order is none of lists
-pub single_if_ordered : (t : DType) → order_fault t ≡ None → ¬ IsLists t
+pub single_if_ordered : (t : DType) → list_fault t ≡ None → ¬ IsLists t
 single_if_ordered (column.List e n) same lists = cc
 single_if_ordered t same lists = absurd lists
 
 -- and the rows of any other type have one
-ordered_if_single : (t : DType) → ¬ IsLists t → order_fault t ≡ None
+ordered_if_single : (t : DType) → ¬ IsLists t → list_fault t ≡ None
 ordered_if_single (column.Bool n) single = refl
 ordered_if_single (column.Primitive p n) single = refl
 ordered_if_single (column.Decimal d n) single = refl
@@ -44,7 +44,7 @@ single_leaf (OfDecimals form) lists = lists
 single_leaf (OfVarBins form) lists = single_kind form.kind (nullability_in form.validity) lists
 
 -- so its rows have an order
-pub ordered_leaf : (leaf : Leaf) → order_fault (leaf_dtype leaf) ≡ None
+pub ordered_leaf : (leaf : Leaf) → list_fault (leaf_dtype leaf) ≡ None
 ordered_leaf leaf = ordered_if_single (leaf_dtype leaf) (single_leaf leaf)
 
 -- copies of the least and the greatest row are these

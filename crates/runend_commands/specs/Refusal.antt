@@ -4,7 +4,7 @@ use Rattle.std.specs.Option.{option_or}
 use Rattle.column_base.specs.declared.dtype.DType.{DType}
 use Rattle.column_base.specs.declared.dtype.DType.TheVariants as column
 use Rattle.column_base.specs.declared.error.VortexError.{VortexError}
-use Rattle.column_base.specs.declared.error.VortexError.TheVariants.{OnlyPrimitive, Unsupported}
+use Rattle.column_base.specs.declared.error.VortexError.TheVariants.{OnlyPrimitive}
 use Rattle.column_base.specs.Mask.{mask_bits}
 use Rattle.column_core.specs.PrimitiveForm.{optional_numbers}
 use Rattle.column_core.specs.Refusal.{range_fault, row_fault}
@@ -16,15 +16,10 @@ use Rattle.column_ops.specs.Filter.{filter_fault}
 use Rattle.column_ops.specs.Take.{take_fault}
 use Rattle.column_order.specs.CompareFault.{compare_column_fault, compare_scalar_fault}
 use Rattle.column_sums.specs.SumAnswer.{sum_fault}
-use Rattle.runend_aggregate.specs.OrderFault.{order_fault}
+use Rattle.column_core.specs.Kinds.{list_fault}
 use Rattle.runend_array.specs.Array.{dtype_of, rows}
 use Rattle.runend_commands.specs.declared.command.Command.{Command}
 use Rattle.runend_commands.specs.declared.command.Command.TheVariants.{Slice, Filter, Take, TakeFrom, CompareScalar, CompareColumn, Cast, FillNull, Encode, Decode, At, Sum, MinMax, IsConstant, IsSorted}
-
--- the rows are lists
-abbrev pub lists_fault : DType → Option VortexError
-lists_fault (column.List e n) = Some Unsupported
-lists_fault t = None
 
 -- the rows are no whole numbers
 abbrev pub numbers_fault : DType → Option VortexError
@@ -43,8 +38,8 @@ refusal before (Cast dtype) = cast_fault before dtype
 refusal before (FillNull value) = fill_fault before.dtype value
 refusal before Encode = numbers_fault before.dtype
 refusal before Decode = None
-refusal before (At index) = option_or (lists_fault before.dtype) (row_fault index (length before.rows))
+refusal before (At index) = option_or (list_fault before.dtype) (row_fault index (length before.rows))
 refusal before Sum = sum_fault before.dtype
-refusal before MinMax = order_fault before.dtype
-refusal before IsConstant = order_fault before.dtype
-refusal before (IsSorted strict) = order_fault before.dtype
+refusal before MinMax = list_fault before.dtype
+refusal before IsConstant = list_fault before.dtype
+refusal before (IsSorted strict) = list_fault before.dtype

@@ -1,11 +1,14 @@
-//! Lists of commands on one column, each answered as its definition on the plain list of rows says.
+//! Lists of commands on one column, each answered as its definition on the plain list of rows says, and the kernels
+//! and thresholds by which a session chooses how.
 #![tactic(auto)]
 
 mod command;
 mod execution;
+mod kernels;
 pub mod laws;
 mod steps;
 
 pub use command::{Answer, Command};
 pub use execution::{execute, execute_one};
+pub use kernels::{KERNELS, default_thresholds, initialize};
 pub use steps::{Outcome, outcome_of};

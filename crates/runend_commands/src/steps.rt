@@ -11,7 +11,6 @@ mod decode;
 mod encode;
 mod fill_null;
 mod filter;
-mod flat_rows;
 mod is_constant;
 mod is_sorted;
 mod kernel_runs;

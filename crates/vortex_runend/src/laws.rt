@@ -16,11 +16,18 @@ pub use chunk_laws::{
     extremes_of_joined, fill_of_joined, filter_of_joined, slice_of_joined, sorted_of_joined,
     sum_from_any_sum, sum_of_joined, sum_of_joined_naturals, take_of_parts,
 };
+pub use runend_aggregate::laws::{sum_in_four_runs, sum_of_four_runs};
 pub use runend_aggregate::{sum_signed_runs, sum_unsigned_runs};
 use runend_array::{ArrayRef, ExecutionCtx, RunEnd, VortexError, VortexResult};
+pub use runend_codec::laws::{
+    first_past_of_524288_runs, first_past_of_four_runs, first_past_of_one_run,
+};
 pub use runend_commands::laws::runs_agree;
 pub use runend_metadata::laws::{spelling_is_unique, write_then_read};
-pub use runend_positions::strategies_agree;
+pub use runend_positions::laws::{
+    merge_of_six_indices, physical_indices_by_halves, physical_indices_by_table,
+    search_of_four_indices, search_of_six_indices, sort_of_four_indices, strategies_agree,
+};
 pub use runend_select::laws::filter_is_take;
 use std::alloc::Allocator;
 

@@ -18,8 +18,9 @@ pub use runend_array::{
     View, VortexError, VortexResult, VortexSession, ops, trimmed_ends_iter,
 };
 pub use runend_column::{
-    RunEndData, RunEndDataParts, RunEndProbe, decompress_bool, deserialize, initialize, serialize,
-    validity,
+    RunEndData, RunEndDataParts, RunEndProbe, decompress_bool, deserialize, serialize, validity,
 };
-pub use runend_commands::{Answer, Command, execute, execute_one};
+pub use runend_commands::{
+    Answer, Command, KERNELS, default_thresholds, execute, execute_one, initialize,
+};
 pub use runend_metadata::RunEndMetadata;

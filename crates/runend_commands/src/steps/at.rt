@@ -5,7 +5,7 @@ ghost use Rattle.runend_commands.specs.declared.command.Command.TheVariants.{At}
 
 use crate::command::Answer;
 use crate::steps::Outcome;
-use column_core::{DType, Scalar, VortexError, VortexResult};
+use column_core::{Scalar, VortexResult, fault_of_lists};
 use runend_array::{ArrayRef, ExecutionCtx};
 use std::alloc::Allocator;
 
@@ -19,8 +19,8 @@ pub fn look_up<A: Allocator + Copy>(
     ensures session { ctx.new ≡ ctx.old }
 {
     let dtype = column.dtype();
-    if let DType::List(_, _) = dtype {
-        return Err(VortexError::Unsupported);
+    if let Some(error) = fault_of_lists(dtype) {
+        return Err(error);
     }
     let row = column.scalar_at(index)?;
     let scalar = Scalar::of_view(*ctx.allocator(), dtype, row)?;

@@ -14,12 +14,12 @@ ghost use Rattle.runend_commands.specs.Outcomes.{IsOutcome};
 ghost use Rattle.runend_commands.specs.declared.command.Command.TheVariants.{CompareColumn};
 
 use crate::steps::Outcome;
-use crate::steps::flat_rows::flat_rows;
 use crate::steps::kernel_runs::runs_for;
 use column_core::{FlatColumn, VortexError, VortexResult};
 use column_order::{CompareOperator, FlatOrder, column_fault};
 use runend_array::{ArrayRef, ExecutionCtx, Kernel};
 use runend_map::compare;
+use runend_rowwise::flat_rows;
 use std::alloc::Allocator;
 
 /// Whether the operator holds of each row and the row of `right` beside it.

@@ -13,12 +13,12 @@ ghost use Rattle.runend_commands.specs.Outcomes.{IsOutcome};
 ghost use Rattle.runend_commands.specs.declared.command.Command.TheVariants.{CompareScalar};
 
 use crate::steps::Outcome;
-use crate::steps::flat_rows::flat_rows;
 use crate::steps::kernel_runs::runs_for;
 use column_core::{Scalar, VortexResult};
 use column_order::{CompareOperator, FlatOrder};
 use runend_array::{ArrayRef, ConstantArray, ExecutionCtx, Kernel, RunEndArray, RunEndArrayExt};
 use runend_map::compare;
+use runend_rowwise::flat_rows;
 use std::alloc::Allocator;
 
 /// Whether the operator holds of each row and the scalar.

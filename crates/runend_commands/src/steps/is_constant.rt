@@ -4,7 +4,7 @@ ghost use Rattle.column_core.specs.FlatView.{leaf_in};
 ghost use Rattle.column_core.specs.Leaf.{single_rows};
 ghost use Rattle.column_core.specs.Refusal.{IsRefusedBy};
 ghost use Rattle.column_order.specs.OrderFacts as order;
-ghost use Rattle.runend_aggregate.specs.OrderFault.{order_fault};
+ghost use Rattle.column_core.specs.Kinds.{list_fault};
 ghost use Rattle.runend_array.specs.Array.{column_of, dtype_of, rows};
 ghost use Rattle.runend_array.specs.declared.session.Kernel.TheVariants.{IsConstant as constant_kernel};
 ghost use Rattle.runend_commands.specs.KernelForms.{IsReadInPlace};
@@ -13,11 +13,11 @@ ghost use Rattle.runend_commands.specs.declared.command.Command.TheVariants.{IsC
 
 use crate::command::Answer;
 use crate::steps::Outcome;
-use crate::steps::flat_rows::flat_rows;
 use crate::steps::kernel_runs::{constant_for, runs_for};
 use column_core::{FlatView, VortexError, VortexResult};
 use runend_aggregate::{is_constant, is_constant_of_constant};
 use runend_array::{ArrayRef, ExecutionCtx, Kernel};
+use runend_rowwise::flat_rows;
 use std::alloc::Allocator;
 
 /// Whether any two rows are equal.
@@ -37,7 +37,7 @@ fn are_rows_equal<A: Allocator + Copy>(
     column: &ArrayRef<A>,
     ctx: &mut ExecutionCtx<A>,
 ) -> VortexResult<bool>
-    ensures refused { IsRefusedBy (order_fault (dtype_of column.now)) result }
+    ensures refused { IsRefusedBy (list_fault (dtype_of column.now)) result }
     ensures answer { IfOk result (λ constant. IsTrue constant ↔ order.IsConstant (rows column.now)) }
     ensures in_place { IsReadInPlace ctx.old constant_kernel (column_of column.now) → result ≢ Err VortexError.OutOfMemory }
     ensures session { ctx.new ≡ ctx.old }

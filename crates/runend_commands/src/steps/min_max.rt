@@ -6,7 +6,7 @@ ghost use Rattle.column_core.specs.Refusal.{IsRefusedBy};
 ghost use Rattle.column_core.specs.Scalar.{IsScalarOf, flat_of};
 ghost use Rattle.column_core.specs.ScalarView.{IsViewOf, sees};
 ghost use Rattle.column_core.specs.Value.{IsLists, Single};
-ghost use Rattle.runend_aggregate.specs.OrderFault.{order_fault};
+ghost use Rattle.column_core.specs.Kinds.{list_fault};
 ghost use Rattle.runend_array.specs.Array.{column_of, dtype_of};
 ghost use Rattle.runend_array.specs.Column.{OfConstant, OfLeaf, column_dtype, column_of_runs, plain_of};
 ghost use Rattle.runend_array.specs.declared.session.Kernel.TheVariants.{MinMax as min_max_kernel};
@@ -18,11 +18,11 @@ ghost use Rattle.runend_commands.specs.declared.command.Command.TheVariants.{Min
 
 use crate::command::Answer;
 use crate::steps::Outcome;
-use crate::steps::flat_rows::flat_rows;
 use crate::steps::kernel_runs::{constant_for, runs_for};
 use column_core::{DType, FlatView, Scalar, ScalarValue, ScalarView, VortexError, VortexResult};
 use runend_aggregate::{min_max, min_max_of_constant};
 use runend_array::{ArrayRef, ConstantArray, ExecutionCtx, Kernel, RunEndArray, RunEndArrayExt};
+use runend_rowwise::flat_rows;
 use std::alloc::Allocator;
 
 /// The least and the greatest row that are not null.
@@ -43,7 +43,7 @@ fn extremes_of<A: Allocator + Copy>(
     column: &ArrayRef<A>,
     ctx: &mut ExecutionCtx<A>,
 ) -> VortexResult<Option<(Scalar<A>, Scalar<A>)>>
-    ensures refused { IsRefusedBy (order_fault (dtype_of column.now)) result }
+    ensures refused { IsRefusedBy (list_fault (dtype_of column.now)) result }
     ensures extremes { IfOk result (AreExtremesIfAny (plain column.now)) }
     ensures in_place { ¬ HasBytes (dtype_of column.now) → IsReadInPlace ctx.old min_max_kernel (column_of column.now) → result ≢ Err VortexError.OutOfMemory }
     ensures session { ctx.new ≡ ctx.old }
@@ -66,7 +66,7 @@ fn extremes_of_runs<A: Allocator + Copy>(
     runs: &RunEndArray<A>,
     ctx: &mut ExecutionCtx<A>,
 ) -> VortexResult<Option<(Scalar<A>, Scalar<A>)>>
-    ensures refused { IsRefusedBy (order_fault (column_dtype runs.now.values)) result }
+    ensures refused { IsRefusedBy (list_fault (column_dtype runs.now.values)) result }
     ensures extremes { IfOk result (AreExtremesIfAny (plain_of (column_of_runs runs.now))) }
     ensures no_memory { ¬ HasBytes (column_dtype runs.now.values) → result ≢ Err VortexError.OutOfMemory }
     ensures session { ctx.new ≡ ctx.old }
@@ -81,7 +81,7 @@ fn extremes_of_constant<A: Allocator + Copy>(
     constant: &ConstantArray<A>,
     ctx: &ExecutionCtx<A>,
 ) -> VortexResult<Option<(Scalar<A>, Scalar<A>)>>
-    ensures refused { IsRefusedBy (order_fault constant.now.dtype) result }
+    ensures refused { IsRefusedBy (list_fault constant.now.dtype) result }
     ensures extremes { IfOk result (AreExtremesIfAny (plain_of (OfConstant constant.now))) }
     ensures no_memory { ¬ HasBytes constant.now.dtype → result ≢ Err VortexError.OutOfMemory }
 {
@@ -95,7 +95,7 @@ fn extremes_of_flat<A: Allocator + Copy>(
     flat: FlatView<'_, A>,
     ctx: &ExecutionCtx<A>,
 ) -> VortexResult<Option<(Scalar<A>, Scalar<A>)>>
-    ensures refused { IsRefusedBy (order_fault (leaf_dtype (leaf_in flat.entry))) result }
+    ensures refused { IsRefusedBy (list_fault (leaf_dtype (leaf_in flat.entry))) result }
     ensures extremes { IfOk result (AreExtremesIfAny (plain_of (OfLeaf (leaf_in flat.entry)))) }
     ensures no_memory { ¬ HasBytes (leaf_dtype (leaf_in flat.entry)) → result ≢ Err VortexError.OutOfMemory }
 {
@@ -108,7 +108,7 @@ fn extremes_row_by_row<A: Allocator + Copy>(
     column: &ArrayRef<A>,
     ctx: &mut ExecutionCtx<A>,
 ) -> VortexResult<Option<(Scalar<A>, Scalar<A>)>>
-    ensures refused { IsRefusedBy (order_fault (dtype_of column.now)) result }
+    ensures refused { IsRefusedBy (list_fault (dtype_of column.now)) result }
     ensures extremes { IfOk result (AreExtremesIfAny (plain column.now)) }
     ensures session { ctx.new ≡ ctx.old }
 {

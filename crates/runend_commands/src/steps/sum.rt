@@ -10,12 +10,12 @@ ghost use Rattle.runend_commands.specs.declared.command.Command.TheVariants.{Sum
 
 use crate::command::Answer;
 use crate::steps::Outcome;
-use crate::steps::flat_rows::flat_rows;
 use crate::steps::kernel_runs::{constant_for, runs_for};
 use column_core::{DType, VortexError, VortexResult};
 use column_sums::{SumAnswer, sum_view};
 use runend_aggregate::{sum, sum_of_constant};
 use runend_array::{ArrayRef, ExecutionCtx, Kernel};
+use runend_rowwise::flat_rows;
 use std::alloc::Allocator;
 
 /// The sum of the rows that are not null.
