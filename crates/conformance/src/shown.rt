@@ -46,29 +46,6 @@ impl<'a, S: Shown> Shown for &'a [S] {
     }
 }
 
-// Are the items the elements from `start` on?
-fn are_elements<S: Shown, A: Allocator>(
-    items: &[S],
-    elements: &FlatColumn<A>,
-    start: usize,
-) -> bool {
-    for place in 0..items.len() {
-        let index = start.saturating_add(place);
-        if index >= elements.len() || !items[place].is_seen(elements.get(index)) {
-            return false;
-        }
-    }
-    true
-}
-
-// Is it the row, where nothing is null?
-fn is_row<S: Shown, A: Allocator>(row: &Option<S>, view: ScalarView<'_, A>) -> bool {
-    match row {
-        Some(value) => value.is_seen(view),
-        None => matches!(view, ScalarView::Null),
-    }
-}
-
 /// Are the rows these?
 pub(crate) fn assert_shown<S: Shown, A: Allocator + Copy>(
     rt: &impl Abort,
@@ -91,5 +68,28 @@ pub(crate) fn assert_bits<A: Allocator>(rt: &impl Abort, bits: &BitBuffer<A>, fl
     }
     for index in 0..flags.len() {
         assert_eq!(rt; bits.value(index), flags[index], "at {index}");
+    }
+}
+
+// Are the items the elements from `start` on?
+fn are_elements<S: Shown, A: Allocator>(
+    items: &[S],
+    elements: &FlatColumn<A>,
+    start: usize,
+) -> bool {
+    for place in 0..items.len() {
+        let index = start.saturating_add(place);
+        if index >= elements.len() || !items[place].is_seen(elements.get(index)) {
+            return false;
+        }
+    }
+    true
+}
+
+// Is it the row, where nothing is null?
+fn is_row<S: Shown, A: Allocator>(row: &Option<S>, view: ScalarView<'_, A>) -> bool {
+    match row {
+        Some(value) => value.is_seen(view),
+        None => matches!(view, ScalarView::Null),
     }
 }

@@ -1,6 +1,7 @@
 //! The commands of the script.
 use column_base::{Nullability, PType};
-use script_text::{Words, parse_count, parse_ptype, parse_type};
+use column_words::{parse_count, parse_ptype, parse_type};
+use script_text::Words;
 
 /// The word between the ends and the values of a `runs` line.
 pub const SLASH: &str = "/";
@@ -45,9 +46,9 @@ pub enum Command<'a> {
     /// The rows of the column are shown.
     Rows,
     /// The row of this number, counted from 0, is shown.
-    At(u64),
+    At(usize),
     /// The rows from the first number to before the second, counted from 0, replace the column.
-    Slice(u64, u64),
+    Slice(usize, usize),
     /// The rows that a word of bits selects replace the column. The word is yet to be read, and is empty
     /// where the line has none.
     Filter(&'a str),
@@ -84,9 +85,9 @@ pub struct RunsLine<'a> {
     /// Of what numbers the ends are.
     pub ends_ptype: PType,
     /// How many rows of the runs lie before the window.
-    pub offset: u64,
+    pub offset: usize,
     /// How many rows the window has.
-    pub length: u64,
+    pub length: usize,
     /// The words from the first end on. The ends stop before the first slash.
     pub ends: Words<'a>,
     /// The words behind that slash, the values.

@@ -3,7 +3,8 @@ ghost use Rattle.std.specs.Prelude.{◌≡◌, IsOkUnless};
 ghost use Rattle.runend_metadata.specs.EndsType.{IsEndsTypeNumber};
 
 use column_base::{VortexError, VortexResult};
-use script_text::{Words, name_of, parse_byte};
+use column_words::{name_of, parse_bytes, push_byte};
+use script_text::Words;
 use std::alloc::{AllocError, Allocator};
 use vortex_runend::{ArrayRef, ExecutionCtx, RunEndMetadata, serialize};
 
@@ -33,7 +34,7 @@ pub fn read_record<A: Allocator + Copy>(
     ensures session { ctx.new ≡ ctx.old }
 {
     let alloc = *ctx.allocator();
-    let Some(bytes) = read_bytes(alloc, words)? else {
+    let Some(bytes) = parse_bytes(alloc, words)? else {
         return Ok(None);
     };
     let metadata = RunEndMetadata::decode(&bytes)?;
@@ -41,25 +42,12 @@ pub fn read_record<A: Allocator + Copy>(
     Ok(Some(line))
 }
 
-// The bytes that the words stand for, or `None` where a word stands for none.
-fn read_bytes<A: Allocator + Copy>(alloc: A, words: Words<'_>) -> VortexResult<Option<Vec<u8, A>>>
-    ensures only { IsOkUnless result VortexError.OutOfMemory }
-{
-    let mut bytes = Vec::new(alloc);
-    for word in words {
-        let Some(byte) = parse_byte(word) else {
-            return Ok(None);
-        };
-        bytes.push(byte)?;
-    }
-    Ok(Some(bytes))
-}
-
 // The line `meta HH ..` of a record's bytes, each as two upper case hexadecimal digits.
 fn bytes_line<A: Allocator + Copy>(alloc: A, bytes: &[u8]) -> Result<String<A>, AllocError> {
     let mut line = String::from_str(alloc, "meta")?;
     for byte in bytes {
-        write!(line, " {byte:02X}")?;
+        line.push_str(" ")?;
+        push_byte(&mut line, *byte)?;
     }
     Ok(line)
 }

@@ -124,19 +124,22 @@ fn reply_to<A: Allocator + Copy>(
         Line::Command(command) => command,
     };
     let outcome = perform(command, column, ctx);
-    told(*ctx.allocator(), outcome)
+    refusal_as_reply(*ctx.allocator(), outcome)
 }
 
 // The same, with a refusal as its line; refused memory alone stays refused.
-fn told<A: Allocator + Copy>(alloc: A, outcome: VortexResult<Reply<A>>) -> VortexResult<Reply<A>>
+fn refusal_as_reply<A: Allocator + Copy>(
+    alloc: A,
+    outcome: VortexResult<Reply<A>>,
+) -> VortexResult<Reply<A>>
     ensures only { IsOkUnless result VortexError.OutOfMemory }
 {
     match outcome {
         Ok(reply) => Ok(reply),
         Err(VortexError::OutOfMemory) => Err(VortexError::OutOfMemory),
         Err(error) => {
-            let refused = refusal_line(alloc, error)?;
-            Ok(Reply::Line(refused))
+            let line = refusal_line(alloc, error)?;
+            Ok(Reply::Line(line))
         }
     }
 }
@@ -152,7 +155,7 @@ fn perform<A: Allocator + Copy>(
     ensures kept { OnErr result (column.new ≡ column.old) }
     ensures session { IsSessionAfter command.entry column.old ctx.old ctx.new }
 {
-    let made = match command {
+    let listed = match command {
         Command::Col(ptype, nullability, words) => {
             plain_of(*ctx.allocator(), ptype, nullability, words)?
         }
@@ -165,7 +168,7 @@ fn perform<A: Allocator + Copy>(
             };
         }
     };
-    let Some(array) = made else {
+    let Some(array) = listed else {
         return Ok(Reply::Bad);
     };
     drop(replace(column, Some(array)));
@@ -222,11 +225,9 @@ fn runs_of_line<A: Allocator + Copy>(
     let Some(ends) = plain_of(alloc, line.ends_ptype, Nullability::NonNullable, words)? else {
         return Ok(None);
     };
-    let offset = line.offset as usize;
-    let length = line.length as usize;
     match plain_of(alloc, line.ptype, line.nullability, line.values) {
         Ok(Some(values)) => {
-            let array = runs_of_parts(ends, values, offset, length, ctx)?;
+            let array = runs_of_parts(ends, values, line.offset, line.length, ctx)?;
             Ok(Some(array))
         }
         Ok(None) => {
@@ -297,8 +298,8 @@ fn column_command<A: Allocator>(command: Command<'_>, dtype: DType) -> Option<Co
     match command {
         Command::Encode => Some(ColumnCommand::Encode),
         Command::Decode => Some(ColumnCommand::Decode),
-        Command::At(index) => Some(ColumnCommand::At(index as usize)),
-        Command::Slice(start, stop) => Some(ColumnCommand::Slice(start as usize..stop as usize)),
+        Command::At(index) => Some(ColumnCommand::At(index)),
+        Command::Slice(start, stop) => Some(ColumnCommand::Slice(start..stop)),
         Command::Cast(ptype, nullability) => {
             let target = DType::Primitive(ptype, nullability);
             Some(ColumnCommand::Cast(target))

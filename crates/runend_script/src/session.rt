@@ -3,7 +3,7 @@ ghost use Rattle.runend_script.specs.Session.{IsSetTo};
 
 use crate::command::Setting;
 use std::alloc::Allocator;
-use vortex_runend::{ExecutionCtx, Thresholds, VortexSession, initialize};
+use vortex_runend::{ExecutionCtx, Thresholds, VortexSession, default_thresholds, initialize};
 
 /// Sets the session: which kernels are registered, and the thresholds stay; or the thresholds, and each
 /// kernel stays registered or not.
@@ -16,7 +16,7 @@ pub fn set_session<A: Allocator + Copy>(setting: Setting, ctx: &mut ExecutionCtx
             let session = without_kernels(ctx.session());
             *ctx = ExecutionCtx::new(session, *ctx.allocator());
         }
-        Setting::CrateThresholds => set_crate_thresholds(ctx.session_mut()),
+        Setting::CrateThresholds => ctx.session_mut().set_thresholds(default_thresholds()),
         Setting::ZeroThresholds => ctx.session_mut().set_thresholds(Thresholds::default()),
     }
 }
@@ -37,13 +37,4 @@ fn without_kernels(session: &VortexSession) -> VortexSession
     let mut bare = VortexSession::empty();
     bare.set_thresholds(session.thresholds());
     bare
-}
-
-// Sets the thresholds of the crate, and keeps each kernel registered or not.
-fn set_crate_thresholds(session: &mut VortexSession)
-    ensures { IsSetTo Setting.CrateThresholds session.old session.new }
-{
-    let mut initial = VortexSession::empty();
-    initialize(&mut initial);
-    session.set_thresholds(initial.thresholds());
 }

@@ -1,7 +1,7 @@
 //! The lines of rows and of forms, without their line feeds.
-use column_base::{DType, Nullability, VortexError, VortexResult};
-use script_answers::{is_null_or_number, push_word};
-use script_text::name_of;
+use column_base::{DType, VortexError, VortexResult};
+use column_words::{is_null_or_number, name_of, push_marked};
+use script_answers::push_word;
 use std::alloc::Allocator;
 use vortex_runend::{
     ArrayRef, ConstantArray, RunEndArray, RunEndArrayExt, RunEndArraySlotsExt, ScalarView,
@@ -38,10 +38,7 @@ fn push_type<A: Allocator + Copy>(line: &mut String<A>, dtype: DType) -> VortexR
         return Err(VortexError::Unsupported);
     };
     line.push_str(" ")?;
-    line.push_str(name_of(ptype))?;
-    if nullability == Nullability::Nullable {
-        line.push_str("?")?;
-    }
+    push_marked(line, name_of(ptype), nullability)?;
     Ok(())
 }
 

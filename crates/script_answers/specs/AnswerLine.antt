@@ -1,52 +1,15 @@
 -- The answer line of what a command on the column was answered.
 use Rattle.std.specs.Prelude.{◌≢◌, ◌++◌, [], ◌∷◌, ℕ, Bool, true, false, List, Option, None, Some, codes}
-use Rattle.std.specs.Fmt.{decimal, signed_decimal}
-use Rattle.column_base.specs.Error.{number_of}
-use Rattle.column_base.specs.declared.error.VortexError.{VortexError}
-use Rattle.column_base.specs.declared.error.VortexError.TheVariants.{LengthsDiffer, NoRunsWindow, EndsNotStrict, FirstEndBelowOffset, LastEndBelowWindow, OutOfBounds, BadRange, MaskLength, ColumnLength, EndsTypeNumber, RunCount, OutOfMemory}
+use Rattle.column_base.specs.declared.error.VortexError.TheVariants.{OutOfMemory}
 use Rattle.column_core.specs.ScalarForm.{ScalarForm}
-use Rattle.column_core.specs.Value.{Number, Single, Value}
 use Rattle.column_sums.specs.declared.answer.SumValue.{SumValue}
-use Rattle.column_sums.specs.declared.answer.SumValue.TheVariants as sum
+use Rattle.column_words.specs.Refusals.{behind_spaces, refusal_text}
+use Rattle.column_words.specs.Rows.{IsNullOrNumber, row_word, total_word}
 use Rattle.runend_commands.specs.declared.command.Command.{Command}
 use Rattle.runend_commands.specs.declared.command.Command.TheVariants.{IsConstant, IsSorted}
 use Rattle.runend_commands.specs.declared.command.Answer.{Answer}
 use Rattle.runend_commands.specs.declared.command.Answer.TheVariants as answer
 use Rattle.runend_commands.specs.Extremes.{shown}
-
--- the words, each behind a space
-abbrev pub behind_spaces : List (List ℕ) → List ℕ
-behind_spaces [] = []
-behind_spaces (word ∷ words) = codes " " ++ word ++ behind_spaces words
-
--- the words of an error's fields, in the order in which they are declared
-abbrev pub field_words : VortexError → List (List ℕ)
-field_words (LengthsDiffer ends values) = decimal ends ∷ decimal values ∷ []
-field_words (NoRunsWindow offset count) = decimal offset ∷ decimal count ∷ []
-field_words (EndsNotStrict run) = decimal run ∷ []
-field_words (FirstEndBelowOffset end offset) = decimal end ∷ decimal offset ∷ []
-field_words (LastEndBelowWindow end required) = decimal end ∷ decimal required ∷ []
-field_words (OutOfBounds index count) = signed_decimal index ∷ decimal count ∷ []
-field_words (BadRange start stop count) = decimal start ∷ decimal stop ∷ decimal count ∷ []
-field_words (MaskLength mask count) = decimal mask ∷ decimal count ∷ []
-field_words (ColumnLength left right) = decimal left ∷ decimal right ∷ []
-field_words (EndsTypeNumber number) = decimal number ∷ []
-field_words (RunCount stated found) = decimal stated ∷ decimal found ∷ []
-field_words error = []
-
--- the line of a refusal: its number, and its fields
-abbrev pub refusal_text : VortexError → List ℕ
-refusal_text error = codes "refused" ++ behind_spaces (decimal (number_of error) ∷ field_words error)
-
--- the word of a row that is null or a whole number
-abbrev pub row_word : Option Value → List ℕ
-row_word (Some (Single (Number z))) = signed_decimal z
-row_word row = codes "null"
-
--- the digits of a total
-abbrev pub total_word : SumValue → List ℕ
-total_word (sum.Unsigned n) = decimal n
-total_word (sum.Signed z) = signed_decimal z
 
 -- the words of a sum: that it left its range, or else that no row is valid, or else its digits
 abbrev pub sum_words : Option SumValue → Bool → List (List ℕ)
@@ -78,12 +41,6 @@ answer_text command (answer.Sum total) = codes "sum" ++ behind_spaces (sum_words
 answer_text command (answer.MinMax ends) = codes "minmax" ++ behind_spaces (extreme_words ends)
 answer_text command (answer.Bool truth) = question_text command ++ behind_spaces (truth_word truth ∷ [])
 answer_text command (answer.Refused error) = refusal_text error
-
--- null, or a whole number
-abbrev pub IsNullOrNumber : Option Value → Type 0
-IsNullOrNumber None = Unit {0}
-IsNullOrNumber (Some (Single (Number z))) = Unit {0}
-IsNullOrNumber (Some value) = ⊥
 
 -- the command asks whether something is true
 abbrev pub IsQuestion : {A : Type 0} → Command A → Type 0

@@ -2,10 +2,13 @@
 ghost use Rattle.std.specs.Prelude.{◌≡◌, ◌↔◌, ◌++◌, [], ◌∷◌, IfOk, IsOkUnless, IsTrue, OnOk, codes};
 ghost use Rattle.std.specs.String.{string_bytes};
 ghost use Rattle.column_core.specs.ScalarView.{sees};
+ghost use Rattle.column_words.specs.Refusals.{behind_spaces, refusal_text};
+ghost use Rattle.column_words.specs.Rows.{IsNullOrNumber, row_word, total_word};
 ghost use Rattle.runend_commands.specs.Extremes.{shown};
-ghost use Rattle.script_answers.specs.AnswerLine.{HasLine, IsNullOrNumber, IsQuestion, answer_text, behind_spaces, field_words, question_text, refusal_text, row_word, sum_words, total_word, truth_word};
+ghost use Rattle.script_answers.specs.AnswerLine.{HasLine, IsQuestion, answer_text, question_text, sum_words, truth_word};
 
 use column_base::{VortexError, VortexResult};
+use column_words::{is_null_or_number, push_refusal_words, push_row_word, push_total_word};
 use runend_commands::{Answer, Command};
 use std::alloc::{AllocError, Allocator};
 use vortex_runend::{ExecutionCtx, Scalar, ScalarView, SumAnswer, SumValue};
@@ -77,8 +80,8 @@ fn sum_line<A: Allocator + Copy>(alloc: A, answer: SumAnswer) -> Result<String<A
 fn total_line<A: Allocator + Copy>(alloc: A, total: SumValue) -> Result<String<A>, AllocError>
     ensures { IfOk result (λ line. string_bytes line ≡ codes "sum" ++ behind_spaces (total_word total ∷ [])) }
 {
-    let mut line = String::from_str(alloc, "sum")?;
-    push_total(&mut line, total)?;
+    let mut line = String::from_str(alloc, "sum ")?;
+    push_total_word(&mut line, total)?;
     Ok(line)
 }
 
@@ -127,55 +130,9 @@ pub fn refusal_line<A: Allocator + Copy>(
 ) -> Result<String<A>, AllocError>
     ensures { IfOk result (λ line. string_bytes line ≡ refusal_text error) }
 {
-    let number = error.number();
-    let mut line = format!(in alloc; "refused {number}")?;
-    push_fields(&mut line, error)?;
+    let mut line = String::new(alloc);
+    push_refusal_words(&mut line, error)?;
     Ok(line)
-}
-
-// The fields of the error in order, each as a word behind a space.
-fn push_fields<A: Allocator + Copy>(
-    line: &mut String<A>,
-    error: VortexError,
-) -> Result<(), AllocError>
-    ensures { OnOk result (string_bytes line.new ≡ string_bytes line.old ++ behind_spaces (field_words error)) }
-{
-    match error {
-        VortexError::EndsNotStrict { run } => write!(line, " {run}"),
-        VortexError::OutOfBounds { index, length } => write!(line, " {index} {length}"),
-        VortexError::BadRange {
-            start,
-            stop,
-            length,
-        } => write!(line, " {start} {stop} {length}"),
-        VortexError::EndsTypeNumber { number } => write!(line, " {number}"),
-        VortexError::RunCount { stated, found } => write!(line, " {stated} {found}"),
-        VortexError::LengthsDiffer {
-            ends: first,
-            values: second,
-        }
-        | VortexError::NoRunsWindow {
-            offset: first,
-            length: second,
-        }
-        | VortexError::FirstEndBelowOffset {
-            end: first,
-            offset: second,
-        }
-        | VortexError::LastEndBelowWindow {
-            end: first,
-            required: second,
-        }
-        | VortexError::MaskLength {
-            mask: first,
-            length: second,
-        }
-        | VortexError::ColumnLength {
-            left: first,
-            right: second,
-        } => write!(line, " {first} {second}"),
-        _ => Ok(()),
-    }
 }
 
 /// Adds a space and the word of the row, which is null or a whole number.
@@ -186,31 +143,8 @@ pub fn push_word<A: Allocator + Copy>(
     requires { IsNullOrNumber (sees row) }
     ensures { OnOk result (string_bytes line.new ≡ string_bytes line.old ++ behind_spaces (row_word (sees row.entry) ∷ [])) }
 {
-    match row {
-        ScalarView::Unsigned(number) => write!(line, " {number}"),
-        ScalarView::Signed(number) => write!(line, " {number}"),
-        _ => line.push_str(" null"),
-    }
-}
-
-// The total as a word, behind a space.
-fn push_total<A: Allocator + Copy>(line: &mut String<A>, total: SumValue) -> Result<(), AllocError>
-    ensures { OnOk result (string_bytes line.new ≡ string_bytes line.old ++ behind_spaces (total_word total ∷ [])) }
-{
-    match total {
-        SumValue::Unsigned(number) => write!(line, " {number}"),
-        SumValue::Signed(number) => write!(line, " {number}"),
-    }
-}
-
-/// Is it null, or a whole number?
-pub fn is_null_or_number<A: Allocator>(row: ScalarView<'_, A>) -> bool
-    ensures { IsTrue result ↔ IsNullOrNumber (sees row.entry) }
-{
-    match row {
-        ScalarView::Null | ScalarView::Unsigned(_) | ScalarView::Signed(_) => true,
-        _ => false,
-    }
+    line.push_str(" ")?;
+    push_row_word(line, row)
 }
 
 // Does the command ask whether something is true?

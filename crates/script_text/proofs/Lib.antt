@@ -1,4 +1,2 @@
-pub mod BitWords
 pub mod KnownInput
-pub mod WordForms
 pub mod WordSplits

@@ -1,4 +1,3 @@
 pub mod Words
-pub mod Parse
+pub mod Rows
 pub mod Scalars
-pub mod Bits

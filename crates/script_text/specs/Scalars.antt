@@ -9,7 +9,8 @@ use Rattle.column_core.specs.ScalarForm.{ScalarForm}
 use Rattle.column_core.specs.Value.{Number}
 use Rattle.column_core.specs.declared.scalar.ScalarValue.{ScalarValue}
 use Rattle.column_core.specs.declared.scalar.ScalarValue.TheVariants as owned
-use Rattle.script_text.specs.Parse.{IsNumberOf, IsWholeNumber, whole_number}
+use Rattle.column_words.specs.Numbers.{IsWholeNumber, whole_number}
+use Rattle.script_text.specs.Rows.{IsNumberOf}
 
 -- an owned value of the word's number, spelled with or without a sign as the type's numbers are; there is one wherever the type has the number
 abbrev pub ReadsOwned : {A : Type 0} → PType → List ℕ → Option (ScalarValue A) → Type 0

@@ -1,20 +1,21 @@
 //! The values that a line of the script lists.
-ghost use Rattle.std.specs.Prelude.{◌≡◌, ◌↔◌, false, length, IfOk, IfSome, IsOkUnless, IsSome, MatchOption};
+ghost use Rattle.std.specs.Prelude.{◌≡◌, ◌↔◌, length, IfOk, IfSome, IsOkUnless, IsSome};
 ghost use Rattle.std.specs.Iterator.{IsFinite};
 ghost use Rattle.column_base.specs.Numbers.{numbers, ptype_of};
 ghost use Rattle.column_base.specs.ValidityForm.{HasLength};
 ghost use Rattle.column_base.specs.Validity.{form_of};
 ghost use Rattle.column_base.specs.Mask.{mask_bits, IsNormalMask};
-ghost use Rattle.script_text.specs.Bits.{IsBitWord, bit_digit, bit_word, is_bit_digit};
+ghost use Rattle.column_words.specs.Bits.{IsBitWord, bit_word};
+ghost use Rattle.script_text.specs.Rows.{ReadsNumber, ReadsValue};
 ghost use Rattle.script_text.specs.Scalars.{ReadsOwned, ReadsScalar};
 
-use crate::parse::{parse_integer, parse_row};
 use crate::words::Words;
 use column_base::{
     BitBufferMut, DType, Mask, NativePType, Nullability, PType, PrimitiveValues, Validity,
     VortexError, VortexResult,
 };
 use column_core::{PrimitiveArray, Scalar, ScalarValue};
+use column_words::{parse_bits, parse_integer};
 use std::alloc::Allocator;
 
 /// Stored numbers, and which rows of them are there.
@@ -84,25 +85,10 @@ pub fn read_mask<A: Allocator + Copy>(alloc: A, word: &str) -> VortexResult<Opti
     ensures bits { IfOk result (λ read. IfSome read (λ mask. (bit_word (mask_bits mask) ≡ word.now) × IsNormalMask mask)) }
     ensures found { IfOk result (λ read. IsSome read ↔ IsBitWord word.now) }
 {
-    let mut bits = BitBufferMut::with_capacity(alloc, word.len())?;
-    for byte in word.as_bytes() {
-        let Some(bit) = bit_of(*byte) else {
-            return Ok(None);
-        };
-        bits.append(bit)?;
-    }
-    Ok(Some(Mask::from_buffer(bits.freeze())))
-}
-
-// The bit whose digit the byte is, where it is one.
-fn bit_of(byte: u8) -> Option<bool>
-    ensures { MatchOption result (is_bit_digit byte ≡ false) (λ bit. byte ≡ bit_digit bit) }
-{
-    match byte {
-        b'0' => Some(false),
-        b'1' => Some(true),
-        _ => None,
-    }
+    let Some(bits) = parse_bits(alloc, word)? else {
+        return Ok(None);
+    };
+    Ok(Some(Mask::from_buffer(bits)))
 }
 
 /// The indices that the words stand for, in `i64`, where `null` is a null index over a stored 0. They are
@@ -177,4 +163,23 @@ fn push_rows<'a, T: NativePType, I: Iterator<Item = &'a str> + Drop, A: Allocato
         items.push(row.unwrap_or_default())?;
     }
     Ok(true)
+}
+
+// The row that a word stands for: `Some(None)` for `null` where rows may be null, otherwise the
+// number as `parse_native` reads it. `None` where the word stands for no row of the type.
+fn parse_row<T: NativePType>(word: &str, nullability: Nullability) -> Option<Option<T>>
+    ensures { ReadsValue T.number T.PTYPE nullability word.now result }
+{
+    if nullability == Nullability::Nullable && word == "null" {
+        return Some(None);
+    }
+    Some(Some(parse_native(word)?))
+}
+
+// The value of the number that a word stands for, exactly where the word is an optional minus and
+// decimal digits, and the type has the number.
+fn parse_native<T: NativePType>(word: &str) -> Option<T>
+    ensures { ReadsNumber T.number T.PTYPE word.now result }
+{
+    T::narrow(parse_integer(word)?)
 }

@@ -3,12 +3,13 @@ ghost use Rattle.std.specs.Prelude.{IsOkUnless};
 ghost use Rattle.runend_metadata.specs.EndsType.{IsEndsTypeNumber};
 
 use column_base::{VortexError, VortexResult};
+use column_words::{push_byte, push_refusal_words, push_row_word, push_total_word};
 use std::alloc::Allocator;
 use vector_words::types::push_type;
 use vortex_runend::{
     ArrayRef, BitBuffer, DType, FlatColumn, ListViewArray, Nullability, PrimitiveValues,
     RowValidity, RunEndArray, RunEndArrayExt, RunEndArraySlotsExt, RunEndMetadata, ScalarView,
-    SumAnswer, SumValue, Validity,
+    SumAnswer, Validity,
 };
 
 /// One word. Refused as `OutOfMemory` alone.
@@ -55,7 +56,8 @@ fn push_digits<A: Allocator + Copy>(text: &mut String<A>, number: i128) -> Vorte
 /// The name of a type.
 pub fn push_dtype<A: Allocator + Copy>(text: &mut String<A>, dtype: DType) -> VortexResult<()> {
     push_space(text)?;
-    push_type(text, dtype)
+    push_type(text, dtype)?;
+    Ok(())
 }
 
 /// The value of a row.
@@ -99,19 +101,15 @@ fn push_single<A: Allocator + Copy>(
     row: ScalarView<'_, A>,
 ) -> VortexResult<()> {
     match row {
-        ScalarView::Null => push_letters(text, "null"),
-        ScalarView::Bool(truth) => push_letters(text, name_of_truth(truth)),
-        ScalarView::Unsigned(number) => push_digits(text, i128::from(number)),
-        ScalarView::Signed(number) => push_digits(text, i128::from(number)),
+        ScalarView::Null | ScalarView::Unsigned(_) | ScalarView::Signed(_) => {
+            Ok(push_row_word(text, row)?)
+        }
+        ScalarView::Bool(truth) => Ok(write!(text, "{truth}")?),
         ScalarView::Decimal(number) => push_digits(text, number),
         ScalarView::Utf8(letters) => push_quoted(text, letters),
         ScalarView::Binary(bytes) => push_bytes(text, bytes),
         ScalarView::List { .. } => Err(VortexError::Unsupported),
     }
-}
-
-fn name_of_truth(truth: bool) -> &'static str {
-    if truth { "true" } else { "false" }
 }
 
 // A text within quotes, with its escapes.
@@ -146,7 +144,7 @@ fn escape_of(letter: char) -> Option<&'static str> {
 fn push_bytes<A: Allocator + Copy>(text: &mut String<A>, bytes: &[u8]) -> VortexResult<()> {
     push_letters(text, "x")?;
     for byte in bytes {
-        write!(text, "{byte:02X}")?;
+        push_byte(text, *byte)?;
     }
     Ok(())
 }
@@ -206,17 +204,18 @@ fn push_truths<A: Allocator + Copy>(text: &mut String<A>, bits: &BitBuffer<A>) -
 
 /// A truth value.
 pub fn push_truth<A: Allocator + Copy>(text: &mut String<A>, truth: bool) -> VortexResult<()> {
-    push_word(text, name_of_truth(truth))
+    push_space(text)?;
+    write!(text, "{truth}")?;
+    Ok(())
 }
 
 /// A sum: the number, or `overflow`, and behind it `empty` where no row is valid.
 pub fn push_sum<A: Allocator + Copy>(text: &mut String<A>, total: SumAnswer) -> VortexResult<()> {
-    let pushed = match total.sum {
-        None => push_word(text, "overflow"),
-        Some(SumValue::Unsigned(number)) => push_number(text, i128::from(number)),
-        Some(SumValue::Signed(number)) => push_number(text, i128::from(number)),
-    };
-    pushed?;
+    push_space(text)?;
+    match total.sum {
+        None => text.push_str("overflow")?,
+        Some(value) => push_total_word(text, value)?,
+    }
     if total.is_empty {
         push_word(text, "empty")
     } else {
@@ -238,8 +237,8 @@ pub fn push_form<A: Allocator + Copy>(
     push_braces(text, depth)
 }
 
-/// The form of a run column, in braces.
-pub fn push_braced_runs<A: Allocator + Copy>(
+// The form of a run column, in braces.
+fn push_braced_runs<A: Allocator + Copy>(
     text: &mut String<A>,
     runs: &RunEndArray<A>,
 ) -> VortexResult<()> {
@@ -403,7 +402,7 @@ pub fn push_record<A: Allocator + Copy>(text: &mut String<A>, bytes: &[u8]) -> V
     }
     for byte in bytes {
         push_space(text)?;
-        write!(text, "{byte:02X}")?;
+        push_byte(text, *byte)?;
     }
     Ok(())
 }
@@ -428,46 +427,7 @@ pub fn push_refusal<A: Allocator + Copy>(
 ) -> VortexResult<()>
     ensures only { IsOkUnless result VortexError.OutOfMemory }
 {
-    push_word(text, "refused")?;
-    push_number(text, i128::from(error.number()))?;
-    let (first, second, third) = fields_of(error);
-    for field in [first, second, third] {
-        if let Some(number) = field {
-            push_number(text, number)?;
-        }
-    }
+    push_space(text)?;
+    push_refusal_words(text, error)?;
     Ok(())
-}
-
-// The fields of an error in order, as far as it has some.
-fn fields_of(error: VortexError) -> (Option<i128>, Option<i128>, Option<i128>) {
-    match error {
-        VortexError::LengthsDiffer { ends, values } => two_fields(ends as i128, values as i128),
-        VortexError::NoRunsWindow { offset, length } => two_fields(offset as i128, length as i128),
-        VortexError::EndsNotStrict { run } => (Some(run as i128), None, None),
-        VortexError::FirstEndBelowOffset { end, offset } => two_fields(end as i128, offset as i128),
-        VortexError::LastEndBelowWindow { end, required } => two_fields(
-            end as i128,
-            required as i128,
-        ),
-        VortexError::OutOfBounds { index, length } => two_fields(index, length as i128),
-        VortexError::BadRange {
-            start,
-            stop,
-            length,
-        } => (
-            Some(start as i128),
-            Some(stop as i128),
-            Some(length as i128),
-        ),
-        VortexError::MaskLength { mask, length } => two_fields(mask as i128, length as i128),
-        VortexError::ColumnLength { left, right } => two_fields(left as i128, right as i128),
-        VortexError::EndsTypeNumber { number } => (Some(number as i128), None, None),
-        VortexError::RunCount { stated, found } => two_fields(stated as i128, found as i128),
-        _ => (None, None, None),
-    }
-}
-
-fn two_fields(first: i128, second: i128) -> (Option<i128>, Option<i128>, Option<i128>) {
-    (Some(first), Some(second), None)
 }

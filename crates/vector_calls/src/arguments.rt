@@ -1,12 +1,13 @@
 //! What a call is given: copies of the columns that a line names, and what its words say.
 use crate::calls::{Call, Maker, Task};
 use bytes::Bytes;
+use column_words::parse_count;
 use runend_commands::Command;
 use std::alloc::Allocator;
 use std::rc::Rc;
 use vector_columns::{Columns, bits_of_word, flat_column, flat_of, row_validity, scalar_of};
 use vector_words::request::{self, Lists, NEXT, Record, Runs, Views};
-use vector_words::values::{Value, bytes_of, bytes_of_words, paired, read_count, read_value};
+use vector_words::values::{Value, bytes_of, bytes_of_words, paired, read_value};
 use vector_words::{LineError, LineResult, read_command};
 use vortex_runend::{ArrayRef, ExecutionCtx, FlatColumn, Mask, RowValidity, Validity, View};
 
@@ -330,9 +331,9 @@ fn read_views<A: Allocator + Copy>(alloc: A, words: &[&str]) -> LineResult<Vec<V
 fn read_view(parts: &[&str]) -> Option<View> {
     match parts {
         [buffer, start, size] => Some(View {
-            buffer: read_count(buffer)?,
-            start: read_count(start)?,
-            size: read_count(size)?,
+            buffer: parse_count(buffer)?,
+            start: parse_count(start)?,
+            size: parse_count(size)?,
         }),
         _ => None,
     }

@@ -159,10 +159,10 @@ impl<A: Allocator + Copy> Maker<A> {
 
 // The column of the runs that were made, with memory for its box from `ample`.
 fn boxed_runs<A: Allocator + Copy>(
-    made: VortexResult<RunEndArray<A>>,
+    runs: VortexResult<RunEndArray<A>>,
     ample: A,
 ) -> VortexResult<ArrayRef<A>> {
-    ArrayRef::of_runs(ample, made?)
+    ArrayRef::of_runs(ample, runs?)
 }
 
 impl<A: Allocator + Copy> Task<A> {

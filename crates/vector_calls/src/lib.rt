@@ -7,4 +7,4 @@ mod session;
 
 pub use arguments::{prepare, prepare_list, read_validity};
 pub use calls::{Call, Listed, Maker, Outcome, Reply, Task};
-pub use session::{copy_of, crate_session, crate_thresholds, set_kernels, set_thresholds};
+pub use session::{copy_of, crate_session, set_kernels, set_thresholds};

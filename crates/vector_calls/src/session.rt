@@ -2,34 +2,13 @@
 use std::alloc::Allocator;
 use vector_words::read_kernel;
 use vector_words::request::Kernels;
-use vortex_runend::{ExecutionCtx, Kernel, Thresholds, VortexSession, initialize};
-
-/// Every kernel.
-const KERNELS: [Kernel; 12] = [
-    Kernel::Slice,
-    Kernel::Filter,
-    Kernel::Take,
-    Kernel::TakeFrom,
-    Kernel::Compare,
-    Kernel::Cast,
-    Kernel::FillNull,
-    Kernel::ScalarFn,
-    Kernel::Sum,
-    Kernel::MinMax,
-    Kernel::IsConstant,
-    Kernel::IsSorted,
-];
+use vortex_runend::{ExecutionCtx, KERNELS, Thresholds, VortexSession, initialize};
 
 /// A session with all kernels and the thresholds of the library.
 pub fn crate_session() -> VortexSession {
     let mut session = VortexSession::empty();
     initialize(&mut session);
     session
-}
-
-/// The thresholds of the library.
-pub fn crate_thresholds() -> Thresholds {
-    crate_session().thresholds()
 }
 
 /// A session as this one.

@@ -1,12 +1,11 @@
 //! Flat columns of the values that words write.
 use crate::lists::lists_of_rows;
 use crate::stored::stored_column;
+use column_words::parse_bits;
 use runend_array::array_of;
 use std::alloc::Allocator;
 use vector_words::types::single_of;
-use vector_words::values::{
-    NULL_ROW, Row, Value, bytes_of, push_row, read_bits, text_of, unless_failed,
-};
+use vector_words::values::{NULL_ROW, Row, Value, bytes_of, push_row, text_of, unless_failed};
 use vector_words::{LineError, LineResult};
 use vortex_runend::{
     ArrayRef, BitBuffer, BitBufferMut, DType, ElementDType, ExecutionCtx, FlatColumn, NativePType,
@@ -42,9 +41,9 @@ pub fn flat_column<A: Allocator + Copy>(
     ctx: &mut ExecutionCtx<A>,
 ) -> LineResult<ArrayRef<A>> {
     let rows = read_rows(*ctx.allocator(), words)?;
-    let made = array_of_rows(dtype, rows.as_slice(), ctx);
+    let array = array_of_rows(dtype, rows.as_slice(), ctx);
     drop(rows);
-    made
+    array
 }
 
 fn array_of_rows<A: Allocator + Copy>(
@@ -168,14 +167,12 @@ fn number_value<A: Allocator + Copy>(dtype: DType, number: i128) -> ScalarValue<
 
 /// The bits of a word of 0 and 1, where `-` is none. Bad where it has another letter.
 pub fn bits_of_word<A: Allocator + Copy>(alloc: A, word: &str) -> LineResult<BitBuffer<A>> {
-    let Some(digits) = read_bits(word) else {
-        return Err(LineError::Bad);
+    let digits = match word {
+        "-" => "",
+        "" => return Err(LineError::Bad),
+        _ => word,
     };
-    let mut bits = BitBufferMut::with_capacity(alloc, digits.len())?;
-    for digit in digits {
-        bits.append(*digit == b'1')?;
-    }
-    Ok(bits.freeze())
+    parse_bits(alloc, digits)?.ok_or(LineError::Bad)
 }
 
 /// The flat column that an array is, unless it is in another form.

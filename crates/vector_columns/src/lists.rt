@@ -60,10 +60,10 @@ fn lists_over<A: Allocator + Copy>(
 
 /// The column of the lists that were made, with memory for its box from `alloc`.
 pub fn boxed_lists<A: Allocator + Copy>(
-    made: VortexResult<ListViewArray<A>>,
+    lists: VortexResult<ListViewArray<A>>,
     alloc: A,
 ) -> VortexResult<ArrayRef<A>> {
-    Ok(ArrayRef::ListView(Box::new(alloc, made?)?))
+    Ok(ArrayRef::ListView(Box::new(alloc, lists?)?))
 }
 
 // The elements of all rows, and where those of each row lie. Bad where a row is no list.

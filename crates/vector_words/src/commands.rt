@@ -2,8 +2,9 @@
 use crate::names::{only, only_count, read_name};
 use crate::request::Command;
 use crate::types::read_type;
-use crate::values::{read_count, read_value};
+use crate::values::read_value;
 use column_order::CompareOperator;
+use column_words::parse_count;
 
 /// The command of these words, of which the first is its verb.
 pub fn read_command<'a>(words: &'a [&'a str]) -> Option<Command<'a>> {
@@ -54,14 +55,14 @@ fn read_with_word<'a>(verb: &str, word: &'a str) -> Option<Command<'a>> {
         "filter" => Some(Command::Filter(word)),
         "codes" => Some(Command::TakeFrom(read_name(word)?)),
         "cast" => Some(Command::Cast(read_type(word)?)),
-        "at" => Some(Command::At(read_count(word)?)),
+        "at" => Some(Command::At(parse_count(word)?)),
         _ => None,
     }
 }
 
 fn read_slice<'a>(start: &str, rest: &'a [&'a str]) -> Option<Command<'a>> {
     let stop = only_count(rest)?;
-    Some(Command::Slice(read_count(start)?, stop))
+    Some(Command::Slice(parse_count(start)?, stop))
 }
 
 fn read_fill<'a>(dtype: &str, rest: &'a [&'a str]) -> Option<Command<'a>> {

@@ -3,7 +3,8 @@ use crate::names::{is_name, only_name, read_name};
 use crate::reader::called;
 use crate::request::{Call, Lists, Plain, Record, Request, Runs, Views};
 use crate::types::read_type;
-use crate::values::{read_count, read_value};
+use crate::values::read_value;
+use column_words::parse_count;
 use runend_array::{DType, VarBinKind};
 
 /// The word between ends and values, and between views and buffers.
@@ -53,7 +54,7 @@ fn read_invalid<'a>(words: &'a [&'a str]) -> Option<Plain<'a>> {
     let [dtype, count] = words else {
         return None;
     };
-    Some(Plain::Invalid(read_type(dtype)?, read_count(count)?))
+    Some(Plain::Invalid(read_type(dtype)?, parse_count(count)?))
 }
 
 fn read_constant<'a>(words: &'a [&'a str]) -> Option<Plain<'a>> {
@@ -61,7 +62,7 @@ fn read_constant<'a>(words: &'a [&'a str]) -> Option<Plain<'a>> {
         return None;
     };
     let value = read_value(value)?;
-    Some(Plain::Constant(read_type(dtype)?, value, read_count(count)?))
+    Some(Plain::Constant(read_type(dtype)?, value, parse_count(count)?))
 }
 
 fn read_made<'a>(maker: &str, words: &'a [&'a str]) -> Option<Call<'a>> {
@@ -89,7 +90,7 @@ fn read_window<'a>(words: &'a [&'a str]) -> Option<Call<'a>> {
     let [dtype, offset, length, parts @ ..] = words else {
         return None;
     };
-    let (offset, length) = (read_count(offset)?, read_count(length)?);
+    let (offset, length) = (parse_count(offset)?, parse_count(length)?);
     Some(Call::Runs(read_runs(dtype, offset, length, parts)?))
 }
 
@@ -162,7 +163,7 @@ fn read_record<'a>(words: &'a [&'a str]) -> Option<Call<'a>> {
     let [dtype, length, parts @ ..] = words else {
         return None;
     };
-    let (dtype, length) = (read_type(dtype)?, read_count(length)?);
+    let (dtype, length) = (read_type(dtype)?, parse_count(length)?);
     record_of(dtype, length, split_at_slash(parts)?)
 }
 

@@ -1,5 +1,5 @@
 //! Words that stand alone, and names of columns.
-use crate::values::read_count;
+use column_words::parse_count;
 
 /// The words that are no name of a column.
 const TAKEN: [&str; 8] = [
@@ -37,7 +37,7 @@ pub(crate) fn only_name<'a>(words: &'a [&'a str]) -> Option<&'a str> {
 
 // The number of the word, where it is the only one.
 pub(crate) fn only_count(words: &[&str]) -> Option<usize> {
-    read_count(only(words)?)
+    parse_count(only(words)?)
 }
 
 // The word, where it is the only one.

@@ -4,7 +4,7 @@ use crate::makers::read_maker;
 use crate::names::{is_name, only_count};
 use crate::request::{Call, Look, Request};
 use crate::sessions::{read_kernels, read_thresholds};
-use crate::values::read_count;
+use column_words::parse_count;
 
 /// What these words ask, or `None` where they cannot be read.
 pub fn read_request<'a>(words: &'a [&'a str]) -> Option<Request<'a>> {
@@ -21,7 +21,7 @@ pub fn read_request<'a>(words: &'a [&'a str]) -> Option<Request<'a>> {
 // that place of a list.
 fn read_refused<'a>(words: &'a [&'a str]) -> Option<Request<'a>> {
     let (first, rest) = words.split_first()?;
-    match read_count(first) {
+    match parse_count(first) {
         Some(place) => read_refused_one(place, rest),
         None => read_refused_call(words),
     }

@@ -1,7 +1,7 @@
 //! What words set of the session: its kernels and thresholds.
 use crate::names::only;
 use crate::request::{Kernels, Request};
-use crate::values::read_count;
+use column_words::parse_count;
 use runend_array::{Kernel, Thresholds};
 
 pub(crate) fn read_kernels<'a>(words: &'a [&'a str]) -> Option<Kernels<'a>> {
@@ -36,7 +36,7 @@ pub fn read_kernel(word: &str) -> Option<Kernel> {
 pub(crate) fn read_thresholds<'a>(words: &'a [&'a str]) -> Option<Request<'a>> {
     match only(words) {
         Some(word) => named_thresholds(word),
-        None => Some(Request::Thresholds(thresholds_of(read_counts(words)?))),
+        None => Some(Request::Thresholds(thresholds_of(parse_counts(words)?))),
     }
 }
 
@@ -49,13 +49,13 @@ fn named_thresholds<'a>(word: &str) -> Option<Request<'a>> {
 }
 
 // Seven numbers.
-fn read_counts(words: &[&str]) -> Option<[usize; 7]> {
+fn parse_counts(words: &[&str]) -> Option<[usize; 7]> {
     if words.len() != 7 {
         return None;
     }
     let mut counts = [0; 7];
     for index in 0..7 {
-        counts[index] = read_count(words[index])?;
+        counts[index] = parse_count(words[index])?;
     }
     Some(counts)
 }

@@ -1,9 +1,8 @@
 //! Types as words.
-use crate::values::{between, read_count, read_number};
-use column_base::{
-    DType, DecimalDType, ElementDType, NativePType, Nullability, PType, VortexResult,
-};
-use std::alloc::Allocator;
+use crate::values::between;
+use column_base::{DType, DecimalDType, ElementDType, NativePType, Nullability};
+use column_words::{name_of, parse_count, parse_integer, parse_ptype, push_marked, split_mark};
+use std::alloc::{AllocError, Allocator};
 
 /// The type that a word names, with a question mark behind it where rows may be null.
 pub fn read_type(word: &str) -> Option<DType> {
@@ -26,23 +25,15 @@ pub fn read_single(word: &str) -> Option<ElementDType> {
 }
 
 fn read_numeric(name: &str, nullability: Nullability) -> Option<ElementDType> {
-    match read_ptype(name) {
+    match parse_ptype(name) {
         Some(ptype) => Some(ElementDType::Primitive(ptype, nullability)),
         None => Some(ElementDType::Decimal(read_decimal(name)?, nullability)),
     }
 }
 
-// The name before the question mark, if there is one.
-fn split_mark(word: &str) -> (&str, Nullability) {
-    match word.strip_suffix('?') {
-        Some(name) => (name, Nullability::Nullable),
-        None => (word, Nullability::NonNullable),
-    }
-}
-
 fn read_decimal(name: &str) -> Option<DecimalDType> {
     let (precision, scale) = between(name, "decimal(", ')')?.split_once(',')?;
-    decimal_of(read_count(precision)?, read_number(scale)?)
+    decimal_of(parse_count(precision)?, parse_integer(scale)?)
 }
 
 fn decimal_of(precision: usize, scale: i128) -> Option<DecimalDType> {
@@ -50,20 +41,6 @@ fn decimal_of(precision: usize, scale: i128) -> Option<DecimalDType> {
         precision: u8::try_from(precision).ok()?,
         scale: i8::narrow(scale)?,
     })
-}
-
-fn read_ptype(name: &str) -> Option<PType> {
-    match name {
-        "u8" => Some(PType::U8),
-        "u16" => Some(PType::U16),
-        "u32" => Some(PType::U32),
-        "u64" => Some(PType::U64),
-        "i8" => Some(PType::I8),
-        "i16" => Some(PType::I16),
-        "i32" => Some(PType::I32),
-        "i64" => Some(PType::I64),
-        _ => None,
-    }
 }
 
 /// The type of rows that are of the type of an element.
@@ -90,7 +67,10 @@ pub fn single_of(dtype: DType) -> Option<ElementDType> {
 }
 
 /// Puts the name of the type behind the text.
-pub fn push_type<A: Allocator + Copy>(text: &mut String<A>, dtype: DType) -> VortexResult<()> {
+pub fn push_type<A: Allocator + Copy>(
+    text: &mut String<A>,
+    dtype: DType,
+) -> Result<(), AllocError> {
     if let DType::List(element, nullability) = dtype {
         text.push_str("list(")?;
         push_single(text, element)?;
@@ -105,7 +85,7 @@ pub fn push_type<A: Allocator + Copy>(text: &mut String<A>, dtype: DType) -> Vor
 fn push_single<A: Allocator + Copy>(
     text: &mut String<A>,
     element: ElementDType,
-) -> VortexResult<()> {
+) -> Result<(), AllocError> {
     match element {
         ElementDType::Bool(nullability) => push_marked(text, "bool", nullability),
         ElementDType::Primitive(ptype, nullability) => {
@@ -117,46 +97,13 @@ fn push_single<A: Allocator + Copy>(
     }
 }
 
-// A name, and the question mark where rows may be null.
-fn push_marked<A: Allocator + Copy>(
-    text: &mut String<A>,
-    name: &str,
-    nullability: Nullability,
-) -> VortexResult<()> {
-    text.push_str(name)?;
-    push_mark(text, nullability)
-}
-
 fn push_decimal<A: Allocator + Copy>(
     text: &mut String<A>,
     decimal: DecimalDType,
     nullability: Nullability,
-) -> VortexResult<()> {
+) -> Result<(), AllocError> {
     let precision = decimal.precision;
     let scale = decimal.scale;
-    write!(text, "decimal({precision},{scale})")?;
-    push_mark(text, nullability)
-}
-
-fn push_mark<A: Allocator + Copy>(
-    text: &mut String<A>,
-    nullability: Nullability,
-) -> VortexResult<()> {
-    if nullability == Nullability::Nullable {
-        text.push_str("?")?;
-    }
-    Ok(())
-}
-
-fn name_of(ptype: PType) -> &'static str {
-    match ptype {
-        PType::U8 => "u8",
-        PType::U16 => "u16",
-        PType::U32 => "u32",
-        PType::U64 => "u64",
-        PType::I8 => "i8",
-        PType::I16 => "i16",
-        PType::I32 => "i32",
-        PType::I64 => "i64",
-    }
+    write!(text, "decimal({precision},{scale}")?;
+    push_marked(text, ")", nullability)
 }

@@ -1,10 +1,7 @@
 //! Values as words.
-ghost use Rattle.std.specs.Prelude.{◌<◌, ◌^◌};
-ghost use Rattle.std.specs.Option.{SomeIff};
-ghost use Rattle.std.specs.Str.Parse.{IsNumeral, digits_value};
-
 use crate::{LineError, LineResult};
 use column_base::VortexError;
+use column_words::{parse_bytes, parse_integer};
 use hex::FromHexError;
 use std::alloc::Allocator;
 use std::str;
@@ -37,26 +34,6 @@ pub const NULL_ROW: Row<'static> = Row {
     value: Value::Null,
 };
 
-/// The number of a word of decimal digits, below 2^64.
-pub fn read_count(word: &str) -> Option<usize>
-    ensures { SomeIff result (IsNumeral 10 word.now × (digits_value 10 word.now < 2 ^ 64)) (digits_value 10 word.now) }
-{
-    // The library's numbers may have a plus before them, and these may not.
-    if word.starts_with('+') {
-        return None;
-    }
-    word.parse::<usize>().ok()
-}
-
-/// The number of a word of decimal digits, with or without a minus before them, from -2^127 to
-/// 2^127 - 1.
-pub fn read_number(word: &str) -> Option<i128> {
-    if word.starts_with('+') {
-        return None;
-    }
-    word.parse::<i128>().ok()
-}
-
 /// The value that a word writes.
 pub fn read_value(word: &str) -> Option<Value<'_>> {
     match word {
@@ -78,7 +55,7 @@ fn read_marked(word: &str) -> Option<Value<'_>> {
     if let Some(listed) = between(word, "[", ']') {
         return Some(Value::List(listed));
     }
-    Some(Value::Number(read_number(word)?))
+    Some(Value::Number(parse_integer(word)?))
 }
 
 /// What stands between the one and the other, at the ends of the word.
@@ -258,38 +235,6 @@ pub fn bytes_of_words<A: Allocator + Copy>(alloc: A, words: &[&str]) -> LineResu
     match words {
         ["-"] => Ok(Vec::new(alloc)),
         [] => Err(LineError::Bad),
-        _ => bytes_of_each(alloc, words),
-    }
-}
-
-// A byte of each word.
-fn bytes_of_each<A: Allocator + Copy>(alloc: A, words: &[&str]) -> LineResult<Vec<u8, A>> {
-    let mut bytes = Vec::new(alloc);
-    for word in words {
-        bytes.push(byte_of(alloc, word)?)?;
-    }
-    Ok(bytes)
-}
-
-// The byte of two hexadecimal digits.
-fn byte_of<A: Allocator + Copy>(alloc: A, word: &str) -> LineResult<u8> {
-    let bytes = bytes_of(alloc, word)?;
-    match bytes.as_slice() {
-        [byte] => Ok(*byte),
-        _ => Err(LineError::Bad),
-    }
-}
-
-/// The validity word's bits, or `None` where it has another letter than 0 and 1. The word of no bits
-/// is `-`.
-pub fn read_bits(word: &str) -> Option<&[u8]> {
-    if word == "-" {
-        return Some(b"".as_slice());
-    }
-    let digits = word.as_bytes();
-    if !digits.is_empty() && digits.iter().all(|digit| *digit == b'0' || *digit == b'1') {
-        Some(digits)
-    } else {
-        None
+        _ => parse_bytes(alloc, words.iter().copied())?.ok_or(LineError::Bad),
     }
 }

@@ -7,14 +7,14 @@ use crate::workspace::{Heap, Workspace};
 use column_base::VortexResult;
 use std::alloc::Allocator;
 use vector_answers::{push_dtype, push_form, push_refusal, push_rows, push_stored};
-use vector_calls::{
-    Outcome, Reply, crate_thresholds, prepare, read_validity, set_kernels, set_thresholds,
-};
+use vector_calls::{Outcome, Reply, prepare, read_validity, set_kernels, set_thresholds};
 use vector_columns::{Columns, flat_column, invalid_column, raw_column, scalar_of};
 use vector_report::{Line, Report, read_line};
 use vector_words::request::{self, Look, Plain, Request};
 use vector_words::{LineError, LineResult, read_request};
-use vortex_runend::{ArrayRef, ConstantArray, ExecutionCtx, RunEndArraySlotsExt, VortexError};
+use vortex_runend::{
+    ArrayRef, ConstantArray, ExecutionCtx, RunEndArraySlotsExt, VortexError, default_thresholds,
+};
 
 /// Runs all lines, and reports which of them are not answered as they expect.
 pub fn run_lines<'a>(text: &str, workspace: &mut Workspace<'a>) -> VortexResult<Report<Heap<'a>>>
@@ -151,7 +151,7 @@ fn set<A: Allocator + Copy>(request: Request<'_>, ctx: &mut ExecutionCtx<A>) {
     match request {
         Request::Kernels(kernels) => set_kernels(kernels, ctx),
         Request::Thresholds(thresholds) => set_thresholds(thresholds, ctx),
-        Request::CrateThresholds => set_thresholds(crate_thresholds(), ctx),
+        Request::CrateThresholds => set_thresholds(default_thresholds(), ctx),
         _ => {}
     }
 }

@@ -1,7 +1,7 @@
 use Rattle.std.proofs.Common.{◌≡◌, take}
 use Rattle.std.specs.List.{AllPass}
-use Rattle.script_text.specs.Bits.{bit_word, is_bit_digit}
-use Rattle.script_text.proofs.values.read_mask.Given as goal
+use Rattle.column_words.specs.Bits.{bit_word, is_bit_digit}
+use Rattle.column_words.proofs.bits.parse_bits.Given as goal
 
 abbrev pub invariant-loop-byte : goal.invariant-loop-byte
 invariant-loop-byte g l = record {

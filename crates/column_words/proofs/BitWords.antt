@@ -3,7 +3,7 @@ use Rattle.std.proofs.Common.{◌≡◌, ◌<◌, ◌+◌, ◌++◌, [], ◌∷�
 use Rattle.std.proofs.lemmas.List.{take_more, map-append}
 use Rattle.std.proofs.lemmas.List.Sums.{AllPass-from_list_all}
 use Rattle.std.specs.List.{list_all}
-use Rattle.script_text.specs.Bits.{IsBitWord, bit_digit, bit_word, is_bit_digit}
+use Rattle.column_words.specs.Bits.{IsBitWord, bit_digit, bit_word, is_bit_digit}
 
 -- the bits of the bytes before a digit, and its bit
 pub word_and_digit : (bits : List Bool) (word : List ℕ) (i : ℕ) (bit : Bool) → i < length word → bit_word bits ≡ take i word → get_or word i 0 ≡ bit_digit bit → bit_word (bits ++ bit ∷ []) ≡ take (i + 1) word

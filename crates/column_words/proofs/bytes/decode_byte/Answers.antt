@@ -1,6 +1,6 @@
 use Rattle.std.proofs.Common.{sym, ◌∙◌}
 use Rattle.hex.proofs.HexLemmas.{IsOk-decode_sized}
-use Rattle.script_text.proofs.parse.decode_byte.Goals as goal
+use Rattle.column_words.proofs.bytes.decode_byte.Goals as goal
 
 pub returns-clause-found : goal.returns-clause-found
 returns-clause-found c =

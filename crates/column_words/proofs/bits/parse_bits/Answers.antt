@@ -1,7 +1,7 @@
 use Rattle.std.proofs.Common.{◌≡◌, ◌+◌, ◌∙◌, ap, take, rules}
-use Rattle.script_text.specs.Bits.{bit_word}
-use Rattle.script_text.proofs.BitWords.{word_and_digit, digits_of_bits}
-use Rattle.script_text.proofs.values.read_mask.Goals as goal
+use Rattle.column_words.specs.Bits.{bit_word}
+use Rattle.column_words.proofs.BitWords.{word_and_digit, digits_of_bits}
+use Rattle.column_words.proofs.bits.parse_bits.Goals as goal
 
 pub loop-byte-preserved : goal.loop-byte-preserved
 loop-byte-preserved g c =

@@ -1,0 +1,6 @@
+pub mod Bits
+pub mod Bytes
+pub mod Numbers
+pub mod Refusals
+pub mod Rows
+pub mod Types

@@ -1,0 +1,51 @@
+//! Bytes as words: two hexadecimal digits for each.
+ghost use Rattle.std.specs.Prelude.{◌≡◌, ◌↔◌, ◌++◌, [], ◌∷◌, Ok, IfSome, IsOkUnless, IsSome, OnOk};
+ghost use Rattle.std.specs.Iterator.{IsFinite};
+ghost use Rattle.std.specs.String.{string_bytes};
+ghost use Rattle.hex.specs.Hex.{decode_of, encode_upper};
+ghost use Rattle.column_words.specs.Bytes.{IsByteWord};
+
+use column_base::{VortexError, VortexResult};
+use hex::FromHex;
+use std::alloc::{AllocError, Allocator};
+
+/// The bytes that the words stand for, or `None` where a word stands for none. Refused as `OutOfMemory` alone.
+pub fn parse_bytes<'a, I: Iterator<Item = &'a str> + Drop, A: Allocator + Copy>(
+    alloc: A,
+    words: I,
+) -> VortexResult<Option<Vec<u8, A>>>
+    requires can { I.can_next words }
+    requires finite { IsFinite (I.remaining words) }
+    ensures only { IsOkUnless result VortexError.OutOfMemory }
+{
+    let mut bytes = Vec::new(alloc);
+    for word in words {
+        let Some(byte) = parse_byte(word) else {
+            return Ok(None);
+        };
+        bytes.push(byte)?;
+    }
+    Ok(Some(bytes))
+}
+
+/// The byte of a word of two hexadecimal digits of either case, or `None` where the word is anything else.
+pub fn parse_byte(word: &str) -> Option<u8>
+    ensures byte { IfSome result (λ byte. decode_of word.now ≡ Ok (byte ∷ [])) }
+    ensures found { IsSome result ↔ IsByteWord word.now }
+{
+    Some(decode_byte(word)?[0])
+}
+
+fn decode_byte(word: &str) -> Option<[u8; 1]>
+    ensures byte { IfSome result (λ bytes. decode_of word.now ≡ Ok bytes) }
+    ensures found { IsSome result ↔ IsByteWord word.now }
+{
+    <[u8; 1] as FromHex>::from_hex(word).ok()
+}
+
+/// Puts two upper case hexadecimal digits of the byte right behind the text.
+pub fn push_byte<A: Allocator + Copy>(text: &mut String<A>, byte: u8) -> Result<(), AllocError>
+    ensures { OnOk result (string_bytes text.new ≡ string_bytes text.old ++ encode_upper (byte ∷ [])) }
+{
+    write!(text, "{byte:02X}")
+}

@@ -1,0 +1,16 @@
+//! The words of numbers, types, bits, bytes, rows and refusals, which the script and the vectors share.
+#![tactic(auto)]
+
+mod bits;
+mod bytes;
+mod numbers;
+mod refusals;
+mod rows;
+mod types;
+
+pub use bits::parse_bits;
+pub use bytes::{parse_byte, parse_bytes, push_byte};
+pub use numbers::{parse_count, parse_integer};
+pub use refusals::push_refusal_words;
+pub use rows::{is_null_or_number, push_row_word, push_total_word};
+pub use types::{name_of, parse_ptype, parse_type, push_marked, split_mark};

@@ -1,0 +1,47 @@
+//! Rows that are null or whole numbers, and totals, as words.
+ghost use Rattle.std.specs.Prelude.{◌≡◌, ◌↔◌, ◌++◌, IsTrue, OnOk};
+ghost use Rattle.std.specs.String.{string_bytes};
+ghost use Rattle.column_core.specs.ScalarView.{sees};
+ghost use Rattle.column_words.specs.Rows.{IsNullOrNumber, row_word, total_word};
+
+use column_core::ScalarView;
+use column_sums::SumValue;
+use std::alloc::{AllocError, Allocator};
+
+/// Is it null, or a whole number?
+pub fn is_null_or_number<A: Allocator>(row: ScalarView<'_, A>) -> bool
+    ensures { IsTrue result ↔ IsNullOrNumber (sees row.entry) }
+{
+    match row {
+        ScalarView::Null | ScalarView::Unsigned(_) | ScalarView::Signed(_) => true,
+        _ => false,
+    }
+}
+
+/// Puts the word of the row, which is null or a whole number, right behind the text.
+pub fn push_row_word<A: Allocator + Copy>(
+    text: &mut String<A>,
+    row: ScalarView<'_, A>,
+) -> Result<(), AllocError>
+    requires { IsNullOrNumber (sees row) }
+    ensures { OnOk result (string_bytes text.new ≡ string_bytes text.old ++ row_word (sees row.entry)) }
+{
+    match row {
+        ScalarView::Unsigned(number) => write!(text, "{number}"),
+        ScalarView::Signed(number) => write!(text, "{number}"),
+        _ => text.push_str("null"),
+    }
+}
+
+/// Puts the digits of the total right behind the text.
+pub fn push_total_word<A: Allocator + Copy>(
+    text: &mut String<A>,
+    total: SumValue,
+) -> Result<(), AllocError>
+    ensures { OnOk result (string_bytes text.new ≡ string_bytes text.old ++ total_word total) }
+{
+    match total {
+        SumValue::Unsigned(number) => write!(text, "{number}"),
+        SumValue::Signed(number) => write!(text, "{number}"),
+    }
+}
