@@ -11,13 +11,13 @@ use Rattle.column_sums.specs.SumRange.{SumRange, is_within, least, greatest}
 use Rattle.chunk_laws.specs.Sums.{IsNatural, SumFromAnySum, SumOfJoined, SumOfJoinedNaturals, added, sums_alone, total}
 
 -- the sums on the way of joined rows go on from the last one of the first part
-joined_sums : (sum : ℤ) (rows rows' : List (Option ℤ))
+pub joined_sums : (sum : ℤ) (rows rows' : List (Option ℤ))
     → partial_sums sum (rows ++ rows') ≡ partial_sums sum rows ++ partial_sums (last_after sum (partial_sums sum rows)) rows'
 joined_sums sum [] rows' = refl
 joined_sums sum (None ∷ rows) rows' = joined_sums sum rows rows'
 joined_sums sum (Some n ∷ rows) rows' = ap (λ ns. (sum +ℤ n) ∷ ns) (joined_sums (sum +ℤ n) rows rows')
 
-last_of_joined : (sum : ℤ) (ns ms : List ℤ) → last_after sum (ns ++ ms) ≡ last_after (last_after sum ns) ms
+pub last_of_joined : (sum : ℤ) (ns ms : List ℤ) → last_after sum (ns ++ ms) ≡ last_after (last_after sum ns) ms
 last_of_joined sum [] ms = refl
 last_of_joined sum (n ∷ ns) ms = last_of_joined n ns ms
 
@@ -49,7 +49,7 @@ pub sum_of_joined : SumOfJoined
 sum_of_joined range rows rows' = (sum_from_joined range (pos 0) rows rows', list_all-append is_none rows rows')
 
 -- sums from another start are the same sums, moved
-moved_sums : (sum start : ℤ) (rows : List (Option ℤ)) → partial_sums (sum +ℤ start) rows ≡ map (λ n. sum +ℤ n) (partial_sums start rows)
+pub moved_sums : (sum start : ℤ) (rows : List (Option ℤ)) → partial_sums (sum +ℤ start) rows ≡ map (λ n. sum +ℤ n) (partial_sums start rows)
 moved_sums sum start [] = refl
 moved_sums sum start (None ∷ rows) = moved_sums sum start rows
 moved_sums sum start (Some n ∷ rows) =
@@ -64,7 +64,7 @@ all_moved : (test : ℤ → Bool) (sum : ℤ) (ns : List ℤ) → list_all test 
 all_moved test sum [] = refl
 all_moved test sum (n ∷ ns) = ap (λ b. test (sum +ℤ n) && b) (all_moved test sum ns)
 
-moved_total : (sum : ℤ) (rows : List (Option ℤ)) → last_after sum (partial_sums sum rows) ≡ sum +ℤ total rows
+pub moved_total : (sum : ℤ) (rows : List (Option ℤ)) → last_after sum (partial_sums sum rows) ≡ sum +ℤ total rows
 moved_total sum rows =
     let zero : sum ≡ sum +ℤ pos 0 = omega (arith, ints) in
     ap (last_after sum) (ap (λ (m : ℤ). partial_sums m rows) zero ∙ moved_sums sum (pos 0) rows)
@@ -91,7 +91,7 @@ total_grows sum (Some n ∷ rows) natural =
     omega (arith, ints)
 
 -- a number between two in the range is in the range
-between : (range : SumRange) (low mid high : ℤ) → low ≤ℤ mid → mid ≤ℤ high → is_within range low ≡ true → is_within range high ≡ true → is_within range mid ≡ true
+pub between : (range : SumRange) (low mid high : ℤ) → low ≤ℤ mid → mid ≤ℤ high → is_within range low ≡ true → is_within range high ≡ true → is_within range mid ≡ true
 between range low mid high f g l h = grind (arith, ints)
 
 -- past the range is past it

@@ -8,7 +8,7 @@
 ghost use Rattle.chunk_laws.specs.Encodings.{EncodingOfJoined};
 ghost use Rattle.chunk_laws.specs.Orders.{ConstantOfJoined, ExtremesOfJoined, SortedOfJoined};
 ghost use Rattle.chunk_laws.specs.Rows.{CastOfJoined, ComparisonOfJoined, FillOfJoined, FilterOfJoined, SliceOfJoined, TakeOfParts};
-ghost use Rattle.chunk_laws.specs.Sums.{SumFromAnySum, SumOfJoined, SumOfJoinedNaturals};
+ghost use Rattle.chunk_laws.specs.Sums.{SumFromAnySum, SumFromThreeNumbers, SumOfJoined, SumOfJoinedNaturals, ThreeNumbersOfJoined};
 
 /// A filter of joined rows by joined masks, each as long as its part, is the joined filtered parts.
 pub fn filter_of_joined()
@@ -47,10 +47,22 @@ pub fn sum_of_joined()
 {}
 
 /// Rows that are added to a sum keep it in the range exactly where it is in the range with each sum on the way that
-/// they have alone, and then add their total to it. So of a part that overflows alone, or that comes behind others,
-/// three numbers have to be known: its total, and the least and the greatest of its sums on the way.
+/// they have alone, and then add their total to it.
 pub fn sum_from_any_sum()
     ensures { SumFromAnySum }
+{}
+
+/// They keep it in the range exactly where it is in the range with the least and with the greatest of their sums on
+/// the way, and where no row is valid. So of a part that overflows alone, or that comes behind others, three numbers
+/// have to be known: its total, and the least and the greatest of its sums on the way.
+pub fn sum_from_three_numbers()
+    ensures { SumFromThreeNumbers }
+{}
+
+/// The total of joined rows is that of both parts added, and the least and the greatest of their sums on the way are
+/// those of the first part, or those of the second moved by the first part's total.
+pub fn three_numbers_of_joined()
+    ensures { ThreeNumbersOfJoined }
 {}
 
 /// The sum of joined rows of which none is negative is the sum of the parts' sums: null where that of either part is, or

@@ -7,9 +7,9 @@ use crate::counted::test_count::TestCount;
 use column_base::UnsignedPType;
 use std::marker::Model;
 
-/// The ends of runs, of which nothing can be read but how many there are, what `test` says and what
-/// `reach` answers, and each of these is counted. So a contract on the count of tests bounds every
-/// look that a search takes.
+/// The ends of runs, of which nothing can be read but how many there are, and what `test` and
+/// `rows_to_end` say. The first is one test, and the second counts as the tests that would say the same.
+/// So a contract on the count of tests bounds all that a search can learn of the ends.
 ///
 /// A contract sees a record: `ends`, the ends as natural numbers (in rows), and `tests`, how many
 /// tests were made. The count takes no bytes and no time.
@@ -61,31 +61,34 @@ impl<'a, E: UnsignedPType> CountedEnds<'a, E> {
         ensures same { self.new.ends ≡ self.old.ends }
         ensures counted { self.new.tests ≡ self.old.tests + 1 }
     {
-        self.look(run) <= row as u64
+        self.tests = self.tests.plus(1);
+        self.end(run) <= row as u64
     }
 
-    /// How many of `count` rows, from position `offset` on, lie before the end of the run. This is a
-    /// look at one end, as a test is, and counted as one.
+    /// How many of `limit` rows, from `position` on, lie before the end of the run. That is what tests
+    /// from row to row tell, up to the first row that is not before the end, and it counts as these
+    /// tests do: one for each row that lies before the end, and one more where the end comes before
+    /// the limit. The end is read once.
     #[inline]
-    pub fn reach(&mut self, run: usize, offset: usize, count: usize) -> usize
+    pub fn rows_to_end(&mut self, run: usize, position: usize, limit: usize) -> usize
         requires { run < length self.old.ends }
-        ensures rows { result ≡ min (slice_index self.old.ends run - offset) count }
+        ensures rows { result ≡ min (slice_index self.old.ends run - position) limit }
         ensures same { self.new.ends ≡ self.old.ends }
-        ensures counted { self.new.tests ≡ self.old.tests + 1 }
+        ensures counted { self.new.tests ≡ self.old.tests + min (result + 1) limit }
     {
-        let rows = self.look(run).saturating_sub(offset as u64);
-        rows.min(count as u64) as usize
+        let rows_left = self.end(run).saturating_sub(position as u64);
+        let rows = rows_left.min(limit as u64) as usize;
+        self.tests = self.tests.plus(rows.saturating_add(1).min(limit));
+        rows
     }
 
-    // The end of a run, counted as one test.
+    // The end of a run, for those alone that count it.
     #[inline]
-    fn look(&mut self, run: usize) -> u64
-        requires { run < length self.old.ends }
-        ensures end { result ≡ slice_index self.old.ends run }
-        ensures same { self.new.ends ≡ self.old.ends }
-        ensures counted { self.new.tests ≡ self.old.tests + 1 }
+    fn end(&self, run: usize) -> u64
+        requires { run < length self.now.ends }
+        ensures { result ≡ slice_index self.now.ends run }
     {
-        self.tests = self.tests.plus_one();
-        self.ends[run].to_u64()
+        let ends = self.ends;
+        ends[run].to_u64()
     }
 }

@@ -48,6 +48,14 @@ reached_in_order ends offset count run rows reach so_far more = elim (cases_lt r
   | inr from ↦ from
 ]
 
+-- from the rows that are reached, the run goes on to its end, or to the last row
+pub reach-more : (ends : List ℕ) (offset count run rows more : ℕ) → IsWindow ends offset count → run < length ends → more ≡ min (slice_index ends run - (offset + rows)) (count - rows)
+    → AreReached ends offset count run rows → rows + more ≡ min (slice_index ends run - offset) count
+reach-more ends offset count run rows more window h is so_far =
+    let next = min (slice_index ends run - offset) count in
+    let order : rows ≤ next = reached_in_order ends offset count run rows next so_far (AreReached-more ends offset count run rows next window h refl so_far) in
+    omega arith
+
 -- copies of what a function has at each of some more rows
 rows_alike : (f : ℕ → ℕ) (offset rows more value : ℕ) → ((row : ℕ) → rows ≤ row → row < rows + more → f (offset + row) ≡ value)
     → map f (range_with_len offset (rows + more)) ≡ map f (range_with_len offset rows) ++ replicate more value

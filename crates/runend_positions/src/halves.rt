@@ -1,5 +1,5 @@
 //! The runs of indices, each found by halves.
-ghost use Rattle.std.specs.Prelude.{◌≡◌, ◌+◌, ◌*◌, ◌≤◌, All, IfOk, IsOkUnless, length, true};
+ghost use Rattle.std.specs.Prelude.{◌≡◌, ◌+◌, ◌*◌, ◌≤◌, All, IfOk, IsOkUnless, OnErr, length, true};
 ghost use Rattle.column_base.specs.Mask.{mask_bits};
 ghost use Rattle.column_core.specs.Digits.{digits};
 ghost use Rattle.runend_positions.specs.Indices.{AreInWindow, optional_indices, runs_of, valid_count};
@@ -25,6 +25,7 @@ pub fn physical_indices_binary<E: UnsignedPType, T: NativePType, A: Allocator + 
     ensures runs { IfOk result (λ runs. runs.items ≡ runs_of ends.old.ends offset 0 (optional_indices T.number indices.now (mask_bits mask.now))) }
     ensures same { ends.new.ends ≡ ends.old.ends }
     ensures cost { ends.new.tests ≤ ends.old.tests + valid_count (optional_indices T.number indices.now (mask_bits mask.now)) * digits (length ends.old.ends) }
+    ensures untested { OnErr result (ends.new.tests ≡ ends.old.tests) }
 {
     if selects_all(mask) {
         searched_runs::<true, E, T, A>(ends, alloc, offset, indices, mask)
@@ -48,6 +49,7 @@ fn searched_runs<const ALL: bool, E: UnsignedPType, T: NativePType, A: Allocator
     ensures runs { IfOk result (λ runs. runs.items ≡ runs_of ends.old.ends offset 0 (optional_indices T.number indices.now (mask_bits mask.now))) }
     ensures same { ends.new.ends ≡ ends.old.ends }
     ensures cost { ends.new.tests ≤ ends.old.tests + valid_count (optional_indices T.number indices.now (mask_bits mask.now)) * digits (length ends.old.ends) }
+    ensures untested { OnErr result (ends.new.tests ≡ ends.old.tests) }
 {
     let mut runs = Vec::with_capacity(alloc, indices.len())?;
     for place in 0..indices.len() {

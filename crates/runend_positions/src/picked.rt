@@ -1,5 +1,5 @@
 //! The runs of indices, found by the strategy that thresholds pick.
-ghost use Rattle.std.specs.Prelude.{◌≡◌, ◌+◌, ◌*◌, ◌^◌, ◌<◌, ◌≤◌, ◌↔◌, IsTrue, IfOk, IsOkUnless, length as item_count};
+ghost use Rattle.std.specs.Prelude.{◌≡◌, ◌+◌, ◌*◌, ◌^◌, ◌<◌, ◌≤◌, ◌↔◌, IsTrue, IfOk, IsOkUnless, OnErr, length as item_count};
 ghost use Rattle.column_base.specs.Mask.{mask_bits};
 ghost use Rattle.runend_codec.specs.Window.{IsWindow};
 ghost use Rattle.runend_positions.specs.declared.strategy.Strategy.{Strategy};
@@ -44,7 +44,7 @@ pub fn picked_strategy<T: NativePType, A: Allocator>(
 /// The run of each valid index among `length` rows, where `offset` is the position of row 0, by the
 /// strategy that the thresholds pick. At a null index that is the run of row 0 out of a table, and
 /// else 0. It tests no more ends than the picked strategy; a table costs the tests that it takes to
-/// make it. Refused as `OutOfMemory` alone.
+/// make it. Refused as `OutOfMemory` alone, before any test.
 pub fn physical_indices<E: UnsignedPType, T: NativePType, A: Allocator + Copy>(
     ends: &mut CountedEnds<'_, E>,
     alloc: A,
@@ -64,6 +64,7 @@ pub fn physical_indices<E: UnsignedPType, T: NativePType, A: Allocator + Copy>(
         × IfOk result (λ runs. runs.items ≡ answer_of strategy ends.old.ends offset places)
         × (ends.new.tests ≤ ends.old.tests + most_tests strategy (valid_count places) (item_count ends.old.ends) length) }
     ensures same { ends.new.ends ≡ ends.old.ends }
+    ensures untested { OnErr result (ends.new.tests ≡ ends.old.tests) }
 {
     let strategy = picked_strategy(indices, mask, ends.len(), length, thresholds);
     physical_indices_by(strategy, ends, alloc, offset, length, indices, mask)
@@ -124,6 +125,7 @@ fn physical_indices_by<E: UnsignedPType, T: NativePType, A: Allocator + Copy>(
     ensures same { ends.new.ends ≡ ends.old.ends }
     ensures cost { ends.new.tests ≤ ends.old.tests
         + most_tests strategy (valid_count (optional_indices T.number indices.now (mask_bits mask.now))) (item_count ends.old.ends) length }
+    ensures untested { OnErr result (ends.new.tests ≡ ends.old.tests) }
 {
     match strategy {
         Strategy::SortedMerge => physical_indices_linear_sorted(ends, alloc, offset, indices, mask),

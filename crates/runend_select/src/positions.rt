@@ -1,5 +1,5 @@
 //! The runs of indices, by the strategy that a session picks.
-ghost use Rattle.std.specs.Prelude.{◌≡◌, ◌+◌, ◌<◌, ◌≤◌, IfOk, IsOkUnless, length as item_count};
+ghost use Rattle.std.specs.Prelude.{◌≡◌, ◌+◌, ◌<◌, ◌≤◌, IfOk, IsOkUnless, OnErr, length as item_count};
 ghost use Rattle.column_base.specs.Mask.{mask_bits};
 ghost use Rattle.runend_codec.specs.Window.{IsWindow};
 ghost use Rattle.runend_positions.specs.declared.strategy.Strategy.{Strategy};
@@ -15,7 +15,7 @@ use std::alloc::Allocator;
 /// The run of each valid index among `length` rows, where `offset` is the position of row 0, by the
 /// strategy that the thresholds of the session pick. At a null index that is the run of row 0 out of a
 /// table, and else 0. It tests no more ends than the picked strategy; a table costs the tests that it
-/// takes to make it. Refused as `OutOfMemory` alone.
+/// takes to make it. Refused as `OutOfMemory` alone, before any test.
 pub fn physical_indices<E: UnsignedPType, T: NativePType, A: Allocator + Copy>(
     ends: &mut CountedEnds<'_, E>,
     offset: usize,
@@ -34,6 +34,7 @@ pub fn physical_indices<E: UnsignedPType, T: NativePType, A: Allocator + Copy>(
         × IfOk result (λ runs. runs.items ≡ answer_of strategy ends.old.ends offset places)
         × (ends.new.tests ≤ ends.old.tests + most_tests strategy (valid_count places) (item_count ends.old.ends) length) }
     ensures same { ends.new.ends ≡ ends.old.ends }
+    ensures untested { OnErr result (ends.new.tests ≡ ends.old.tests) }
     ensures session { ctx.new ≡ ctx.old }
 {
     let alloc = *ctx.allocator();

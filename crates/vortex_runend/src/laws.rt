@@ -14,7 +14,8 @@ ghost use Rattle.vortex_runend.specs.Laws.{DecodingAnEncoding, EqualListsEqualEn
 pub use chunk_laws::{
     cast_of_joined, comparison_of_joined, constant_of_joined, encoding_of_joined,
     extremes_of_joined, fill_of_joined, filter_of_joined, slice_of_joined, sorted_of_joined,
-    sum_from_any_sum, sum_of_joined, sum_of_joined_naturals, take_of_parts,
+    sum_from_any_sum, sum_from_three_numbers, sum_of_joined, sum_of_joined_naturals, take_of_parts,
+    three_numbers_of_joined,
 };
 pub use runend_aggregate::laws::{sum_in_four_runs, sum_of_four_runs};
 pub use runend_aggregate::{sum_signed_runs, sum_unsigned_runs};

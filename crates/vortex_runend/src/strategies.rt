@@ -1,5 +1,5 @@
 //! Which run each index of a take is in, by each strategy, with the memory of a context.
-ghost use Rattle.std.specs.Prelude.{◌≡◌, ◌+◌, ◌-◌, ◌*◌, ◌<◌, ◌≤◌, IfOk, IsOkUnless, length as item_count, map};
+ghost use Rattle.std.specs.Prelude.{◌≡◌, ◌+◌, ◌-◌, ◌*◌, ◌<◌, ◌≤◌, IfOk, IsOkUnless, OnErr, length as item_count, map};
 ghost use Rattle.column_base.specs.Mask.{mask_bits};
 ghost use Rattle.column_core.specs.Digits.{digits};
 ghost use Rattle.runend_codec.specs.Window.{IsWindow};
@@ -26,6 +26,7 @@ pub fn physical_indices_binary<E: UnsignedPType, T: NativePType, A: Allocator + 
     ensures runs { IfOk result (λ runs. runs.items ≡ runs_of ends.old.ends offset 0 (optional_indices T.number indices.now (mask_bits mask.now))) }
     ensures same { ends.new.ends ≡ ends.old.ends }
     ensures cost { ends.new.tests ≤ ends.old.tests + valid_count (optional_indices T.number indices.now (mask_bits mask.now)) * digits (item_count ends.old.ends) }
+    ensures untested { OnErr result (ends.new.tests ≡ ends.old.tests) }
     ensures session { ctx.new ≡ ctx.old }
 {
     runend_positions::physical_indices_binary(ends, *ctx.allocator(), offset, indices, mask)
@@ -48,6 +49,7 @@ pub fn physical_indices_linear_sorted<E: UnsignedPType, T: NativePType, A: Alloc
     ensures runs { IfOk result (λ runs. runs.items ≡ runs_of ends.old.ends offset 0 (optional_indices T.number indices.now (mask_bits mask.now))) }
     ensures same { ends.new.ends ≡ ends.old.ends }
     ensures cost { ends.new.tests ≤ ends.old.tests + (item_count ends.old.ends - 1 + valid_count (optional_indices T.number indices.now (mask_bits mask.now))) }
+    ensures untested { OnErr result (ends.new.tests ≡ ends.old.tests) }
     ensures session { ctx.new ≡ ctx.old }
 {
     runend_positions::physical_indices_linear_sorted(ends, *ctx.allocator(), offset, indices, mask)
@@ -69,6 +71,7 @@ pub fn physical_indices_linear_unsorted<E: UnsignedPType, T: NativePType, A: All
     ensures runs { IfOk result (λ runs. runs.items ≡ runs_of ends.old.ends offset 0 (optional_indices T.number indices.now (mask_bits mask.now))) }
     ensures same { ends.new.ends ≡ ends.old.ends }
     ensures cost { ends.new.tests ≤ ends.old.tests + (item_count ends.old.ends - 1 + valid_count (optional_indices T.number indices.now (mask_bits mask.now))) }
+    ensures untested { OnErr result (ends.new.tests ≡ ends.old.tests) }
     ensures session { ctx.new ≡ ctx.old }
 {
     runend_positions::physical_indices_linear_unsorted(
@@ -93,6 +96,7 @@ pub fn run_index_table<E: UnsignedPType, A: Allocator + Copy>(
     ensures runs { IfOk result (λ table. table.items ≡ runs_of_rows ends.old.ends offset length) }
     ensures same { ends.new.ends ≡ ends.old.ends }
     ensures cost { ends.new.tests ≤ ends.old.tests + (item_count ends.old.ends - 1 + length) }
+    ensures untested { OnErr result (ends.new.tests ≡ ends.old.tests) }
     ensures session { ctx.new ≡ ctx.old }
 {
     runend_positions::run_index_table(ends, *ctx.allocator(), offset, length)

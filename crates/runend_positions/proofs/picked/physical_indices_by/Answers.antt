@@ -35,3 +35,15 @@ returns-in-Binary-clause-runs g c = rw c.in-Binary.is c.physical_indices_binary.
 
 pub returns-in-Binary-clause-cost : goal.returns-in-Binary-clause-cost
 returns-in-Binary-clause-cost g c = rw c.in-Binary.is c.physical_indices_binary.ensures.cost
+
+pub returns-in-Table-clause-untested : goal.returns-in-Table-clause-untested
+returns-in-Table-clause-untested g c = c.runs_by_table.ensures.untested
+
+pub returns-in-SortedMerge-clause-untested : goal.returns-in-SortedMerge-clause-untested
+returns-in-SortedMerge-clause-untested g c = c.physical_indices_linear_sorted.ensures.untested
+
+pub returns-in-SortAndMerge-clause-untested : goal.returns-in-SortAndMerge-clause-untested
+returns-in-SortAndMerge-clause-untested g c = c.physical_indices_linear_unsorted.ensures.untested
+
+pub returns-in-Binary-clause-untested : goal.returns-in-Binary-clause-untested
+returns-in-Binary-clause-untested g c = c.physical_indices_binary.ensures.untested

@@ -28,8 +28,8 @@ loop-place-preserved g c =
       room = rw c.push_reserved.ensures.capacity inv.room;
     }
 
-pub returns-clause-items : goal.returns-clause-items
-returns-clause-items g c =
+pub returns : goal.returns
+returns g c =
     let indices = optional_indices g.T.NativePType.number c.args.indices.now (mask_bits c.args.mask.now) in
     let counted = length-optional_indices g.T.NativePType.number c.args.indices.now (mask_bits c.args.mask.now) c.requires.masked in
     answered-all (item_of (map g.P.UnsignedPType.natural c.args.table.now)) indices c.loop-place.runs.items c.loop-place.place (omega arith) c.loop-place.invariant.answered

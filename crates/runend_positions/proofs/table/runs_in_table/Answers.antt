@@ -1,5 +1,4 @@
-use Rattle.std.proofs.Common.{◌≡◌, ℕ, List, map, subst, ap, ◌∙◌}
-use Rattle.std.specs.Prelude.{IfOk}
+use Rattle.std.proofs.Common.{map, ap, ◌∙◌}
 use Rattle.column_base.specs.Mask.{mask_bits}
 use Rattle.runend_positions.specs.Indices.{optional_indices}
 use Rattle.runend_positions.proofs.TableRows.{in_positions, items_of_rows, some_position}
@@ -21,4 +20,4 @@ returns-clause-runs g c =
     let natural = g.P.UnsignedPType.natural in
     let indices = optional_indices g.T.NativePType.number c.args.indices.now (mask_bits c.args.mask.now) in
     let items = items_of_rows c.args.ends.now.ends c.args.offset c.args.length (map natural c.as_slice.result.now) indices (ap (map natural) c.as_slice.ensures.value ∙ c.in_ok-table.ensures.runs) c.requires.some c.requires.in_bounds in
-    subst (λ (xs : List ℕ). IfOk c.look_up.result (λ runs. runs.items ≡ xs)) items c.look_up.ensures.items
+    c.look_up.ensures ∙ items
