@@ -1,6 +1,7 @@
 pub mod Blanked
 pub mod RowItems
 pub mod Arms
+pub mod FirstFaults
 pub mod Passed
 pub mod TakenRows
 pub mod SelectedRows

@@ -1,5 +1,6 @@
 //! What can be done with the rows of a flat column.
-ghost use Rattle.std.specs.Prelude.{◌≡◌, true, IfOk, IfSome, IsOkUnless, length};
+ghost use Rattle.std.specs.Prelude.{◌≡◌, true, IfOk, IfSome, IsErrOf, IsOkUnless, Some, length};
+ghost use Rattle.column_base.specs.declared.error.VortexError.{VortexError};
 ghost use Rattle.column_base.specs.Mask.{mask_bits};
 ghost use Rattle.column_base.specs.Types.{nullability_of, with_nullability as dtype_with};
 ghost use Rattle.column_base.specs.ValidityForm.{HasLength, flags, nullability_in};
@@ -90,6 +91,7 @@ pub trait ColumnOps<A: Allocator + Copy>: Sized {
     /// `OutOfMemory` alone.
     fn filter(&self, alloc: A, mask: &Mask<A>) -> VortexResult<Self>
         ensures refused { IsRefusedBy (filter_fault (length (mask_bits mask.now)) (length (leaf_rows (leaf self.now)))) result }
+        ensures first { (error : VortexError) → filter_fault (length (mask_bits mask.now)) (length (leaf_rows (leaf self.now))) ≡ Some error → IsErrOf result error }
         ensures made { IfOk result (λ column. IsMade (filter_rows (mask_bits mask.now) (leaf_rows (leaf self.now))) (leaf_dtype (leaf self.now)) (leaf column)) };
 
     /// The rows with the value in place of each null, of the column's kind and without null. Refused as

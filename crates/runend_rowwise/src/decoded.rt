@@ -1,5 +1,6 @@
 //! Columns of any form but lists, written row by row.
-ghost use Rattle.std.specs.Prelude.{◌≡◌, IfOk, IsOkUnless};
+ghost use Rattle.std.specs.Prelude.{◌≡◌, IfOk, IsErrOf, IsOkUnless, Some};
+ghost use Rattle.column_base.specs.declared.error.VortexError.{VortexError};
 ghost use Rattle.column_core.specs.FlatColumn.{leaf_of};
 ghost use Rattle.column_core.specs.Kinds.{list_fault};
 ghost use Rattle.column_core.specs.Leaf.{leaf_dtype, single_rows};
@@ -18,6 +19,7 @@ pub fn flat_rows<A: Allocator + Copy>(
     ctx: &mut ExecutionCtx<A>,
 ) -> VortexResult<FlatColumn<A>>
     ensures refused { IsRefusedBy (list_fault (dtype_of column.now)) result }
+    ensures first { (error : VortexError) → list_fault (dtype_of column.now) ≡ Some error → IsErrOf result error }
     ensures only { ¬ IsLists (dtype_of column.now) → IsOkUnless result VortexError.OutOfMemory }
     ensures rows { IfOk result (λ flat. single_rows (leaf_of flat) ≡ rows column.now) }
     ensures dtype { IfOk result (λ flat. leaf_dtype (leaf_of flat) ≡ dtype_of column.now) }

@@ -1,5 +1,6 @@
 //! The rows of a range of a column of any form, cut by no kernel.
-ghost use Rattle.std.specs.Prelude.{◌≡◌, ◌≤◌, length, slice_range, IfOk, IsOkUnless};
+ghost use Rattle.std.specs.Prelude.{◌≡◌, ◌≤◌, length, slice_range, IfOk, IsErrOf, IsOkUnless, Some};
+ghost use Rattle.column_base.specs.declared.error.VortexError.{VortexError};
 ghost use Rattle.column_core.specs.Refusal.{range_fault, IsRefusedBy};
 ghost use Rattle.runend_array.specs.Array.{column_of, dtype_of, rows};
 ghost use Rattle.runend_rowwise.specs.Parts.{IsPlainPart};
@@ -20,6 +21,7 @@ pub fn part_of<A: Allocator + Copy>(
     ctx: &mut ExecutionCtx<A>,
 ) -> VortexResult<ArrayRef<A>>
     ensures refused { IsRefusedBy (range_fault range.start range.end (length (rows column.now))) result }
+    ensures first { (error : VortexError) → range_fault range.start range.end (length (rows column.now)) ≡ Some error → IsErrOf result error }
     ensures rows { IfOk result (λ part. rows part ≡ slice_range (rows column.now) range.start range.end) }
     ensures dtype { IfOk result (λ part. dtype_of part ≡ dtype_of column.now) }
     ensures form { IfOk result (λ part. IsPlainPart (column_of column.now) range.start range.end (column_of part)) }

@@ -1,12 +1,14 @@
 -- What a step that is answered leaves.
-use Rattle.std.proofs.Common.{◌≡◌, inr, subst, Ok, Err}
+use Rattle.std.proofs.Common.{◌≡◌, inr, refl, subst, Ok, Err}
 use Rattle.std.specs.Prelude.{◌≢◌, IfOk, OnErr, Result}
+use Rattle.column_base.specs.declared.error.VortexError.TheVariants.{OutOfMemory}
 use Rattle.runend_array.specs.declared.array_ref.ArrayRef.{ArrayRef}
 use Rattle.runend_commands.specs.declared.command.Command.{Command}
 use Rattle.runend_commands.specs.declared.command.Answer.{Answer}
 use Rattle.runend_commands.specs.declared.command.Answer.TheVariants as answer
 use Rattle.runend_commands.specs.Step.{IsStep}
 use Rattle.runend_commands.proofs.KeptArrays.{kept_unless_done}
+use Rattle.script_answers.specs.AnswerLine.{HasLine}
 use Rattle.runend_script.specs.Replies.{IsKeptOrStep, IsReplyTo, Tells}
 use Rattle.runend_script.specs.declared.scripts.Reply.{Reply}
 use Rattle.runend_script.specs.declared.scripts.Reply.TheVariants.{Line, Silent, Done, Bad}
@@ -21,6 +23,10 @@ step_of_reply before after command (Line text) told = inr (command, told.0, told
 step_of_reply before after command Silent told = absurd told
 step_of_reply before after command Done told = inr (command, answer.Done, told)
 step_of_reply before after command Bad told = absurd told
+
+-- an answer that has a line is no refusal for want of memory
+pub not_short : {A : Type 0} (command : Command A) (given : Answer A) → HasLine command given → given ≢ answer.Refused OutOfMemory
+not_short command given has short = let lined : HasLine command (answer.Refused OutOfMemory) = subst (HasLine command) short has in lined refl
 
 -- a reply that tells the answer of a step is a reply to its command
 pub reply_of_step : {A : Type 0} (before after : ArrayRef A) (command : Command A) (given : Answer A) (reply : Reply A) → IsStep before command given after → Tells command given reply → IsReplyTo before command after reply

@@ -7,7 +7,7 @@ ghost use Rattle.runend_array.specs.Fault.{PartsFault};
 ghost use Rattle.runend_commands.specs.declared.command.Answer.TheVariants.{Done};
 ghost use Rattle.runend_script.specs.declared.command.Command.TheVariants as line;
 ghost use Rattle.runend_script.specs.Listed.{AreRunsOf, IsFlatOf};
-ghost use Rattle.runend_script.specs.Replies.{IsKeptOrStep, IsReplyTo, Tells};
+ghost use Rattle.runend_script.specs.Replies.{IsKeptOrStep, IsReplyOf, IsReplyTo, Tells};
 ghost use Rattle.runend_script.specs.Session.{IsSessionAfter};
 
 use crate::command::{Command, Line, RunsLine, SLASH, Setting, read_line};
@@ -133,6 +133,7 @@ fn refusal_as_reply<A: Allocator + Copy>(
     outcome: VortexResult<Reply<A>>,
 ) -> VortexResult<Reply<A>>
     ensures only { IsOkUnless result VortexError.OutOfMemory }
+    ensures told { IfOk result (IsReplyOf outcome) }
 {
     match outcome {
         Ok(reply) => Ok(reply),
@@ -347,6 +348,7 @@ fn reply_by<A: Allocator + Copy>(
 
 // What tells the answer. A command that is done needs no line, so that want of memory for one leaves the column as it
 // was. `Unsupported` where there is no line, as there is none of what is no whole number.
+#[tactic(auto, using(crate::proofs::Replies::not_short))]
 fn reply_that<A: Allocator + Copy>(
     command: &ColumnCommand<A>,
     answer: &Answer<A>,

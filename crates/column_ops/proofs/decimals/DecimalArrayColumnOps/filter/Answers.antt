@@ -1,4 +1,4 @@
-use Rattle.std.proofs.Common.{◌≡◌, ◌∙◌, ℤ, length, sym, ap, inl, inr}
+use Rattle.std.proofs.Common.{◌≡◌, ◌∙◌, ℤ, length, refl, sym, ap, inl, inr}
 use Rattle.std.specs.Prelude.{option_map}
 use Rattle.column_base.specs.Mask.{mask_bits}
 use Rattle.column_base.specs.ValidityForm.{nullability_in}
@@ -8,6 +8,7 @@ use Rattle.column_core.specs.DecimalForm.{optional_decimals}
 use Rattle.column_ops.specs.Filter.{filter_rows}
 use Rattle.column_ops.proofs.Made.{filter_rows-map}
 use Rattle.column_ops.proofs.Columns.{IsMade-decimals}
+use Rattle.column_ops.proofs.FirstFaults.{first-none, first-told}
 use Rattle.column_ops.proofs.Arms.{HasLength-arm, other_count, same_count}
 use Rattle.column_ops.proofs.IndexPositions.{refused-passed_on}
 use Rattle.column_ops.proofs.decimals.DecimalArrayColumnOps.filter.Goals as goal
@@ -40,3 +41,15 @@ returns-then-len-clause-refused g c =
 
 pub returns-in_err-kept-clause-refused : goal.returns-in_err-kept-clause-refused
 returns-in_err-kept-clause-refused g c = refused-passed_on _ c.in_err-kept.field-0.0 c.from_residual.result c.from_residual.ensures.1 (inl c.in_err-kept.ensures.only)
+
+pub returns-clause-first : goal.returns-clause-first
+returns-clause-first g c = first-none _ _ (same_count _ _ (sym c.len.ensures ∙ c.if-len.false ∙ c.len-2.ensures.rows))
+
+pub returns-in_err-kept-clause-first : goal.returns-in_err-kept-clause-first
+returns-in_err-kept-clause-first g c = first-none _ _ (same_count _ _ (sym c.len.ensures ∙ c.if-len.false ∙ c.len-2.ensures.rows))
+
+pub returns-then-len-clause-first : goal.returns-then-len-clause-first
+returns-then-len-clause-first g c =
+    let other : ¬ (c.len-then-len.result ≡ c.len-then-len-2.result) = λ same.
+    c.if-len.true (c.len.ensures ∙ sym c.len-then-len.ensures ∙ same ∙ c.len-then-len-2.ensures.rows ∙ sym c.len-2.ensures.rows) in
+    first-told _ _ _ (other_count _ _ c.len-then-len.result c.len-then-len-2.result c.len-then-len.ensures c.len-then-len-2.ensures.rows other) refl

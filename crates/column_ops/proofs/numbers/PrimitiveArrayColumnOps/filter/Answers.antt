@@ -1,4 +1,4 @@
-use Rattle.std.proofs.Common.{ℤ, pos, map, sym, ap, subst, ◌∙◌}
+use Rattle.std.proofs.Common.{◌≡◌, ◌∙◌, ℤ, pos, map, refl, sym, ap, subst}
 use Rattle.std.specs.Prelude.{IfOk}
 use Rattle.std.proofs.lemmas.List.{map-id}
 use Rattle.column_base.specs.declared.dtype.DType.TheVariants as column
@@ -11,7 +11,8 @@ use Rattle.column_core.specs.Leaf.{OfNumbers}
 use Rattle.column_core.specs.PrimitiveForm.{PrimitiveForm, primitive_rows}
 use Rattle.column_ops.specs.Computed.{IsMade}
 use Rattle.column_ops.specs.Filter.{filter_rows}
-use Rattle.column_ops.proofs.Arms.{no_fault, same_count}
+use Rattle.column_ops.proofs.FirstFaults.{first-none, first-told}
+use Rattle.column_ops.proofs.Arms.{no_fault, other_count, same_count}
 use Rattle.column_ops.proofs.Arms.{same-primitive, length-arm, HasLength-arm}
 use Rattle.column_ops.proofs.numbers.PrimitiveArrayColumnOps.filter.Goals as goal
 
@@ -27,6 +28,9 @@ filter_numbers-requires-clause-masked g c =
 
 pub returns-in-U8-match_each_native-clause-refused : goal.returns-in-U8-match_each_native-clause-refused
 returns-in-U8-match_each_native-clause-refused g c = no_fault _ c.filter_numbers.result (same_count _ _ (sym c.len.ensures ∙ c.if-len.false ∙ c.len-2.ensures.rows)) c.filter_numbers.ensures.only
+
+pub returns-in-U8-match_each_native-clause-first : goal.returns-in-U8-match_each_native-clause-first
+returns-in-U8-match_each_native-clause-first g c = first-none _ c.filter_numbers.result (same_count _ _ (sym c.len.ensures ∙ c.if-len.false ∙ c.len-2.ensures.rows))
 
 pub returns-in-U8-match_each_native-clause-made : goal.returns-in-U8-match_each_native-clause-made
 returns-in-U8-match_each_native-clause-made g c =
@@ -48,6 +52,9 @@ filter_numbers-requires-2-clause-masked g c =
 pub returns-in-U16-match_each_native-clause-refused : goal.returns-in-U16-match_each_native-clause-refused
 returns-in-U16-match_each_native-clause-refused g c = no_fault _ c.filter_numbers-2.result (same_count _ _ (sym c.len.ensures ∙ c.if-len.false ∙ c.len-2.ensures.rows)) c.filter_numbers-2.ensures.only
 
+pub returns-in-U16-match_each_native-clause-first : goal.returns-in-U16-match_each_native-clause-first
+returns-in-U16-match_each_native-clause-first g c = first-none _ c.filter_numbers-2.result (same_count _ _ (sym c.len.ensures ∙ c.if-len.false ∙ c.len-2.ensures.rows))
+
 pub returns-in-U16-match_each_native-clause-made : goal.returns-in-U16-match_each_native-clause-made
 returns-in-U16-match_each_native-clause-made g c =
     let shown = ap (map pos) c.as_slice-2.ensures.value ∙ sym (ap numbers c.in-U16-match_each_native.is) ∙ c.values.ensures.shows in
@@ -67,6 +74,9 @@ filter_numbers-requires-3-clause-masked g c =
 
 pub returns-in-U32-match_each_native-clause-refused : goal.returns-in-U32-match_each_native-clause-refused
 returns-in-U32-match_each_native-clause-refused g c = no_fault _ c.filter_numbers-3.result (same_count _ _ (sym c.len.ensures ∙ c.if-len.false ∙ c.len-2.ensures.rows)) c.filter_numbers-3.ensures.only
+
+pub returns-in-U32-match_each_native-clause-first : goal.returns-in-U32-match_each_native-clause-first
+returns-in-U32-match_each_native-clause-first g c = first-none _ c.filter_numbers-3.result (same_count _ _ (sym c.len.ensures ∙ c.if-len.false ∙ c.len-2.ensures.rows))
 
 pub returns-in-U32-match_each_native-clause-made : goal.returns-in-U32-match_each_native-clause-made
 returns-in-U32-match_each_native-clause-made g c =
@@ -88,6 +98,9 @@ filter_numbers-requires-4-clause-masked g c =
 pub returns-in-U64-match_each_native-clause-refused : goal.returns-in-U64-match_each_native-clause-refused
 returns-in-U64-match_each_native-clause-refused g c = no_fault _ c.filter_numbers-4.result (same_count _ _ (sym c.len.ensures ∙ c.if-len.false ∙ c.len-2.ensures.rows)) c.filter_numbers-4.ensures.only
 
+pub returns-in-U64-match_each_native-clause-first : goal.returns-in-U64-match_each_native-clause-first
+returns-in-U64-match_each_native-clause-first g c = first-none _ c.filter_numbers-4.result (same_count _ _ (sym c.len.ensures ∙ c.if-len.false ∙ c.len-2.ensures.rows))
+
 pub returns-in-U64-match_each_native-clause-made : goal.returns-in-U64-match_each_native-clause-made
 returns-in-U64-match_each_native-clause-made g c =
     let shown = ap (map pos) c.as_slice-4.ensures.value ∙ sym (ap numbers c.in-U64-match_each_native.is) ∙ c.values.ensures.shows in
@@ -107,6 +120,9 @@ filter_numbers-requires-5-clause-masked g c =
 
 pub returns-in-I8-match_each_native-clause-refused : goal.returns-in-I8-match_each_native-clause-refused
 returns-in-I8-match_each_native-clause-refused g c = no_fault _ c.filter_numbers-5.result (same_count _ _ (sym c.len.ensures ∙ c.if-len.false ∙ c.len-2.ensures.rows)) c.filter_numbers-5.ensures.only
+
+pub returns-in-I8-match_each_native-clause-first : goal.returns-in-I8-match_each_native-clause-first
+returns-in-I8-match_each_native-clause-first g c = first-none _ c.filter_numbers-5.result (same_count _ _ (sym c.len.ensures ∙ c.if-len.false ∙ c.len-2.ensures.rows))
 
 pub returns-in-I8-match_each_native-clause-made : goal.returns-in-I8-match_each_native-clause-made
 returns-in-I8-match_each_native-clause-made g c =
@@ -128,6 +144,9 @@ filter_numbers-requires-6-clause-masked g c =
 pub returns-in-I16-match_each_native-clause-refused : goal.returns-in-I16-match_each_native-clause-refused
 returns-in-I16-match_each_native-clause-refused g c = no_fault _ c.filter_numbers-6.result (same_count _ _ (sym c.len.ensures ∙ c.if-len.false ∙ c.len-2.ensures.rows)) c.filter_numbers-6.ensures.only
 
+pub returns-in-I16-match_each_native-clause-first : goal.returns-in-I16-match_each_native-clause-first
+returns-in-I16-match_each_native-clause-first g c = first-none _ c.filter_numbers-6.result (same_count _ _ (sym c.len.ensures ∙ c.if-len.false ∙ c.len-2.ensures.rows))
+
 pub returns-in-I16-match_each_native-clause-made : goal.returns-in-I16-match_each_native-clause-made
 returns-in-I16-match_each_native-clause-made g c =
     let shown = map-id c.as_slice-6.result.now ∙ c.as_slice-6.ensures.value ∙ sym (ap numbers c.in-I16-match_each_native.is) ∙ c.values.ensures.shows in
@@ -147,6 +166,9 @@ filter_numbers-requires-7-clause-masked g c =
 
 pub returns-in-I32-match_each_native-clause-refused : goal.returns-in-I32-match_each_native-clause-refused
 returns-in-I32-match_each_native-clause-refused g c = no_fault _ c.filter_numbers-7.result (same_count _ _ (sym c.len.ensures ∙ c.if-len.false ∙ c.len-2.ensures.rows)) c.filter_numbers-7.ensures.only
+
+pub returns-in-I32-match_each_native-clause-first : goal.returns-in-I32-match_each_native-clause-first
+returns-in-I32-match_each_native-clause-first g c = first-none _ c.filter_numbers-7.result (same_count _ _ (sym c.len.ensures ∙ c.if-len.false ∙ c.len-2.ensures.rows))
 
 pub returns-in-I32-match_each_native-clause-made : goal.returns-in-I32-match_each_native-clause-made
 returns-in-I32-match_each_native-clause-made g c =
@@ -168,9 +190,18 @@ filter_numbers-requires-8-clause-masked g c =
 pub returns-in-I64-match_each_native-clause-refused : goal.returns-in-I64-match_each_native-clause-refused
 returns-in-I64-match_each_native-clause-refused g c = no_fault _ c.filter_numbers-8.result (same_count _ _ (sym c.len.ensures ∙ c.if-len.false ∙ c.len-2.ensures.rows)) c.filter_numbers-8.ensures.only
 
+pub returns-in-I64-match_each_native-clause-first : goal.returns-in-I64-match_each_native-clause-first
+returns-in-I64-match_each_native-clause-first g c = first-none _ c.filter_numbers-8.result (same_count _ _ (sym c.len.ensures ∙ c.if-len.false ∙ c.len-2.ensures.rows))
+
 pub returns-in-I64-match_each_native-clause-made : goal.returns-in-I64-match_each_native-clause-made
 returns-in-I64-match_each_native-clause-made g c =
     let shown = map-id c.as_slice-8.result.now ∙ c.as_slice-8.ensures.value ∙ sym (ap numbers c.in-I64-match_each_native.is) ∙ c.values.ensures.shows in
     let typed = sym (ap ptype_of c.in-I64-match_each_native.is) ∙ c.values.ensures.typed in
     let same = same-primitive I64 (map (λ (n : ℤ). n) c.as_slice-8.result.now) (form_of c.validity-own.result.now) c.args.self.now typed shown c.validity-own.ensures.form in
     subst (λ (own : PrimitiveForm). IfOk c.filter_numbers-8.result (λ kept. IsMade (filter_rows (mask_bits c.args.mask.now) (primitive_rows own)) (column.Primitive own.ptype (nullability_in own.validity)) (OfNumbers kept))) same c.filter_numbers-8.ensures.made
+
+pub returns-then-len-clause-first : goal.returns-then-len-clause-first
+returns-then-len-clause-first g c =
+    let other : ¬ (c.len-then-len.result ≡ c.len-then-len-2.result) = λ same.
+    c.if-len.true (c.len.ensures ∙ sym c.len-then-len.ensures ∙ same ∙ c.len-then-len-2.ensures.rows ∙ sym c.len-2.ensures.rows) in
+    first-told _ _ _ (other_count _ _ c.len-then-len.result c.len-then-len-2.result c.len-then-len.ensures c.len-then-len-2.ensures.rows other) refl

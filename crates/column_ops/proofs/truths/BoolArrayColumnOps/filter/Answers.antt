@@ -1,4 +1,4 @@
-use Rattle.std.proofs.Common.{Bool, length, sym, ap, ◌∙◌}
+use Rattle.std.proofs.Common.{◌≡◌, ◌∙◌, Bool, length, refl, sym, ap}
 use Rattle.std.specs.Prelude.{option_map}
 use Rattle.column_base.specs.Mask.{mask_bits}
 use Rattle.column_base.specs.ValidityForm.{nullability_in}
@@ -11,7 +11,8 @@ use Rattle.column_ops.proofs.Columns.{IsMade-truths}
 use Rattle.column_base.specs.declared.dtype.DType.TheVariants as column
 use Rattle.column_core.specs.Leaf.{OfTruths}
 use Rattle.column_ops.specs.Computed.{IsMade}
-use Rattle.column_ops.proofs.Arms.{HasLength-arm, IfOk-same, no_fault, same_count}
+use Rattle.column_ops.proofs.FirstFaults.{first-none, first-told}
+use Rattle.column_ops.proofs.Arms.{HasLength-arm, IfOk-same, no_fault, other_count, same_count}
 use Rattle.column_ops.proofs.truths.BoolArrayColumnOps.filter.Goals as goal
 
 pub returns-clause-made : goal.returns-clause-made
@@ -35,3 +36,18 @@ array_of-requires g c = c.in_ok-kept.ensures.filtered.fits
 
 pub filter_items-kept-requires-clause-masked : goal.filter_items-kept-requires-clause-masked
 filter_items-kept-requires-clause-masked g c = sym c.len.ensures ∙ c.if-len.false ∙ c.len-2.ensures.bits ∙ sym (ap length (c.as_slice.ensures.value ∙ c.in_ok-own.ensures.same ∙ c.values.ensures))
+
+pub returns-clause-first : goal.returns-clause-first
+returns-clause-first g c = first-none _ c.array_of.result (same_count _ _ (sym c.len.ensures ∙ c.if-len.false ∙ c.len-2.ensures.rows))
+
+pub returns-in_err-own-clause-first : goal.returns-in_err-own-clause-first
+returns-in_err-own-clause-first g c = first-none _ _ (same_count _ _ (sym c.len.ensures ∙ c.if-len.false ∙ c.len-2.ensures.rows))
+
+pub returns-in_err-kept-clause-first : goal.returns-in_err-kept-clause-first
+returns-in_err-kept-clause-first g c = first-none _ _ (same_count _ _ (sym c.len.ensures ∙ c.if-len.false ∙ c.len-2.ensures.rows))
+
+pub returns-then-len-clause-first : goal.returns-then-len-clause-first
+returns-then-len-clause-first g c =
+    let other : ¬ (c.len-then-len.result ≡ c.len-then-len-2.result) = λ same.
+    c.if-len.true (c.len.ensures ∙ sym c.len-then-len.ensures ∙ same ∙ c.len-then-len-2.ensures.rows ∙ sym c.len-2.ensures.rows) in
+    first-told _ _ _ (other_count _ _ c.len-then-len.result c.len-then-len-2.result c.len-then-len.ensures c.len-then-len-2.ensures.rows other) refl

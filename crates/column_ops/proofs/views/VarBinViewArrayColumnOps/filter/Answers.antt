@@ -1,9 +1,10 @@
-use Rattle.std.proofs.Common.{length, sym, ap, ◌∙◌}
+use Rattle.std.proofs.Common.{◌≡◌, ◌∙◌, length, refl, sym, ap}
 use Rattle.column_base.specs.Mask.{mask_bits}
 use Rattle.column_base.specs.ValidityForm.{nullability_in}
 use Rattle.column_base.specs.Validity.{form_of}
 use Rattle.column_ops.proofs.Columns.{IsMade-filtered_views, filtered_views_sound}
-use Rattle.column_ops.proofs.Arms.{HasLength-arm, same_count}
+use Rattle.column_ops.proofs.FirstFaults.{first-none, first-told}
+use Rattle.column_ops.proofs.Arms.{HasLength-arm, other_count, same_count}
 use Rattle.column_ops.proofs.views.VarBinViewArrayColumnOps.filter.Goals as goal
 
 pub new_unchecked-requires : goal.new_unchecked-requires
@@ -28,3 +29,18 @@ filter_items-requires-clause-masked g c = sym c.len.ensures ∙ c.if-len.false �
 
 pub returns-clause-refused : goal.returns-clause-refused
 returns-clause-refused g c = same_count _ _ (sym c.len.ensures ∙ c.if-len.false ∙ c.len-2.ensures.rows)
+
+pub returns-clause-first : goal.returns-clause-first
+returns-clause-first g c = first-none _ _ (same_count _ _ (sym c.len.ensures ∙ c.if-len.false ∙ c.len-2.ensures.rows))
+
+pub returns-in_err-kept-clause-first : goal.returns-in_err-kept-clause-first
+returns-in_err-kept-clause-first g c = first-none _ _ (same_count _ _ (sym c.len.ensures ∙ c.if-len.false ∙ c.len-2.ensures.rows))
+
+pub returns-in_err-buffers-clause-first : goal.returns-in_err-buffers-clause-first
+returns-in_err-buffers-clause-first g c = first-none _ _ (same_count _ _ (sym c.len.ensures ∙ c.if-len.false ∙ c.len-2.ensures.rows))
+
+pub returns-then-len-clause-first : goal.returns-then-len-clause-first
+returns-then-len-clause-first g c =
+    let other : ¬ (c.len-then-len.result ≡ c.len-then-len-2.result) = λ same.
+    c.if-len.true (c.len.ensures ∙ sym c.len-then-len.ensures ∙ same ∙ c.len-then-len-2.ensures.rows ∙ sym c.len-2.ensures.rows) in
+    first-told _ _ _ (other_count _ _ c.len-then-len.result c.len-then-len-2.result c.len-then-len.ensures c.len-then-len-2.ensures.rows other) refl
