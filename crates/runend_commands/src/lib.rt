@@ -3,6 +3,7 @@
 #![tactic(auto)]
 
 mod command;
+pub mod compute;
 mod execution;
 mod kernels;
 pub mod laws;

@@ -1,44 +1,15 @@
-//! One command on one column, a file for each command. The column itself is never written here, so a
-//! refusal leaves it as it was.
+//! One command on one column. The column itself is never written here, so a refusal leaves it as it was.
 ghost use Rattle.std.specs.Prelude.{◌≡◌};
 ghost use Rattle.runend_commands.specs.Outcomes.{IsOutcome};
-
-mod at;
-mod cast;
-mod compare_column;
-mod compare_scalar;
-mod decode;
-mod encode;
-mod fill_null;
-mod filter;
-mod is_constant;
-mod is_sorted;
-mod kernel_runs;
-mod min_max;
-mod slice;
-mod sum;
-mod take;
-mod take_from;
+ghost use Rattle.runend_commands.specs.declared.command.Command.TheVariants.{At, Cast, CompareColumn, CompareScalar, Decode, Encode, FillNull, Filter, IsConstant, IsSorted, MinMax, Slice, Sum, Take, TakeFrom};
 
 use crate::command::{Answer, Command};
-use crate::steps::at::look_up;
-use crate::steps::cast::cast_column;
-use crate::steps::compare_column::compare_column_with_column;
-use crate::steps::compare_scalar::compare_column_with_scalar;
-use crate::steps::decode::decode_column;
-use crate::steps::encode::encode_column;
-use crate::steps::fill_null::fill_column;
-use crate::steps::filter::filter_column;
-use crate::steps::is_constant::is_constant_column;
-use crate::steps::is_sorted::is_sorted_column;
-use crate::steps::min_max::min_max_of_column;
-use crate::steps::slice::slice_column;
-use crate::steps::sum::sum_column;
-use crate::steps::take::take_of_column;
-use crate::steps::take_from::take_from_column;
-use column_core::VortexResult;
+use crate::compute;
+use column_core::{DType, Mask, PrimitiveArray, Scalar, VortexResult, fault_of_lists};
+use column_order::CompareOperator;
 use runend_array::{ArrayRef, ExecutionCtx};
 use std::alloc::Allocator;
+use std::ops::Range;
 
 /// What a command that is not refused comes to.
 #[derive(Drop)]
@@ -79,4 +50,201 @@ pub fn outcome_of<A: Allocator + Copy>(
         Command::IsConstant => is_constant_column(column, ctx),
         Command::IsSorted { strict } => is_sorted_column(column, *strict, ctx),
     }
+}
+
+// The rows of the range.
+fn slice_column<A: Allocator + Copy>(
+    column: &ArrayRef<A>,
+    range: &Range<usize>,
+    ctx: &mut ExecutionCtx<A>,
+) -> VortexResult<Outcome<A>>
+    ensures outcome { IsOutcome ctx.old column.now (Slice range.now) result }
+    ensures session { ctx.new ≡ ctx.old }
+{
+    let part = compute::slice(column, range.start..range.end, ctx)?;
+    Ok(Outcome::Becomes(part))
+}
+
+// The rows at which the mask is true.
+fn filter_column<A: Allocator + Copy>(
+    column: &ArrayRef<A>,
+    mask: &Mask<A>,
+    ctx: &mut ExecutionCtx<A>,
+) -> VortexResult<Outcome<A>>
+    ensures outcome { IsOutcome ctx.old column.now (Filter mask.now) result }
+    ensures session { ctx.new ≡ ctx.old }
+{
+    let kept = compute::filter(column, mask, ctx)?;
+    Ok(Outcome::Becomes(kept))
+}
+
+// The rows at the indices.
+fn take_of_column<A: Allocator + Copy>(
+    column: &ArrayRef<A>,
+    indices: &PrimitiveArray<A>,
+    ctx: &mut ExecutionCtx<A>,
+) -> VortexResult<Outcome<A>>
+    ensures outcome { IsOutcome ctx.old column.now (Take indices.now) result }
+    ensures session { ctx.new ≡ ctx.old }
+{
+    let taken = compute::take(column, indices, ctx)?;
+    Ok(Outcome::Becomes(taken))
+}
+
+// The dictionary's rows for the codes.
+fn take_from_column<A: Allocator + Copy>(
+    column: &ArrayRef<A>,
+    dictionary: &ArrayRef<A>,
+    ctx: &mut ExecutionCtx<A>,
+) -> VortexResult<Outcome<A>>
+    ensures outcome { IsOutcome ctx.old column.now (TakeFrom dictionary.now) result }
+    ensures session { ctx.new ≡ ctx.old }
+{
+    let taken = compute::take_from(column, dictionary, ctx)?;
+    Ok(Outcome::Becomes(taken))
+}
+
+// The rows in the type.
+fn cast_column<A: Allocator + Copy>(
+    column: &ArrayRef<A>,
+    dtype: DType,
+    ctx: &mut ExecutionCtx<A>,
+) -> VortexResult<Outcome<A>>
+    ensures outcome { IsOutcome ctx.old column.now (Cast dtype) result }
+    ensures session { ctx.new ≡ ctx.old }
+{
+    let cast = compute::cast(column, dtype, ctx)?;
+    Ok(Outcome::Becomes(cast))
+}
+
+// The rows with each null filled.
+fn fill_column<A: Allocator + Copy>(
+    column: &ArrayRef<A>,
+    value: &Scalar<A>,
+    ctx: &mut ExecutionCtx<A>,
+) -> VortexResult<Outcome<A>>
+    ensures outcome { IsOutcome ctx.old column.now (FillNull value.now) result }
+    ensures session { ctx.new ≡ ctx.old }
+{
+    let filled = compute::fill_null(column, value, ctx)?;
+    Ok(Outcome::Becomes(filled))
+}
+
+// Whether the operator holds of each row and the row of `right` beside it.
+fn compare_column_with_column<A: Allocator + Copy>(
+    column: &ArrayRef<A>,
+    operator: CompareOperator,
+    right: &ArrayRef<A>,
+    ctx: &mut ExecutionCtx<A>,
+) -> VortexResult<Outcome<A>>
+    ensures outcome { IsOutcome ctx.old column.now (CompareColumn operator right.now) result }
+    ensures session { ctx.new ≡ ctx.old }
+{
+    let truths = compute::compare(column, operator, right, ctx)?;
+    Ok(Outcome::Becomes(truths))
+}
+
+// Whether the operator holds of each row and the scalar.
+fn compare_column_with_scalar<A: Allocator + Copy>(
+    column: &ArrayRef<A>,
+    operator: CompareOperator,
+    value: &Scalar<A>,
+    ctx: &mut ExecutionCtx<A>,
+) -> VortexResult<Outcome<A>>
+    ensures outcome { IsOutcome ctx.old column.now (CompareScalar operator value.now) result }
+    ensures session { ctx.new ≡ ctx.old }
+{
+    let truths = compute::compare_scalar(column, operator, value, ctx)?;
+    Ok(Outcome::Becomes(truths))
+}
+
+// The sum of the rows that are not null.
+fn sum_column<A: Allocator + Copy>(
+    column: &ArrayRef<A>,
+    ctx: &mut ExecutionCtx<A>,
+) -> VortexResult<Outcome<A>>
+    ensures outcome { IsOutcome ctx.old column.now Sum result }
+    ensures session { ctx.new ≡ ctx.old }
+{
+    let total = compute::sum(column, ctx)?;
+    Ok(Outcome::Answers(Answer::Sum(total)))
+}
+
+// The least and the greatest row that are not null.
+fn min_max_of_column<A: Allocator + Copy>(
+    column: &ArrayRef<A>,
+    ctx: &mut ExecutionCtx<A>,
+) -> VortexResult<Outcome<A>>
+    ensures outcome { IsOutcome ctx.old column.now MinMax result }
+    ensures session { ctx.new ≡ ctx.old }
+{
+    let extremes = compute::min_max(column, ctx)?;
+    Ok(Outcome::Answers(Answer::MinMax(extremes)))
+}
+
+// Whether any two rows are equal.
+fn is_constant_column<A: Allocator + Copy>(
+    column: &ArrayRef<A>,
+    ctx: &mut ExecutionCtx<A>,
+) -> VortexResult<Outcome<A>>
+    ensures outcome { IsOutcome ctx.old column.now IsConstant result }
+    ensures session { ctx.new ≡ ctx.old }
+{
+    let constant = compute::is_constant(column, ctx)?;
+    Ok(Outcome::Answers(Answer::Bool(constant)))
+}
+
+// Whether no row is above the next, or, where `strict` is asked, each is below the next.
+fn is_sorted_column<A: Allocator + Copy>(
+    column: &ArrayRef<A>,
+    strict: bool,
+    ctx: &mut ExecutionCtx<A>,
+) -> VortexResult<Outcome<A>>
+    ensures outcome { IsOutcome ctx.old column.now (IsSorted strict) result }
+    ensures session { ctx.new ≡ ctx.old }
+{
+    let sorted = compute::is_sorted(column, strict, ctx)?;
+    Ok(Outcome::Answers(Answer::Bool(sorted)))
+}
+
+// The value of a row. A scalar is no list, so a column of lists is refused.
+fn look_up<A: Allocator + Copy>(
+    column: &ArrayRef<A>,
+    index: usize,
+    ctx: &mut ExecutionCtx<A>,
+) -> VortexResult<Outcome<A>>
+    ensures outcome { IsOutcome ctx.old column.now (At index) result }
+    ensures session { ctx.new ≡ ctx.old }
+{
+    let dtype = column.dtype();
+    if let Some(error) = fault_of_lists(dtype) {
+        return Err(error);
+    }
+    let row = column.scalar_at(index)?;
+    let scalar = Scalar::of_view(*ctx.allocator(), dtype, row)?;
+    Ok(Outcome::Answers(Answer::Value(scalar)))
+}
+
+// The column, written as runs.
+fn encode_column<A: Allocator + Copy>(
+    column: &ArrayRef<A>,
+    ctx: &mut ExecutionCtx<A>,
+) -> VortexResult<Outcome<A>>
+    ensures outcome { IsOutcome ctx.old column.now Encode result }
+    ensures session { ctx.new ≡ ctx.old }
+{
+    let encoded = compute::encode(column, ctx)?;
+    Ok(Outcome::Becomes(encoded))
+}
+
+// The column, written row by row.
+fn decode_column<A: Allocator + Copy>(
+    column: &ArrayRef<A>,
+    ctx: &mut ExecutionCtx<A>,
+) -> VortexResult<Outcome<A>>
+    ensures outcome { IsOutcome ctx.old column.now Decode result }
+    ensures session { ctx.new ≡ ctx.old }
+{
+    let written = column.canonicalize(ctx)?;
+    Ok(Outcome::Becomes(written))
 }

@@ -1,6 +1,7 @@
 //! Run-end encoded columns, after the Rust crate `vortex-runend`: the laws, and the names of the crates below.
 #![tactic(auto)]
 
+pub mod arrays;
 pub mod compress;
 pub mod compute;
 pub mod laws;

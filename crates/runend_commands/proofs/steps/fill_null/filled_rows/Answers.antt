@@ -1,7 +1,0 @@
-use Rattle.runend_array.specs.Array.{dtype_of, rows}
-use Rattle.runend_commands.proofs.FilledColumns.{filled_if_some}
-use Rattle.runend_commands.proofs.steps.fill_null.filled_rows.Goals as goal
-
-pub returns-in-None-clause-rows : goal.returns-in-None-clause-rows
-returns-in-None-clause-rows g c =
-    filled_if_some (dtype_of c.args.column.now) c.args.value.now (rows c.args.column.now) c.fill_rows.result c.fill_rows.ensures.refused c.fill_rows.ensures.rows

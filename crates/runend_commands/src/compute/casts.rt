@@ -1,0 +1,38 @@
+//! The rows of an array of any form in another type.
+ghost use Rattle.std.specs.Prelude.{◌≡◌, IfOk};
+ghost use Rattle.column_core.specs.Refusal.{IsRefusedBy};
+ghost use Rattle.column_ops.specs.Cast.{cast_fault};
+ghost use Rattle.runend_array.specs.Array.{column_of, dtype_of, rows};
+ghost use Rattle.runend_array.specs.Column.{IsFlat};
+ghost use Rattle.runend_array.specs.declared.session.Kernel.TheVariants.{Cast as cast_kernel};
+ghost use Rattle.runend_visible.specs.LeastForm.{IsRunForm};
+ghost use Rattle.runend_commands.specs.KernelForms.{HasKernel, OnRuns};
+ghost use Rattle.runend_commands.specs.Meaning.{plain};
+
+use crate::compute::kernel_runs::runs_for;
+use column_core::{DType, VortexResult};
+use runend_array::{ArrayRef, ExecutionCtx, Kernel};
+use runend_map::cast_rows;
+use std::alloc::Allocator;
+
+/// The same rows in the type. Where the kernel serves a run column, runs are left; else flat rows. Refused as
+/// `Unsupported` unless both types are of whole numbers or of one kind that is no list, and then at the first row
+/// that is no value of the type: as `NullNotAllowed` for null, as `CastOutOfRange` for a number.
+pub fn cast<A: Allocator + Copy>(
+    column: &ArrayRef<A>,
+    dtype: DType,
+    ctx: &mut ExecutionCtx<A>,
+) -> VortexResult<ArrayRef<A>>
+    ensures refused { IsRefusedBy (cast_fault (plain column.now) dtype) result }
+    ensures rows { IfOk result (λ cast. rows cast ≡ rows column.now) }
+    ensures dtype { IfOk result (λ cast. dtype_of cast ≡ dtype) }
+    ensures kernel { HasKernel ctx.old cast_kernel (column_of column.now) → OnRuns (column_of column.now)
+        (λ runs. IfOk result (λ cast. IsRunForm dtype runs (column_of cast))) }
+    ensures otherwise { ¬ HasKernel ctx.old cast_kernel (column_of column.now) → IfOk result (λ cast. IsFlat (column_of cast)) }
+    ensures session { ctx.new ≡ ctx.old }
+{
+    match runs_for(column, Kernel::Cast, ctx) {
+        Some(runs) => runend_map::cast(runs, dtype, ctx),
+        None => cast_rows(column, dtype, ctx),
+    }
+}
