@@ -18,8 +18,8 @@ use vortex_runend::{
     Nullability, PrimitiveArray, Validity, VortexResult, trimmed_ends_iter,
 };
 
-// What the decoder makes of parts that are valid; else their fault.
-fn decoded_truths<A: Allocator + Copy>(
+/// What the decoder makes of parts that are valid; else their fault.
+pub(crate) fn decoded_truths<A: Allocator + Copy>(
     ends: PrimitiveArray<A>,
     values: BoolArray<A>,
     offset: usize,
@@ -54,8 +54,8 @@ fn assert_null_in_the_middle<A: Allocator + Copy>(rt: &impl Abort, array: &Array
     }
 }
 
-// The bits true, false, true.
-fn three_bits<A: Allocator + Copy>(alloc: A) -> VortexResult<BitBuffer<A>>
+/// The bits true, false, true.
+pub(crate) fn three_bits<A: Allocator + Copy>(alloc: A) -> VortexResult<BitBuffer<A>>
     ensures { IfOk result (λ bits. length bits ≡ 3) }
 {
     let mut bits = BitBufferMut::full(alloc, true, 3)?;

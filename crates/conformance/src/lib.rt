@@ -55,6 +55,8 @@ mod texts;
 #[cfg(test)]
 mod trials;
 #[cfg(test)]
+mod truths;
+#[cfg(test)]
 mod typed;
 #[cfg(test)]
 mod usage;

@@ -136,6 +136,14 @@ fn lines_that_want_a_column(rt: HostRuntime) -> Result<(), Fail> {
     Ok(())
 }
 
+// A script that its last line ends, and what it is answered.
+const ENDED: &[u8] =
+    b"col i32 1 1 1 4 4 4 2 2 5 5 5 5\nencode\nshow\nat 11\nslice 4 9\nrows\ntake 4 0 2 5\ntake 4 0 2 1\nrows\nsum\njump\n";
+
+const ENDED_ANSWERS: &str =
+    "ok\nok\nruns i32 u8 offset 0 length 12 ends 3 6 8 12 values 1 4 2 5\nvalue 5\nok\nrows 4 4 2 2 5\nrefused 8 5 5\nok\n\
+    rows 5 4 2 4\nsum 15\nline 11: bad command\n";
+
 #[test]
 fn served_inputs(rt: HostRuntime) -> Result<(), Fail> {
     for (input, status, text) in [
@@ -143,6 +151,7 @@ fn served_inputs(rt: HostRuntime) -> Result<(), Fail> {
         (b" \n\n".as_slice(), 0, ""),
         (b"col u8 1\nrows".as_slice(), 0, "ok\nrows 1\n"),
         (b"col u8\njump\n".as_slice(), 2, "ok\nline 2: bad command\n"),
+        (ENDED, 2, ENDED_ANSWERS),
         (b"col u8\n\xff".as_slice(), 2, "not UTF-8\n"),
     ] {
         let mut ctx = ExecutionCtx::new(VortexSession::empty(), rt.alloc());

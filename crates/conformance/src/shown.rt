@@ -1,7 +1,7 @@
 //! What rows of any type are compared with.
 use std::alloc::Allocator;
 use std::process::Abort;
-use vortex_runend::{ArrayRef, BitBuffer, FlatColumn, ScalarView};
+use vortex_runend::{ArrayRef, BitBuffer, FlatColumn, ScalarView, VortexResult};
 
 /// A value that a row may show.
 pub(crate) trait Shown {
@@ -61,6 +61,17 @@ pub(crate) fn assert_shown<S: Shown, A: Allocator + Copy>(
     }
 }
 
+/// Are the rows that a call makes these?
+pub(crate) fn are_shown<S: Shown, A: Allocator + Copy>(
+    made: VortexResult<ArrayRef<A>>,
+    rows: &[Option<S>],
+) -> VortexResult<bool> {
+    let array = made?;
+    let are_seen = are_rows(&array, rows);
+    drop(array);
+    Ok(are_seen)
+}
+
 /// Are the bits these?
 pub(crate) fn assert_bits<A: Allocator>(rt: &impl Abort, bits: &BitBuffer<A>, flags: &[bool]) {
     if bits.len() != flags.len() {
@@ -69,6 +80,17 @@ pub(crate) fn assert_bits<A: Allocator>(rt: &impl Abort, bits: &BitBuffer<A>, fl
     for index in 0..flags.len() {
         assert_eq!(rt; bits.value(index), flags[index], "at {index}");
     }
+}
+
+// Are the rows these?
+fn are_rows<S: Shown, A: Allocator + Copy>(array: &ArrayRef<A>, rows: &[Option<S>]) -> bool {
+    for index in 0..rows.len() {
+        match array.scalar_at(index) {
+            Ok(view) if is_row(&rows[index], view) => {}
+            _ => return false,
+        }
+    }
+    array.len() == rows.len()
 }
 
 // Are the items the elements from `start` on?

@@ -35,13 +35,14 @@ fn assert_letters<A: Allocator + Copy>(rt: &impl Abort, array: &ArrayRef<A>) {
 fn decoded_texts<A: Allocator + Copy>(
     ends: PrimitiveArray<A>,
     values: VarBinViewArray<A>,
+    offset: usize,
     length: usize,
     ctx: &mut ExecutionCtx<A>,
 ) -> VortexResult<ArrayRef<A>>
     requires { IsEndsType (primitive_dtype ends) }
 {
-    match validate_ends(&ends, values.len(), 0, length) {
-        Ok(()) => runend_decode_varbinview(ends, values, 0, length, ctx),
+    match validate_ends(&ends, values.len(), offset, length) {
+        Ok(()) => runend_decode_varbinview(ends, values, offset, length, ctx),
         Err(error) => {
             drop(ends);
             drop(values);
@@ -56,7 +57,7 @@ impl Trial for RunsOfLetters {
     fn run<A: Allocator + Copy>(alloc: A) -> VortexResult<ArrayRef<A>> {
         let values = texts(alloc, &LETTERS)?;
         match ends_column(alloc, &[2u32, 5, 10]) {
-            Ok(ends) => decoded_texts(ends, values, 10, &mut context(alloc)),
+            Ok(ends) => decoded_texts(ends, values, 0, 10, &mut context(alloc)),
             Err(error) => {
                 drop(values);
                 Err(error)
@@ -72,5 +73,49 @@ impl Trial for RunsOfLetters {
 #[test]
 fn decode_of_texts_refused_at_each_request(rt: HostRuntime) -> Result<(), Fail> {
     refused_in_turn::<RunsOfLetters>(&rt, rt.alloc());
+    Ok(())
+}
+
+const WORDS: [Option<&str>; 3] = [Some("first"), None, Some("last")];
+
+// Are the rows "first", null three times and "last" three times, cut from the one buffer that both share?
+fn assert_words<A: Allocator + Copy>(rt: &impl Abort, array: &ArrayRef<A>) {
+    let (first, null, last) = (Some("first"), None, Some("last"));
+    assert_shown(rt, array, &[first, null, null, null, last, last, last]);
+    let ArrayRef::VarBinView(flat) = array else {
+        panic!(rt; "no flat texts");
+    };
+    match (flat.buffers(), flat.views().last()) {
+        ([buffer], Some(view)) => {
+            assert_eq!(rt; buffer.as_slice(), b"firstlast".as_slice());
+            assert_eq!(rt; (view.buffer, view.start, view.size), (0, 5, 4));
+        }
+        _ => panic!(rt; "not one buffer"),
+    }
+}
+
+// Seven rows from row 1 on, of runs of words that end at 2, 5 and 9.
+struct RunsOfWords {}
+
+impl Trial for RunsOfWords {
+    fn run<A: Allocator + Copy>(alloc: A) -> VortexResult<ArrayRef<A>> {
+        let values = texts(alloc, &WORDS)?;
+        match ends_column(alloc, &[2u8, 5, 9]) {
+            Ok(ends) => decoded_texts(ends, values, 1, 7, &mut context(alloc)),
+            Err(error) => {
+                drop(values);
+                Err(error)
+            }
+        }
+    }
+
+    fn assert_rows<A: Allocator + Copy>(rt: &impl Abort, rows: &ArrayRef<A>) {
+        assert_words(rt, rows);
+    }
+}
+
+#[test]
+fn decode_of_texts_in_one_buffer(rt: HostRuntime) -> Result<(), Fail> {
+    refused_in_turn::<RunsOfWords>(&rt, rt.alloc());
     Ok(())
 }

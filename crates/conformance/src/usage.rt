@@ -2,12 +2,12 @@
 use crate::columns::assert_rows;
 use std::alloc::Global;
 use std::test::Fail;
-use vortex_runend::compute::{fill_null, slice, sum};
+use vortex_runend::compute::{CompareOperator, fill_null, slice, sum};
 use vortex_runend::{
     Answer, ArrayRef, BitBufferMut, Command, DType, ExecutionCtx, Kernel, Nullability, PType,
     PrimitiveArray, PrimitiveValues, RunEnd, RunEndArray, RunEndArrayExt, RunEndArraySlotsExt,
     RunEndProbe, Scalar, ScalarValue, ScalarView, SumAnswer, SumValue, Validity, VortexError,
-    VortexResult, VortexSession, deserialize, execute, initialize, serialize,
+    VortexResult, VortexSession, arrays, deserialize, execute, initialize, serialize,
 };
 
 const THIRTY_FIVE: SumAnswer = SumAnswer {
@@ -83,6 +83,52 @@ fn nulls_are_filled_by_a_kernel(rt: HostRuntime) -> Result<(), Fail> {
     assert_rows(&rt, &filled, &[Some(4), Some(4), Some(0), Some(0), Some(9)]);
     drop(filled);
     Ok(())
+}
+
+// The sum of an array of any form, with 0 in place of each null.
+fn sum_with_zero(
+    column: &ArrayRef<Global>,
+    ctx: &mut ExecutionCtx<Global>,
+) -> VortexResult<SumAnswer> {
+    let dtype = DType::Primitive(PType::I64, Nullability::NonNullable);
+    let zero = Scalar::try_new(dtype, Some(ScalarValue::Signed(0)))?;
+    let present = arrays::fill_null(column, &zero, ctx)?;
+    let total = arrays::sum(&present, ctx);
+    drop(present);
+    total
+}
+
+#[test]
+fn operations_serve_arrays_of_any_form(rt: HostRuntime) -> Result<(), Fail> {
+    let mut ctx = context(rt.alloc());
+    let flat = ArrayRef::Primitive(rows_with_null(rt.alloc())?);
+    let runs = runs_with_null(rt.alloc(), &mut ctx)?;
+    let runs = ArrayRef::of_runs(rt.alloc(), runs)?;
+    let of_flat = sum_with_zero(&flat, &mut ctx);
+    let of_runs = sum_with_zero(&runs, &mut ctx);
+    let beside = arrays::compare(&flat, CompareOperator::Eq, &runs, &mut ctx);
+    drop(flat);
+    drop(runs);
+
+    let total = SumAnswer {
+        sum: Some(SumValue::Signed(17)),
+        is_empty: false,
+    };
+    assert_eq!(rt; of_flat, Ok(total));
+    assert_eq!(rt; of_runs, Ok(total));
+    let beside = beside?;
+    assert_eq!(rt; beside.scalar_at(1).map(truth_of), Ok(Some(true)));
+    assert_eq!(rt; beside.scalar_at(2).map(truth_of), Ok(None));
+    drop(beside);
+    Ok(())
+}
+
+// The truth value in a row, or `None` for null.
+fn truth_of(row: ScalarView<'_, Global>) -> Option<bool> {
+    match row {
+        ScalarView::Bool(truth) => Some(truth),
+        _ => None,
+    }
 }
 
 #[test]
