@@ -13,18 +13,18 @@
  *
  * WHAT IS BEHIND IT. The contracts in crates/hivevigil/src, each proved, say what a call leaves and answers with 0, that
  * a refused one leaves every column as it was, and that columns that are lent stay. Number and fields of each refusal are
- * part of the contract of hv_u8 to hv_i64, hv_bools, hv_decimals, of all commands, and of hv_sum, hv_is_constant,
- * hv_is_sorted and hv_at; of other calls what is said here about refusals is tested. All of it rests on what a caller owes
- * (next), and on the malloc, realloc and free that are linked. Not proved: that this header fits the library (C has no
- * proof; the names are compared, and the layouts used by tests), and that all memory is freed (tested).
+ * part of the contract of every call.
+ * All of it rests on what a caller owes (next), and on the malloc, realloc and free that are linked. Not proved: that this
+ * header fits the library (C has no proof; the names are compared, and the layouts used by tests), and that all memory is
+ * freed (tested).
  *
  * WHAT A CALLER OWES:
  *  - a handle starts as HV_EMPTY, is written by this library alone, and hv_free empties it; a copy of the struct is no
  *    second handle (to move one, copy it and set the old one to HV_EMPTY), and `at` is never followed;
  *  - each pointer is valid for what it points to, aligned for its type, and not null, also where a length is 0: hv_some
- *    below gives a pointer where there is no item;
+ *    below gives a pointer where there is no item; a length times the width of an item is below 2^63;
  *  - what a call writes, and each handle that it is given, overlaps no other argument: to compare a column with itself
- *    lend hv_clone's result (hv_runs answers 22 where ends and values are one handle);
+ *    lend hv_clone's result;
  *  - input is initialised; what a call only writes may hold any bytes before, but for `out`, which is a handle;
  *  - one call at a time, also where it only reads, on columns that were made one from the other, all on the thread that
  *    made them: they share buffers, which are counted without atomics;
@@ -36,6 +36,9 @@
 #define HIVEVIGIL_H
 #include <stddef.h>
 #include <stdint.h>
+#if UINTPTR_MAX != UINT64_MAX || (defined(__BYTE_ORDER__) && __BYTE_ORDER__ != __ORDER_LITTLE_ENDIAN__)
+#error "hivevigil is for little-endian machines of 64 bits alone"
+#endif
 #ifdef __cplusplus
 extern "C" {
 #endif
@@ -44,7 +47,7 @@ extern "C" {
 typedef struct hv_column { void *at; } hv_column;
 #define HV_EMPTY {0}
 
-/* The fields of an error, in the order that the list below gives; 0 where it has fewer. */
+/* The fields of an error, in the order that the list below gives, and 0 for each that it does not have. */
 typedef struct hv_error { uint64_t first, second, third; } hv_error;
 
 enum {
@@ -92,6 +95,9 @@ typedef struct hv_total { uint64_t as_unsigned; int64_t as_signed; uint8_t kind,
 /* A number of 128 bits: high * 2^64 + low, as in the buffers of Arrow's decimal128 on little-endian machines. */
 typedef struct hv_pair { uint64_t low; int64_t high; } hv_pair;
 
+/* How a column lies, as hv_form answers it. */
+enum { HV_FORM_FLAT, HV_FORM_CONSTANT, HV_FORM_LISTS, HV_FORM_RUNS, HV_FORM_NONE = 255 };
+
 /* Which kernels are registered, a flag for each in this order, and the numbers by which they choose. A session decides
  * which form is left and at what cost, never an answer. {0} has no kernel; hv_session_initial sets all kernels and the
  * numbers of the crate that is ported. */
@@ -126,7 +132,8 @@ int32_t hv_decimals(const hv_pair *pairs, size_t len, uint8_t precision, int8_t 
 int32_t hv_texts(uint8_t binary, const int32_t *offsets, size_t offsets_len, const uint8_t *bytes, size_t bytes_len, HV_VALIDITY, hv_column *out, hv_error *error);
 int32_t hv_large_texts(uint8_t binary, const int64_t *offsets, size_t offsets_len, const uint8_t *bytes, size_t bytes_len, HV_VALIDITY, hv_column *out, hv_error *error);
 /* The run column of these ends and one value for each, of which `count` rows from row `offset` on are shown. Ends are a flat
- * column of an unsigned type without null, each above the one before. Both are copied. */
+ * column of an unsigned type without null, each above the one before. Both are copied. Refused by the first fault of 1 to 7
+ * in their order, or as 21. */
 int32_t hv_runs(hv_column *ends, hv_column *values, size_t offset, size_t count, hv_column *out, hv_error *error);
 /* The same column in the same form, in memory of its own but for the bytes of texts, which are shared. */
 int32_t hv_clone(hv_column *column, hv_column *out, hv_error *error);
@@ -159,7 +166,8 @@ int32_t hv_compare_scalar(const hv_session *session, hv_column *column, uint8_t 
 /* a value in place of each null, after which the type has no null; 12 as above, 13 for lists, 16 for null */
 int32_t hv_fill(const hv_session *session, hv_column *column, const hv_value *value, const uint8_t *text, size_t text_len, hv_column *out, hv_error *error);
 
-/* ---- Questions ---- */
+/* ---- Questions ----
+ * Refused exactly as is said here, with these fields, or, but for hv_at, as 21. */
 /* the sum of the rows that are not null; 13 unless they are whole numbers */
 int32_t hv_sum(const hv_session *session, hv_column *column, hv_total *total, hv_error *error);
 /* are any two rows equal, null equal to null? 13 for lists */
@@ -177,8 +185,11 @@ uint8_t hv_form(hv_column *column);        /* 0 flat, 1 a constant, 2 lists, 3 r
 size_t hv_offset(hv_column *column);       /* of runs: how many of their rows lie before the window; else 0 */
 
 /* ---- Reading many rows ----
- * Of flat columns (13 of other forms: hv_decode writes a column flat). What is stored under null is read as it stands. */
-/* as many rows as there is room for, from row `start` on: 12 for another type, 9 (start, stop, length) past the end */
+ * Of flat columns: hv_decode writes a column flat. They take no memory. What is stored under null is read as it stands.
+ * Refused exactly as is said here, with these fields; 9 also where no row is asked for, from a row past the end on, and its
+ * stop is 2^64 - 1 where no uint64_t has it. */
+/* as many whole numbers as there is room for, from row `start` on: 13 unless the column is flat and of whole numbers, 12
+ * where they are of another type, 9 (start, stop, length) past the end; of decimals 13 unless they are flat decimals, 9 */
 int32_t hv_read_u8(hv_column *column, size_t start, uint8_t *items, size_t len, hv_error *error);
 int32_t hv_read_u16(hv_column *column, size_t start, uint16_t *items, size_t len, hv_error *error);
 int32_t hv_read_u32(hv_column *column, size_t start, uint32_t *items, size_t len, hv_error *error);
@@ -188,26 +199,29 @@ int32_t hv_read_i16(hv_column *column, size_t start, int16_t *items, size_t len,
 int32_t hv_read_i32(hv_column *column, size_t start, int32_t *items, size_t len, hv_error *error);
 int32_t hv_read_i64(hv_column *column, size_t start, int64_t *items, size_t len, hv_error *error);
 int32_t hv_read_decimals(hv_column *column, size_t start, hv_pair *pairs, size_t len, hv_error *error);
-/* Bits, 64 to a word, all rows of the column: `len` is (length + 63) / 64, else 11 (needed, len). On a little-endian
- * machine the words are the bytes of Arrow's bitmaps. */
+/* Bits, 64 to a word, all rows of the column, and 0 behind the last: 13 unless they are flat truth values, for validity
+ * unless the column is flat; 11 (needed, len) unless len is (length + 63) / 64. On a little-endian machine the words are
+ * the bytes of Arrow's bitmaps. */
 int32_t hv_read_bools(hv_column *column, uint64_t *words, size_t len, hv_error *error);
 int32_t hv_read_validity(hv_column *column, uint64_t *words, size_t len, hv_error *error);
-/* Texts and bytes, in two calls. First the offsets of `len - 1` rows from row `start` on, from 0: row k is bytes offsets[k]
- * to offsets[k + 1] - 1, and the last offset is how many bytes there are; a null is no bytes. 9 past the end or where len
- * is 0; 14 where an int32_t has no such offset. Then the bytes of `rows` rows one after the other: 11 (needed, len)
- * unless len is their number. */
+/* Texts and bytes, in two calls: 13 unless they are flat texts or bytes. First the offsets of `len - 1` rows from row
+ * `start` on, from 0: row k is bytes offsets[k] to offsets[k + 1] - 1, and the last offset is how many bytes there are; a
+ * null is no bytes. 9 (start, start, length) where len is 0, 9 past the end, 14 where the type has no such offset. Then the
+ * bytes of `rows` rows one after the other: 9, and 11 (needed, len) unless len is their number, for which needed is 2^64 - 1
+ * where no uint64_t has it. */
 int32_t hv_read_offsets(hv_column *column, size_t start, int32_t *offsets, size_t len, hv_error *error);
 int32_t hv_read_large_offsets(hv_column *column, size_t start, int64_t *offsets, size_t len, hv_error *error);
 int32_t hv_read_bytes(hv_column *column, size_t start, size_t rows, uint8_t *bytes, size_t len, hv_error *error);
 
 /* ---- Run columns ---- (13 of other forms) */
-int32_t hv_ends(hv_column *column, hv_column *out, hv_error *error);    /* the ends, copied */
+int32_t hv_ends(hv_column *column, hv_column *out, hv_error *error);    /* the ends, copied: flat, unsigned, no null */
 int32_t hv_values(hv_column *column, hv_column *out, hv_error *error);  /* the values, copied */
 /* The metadata record: it goes to the front of `bytes`, and *size says how many they are; 11 (needed, bytes_len) where it
  * has no room there. */
 int32_t hv_serialize(hv_column *column, uint8_t *bytes, size_t bytes_len, size_t *size, hv_error *error);
 /* The run column of `count` rows of this type by its record, over copies of these ends and values; 17 for bytes that are no
- * record, 18 (number), 19 (stated, found), 23 where kind names no type, or as hv_runs. */
+ * record, 18 (number), 12 for ends that are not of the type that it states or values that are not of this one, 19 (stated,
+ * found), 23 where kind names no type, or as hv_runs. */
 int32_t hv_deserialize(const hv_kind *kind, size_t count, const uint8_t *bytes, size_t bytes_len, hv_column *ends, hv_column *values, hv_column *out, hv_error *error);
 
 /* Frees the column, if there is one; the handle is empty after. */

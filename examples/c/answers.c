@@ -19,10 +19,11 @@ static void check_session(void) {
 #define CHECK_NUMBERS(type, suffix, number_of_type, least, greatest, shown) \
     do { \
         const type items[3] = {least, 5, greatest}; \
-        type read[2] = {0}; \
+        type read[2]; \
         const uint8_t bits[1] = {0x28}; \
-        uint64_t words[1] = {0}; \
+        uint64_t words[1]; \
         hv_column column = HV_EMPTY; \
+        FILL(read), FILL(words); \
         CHECK(!hv_##suffix(items, 3, NULLS_BY(bits, 3), &column, &error)); \
         CHECK_ROWS(&column, shown); \
         CHECK(hv_kind_of(&column).number == number_of_type && hv_kind_of(&column).nullable == 1); \
@@ -53,9 +54,10 @@ static void check_bools_and_decimals(void) {
     const uint8_t truths[2] = {0xa0, 0x01}; /* bits 5, 7 and 8 */
     const uint8_t bits[1] = {0x0b};
     const hv_pair pairs[2] = {{5, 0}, {UINT64_MAX, -1}}; /* 5 and -1 */
-    hv_pair read[1] = {{0, 0}};
-    uint64_t words[1] = {0};
+    hv_pair read[1];
+    uint64_t words[1];
     hv_column column = HV_EMPTY;
+    FILL(read), FILL(words);
     CHECK(!hv_bools(truths, 2, 5, 4, NULLS_BY(bits, 0), &column, &error));
     CHECK_ROWS(&column, "true false null true");
     CHECK(hv_kind_of(&column).number == HV_BOOL);
@@ -73,10 +75,11 @@ static void check_texts(void) {
     const int64_t large_offsets[3] = {1, 1, 3};
     const uint8_t letters[9] = {'o', 'n', 'o', 'n', 'e', 0xc3, 0xa9, 0xc3, 0xa9}; /* on, "", one, éé */
     const uint8_t bits[1] = {0x0b};
-    int32_t read[4] = {0};
-    int64_t large[2] = {0};
-    uint8_t bytes[6] = {0};
+    int32_t read[4];
+    int64_t large[2];
+    uint8_t bytes[6];
     hv_column column = HV_EMPTY;
+    FILL(read), FILL(large), FILL(bytes);
     CHECK(!hv_texts(0, offsets, 5, letters, 9, NULLS_BY(bits, 0), &column, &error));
     CHECK_ROWS(&column, "\"on\" \"\" null \"\xc3\xa9\xc3\xa9\"");
     CHECK(hv_kind_of(&column).number == HV_UTF8);
@@ -97,9 +100,10 @@ static void check_runs(void) {
     const uint32_t ends[3] = {2, 3, 5};
     const int8_t values[3] = {7, 8, 9};
     const uint8_t record[6] = {0x08, 0x02, 0x10, 0x03, 0x18, 0x01}; /* ends of u32, 3 runs, offset 1 */
-    uint8_t bytes[8] = {0};
-    size_t size = 0;
+    uint8_t bytes[8];
+    size_t size;
     hv_column a = HV_EMPTY, b = HV_EMPTY, runs = HV_EMPTY, out = HV_EMPTY;
+    FILL(bytes), FILL(size);
     CHECK(!hv_u32(ends, 3, NOT_NULLABLE, &a, &error) && !hv_i8(values, 3, NOT_NULLABLE, &b, &error));
     CHECK(!hv_runs(&a, &b, 1, 4, &runs, &error));
     CHECK_ROWS(&runs, "7 8 9 9");
@@ -176,6 +180,7 @@ static void check_sums(void) {
     const uint64_t large[2] = {UINT64_MAX, 1};
     hv_total total;
     hv_column column = HV_EMPTY;
+    FILL(total);
     CHECK(!hv_i64(signed_items, 3, NULLS_BY(bits, 0), &column, &error) && !hv_sum(&session, &column, &total, &error));
     CHECK(total.kind == 2 && total.as_signed == -3 && total.empty == 0); /* 100 is null */
     CHECK(!hv_u64(large, 1, NOT_NULLABLE, &column, &error) && !hv_sum(&session, &column, &total, &error));
@@ -209,6 +214,7 @@ static void check_extremes(void) {
     uint8_t text[8];
     hv_value value;
     hv_column column = HV_EMPTY;
+    FILL(text), FILL(value);
     CHECK(!hv_texts(0, offsets, 4, (const uint8_t *)"firstlast", 9, NULLS_BY(bits, 0), &column, &error));
     CHECK(!hv_extreme(&session, &column, 0, &value, text, sizeof text, &error));
     CHECK(value.kind == HV_TEXT && value.as_unsigned == 5 && memcmp(text, "first", 5) == 0);

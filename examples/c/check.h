@@ -11,9 +11,11 @@
 #define CHECK(what) check_that((what), #what, __FILE__, __LINE__)
 /* the rows of a column, as "1 null 3" */
 #define CHECK_ROWS(column, rows) check_text(rows_of(column), (rows), #column, __FILE__, __LINE__)
-/* a refusal by this number with these fields */
+/* a refusal by this number with these fields, which are written: `error` holds other bytes before */
 #define CHECK_REFUSED(answer, number, a, b, c) \
-    check_refused((answer), (number), &error, a, b, c, #answer, __FILE__, __LINE__)
+    (FILL(error), check_refused((answer), (number), &error, a, b, c, #answer, __FILE__, __LINE__))
+/* what a call is to write holds other bytes than 0 before */
+#define FILL(what) memset(&(what), 0xA5, sizeof(what))
 
 /* validity: of a type without null; no row is null; null by the bits of an array */
 #define NOT_NULLABLE 0, (const uint8_t *)hv_some(NULL), 0, 0
@@ -71,6 +73,7 @@ static inline const char *rows_of(hv_column *column) {
         hv_error error;
         hv_value value;
         uint8_t text[128];
+        FILL(error), FILL(value), FILL(text);
         int32_t answer = hv_at(column, row, &value, text, sizeof text, &error);
         if (row) shown[used++] = ' ';
         if (answer) used += (size_t)snprintf(shown + used, 32, "refused:%" PRId32, answer);

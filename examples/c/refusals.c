@@ -29,7 +29,6 @@ static void check_kept(void) {
 
 #define REFUSED(call, number, a, b, c) \
     do { \
-        error = (hv_error){0, 0, 0}; \
         CHECK_REFUSED(call, number, a, b, c); \
         check_kept(); \
     } while (0)
@@ -43,7 +42,7 @@ static void check_kept(void) {
 static void check_makers(void) {
     const uint8_t items[9] = {0}, bits[1] = {0xff};
     const int32_t offsets[3] = {0, 2, 1}, negative[2] = {-1, 2}, far[2] = {0, 4}, two[2] = {0, 2};
-    const int64_t large[3] = {0, 2, 1};
+    const int64_t large[3] = {0, 2, 1}, large_far[3] = {0, 3, 4}, large_two[2] = {0, 2};
     const uint8_t *bytes = (const uint8_t *)"abc", broken[2] = {'a', 0xff}, cut[2] = {0xe2, 0x82};
     const hv_pair pairs[2] = {{0, 0}, {0, 0}};
     REFUSED(hv_u8(items, 9, NULLS_BY(bits, 0), &out, &error), HV_COLUMN_LENGTH, 9, 1, 0);
@@ -60,15 +59,21 @@ static void check_makers(void) {
     REFUSED(hv_texts(0, hv_some(NULL), 0, hv_some(NULL), 0, NOT_NULLABLE, &out, &error), HV_NO_RUNS_WINDOW, 0, 0, 0);
     REFUSED(hv_texts(0, two, 2, broken, 2, NOT_NULLABLE, &out, &error), HV_TYPE_MISMATCH, 0, 0, 0);
     REFUSED(hv_texts(0, two, 2, cut, 2, NOT_NULLABLE, &out, &error), HV_TYPE_MISMATCH, 0, 0, 0);
+    REFUSED(hv_texts(0, two, 2, bytes, 3, NULLS_BY(bits, 8), &out, &error), HV_COLUMN_LENGTH, 1, 1, 0);
+    REFUSED(hv_large_texts(0, hv_some(NULL), 0, bytes, 3, NOT_NULLABLE, &out, &error), HV_NO_RUNS_WINDOW, 0, 0, 0);
+    REFUSED(hv_large_texts(0, large_far, 3, bytes, 3, NOT_NULLABLE, &out, &error), HV_OUT_OF_BOUNDS, 1, 2, 0);
+    REFUSED(hv_large_texts(0, large_two, 2, broken, 2, NOT_NULLABLE, &out, &error), HV_TYPE_MISMATCH, 0, 0, 0);
 }
 
 static void check_runs(void) {
     const uint32_t growing[2] = {2, 5}, level[2] = {2, 2};
-    hv_column ends = HV_EMPTY, not_strict = HV_EMPTY, values = HV_EMPTY, none = HV_EMPTY;
+    hv_column ends = HV_EMPTY, nullable = HV_EMPTY, not_strict = HV_EMPTY, values = HV_EMPTY, none = HV_EMPTY;
     CHECK(!hv_u32(growing, 2, NOT_NULLABLE, &ends, &error) && !hv_u32(level, 2, NOT_NULLABLE, &not_strict, &error));
     CHECK(!hv_u32(growing, 0, NOT_NULLABLE, &none, &error) && !hv_clone(&ends, &values, &error));
+    CHECK(!hv_u32(growing, 2, NO_NULLS, &nullable, &error)); /* no end is null, and the type has null */
     REFUSED(hv_runs(&numbers, &values, 0, 1, &out, &error), HV_ENDS_NOT_UNSIGNED, 0, 0, 0);
     REFUSED(hv_runs(&runs, &values, 0, 1, &out, &error), HV_ENDS_NOT_UNSIGNED, 0, 0, 0);
+    REFUSED(hv_runs(&nullable, &values, 0, 1, &out, &error), HV_ENDS_NOT_UNSIGNED, 0, 0, 0);
     REFUSED(hv_runs(&ends, &numbers, 0, 1, &out, &error), HV_LENGTHS_DIFFER, 2, 4, 0);
     REFUSED(hv_runs(&not_strict, &values, 0, 1, &out, &error), HV_ENDS_NOT_STRICT, 1, 0, 0);
     REFUSED(hv_runs(&ends, &values, 3, 2, &out, &error), HV_FIRST_END_BELOW_OFFSET, 2, 3, 0);
@@ -77,23 +82,30 @@ static void check_runs(void) {
     hv_column no_values = HV_EMPTY;
     CHECK(!hv_clone(&none, &no_values, &error));
     REFUSED(hv_runs(&none, &no_values, 0, 3, &out, &error), HV_NO_RUNS_WINDOW, 0, 3, 0);
-    hv_column *all[] = {&ends, &not_strict, &values, &none, &no_values};
+    hv_column *all[] = {&ends, &nullable, &not_strict, &values, &none, &no_values};
     for (size_t i = 0; i < COUNT(all); i++) hv_free(all[i]);
 }
 
 static void check_records(void) {
     const uint32_t items[2] = {2, 4};
     const uint8_t cut[1] = {0x10}, ends_of_7[2] = {0x08, 0x07}, three_runs[4] = {0x08, 0x02, 0x10, 0x03};
-    const hv_kind u32 = {HV_U32, 0, 0, 0}, none = {77, 0, 0, 0}, list = {HV_LIST, 0, 0, 0};
-    size_t size = 0;
-    uint8_t bytes[1] = {0};
+    const uint8_t two_u8[2] = {0x10, 0x02}, two_u32[4] = {0x08, 0x02, 0x10, 0x02};
+    const hv_kind u32 = {HV_U32, 0, 0, 0}, u64 = {HV_U64, 0, 0, 0}, nullable = {HV_U32, 1, 0, 0},
+                  none = {77, 0, 0, 0}, list = {HV_LIST, 0, 0, 0};
+    size_t size;
+    uint8_t bytes[1];
     hv_column ends = HV_EMPTY, values = HV_EMPTY;
     CHECK(!hv_u32(items, 2, NOT_NULLABLE, &ends, &error) && !hv_clone(&ends, &values, &error));
     REFUSED(hv_deserialize(&u32, 4, cut, 1, &ends, &values, &out, &error), HV_BAD_METADATA, 0, 0, 0);
     REFUSED(hv_deserialize(&u32, 4, ends_of_7, 2, &ends, &values, &out, &error), HV_ENDS_TYPE_NUMBER, 7, 0, 0);
     REFUSED(hv_deserialize(&u32, 4, three_runs, 4, &ends, &values, &out, &error), HV_RUN_COUNT, 3, 2, 0);
+    /* the ends are not of the type that the record states, the values not of the type that is named */
+    REFUSED(hv_deserialize(&u32, 4, two_u8, 2, &ends, &values, &out, &error), HV_TYPE_MISMATCH, 0, 0, 0);
+    REFUSED(hv_deserialize(&u64, 4, two_u32, 4, &ends, &values, &out, &error), HV_TYPE_MISMATCH, 0, 0, 0);
+    REFUSED(hv_deserialize(&nullable, 4, two_u32, 4, &ends, &values, &out, &error), HV_TYPE_MISMATCH, 0, 0, 0);
     ANSWERS(hv_deserialize(&none, 4, three_runs, 4, &ends, &values, &out, &error), HV_BAD_NUMBER);
     ANSWERS(hv_deserialize(&list, 4, three_runs, 4, &ends, &values, &out, &error), HV_BAD_NUMBER);
+    FILL(size), FILL(bytes);
     /* the record of `runs`: ends of u8, 3 runs, offset 0, which is 10 03 */
     REFUSED(hv_serialize(&runs, bytes, 1, &size, &error), HV_COLUMN_LENGTH, 2, 1, 0);
     REFUSED(hv_serialize(&numbers, bytes, 1, &size, &error), HV_UNSUPPORTED, 0, 0, 0);
@@ -142,6 +154,7 @@ static void check_questions(void) {
     hv_total total;
     hv_value value;
     uint8_t text[2];
+    FILL(total), FILL(value), FILL(text);
     REFUSED(hv_sum(&session, &texts, &total, &error), HV_UNSUPPORTED, 0, 0, 0);
     REFUSED(hv_at(&runs, 4, &value, text, 2, &error), HV_OUT_OF_BOUNDS, 4, 4, 0);
     REFUSED(hv_at(&runs, SIZE_MAX, &value, text, 2, &error), HV_OUT_OF_BOUNDS, SIZE_MAX, 4, 0);
@@ -149,18 +162,84 @@ static void check_questions(void) {
     REFUSED(hv_extreme(&session, &texts, 1, &value, text, 2, &error), HV_COLUMN_LENGTH, 3, 2, 0);
 }
 
-static void check_reads(void) {
+/* reads by rows: of another form or of another sort, of another type, and past the end */
+static void check_number_reads(void) {
     int64_t items[4];
     int32_t narrow[1];
-    uint64_t words[2];
+    hv_pair pairs[2];
+    hv_column decimals = HV_EMPTY;
+    CHECK(!hv_decimals((const hv_pair[]){{1, 0}, {2, 0}}, 2, 10, 2, NOT_NULLABLE, &decimals, &error));
+    FILL(items), FILL(narrow), FILL(pairs);
     REFUSED(hv_read_i32(&numbers, 0, narrow, 1, &error), HV_TYPE_MISMATCH, 0, 0, 0);
+    REFUSED(hv_read_i32(&numbers, 9, narrow, 1, &error), HV_TYPE_MISMATCH, 0, 0, 0);
     REFUSED(hv_read_i64(&runs, 0, items, 4, &error), HV_UNSUPPORTED, 0, 0, 0);
+    REFUSED(hv_read_i64(&texts, 0, items, 1, &error), HV_UNSUPPORTED, 0, 0, 0);
+    REFUSED(hv_read_i64(&decimals, 0, items, 1, &error), HV_UNSUPPORTED, 0, 0, 0);
     REFUSED(hv_read_i64(&numbers, 2, items, 3, &error), HV_BAD_RANGE, 2, 5, 4);
+    REFUSED(hv_read_i64(&numbers, 5, items, 0, &error), HV_BAD_RANGE, 5, 5, 4);
+    REFUSED(hv_read_i64(&numbers, SIZE_MAX, items, 2, &error), HV_BAD_RANGE, SIZE_MAX, UINT64_MAX, 4);
+    REFUSED(hv_read_decimals(&numbers, 0, pairs, 1, &error), HV_UNSUPPORTED, 0, 0, 0);
+    REFUSED(hv_read_decimals(&decimals, 1, pairs, 2, &error), HV_BAD_RANGE, 1, 3, 2);
+    REFUSED(hv_read_decimals(&decimals, 3, pairs, 0, &error), HV_BAD_RANGE, 3, 3, 2);
+    CHECK(!hv_read_i64(&numbers, 4, items, 0, &error) && !hv_read_decimals(&decimals, 2, pairs, 0, &error));
+    hv_free(&decimals);
+}
+
+/* reads of all rows, as bits in words */
+static void check_bit_reads(void) {
+    uint64_t words[2];
+    FILL(words);
     REFUSED(hv_read_bools(&truths, words, 2, &error), HV_COLUMN_LENGTH, 1, 2, 0);
     REFUSED(hv_read_bools(&numbers, words, 1, &error), HV_UNSUPPORTED, 0, 0, 0);
     REFUSED(hv_read_validity(&numbers, words, 0, &error), HV_COLUMN_LENGTH, 1, 0, 0);
+    REFUSED(hv_read_validity(&truths, words, 2, &error), HV_COLUMN_LENGTH, 1, 2, 0);
+    REFUSED(hv_read_validity(&runs, words, 1, &error), HV_UNSUPPORTED, 0, 0, 0);
+}
+
+/* reads of texts: offsets, then bytes */
+static void check_text_reads(void) {
+    int32_t narrow[3];
+    int64_t wide[3];
+    uint8_t bytes[4];
+    FILL(narrow), FILL(wide), FILL(bytes);
     REFUSED(hv_read_offsets(&numbers, 0, narrow, 1, &error), HV_UNSUPPORTED, 0, 0, 0);
-    REFUSED(hv_read_bytes(&texts, 0, 2, (uint8_t *)words, 2, &error), HV_COLUMN_LENGTH, 3, 2, 0);
+    REFUSED(hv_read_offsets(&texts, 1, narrow, 0, &error), HV_BAD_RANGE, 1, 1, 2);
+    REFUSED(hv_read_offsets(&texts, 3, narrow, 1, &error), HV_BAD_RANGE, 3, 3, 2);
+    REFUSED(hv_read_large_offsets(&runs, 0, wide, 1, &error), HV_UNSUPPORTED, 0, 0, 0);
+    REFUSED(hv_read_large_offsets(&texts, 0, wide, 0, &error), HV_BAD_RANGE, 0, 0, 2);
+    REFUSED(hv_read_large_offsets(&texts, 1, wide, 3, &error), HV_BAD_RANGE, 1, 3, 2);
+    REFUSED(hv_read_bytes(&truths, 0, 1, bytes, 1, &error), HV_UNSUPPORTED, 0, 0, 0);
+    REFUSED(hv_read_bytes(&texts, 1, 2, bytes, 0, &error), HV_BAD_RANGE, 1, 3, 2);
+    REFUSED(hv_read_bytes(&texts, 3, 0, bytes, 0, &error), HV_BAD_RANGE, 3, 3, 2);
+    REFUSED(hv_read_bytes(&texts, 0, 2, bytes, 2, &error), HV_COLUMN_LENGTH, 3, 2, 0);
+    REFUSED(hv_read_bytes(&texts, 0, 2, bytes, 4, &error), HV_COLUMN_LENGTH, 3, 4, 0);
+    CHECK(!hv_read_offsets(&texts, 2, narrow, 1, &error) && narrow[0] == 0);
+}
+
+/* 2,048 rows that share one text of 1 MiB have 2^31 bytes, which no int32_t says; it says one byte less */
+static void check_far_offsets(void) {
+    enum { MEBIBYTE = 1 << 20, ROWS = 2048 };
+    static uint8_t letters[2 * MEBIBYTE - 1];
+    static int32_t offsets[ROWS + 1];
+    static int64_t large[ROWS + 1];
+    static uint16_t indices[ROWS]; /* the first text, each time */
+    const int32_t cuts[3] = {0, MEBIBYTE, 2 * MEBIBYTE - 1};
+    hv_column two = HV_EMPTY, taken = HV_EMPTY, repeated = HV_EMPTY;
+    memset(letters, 'a', sizeof letters);
+    CHECK(!hv_texts(0, cuts, 3, letters, sizeof letters, NOT_NULLABLE, &two, &error));
+    CHECK(!hv_u16(indices, ROWS, NOT_NULLABLE, &taken, &error));
+    CHECK(!hv_take(&session, &two, &taken, &repeated, &error) && hv_form(&repeated) == FORM_FLAT);
+    FILL(offsets), FILL(large);
+    REFUSED(hv_read_offsets(&repeated, 0, offsets, ROWS + 1, &error), HV_CAST_OUT_OF_RANGE, 0, 0, 0);
+    CHECK(!hv_read_large_offsets(&repeated, 0, large, ROWS + 1, &error) && large[ROWS] == INT64_C(1) << 31);
+    CHECK(!hv_read_offsets(&repeated, 1, offsets, ROWS, &error) && offsets[ROWS - 1] == (ROWS - 1) * MEBIBYTE);
+    indices[ROWS - 1] = 1;
+    CHECK(!hv_u16(indices, ROWS, NOT_NULLABLE, &taken, &error));
+    CHECK(!hv_take(&session, &two, &taken, &repeated, &error));
+    FILL(offsets);
+    CHECK(!hv_read_offsets(&repeated, 0, offsets, ROWS + 1, &error) && offsets[0] == 0 && offsets[ROWS] == INT32_MAX);
+    hv_column *all[] = {&two, &taken, &repeated};
+    for (size_t i = 0; i < COUNT(all); i++) hv_free(all[i]);
 }
 
 /* each call that is lent a column, with a handle that has none */
@@ -170,10 +249,11 @@ static void check_empty_handles(void) {
     const uint8_t record[2] = {0x10, 0x01};
     hv_value value;
     hv_total total;
-    uint64_t words[2] = {0};
+    uint64_t words[2];
     uint8_t *bytes = (uint8_t *)words, truth;
     size_t size;
     hv_pair pair[1];
+    FILL(value), FILL(total), FILL(words), FILL(truth), FILL(size), FILL(pair);
 #define NO_COLUMN(call) ANSWERS(call, HV_NO_COLUMN)
     NO_COLUMN(hv_runs(&empty, &numbers, 0, 0, &out, &error));
     NO_COLUMN(hv_runs(&numbers, &empty, 0, 0, &out, &error));
@@ -276,7 +356,10 @@ int main(void) {
     check_records();
     check_commands();
     check_questions();
-    check_reads();
+    check_number_reads();
+    check_bit_reads();
+    check_text_reads();
+    check_far_offsets();
     check_empty_handles();
     check_no_items();
     check_flags();

@@ -3,45 +3,7 @@
  * program: cc .. -Wl,--wrap=malloc,--wrap=calloc,--wrap=realloc,--wrap=free */
 #include "check.h"
 #include "hivevigil_arrow.h"
-
-void *__real_malloc(size_t size);
-void *__real_calloc(size_t count, size_t size);
-void *__real_realloc(void *block, size_t size);
-void __real_free(void *block);
-
-static long requests = 0, blocks = 0, refused = 0;
-static long refuse_at = -1;      /* the number of the request that is refused, from 0; -1 for none */
-static bool refuse_rest = false; /* and all after it */
-
-static bool is_refused(void) {
-    long request = requests++;
-    bool now = refuse_at >= 0 && (request == refuse_at || (refuse_rest && request > refuse_at));
-    refused += now;
-    return now;
-}
-
-void *__wrap_malloc(size_t size) {
-    void *block = is_refused() ? NULL : __real_malloc(size);
-    blocks += block != NULL;
-    return block;
-}
-
-void *__wrap_calloc(size_t count, size_t size) {
-    void *block = is_refused() ? NULL : __real_calloc(count, size);
-    blocks += block != NULL;
-    return block;
-}
-
-void *__wrap_realloc(void *block, size_t size) {
-    void *moved = is_refused() ? NULL : __real_realloc(block, size);
-    blocks += moved && !block;
-    return moved;
-}
-
-void __wrap_free(void *block) {
-    blocks -= block != NULL;
-    __real_free(block);
-}
+#include "refusing_malloc.h"
 
 /* What the calls are lent. */
 static hv_session session;
@@ -154,6 +116,7 @@ STEP_READ(i64, int64_t)
 STEP(read_decimals, hv_read_decimals(&decimals, 0, (hv_pair *)words, 2, &error))
 STEP(read_bools, hv_read_bools(&truths, words, WORDS, &error))
 STEP(read_validity, hv_read_validity(&flat, words, WORDS, &error))
+STEP(read_no_nulls, hv_read_validity(&large_texts, words, WORDS, &error))
 STEP(read_offsets, hv_read_offsets(&texts, 0, (int32_t *)words, ROWS + 1, &error))
 STEP(read_large_offsets, hv_read_large_offsets(&large_texts, 10, (int64_t *)words, 60, &error))
 STEP(read_bytes, hv_read_bytes(&large_texts, 0, ROWS, (uint8_t *)words, BYTES, &error))
@@ -191,11 +154,11 @@ static const step steps[] = {
     NAMED(slice_runs), NAMED(slice_texts), NAMED(cast), NAMED(take), NAMED(take_texts), NAMED(filter),
     NAMED(filter_texts), NAMED(take_from), NAMED(compare), NAMED(compare_scalar), NAMED(compare_text), NAMED(fill),
     NAMED(fill_text), NAMED(sum), NAMED(is_constant), NAMED(is_sorted), NAMED(extreme), NAMED(extreme_text),
-    NAMED(at), NAMED(read_i64), NAMED(read_decimals), NAMED(read_bools), NAMED(read_validity), NAMED(read_offsets),
-    NAMED(read_large_offsets), NAMED(read_bytes), NAMED(run_ends), NAMED(run_values), NAMED(serialize),
-    NAMED(deserialize), NAMED(export_flat), NAMED(export_runs), NAMED(export_constant), NAMED(export_texts),
-    NAMED(export_truths), NAMED(export_dictionary), NAMED(import_texts), NAMED(import_dictionary),
-    NAMED(export_and_import),
+    NAMED(at), NAMED(read_i64), NAMED(read_decimals), NAMED(read_bools), NAMED(read_validity), NAMED(read_no_nulls),
+    NAMED(read_offsets), NAMED(read_large_offsets), NAMED(read_bytes), NAMED(run_ends), NAMED(run_values),
+    NAMED(serialize), NAMED(deserialize), NAMED(export_flat), NAMED(export_runs), NAMED(export_constant),
+    NAMED(export_texts), NAMED(export_truths), NAMED(export_dictionary), NAMED(import_texts),
+    NAMED(import_dictionary), NAMED(export_and_import),
 };
 
 /* `out` holds 42 before each call, and after a refusal. */
@@ -234,6 +197,7 @@ int main(void) {
         for (int rest = 0; rest < 2; rest++) {
             long number = 0;
             while (try_step(&steps[i], number, rest)) number++;
+            if (strncmp(steps[i].name, "read_", 5) == 0) CHECK(number == 0); /* reads ask for no memory */
             if (getenv("VERBOSE")) printf("%-20s %ld requests\n", steps[i].name, number);
         }
     hv_free(&out);

@@ -3,6 +3,7 @@ use Rattle.std.proofs.Common.{◌≡◌, ◌≢◌, inl, inr, sym, ap, ◌∙◌
 use Rattle.std.specs.Prelude.{Option, Some, None, Result, Ok, Err, IfErr, IfOk, IsSomeAnd}
 use Rattle.std.specs.Global.{Global}
 use Rattle.column_base.specs.declared.error.VortexError.{VortexError}
+use Rattle.column_base.specs.declared.error.VortexError.TheVariants.{OutOfMemory, TypeMismatch}
 use Rattle.column_base.specs.Error.{number_of}
 use Rattle.column_core.specs.Refusal.{IsErrorFor}
 use Rattle.column_order.specs.OrderFacts as order
@@ -14,7 +15,7 @@ use Rattle.runend_commands.specs.declared.command.Command.TheVariants.{CompareCo
 use Rattle.runend_commands.specs.Refusal.{refusal}
 use Rattle.runend_commands.specs.Meaning.{plain}
 use Rattle.hivevigil.specs.Calls.{IsBuilt, IsPassedBuilt, IsSameCommand, Leaves, LeavesBy, LeavesOf, compare_to, compare_with_passed, fill_with_passed, take_from_of}
-use Rattle.hivevigil.specs.Ending.{EndsBy, EndsByPassed, EndsOn, EndsOnBoth, EndsOnGiven, EndsOnPassed, HasFields, LeavesGiven, LeavesPassed, WhereAll, WhereBoth, fault_given, fault_of}
+use Rattle.hivevigil.specs.Ending.{EndsBy, EndsByPassed, EndsOn, EndsOnBoth, EndsOnGiven, EndsOnPassed, HasFields, IsRefusedAs, LeavesGiven, LeavesPassed, WhereAll, WhereBoth, fault_given, fault_of}
 use Rattle.hivevigil.specs.Flags.{Tells}
 use Rattle.hivevigil.specs.Values.{IsPassed}
 use Rattle.hivevigil.specs.declared.error_fields.ErrorFields.{ErrorFields}
@@ -28,18 +29,22 @@ pub ends_done : (fault : Option VortexError) (code : ℤ) (fields : ErrorFields)
 ends_done None code fields none is = inl is
 ends_done (Some error) code fields none is = absurd (cc)
 
+-- refused for an error that is another
+pub as_error : (error other : VortexError) (code : ℤ) (fields : ErrorFields) → error ≡ other → code ≡ pos (number_of error) → HasFields error fields → IsRefusedAs other code fields
+as_error error other code fields same is told = subst (λ (e : VortexError). IsRefusedAs e code fields) same (is, told)
+
 -- refused: by the fault, or for want of memory
 pub ends_refused : (fault : Option VortexError) (error : VortexError) (code : ℤ) (fields : ErrorFields) → IsErrorFor fault error → code ≡ pos (number_of error) → HasFields error fields → EndsBy fault code fields
-ends_refused None error code fields (inl short) is told = inr (is ∙ ap (λ (e : VortexError). pos (number_of e)) short)
+ends_refused None error code fields (inl short) is told = inr (as_error error OutOfMemory code fields short is told)
 ends_refused None error code fields (inr found) is told = absurd (cc)
-ends_refused (Some other) error code fields (inl short) is told = inl (is ∙ ap (λ (e : VortexError). pos (number_of e)) short)
+ends_refused (Some other) error code fields (inl short) is told = inl (as_error error OutOfMemory code fields short is told)
 ends_refused (Some other) error code fields (inr found) is told =
-    let same : error ≡ other = cc in inr (subst (λ (e : VortexError). (code ≡ pos (number_of e)) × HasFields e fields) same (is, told))
+    let same : error ≡ other = cc in inr (as_error error other code fields same is told)
 
 -- memory was refused
-short_of : (fault : Option VortexError) (code : ℤ) (fields : ErrorFields) → code ≡ pos 21 → EndsBy fault code fields
-short_of None code fields is = inr is
-short_of (Some error) code fields is = inl is
+short_of : (fault : Option VortexError) (code : ℤ) (fields : ErrorFields) → IsRefusedAs OutOfMemory code fields → EndsBy fault code fields
+short_of None code fields short = inr short
+short_of (Some error) code fields short = inl short
 
 -- the handle of a command that was built is empty, or holds the column on which it was done or refused
 pub given_empty : (c : Held) (given : Result (Command Global) VortexError) (code : ℤ) (fields : ErrorFields) → c ≡ None → code ≡ pos 22 → EndsOnGiven c given code fields
@@ -99,7 +104,7 @@ left_both f o c d i given some built left =
 by_built : (command : Option (Command Global)) (given : Result (Command Global) VortexError) (a : ArrayRef Global) (code : ℤ) (fields : ErrorFields) → IsBuilt command given → EndsBy (fault_given given a) code fields → EndsBy (fault_of command a) code fields
 by_built (Some m) (Ok n) a code fields built ends = subst (λ (fault : Option VortexError). EndsBy fault code fields) (built.refusal (plain a)) ends
 by_built (Some m) (Err error) a code fields built (inl short) = short_of (refusal (plain a) m) code fields short
-by_built (Some m) (Err error) a code fields built (inr told) = short_of (refusal (plain a) m) code fields (told.0 ∙ ap (λ (e : VortexError). pos (number_of e)) built)
+by_built (Some m) (Err error) a code fields built (inr told) = short_of (refusal (plain a) m) code fields (as_error error OutOfMemory code fields built told.0 told.1)
 by_built None (Ok n) a code fields built ends = absurd built
 by_built None (Err error) a code fields built ends = subst (λ (e : VortexError). EndsBy (Some e) code fields) built ends
 
@@ -144,8 +149,8 @@ left_passed Given f given c d a some built left =
 by_passed : (Given : Type 0) (m : Command Global) (given : Result (Command Global) VortexError) (a : ArrayRef Global) (code : ℤ) (fields : ErrorFields) → IsPassedBuilt Given m given → EndsBy (fault_given given a) code fields → EndsByPassed Given (refusal (plain a) m) code fields
 by_passed Given m (Ok n) a code fields built ends = inr (inr (built.1, subst (λ (k : Command Global). EndsBy (refusal (plain a) k) code fields) built.0 ends))
 by_passed Given m (Err error) a code fields built (inl short) = inr (inl short)
-by_passed Given m (Err error) a code fields (inl short) (inr told) = inr (inl (told.0 ∙ ap (λ (e : VortexError). pos (number_of e)) short))
-by_passed Given m (Err error) a code fields (inr wrong) (inr told) = inl (told.0 ∙ ap (λ (e : VortexError). pos (number_of e)) wrong.0, wrong.1)
+by_passed Given m (Err error) a code fields (inl short) (inr told) = inr (inl (as_error error OutOfMemory code fields short told.0 told.1))
+by_passed Given m (Err error) a code fields (inr wrong) (inr told) = inl (wrong.1, as_error error TypeMismatch code fields wrong.0 told.0 told.1)
 
 pub ends_passed : (value : RowValue) (text : List ℕ) (f : ArrayRef Global → Command Global) (given : Result (Command Global) VortexError) (c : Held) (a : ArrayRef Global) (code : ℤ) (fields : ErrorFields)
     → c ≡ Some a → IsPassedBuilt (IsPassed (dtype_of a) value.kind value text) (f a) given → EndsOnGiven c given code fields → EndsOnPassed value text f c code fields

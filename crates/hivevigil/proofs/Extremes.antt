@@ -3,6 +3,7 @@ use Rattle.std.proofs.Common.{◌≡◌, ◌⊎◌, inl, inr, sym, ap, ◌∙◌
 use Rattle.std.specs.Prelude.{Option, Some, None}
 use Rattle.std.specs.Global.{Global}
 use Rattle.column_base.specs.declared.error.VortexError.{VortexError}
+use Rattle.column_base.specs.declared.error.VortexError.TheVariants.{OutOfMemory}
 use Rattle.column_base.specs.Error.{number_of}
 use Rattle.column_core.specs.Refusal.{IsErrorFor}
 use Rattle.column_core.specs.Value.{PlainColumn, Value}
@@ -13,7 +14,7 @@ use Rattle.runend_commands.specs.Meaning.{plain}
 use Rattle.hivevigil.specs.Ending.{EndsAlways, EndsOnExtreme, HasFields, IsExtremeFault}
 use Rattle.hivevigil.specs.Values.{IsFurthestRow, IsRoomFault}
 use Rattle.hivevigil.specs.declared.error_fields.ErrorFields.{ErrorFields}
-use Rattle.hivevigil.proofs.Endings.{ends_done, ends_refused}
+use Rattle.hivevigil.proofs.Endings.{as_error, ends_done, ends_refused}
 
 abbrev Held : Type 0
 Held = Option (ArrayRef Global)
@@ -35,7 +36,7 @@ extreme_done greatest room c a code fields some accepted is = subst (λ (h : Hel
 
 by_extreme : (greatest : Bool) (room : ℕ) (a : ArrayRef Global) (error : VortexError) (code : ℤ) (fields : ErrorFields) → IsExtremeFault greatest (plain a) room error → code ≡ pos (number_of error) → HasFields error fields → EndsOnExtreme greatest room (Some a) code fields
 by_extreme greatest room a error code fields (inl why) is told = inl (ends_refused (refusal {A = Global} (plain a) MinMax) error code fields why is told)
-by_extreme greatest room a error code fields (inr short) is told = inr (error, short.1, is, told)
+by_extreme greatest room a error code fields (inr short) is told = inr (error, short.1, (is, told))
 
 pub extreme_refused : (greatest : Bool) (room : ℕ) (c : Held) (a : ArrayRef Global) (error : VortexError) (code : ℤ) (fields : ErrorFields) → c ≡ Some a → IsExtremeFault greatest (plain a) room error → code ≡ pos (number_of error) → HasFields error fields → EndsOnExtreme greatest room c code fields
 extreme_refused greatest room c a error code fields some why is told = subst (λ (h : Held). EndsOnExtreme greatest room h code fields) (sym some) (by_extreme greatest room a error code fields why is told)
@@ -47,5 +48,5 @@ always_empty c code fields none is = subst (λ (h : Held). EndsAlways h code fie
 pub always_done : (c : Held) (a : ArrayRef Global) (code : ℤ) (fields : ErrorFields) → c ≡ Some a → code ≡ pos 0 → EndsAlways c code fields
 always_done c a code fields some is = subst (λ (h : Held). EndsAlways h code fields) (sym some) (inl is)
 
-pub always_short : (c : Held) (a : ArrayRef Global) (code : ℤ) (fields : ErrorFields) → c ≡ Some a → code ≡ pos 21 → EndsAlways c code fields
-always_short c a code fields some is = subst (λ (h : Held). EndsAlways h code fields) (sym some) (inr is)
+pub always_short : (c : Held) (a : ArrayRef Global) (error : VortexError) (code : ℤ) (fields : ErrorFields) → c ≡ Some a → error ≡ OutOfMemory → code ≡ pos (number_of error) → HasFields error fields → EndsAlways c code fields
+always_short c a error code fields some short is told = subst (λ (h : Held). EndsAlways h code fields) (sym some) (inr (as_error error OutOfMemory code fields short is told))

@@ -52,4 +52,4 @@ pub row_done : (row room : ℕ) (c : Held) (a : ArrayRef Global) (code : ℤ) (f
 row_done row room c a code fields some accepted is = subst (λ (h : Held). EndsOnRow row room h code fields) (sym some) (inl (is, accepted))
 
 pub row_refused : (row room : ℕ) (c : Held) (a : ArrayRef Global) (error : VortexError) (code : ℤ) (fields : ErrorFields) → c ≡ Some a → IsLookUpFault (plain a) row room error → code ≡ pos (number_of error) → HasFields error fields → EndsOnRow row room c code fields
-row_refused row room c a error code fields some why is told = subst (λ (h : Held). EndsOnRow row room h code fields) (sym some) (inr (error, why, is, told))
+row_refused row room c a error code fields some why is told = subst (λ (h : Held). EndsOnRow row room h code fields) (sym some) (inr (error, why, (is, told)))

@@ -2,7 +2,7 @@
 use Rattle.std.specs.Prelude.{◌≡◌, ◌≢◌, ◌⊎◌, ◌-◌, ◌^◌, ◌<◌, ℕ, ℤ, pos, Bool, List, slice_get, Option, Some, None, Result, Ok, Err}
 use Rattle.std.specs.Global.{Global}
 use Rattle.column_base.specs.declared.error.VortexError.{VortexError}
-use Rattle.column_base.specs.declared.error.VortexError.TheVariants.{LengthsDiffer, NoRunsWindow, EndsNotStrict, FirstEndBelowOffset, LastEndBelowWindow, OutOfBounds, BadRange, MaskLength, ColumnLength, EndsTypeNumber, RunCount, TypeMismatch}
+use Rattle.column_base.specs.declared.error.VortexError.TheVariants.{LengthsDiffer, NoRunsWindow, EndsNotStrict, FirstEndBelowOffset, LastEndBelowWindow, OutOfBounds, BadRange, MaskLength, ColumnLength, EndsTypeNumber, RunCount, TypeMismatch, OutOfMemory}
 use Rattle.column_base.specs.Error.{number_of}
 use Rattle.column_core.specs.Refusal.{IsErrorFor}
 use Rattle.column_core.specs.Value.{PlainColumn, Value}
@@ -11,8 +11,9 @@ use Rattle.runend_array.specs.declared.array_ref.ArrayRef.{ArrayRef}
 use Rattle.runend_commands.specs.declared.command.Command.{Command}
 use Rattle.runend_commands.specs.Refusal.{refusal}
 use Rattle.runend_commands.specs.Meaning.{plain}
-use Rattle.runend_array.specs.Array.{dtype_of}
+use Rattle.runend_array.specs.Array.{column_of, dtype_of}
 use Rattle.hivevigil.specs.Calls.{Leaves}
+use Rattle.hivevigil.specs.RunParts.{no_runs_fault}
 use Rattle.hivevigil.specs.Values.{IsFurthestRow, IsPassed, IsRoomFault}
 use Rattle.hivevigil.specs.declared.row_value.RowValue.{RowValue}
 use Rattle.hivevigil.specs.declared.error_fields.ErrorFields.{ErrorFields}
@@ -21,25 +22,41 @@ use Rattle.hivevigil.specs.declared.error_fields.ErrorFields.{ErrorFields}
 abbrev pub IsIndexField : ℤ → ℕ → Type 0
 IsIndexField index field = (index ≡ pos field) ⊎ ((field ≡ 2 ^ 64 - 1) × ((k : ℕ) → k < 2 ^ 64 → index ≢ pos k))
 
--- the fields of an error, in their order
-abbrev pub HasFields : VortexError → ErrorFields → Type 0
-HasFields (LengthsDiffer ends values) f = (f.first ≡ ends) × (f.second ≡ values)
-HasFields (NoRunsWindow offset count) f = (f.first ≡ offset) × (f.second ≡ count)
-HasFields (EndsNotStrict run) f = f.first ≡ run
-HasFields (FirstEndBelowOffset end offset) f = (f.first ≡ end) × (f.second ≡ offset)
-HasFields (LastEndBelowWindow end required) f = (f.first ≡ end) × (f.second ≡ required)
-HasFields (OutOfBounds index count) f = IsIndexField index f.first × (f.second ≡ count)
-HasFields (BadRange start stop count) f = (f.first ≡ start) × (f.second ≡ stop) × (f.third ≡ count)
-HasFields (MaskLength mask count) f = (f.first ≡ mask) × (f.second ≡ count)
-HasFields (ColumnLength left right) f = (f.first ≡ left) × (f.second ≡ right)
-HasFields (EndsTypeNumber number) f = f.first ≡ number
-HasFields (RunCount stated found) f = (f.first ≡ stated) × (f.second ≡ found)
-HasFields error f = Unit {0}
+-- the three fields are these
+abbrev pub AreFields : ErrorFields → ℕ → ℕ → ℕ → Type 0
+AreFields f first second third = (f.first ≡ first) × (f.second ≡ second) × (f.third ≡ third)
 
--- the call ends by this fault: with its number and its fields, or with 21 for want of memory; where there is none, with 0 or 21
+-- the fields of an error, in their order, and 0 for each that it does not have
+abbrev pub HasFields : VortexError → ErrorFields → Type 0
+HasFields (LengthsDiffer ends values) f = AreFields f ends values 0
+HasFields (NoRunsWindow offset count) f = AreFields f offset count 0
+HasFields (EndsNotStrict run) f = AreFields f run 0 0
+HasFields (FirstEndBelowOffset end offset) f = AreFields f end offset 0
+HasFields (LastEndBelowWindow end required) f = AreFields f end required 0
+HasFields (OutOfBounds index count) f = IsIndexField index f.first × (f.second ≡ count) × (f.third ≡ 0)
+HasFields (BadRange start stop count) f = AreFields f start stop count
+HasFields (MaskLength mask count) f = AreFields f mask count 0
+HasFields (ColumnLength left right) f = AreFields f left right 0
+HasFields (EndsTypeNumber number) f = AreFields f number 0 0
+HasFields (RunCount stated found) f = AreFields f stated found 0
+HasFields error f = AreFields f 0 0 0
+
+-- the call is refused for this error: with its number and its fields
+abbrev pub IsRefusedAs : VortexError → ℤ → ErrorFields → Type 0
+IsRefusedAs error code fields = (code ≡ pos (number_of error)) × HasFields error fields
+
+-- the call ends by this fault, or for want of memory; where there is no fault, with 0 or for want of memory
 abbrev pub EndsBy : Option VortexError → ℤ → ErrorFields → Type 0
-EndsBy None code fields = (code ≡ pos 0) ⊎ (code ≡ pos 21)
-EndsBy (Some error) code fields = (code ≡ pos 21) ⊎ ((code ≡ pos (number_of error)) × HasFields error fields)
+EndsBy None code fields = (code ≡ pos 0) ⊎ IsRefusedAs OutOfMemory code fields
+EndsBy (Some error) code fields = IsRefusedAs OutOfMemory code fields ⊎ IsRefusedAs error code fields
+
+-- memory was refused, or it is a fault of this kind
+abbrev pub IsShortOr : (VortexError → Type 0) → VortexError → Type 0
+IsShortOr Fault error = (error ≡ OutOfMemory) ⊎ Fault error
+
+-- the call ends with 0, or for want of memory, or by a fault of this kind
+abbrev pub EndsAs : (VortexError → Type 0) → ℤ → ErrorFields → Type 0
+EndsAs Fault code fields = (code ≡ pos 0) ⊎ ((error : VortexError) × IsShortOr Fault error × IsRefusedAs error code fields)
 
 -- the first fault of a command on a column; there is none to do where what is lent is of the wrong type
 abbrev pub fault_of : Option (Command Global) → ArrayRef Global → Option VortexError
@@ -83,7 +100,7 @@ EndsOnGiven (Some c) given code fields = EndsBy (fault_given given c) code field
 
 -- how a call ends that passes a scalar: with 12 where it is no value of the column's type, else by the fault of the command that is made of it
 abbrev pub EndsByPassed : Type 0 → Option VortexError → ℤ → ErrorFields → Type 0
-EndsByPassed Given fault code fields = ((code ≡ pos 12) × (¬ Given)) ⊎ (code ≡ pos 21) ⊎ (Given × EndsBy fault code fields)
+EndsByPassed Given fault code fields = ((¬ Given) × IsRefusedAs TypeMismatch code fields) ⊎ IsRefusedAs OutOfMemory code fields ⊎ (Given × EndsBy fault code fields)
 
 abbrev pub EndsOnPassed : RowValue → List ℕ → (ArrayRef Global → Command Global) → Option (ArrayRef Global) → ℤ → ErrorFields → Type 0
 EndsOnPassed value text command None code fields = code ≡ pos 22
@@ -105,7 +122,7 @@ IsLookUpFault before row room error = (refusal {A = Global} before (At row) ≡ 
 -- how the call of it ends
 abbrev pub EndsOnRow : ℕ → ℕ → Option (ArrayRef Global) → ℤ → ErrorFields → Type 0
 EndsOnRow row room None code fields = code ≡ pos 22
-EndsOnRow row room (Some c) code fields = ((code ≡ pos 0) × (refusal {A = Global} (plain c) (At row) ≡ None)) ⊎ ((error : VortexError) × IsLookUpFault (plain c) row room error × (code ≡ pos (number_of error)) × HasFields error fields)
+EndsOnRow row room (Some c) code fields = ((code ≡ pos 0) × (refusal {A = Global} (plain c) (At row) ≡ None)) ⊎ ((error : VortexError) × IsLookUpFault (plain c) row room error × IsRefusedAs error code fields)
 
 -- the least or the greatest row is a text or bytes that have no room
 pub record HasNoRoomFor (greatest : Bool) (rows : List (Option Value)) (room : ℕ) (error : VortexError) : Type 0 where
@@ -120,9 +137,25 @@ IsExtremeFault greatest before room error = IsErrorFor (refusal {A = Global} bef
 -- how the call of it ends
 abbrev pub EndsOnExtreme : Bool → ℕ → Option (ArrayRef Global) → ℤ → ErrorFields → Type 0
 EndsOnExtreme greatest room None code fields = code ≡ pos 22
-EndsOnExtreme greatest room (Some c) code fields = EndsBy (refusal {A = Global} (plain c) MinMax) code fields ⊎ ((error : VortexError) × HasNoRoomFor greatest (plain c).rows room error × (code ≡ pos (number_of error)) × HasFields error fields)
+EndsOnExtreme greatest room (Some c) code fields = EndsBy (refusal {A = Global} (plain c) MinMax) code fields ⊎ ((error : VortexError) × HasNoRoomFor greatest (plain c).rows room error × IsRefusedAs error code fields)
 
--- how a call ends that has no fault: with 0, with 21, or with 22 where the handle is empty
+-- how a call ends that has no fault: with 0, for want of memory, or with 22 where the handle is empty
 abbrev pub EndsAlways : Option (ArrayRef Global) → ℤ → ErrorFields → Type 0
 EndsAlways None code fields = code ≡ pos 22
 EndsAlways (Some c) code fields = EndsBy None code fields
+
+-- how a call ends that only run columns serve: with 22 where the handle is empty
+abbrev pub EndsOnRuns : Option (ArrayRef Global) → ℤ → ErrorFields → Type 0
+EndsOnRuns None code fields = code ≡ pos 22
+EndsOnRuns (Some c) code fields = EndsBy (no_runs_fault (column_of c)) code fields
+
+-- how a call ends that is refused by faults of this kind
+abbrev pub EndsOnHeld : (ArrayRef Global → VortexError → Type 0) → Option (ArrayRef Global) → ℤ → ErrorFields → Type 0
+EndsOnHeld Fault None code fields = code ≡ pos 22
+EndsOnHeld Fault (Some c) code fields = EndsAs (Fault c) code fields
+
+-- how a call on two columns ends: with 22 where one of the two handles is empty
+abbrev pub EndsOnParts : (ArrayRef Global → ArrayRef Global → VortexError → Type 0) → Option (ArrayRef Global) → Option (ArrayRef Global) → ℤ → ErrorFields → Type 0
+EndsOnParts Fault None values code fields = code ≡ pos 22
+EndsOnParts Fault (Some ends) None code fields = code ≡ pos 22
+EndsOnParts Fault (Some ends) (Some values) code fields = EndsAs (Fault ends values) code fields

@@ -6,7 +6,9 @@ pub mod Handle
 pub mod Kinds
 pub mod Makers
 pub mod Pairs
+pub mod ReadFaults
 pub mod Reads
+pub mod RunParts
 pub mod Sessions
 pub mod Totals
 pub mod Values

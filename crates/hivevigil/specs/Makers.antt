@@ -1,14 +1,17 @@
 -- Columns that are made of what C passes.
-use Rattle.std.specs.Prelude.{◌≡◌, ℕ, ◌+◌, ◌<◌, ℤ, pos, List, [], ◌∷◌, Bool, length, map, slice_index_or}
+use Rattle.std.specs.Prelude.{◌≡◌, ◌⊎◌, ℕ, ◌+◌, ◌^◌, ◌<◌, ◌≤◌, ℤ, pos, List, [], ◌∷◌, Bool, length, map, slice_index_or, Some, None}
 use Rattle.std.specs.Global.{Global}
 use Rattle.column_base.specs.declared.dtype.PType.{PType}
 use Rattle.column_base.specs.declared.dtype.DType.{DType}
 use Rattle.column_base.specs.declared.dtype.DecimalDType.{DecimalDType}
+use Rattle.column_base.specs.declared.error.VortexError.{VortexError}
+use Rattle.column_base.specs.declared.error.VortexError.TheVariants.{EndsNotStrict, NoRunsWindow}
 use Rattle.column_base.specs.ValidityForm.{ValidityForm}
 use Rattle.column_core.specs.PrimitiveForm.{primitive_with}
 use Rattle.column_core.specs.BoolForm.{bool_with}
 use Rattle.column_core.specs.DecimalForm.{decimal_with}
 use Rattle.column_core.specs.VarBinForm.{varbin_with, zero_view}
+use Rattle.column_core.specs.VarBinFault.{VarBinFault}
 use Rattle.column_core.specs.Leaf.{OfNumbers, OfTruths, OfDecimals, OfVarBins}
 use Rattle.column_core.specs.declared.varbinview.View.{View}
 use Rattle.column_core.specs.declared.varbinview.VarBinKind.{VarBinKind}
@@ -16,6 +19,7 @@ use Rattle.runend_array.specs.Column.{Column, OfLeaf, Runs, runs_of, column_of_r
 use Rattle.runend_array.specs.Array.{column_of}
 use Rattle.runend_array.specs.declared.array_ref.ArrayRef.{ArrayRef}
 use Rattle.runend_column.specs.Fault.{IsRecordedColumn}
+use Rattle.hivevigil.specs.Bits.{validity_by, validity_fault}
 use Rattle.hivevigil.specs.Pairs.{number_in}
 use Rattle.hivevigil.specs.declared.pairs.Pair.{Pair}
 
@@ -43,6 +47,42 @@ pub record AreTextsOf (kind : VarBinKind) (offsets : List ℤ) (bytes : List ℕ
   pub views : List View
   pub cuts : AreCuts offsets views
   pub is : column_of c ≡ OfLeaf (OfVarBins (varbin_with kind views (bytes ∷ []) validity))
+
+-- bytes that begin and stop where a `usize` says, and do not stop before they begin
+pub record IsCut (start stop : ℤ) : Type 0 where
+  pub from : ℕ
+  pub to : ℕ
+  pub begins : start ≡ pos from
+  pub stops : stop ≡ pos to
+  pub order : from ≤ to
+  pub numbered : to < 2 ^ 64
+
+-- row k is cut from offset k to offset k + 1
+abbrev pub IsRowCut : List ℤ → ℕ → Type 0
+IsRowCut offsets row = IsCut (slice_index_or offsets row (pos 0)) (slice_index_or offsets (row + 1) (pos 0))
+
+-- the first row that is none
+pub record IsFirstUncut (offsets : List ℤ) (row : ℕ) : Type 0 where
+  pub there : row + 1 < length offsets
+  pub uncut : ¬ IsRowCut offsets row
+  pub before : (k : ℕ) → k < row → IsRowCut offsets k
+
+-- why offsets cut no rows: there is no offset, or a row is none
+abbrev pub CutsFault : List ℤ → VortexError → Type 0
+CutsFault offsets (NoRunsWindow offset count) = (length offsets ≡ 0) × (offset ≡ 0) × (count ≡ 0)
+CutsFault offsets (EndsNotStrict row) = IsFirstUncut offsets row
+CutsFault offsets error = ⊥
+
+-- why rows that are cut are no flat column: there are fewer bits than rows, or else the first fault of such parts
+pub record IsCutFault (kind : VarBinKind) (offsets : List ℤ) (bytes : List ℕ) (nulls : ℕ) (bits : List ℕ) (first : ℕ) (error : VortexError) : Type 0 where
+  pub views : List View
+  pub cuts : AreCuts offsets views
+  pub is : (validity_fault nulls bits first (length views) ≡ Some error)
+      ⊎ ((validity_fault nulls bits first (length views) ≡ None) × VarBinFault (varbin_with kind views (bytes ∷ []) (validity_by nulls bits first (length views))) error)
+
+-- the first fault of texts or bytes that lie one behind the other
+abbrev pub TextsFault : VarBinKind → List ℤ → List ℕ → ℕ → List ℕ → ℕ → VortexError → Type 0
+TextsFault kind offsets bytes nulls bits first error = CutsFault offsets error ⊎ IsCutFault kind offsets bytes nulls bits first error
 
 -- a copy in the same form
 abbrev pub IsCopyOf : ArrayRef Global → ArrayRef Global → Type 0

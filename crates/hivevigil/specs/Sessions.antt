@@ -1,8 +1,10 @@
 -- The session that C passes.
-use Rattle.std.specs.Prelude.{◌≡◌, true, slice_index_or}
+use Rattle.std.specs.Prelude.{◌≡◌, slice_index_or}
+use Rattle.runend_array.specs.Column.{Column}
 use Rattle.runend_array.specs.SessionForm.{SessionForm, is_registered_in, kernel_index}
 use Rattle.runend_array.specs.declared.session.Kernel.{Kernel}
 use Rattle.runend_array.specs.declared.session.Thresholds.{Thresholds}
+use Rattle.runend_commands.specs.KernelForms.{IsReadInPlace}
 use Rattle.hivevigil.specs.Flags.{flag_of}
 use Rattle.hivevigil.specs.declared.sessions.Session.{Session}
 
@@ -15,6 +17,10 @@ pub record IsSessionOf (s : Session) (form : SessionForm) : Type 0 where
   pub kernels : (k : Kernel) → is_registered_in form k ≡ flag_of (slice_index_or s.kernels (kernel_index k) 0)
   pub thresholds : form.thresholds ≡ thresholds_in s
 
--- the flag of each kernel is set
+-- the flag of each kernel is 1
 abbrev pub HasAllKernels : Session → Type 0
-HasAllKernels s = (k : Kernel) → flag_of (slice_index_or s.kernels (kernel_index k) 0) ≡ true
+HasAllKernels s = (k : Kernel) → slice_index_or s.kernels (kernel_index k) 0 ≡ 1
+
+-- under the session the kernel reads the rows of this column where they are
+abbrev pub IsReadInPlaceIn : Session → Kernel → Column → Type 0
+IsReadInPlaceIn s kernel column = (form : SessionForm) → IsSessionOf s form → IsReadInPlace form kernel column

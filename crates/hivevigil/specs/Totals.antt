@@ -1,15 +1,27 @@
 -- Sums, as C reads them.
-use Rattle.std.specs.Prelude.{ℕ, zero, suc, Some, None}
+use Rattle.std.specs.Prelude.{◌≡◌, List, Option, Some, None}
+use Rattle.column_base.specs.declared.dtype.DType.{DType}
+use Rattle.column_core.specs.Value.{Value}
+use Rattle.column_sums.specs.SumAnswer.{IsSumAnswer}
+use Rattle.column_sums.specs.declared.answer.SumValue.{SumValue}
 use Rattle.column_sums.specs.declared.answer.SumValue.TheVariants.{Unsigned, Signed}
 use Rattle.column_sums.specs.declared.answer.SumAnswer.{SumAnswer}
-use Rattle.hivevigil.specs.Flags.{flag_of}
+use Rattle.hivevigil.specs.Flags.{byte_of}
 use Rattle.hivevigil.specs.declared.totals.Total.{Total}
 
--- the answer of a sum, by its kind
-abbrev pub answer_by : ℕ → Total → SumAnswer
-answer_by zero t = record { sum = None; is_empty = flag_of t.empty }
-answer_by (suc zero) t = record { sum = Some (Unsigned t.as_unsigned); is_empty = flag_of t.empty }
-answer_by (suc (suc k)) t = record { sum = Some (Signed t.as_signed); is_empty = flag_of t.empty }
+-- the sum by its kind: 0 for one that left the range
+abbrev pub IsSumTold : Option SumValue → Total → Type 0
+IsSumTold None total = total.kind ≡ 0
+IsSumTold (Some (Unsigned number)) total = (total.kind ≡ 1) × (total.as_unsigned ≡ number)
+IsSumTold (Some (Signed number)) total = (total.kind ≡ 2) × (total.as_signed ≡ number)
 
-abbrev pub answer_in : Total → SumAnswer
-answer_in t = answer_by t.kind t
+-- the sum, and whether no row is valid
+pub record IsAnswerTold (answer : SumAnswer) (total : Total) : Type 0 where
+  pub sum : IsSumTold answer.sum total
+  pub empty : total.empty ≡ byte_of answer.is_empty
+
+-- it tells the sum of the rows of a column of this type
+pub record IsTotalOf (dtype : DType) (rows : List (Option Value)) (total : Total) : Type 0 where
+  pub answer : SumAnswer
+  pub sums : IsSumAnswer dtype rows answer
+  pub told : IsAnswerTold answer total

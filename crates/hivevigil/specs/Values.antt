@@ -1,21 +1,22 @@
 -- Values, as C reads and writes them.
-use Rattle.std.specs.Prelude.{◌≡◌, ◌^◌, ℕ, zero, suc, ℤ, ◌+ℤ◌, ◌*ℤ◌, pos, List, All, Bool, true, false, length, take, slice_get, Option, Some, None}
+use Rattle.std.specs.Prelude.{◌≡◌, ◌^◌, ℕ, ◌<◌, zero, suc, ℤ, ◌+ℤ◌, ◌*ℤ◌, pos, List, All, Bool, true, false, length, take, slice_get, Option, Some, None}
 use Rattle.std.specs.Global.{Global}
 use Rattle.std.specs.Str.{IsUtf8}
 use Rattle.column_base.specs.declared.dtype.DType.{DType}
 use Rattle.column_base.specs.declared.dtype.DType.TheVariants as column
+use Rattle.column_base.specs.declared.dtype.PType.{PType}
 use Rattle.column_base.specs.declared.dtype.Nullability.TheVariants.{NonNullable, Nullable}
 use Rattle.column_base.specs.declared.error.VortexError.{VortexError}
 use Rattle.column_base.specs.declared.error.VortexError.TheVariants.{ColumnLength, Unsupported}
 use Rattle.column_base.specs.Types.{HasNumber, IsUnsigned, with_nullability}
-use Rattle.column_core.specs.Value.{Value, Single, Items, FlatValue, Number, DecimalNumber, Truth, Text, Bytes}
+use Rattle.column_core.specs.Value.{PlainColumn, Value, Single, Items, FlatValue, Number, DecimalNumber, Truth, Text, Bytes}
 use Rattle.column_core.specs.ScalarForm.{ScalarForm}
-use Rattle.column_core.specs.ScalarView.{sees}
+use Rattle.column_core.specs.ScalarView.{IsViewOf, sees}
 use Rattle.column_core.specs.declared.view.ScalarView.{ScalarView}
 use Rattle.column_order.specs.OrderFacts.{IsLeast, IsGreatest}
-use Rattle.runend_array.specs.Array.{rows}
+use Rattle.runend_array.specs.Array.{dtype_of, rows}
 use Rattle.runend_array.specs.declared.array_ref.ArrayRef.{ArrayRef}
-use Rattle.hivevigil.specs.Flags.{flag_of}
+use Rattle.hivevigil.specs.Flags.{byte_of, flag_of}
 use Rattle.hivevigil.specs.declared.row_value.RowValue.{RowValue}
 
 -- the decimal of two halves
@@ -52,28 +53,44 @@ abbrev pub IsPassed : DType → ℕ → RowValue → List ℕ → Type 0
 IsPassed t zero value text = Unit {0}
 IsPassed t (suc k) value text = IsPassedIn (with_nullability t NonNullable) (suc k) value text
 
--- what is shown, where the bytes of a text are the first of the caller's buffer
-abbrev pub shown_in : ℕ → RowValue → List ℕ → Option Value
-shown_in zero value text = None
-shown_in (suc zero) value text = Some (Single (Number (pos value.as_unsigned)))
-shown_in (suc (suc zero)) value text = Some (Single (Number value.as_signed))
-shown_in (suc (suc (suc zero))) value text = Some (Single (Truth (flag_of value.truth)))
-shown_in (suc (suc (suc (suc zero)))) value text = Some (Single (DecimalNumber (halves value)))
-shown_in (suc (suc (suc (suc (suc zero))))) value text = Some (Single (Text (take value.as_unsigned text)))
-shown_in (suc (suc (suc (suc (suc (suc k)))))) value text = Some (Single (Bytes (take value.as_unsigned text)))
+-- the bytes stand at the front of the buffer, and the value says how many they are
+pub record AreAtFront (bytes : List ℕ) (value : RowValue) (text : List ℕ) : Type 0 where
+  pub size : value.as_unsigned ≡ length bytes
+  pub front : take (length bytes) text ≡ bytes
 
--- it shows what the view shows
-abbrev pub shows : RowValue → List ℕ → ScalarView Global → Type 0
-shows value text view = shown_in value.kind value text ≡ sees view
+-- a number of an unsigned type is told as unsigned, one of a signed type as signed
+pub record IsToldAs (ptype : PType) (number : ℤ) (value : RowValue) : Type 0 where
+  pub unsigned : IsUnsigned ptype → (value.kind ≡ 1) × (pos value.as_unsigned ≡ number)
+  pub signed : ¬ IsUnsigned ptype → (value.kind ≡ 2) × (value.as_signed ≡ number)
 
--- it shows the row of this number
-abbrev pub IsShownAt : ℕ → ArrayRef Global → List ℕ → RowValue → Type 0
-IsShownAt row c text value = slice_get (rows c) row ≡ Some (shown_in value.kind value text)
+abbrev pub IsNumberTold : DType → ℤ → RowValue → Type 0
+IsNumberTold (column.Primitive ptype n) number value = IsToldAs ptype number value
+IsNumberTold t number value = ⊥
 
--- a text or bytes that have no room, told with their number and the room; a list is never shown
+-- C is told this row of a column of the type; the bytes of a text stand at the front of the caller's buffer, and a list is never told
+abbrev pub IsTold : DType → Option Value → RowValue → List ℕ → Type 0
+IsTold t None value text = value.kind ≡ 0
+IsTold t (Some (Single (Number number))) value text = IsNumberTold t number value
+IsTold t (Some (Single (Truth truth))) value text = (value.kind ≡ 3) × (value.truth ≡ byte_of truth)
+IsTold t (Some (Single (DecimalNumber number))) value text = (value.kind ≡ 4) × (halves value ≡ number)
+IsTold t (Some (Single (Text bytes))) value text = (value.kind ≡ 5) × AreAtFront bytes value text
+IsTold t (Some (Single (Bytes bytes))) value text = (value.kind ≡ 6) × AreAtFront bytes value text
+IsTold t (Some (Items items)) value text = ⊥
+
+-- it tells what the view shows, in each type that the view is of
+abbrev pub TellsView : RowValue → List ℕ → ScalarView Global → Type 0
+TellsView value text view = (t : DType) → IsViewOf t view → IsTold t (sees view) value text
+
+-- it tells the row of this number
+pub record IsShownAt (row : ℕ) (c : ArrayRef Global) (text : List ℕ) (value : RowValue) : Type 0 where
+  pub shown : Option Value
+  pub there : slice_get (rows c) row ≡ Some shown
+  pub told : IsTold (dtype_of c) shown value text
+
+-- a text or bytes that have no room, told with their number and the room; a list is never told
 abbrev pub IsRoomFault : Option Value → ℕ → VortexError → Type 0
-IsRoomFault (Some (Single (Text bytes))) room error = error ≡ ColumnLength (length bytes) room
-IsRoomFault (Some (Single (Bytes bytes))) room error = error ≡ ColumnLength (length bytes) room
+IsRoomFault (Some (Single (Text bytes))) room error = (error ≡ ColumnLength (length bytes) room) × (room < length bytes)
+IsRoomFault (Some (Single (Bytes bytes))) room error = (error ≡ ColumnLength (length bytes) room) × (room < length bytes)
 IsRoomFault (Some (Items items)) room error = error ≡ Unsupported
 IsRoomFault value room error = ⊥
 
@@ -83,6 +100,8 @@ IsFurthestRow greatest rows None = All (λ row. row ≡ None) rows
 IsFurthestRow true rows (Some value) = IsGreatest rows (Some value)
 IsFurthestRow false rows (Some value) = IsLeast rows (Some value)
 
--- it shows that row
-abbrev pub IsExtremeOf : Bool → List (Option Value) → List ℕ → RowValue → Type 0
-IsExtremeOf greatest rows text value = IsFurthestRow greatest rows (shown_in value.kind value text)
+-- it tells that row
+pub record IsExtremeOf (greatest : Bool) (before : PlainColumn) (text : List ℕ) (value : RowValue) : Type 0 where
+  pub row : Option Value
+  pub furthest : IsFurthestRow greatest before.rows row
+  pub told : IsTold before.dtype row value text

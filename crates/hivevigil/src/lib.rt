@@ -21,3 +21,4 @@ mod sessions;
 mod text_rows;
 mod texts;
 mod totals;
+mod words;

@@ -1,12 +1,12 @@
 //! One value of a row, as C reads and writes it.
-ghost use Rattle.std.specs.Prelude.{◌≡◌, ◌⊎◌, ◌↔◌, length, take, IfOk, IfErr, Some};
+ghost use Rattle.std.specs.Prelude.{◌≡◌, ◌<◌, ◌⊎◌, ◌↔◌, length, take, IfOk, IfErr, Some};
 ghost use Rattle.std.specs.Str.{IsUtf8};
 ghost use Rattle.column_base.specs.declared.dtype.DType.{DType};
 ghost use Rattle.column_core.specs.Value.{Text};
 ghost use Rattle.column_core.specs.Scalar.{flat_of, IsOwnedOf};
 ghost use Rattle.column_core.specs.ScalarView.{sees};
 ghost use Rattle.runend_array.specs.Array.{dtype_of};
-ghost use Rattle.hivevigil.specs.Values.{IsPassed, IsPassedIn, IsRoomFault, scalar_in, shows, value_in};
+ghost use Rattle.hivevigil.specs.Values.{IsPassed, IsPassedIn, IsRoomFault, TellsView, scalar_in, value_in};
 
 use crate::pairs::{Pair, number_of, pair_of};
 use column_core::{Nullability, Scalar, ScalarValue, ScalarView, VortexError, VortexResult};
@@ -27,7 +27,7 @@ pub struct RowValue {
 /// What a view shows, for C. A text or bytes go to the front of `text`, and `as_unsigned` says how many there
 /// are; refused as `ColumnLength`, with that number and the room, where they have no room there.
 pub(crate) fn row_value_of(view: ScalarView<'_, Global>, text: &mut [u8]) -> VortexResult<RowValue>
-    ensures shown { IfOk result (λ value. shows value text.new view.entry) }
+    ensures told { IfOk result (λ value. TellsView value text.new view.entry) }
     ensures room { IfErr result (λ error. IsRoomFault (sees view.entry) (length text.old) error) }
     ensures len { length text.new ≡ length text.old }
 {
@@ -46,11 +46,18 @@ pub(crate) fn row_value_of(view: ScalarView<'_, Global>, text: &mut [u8]) -> Vor
     }
 }
 
+/// Null.
+pub(crate) fn null() -> RowValue
+    ensures { result.kind ≡ 0 }
+{
+    row_value(0, 0, 0, 0)
+}
+
 /// Copies bytes to the front of `room`, and answers how many they are. Refused as `ColumnLength`, with that
 /// number and the room, where there is no room for all.
 pub(crate) fn put_bytes(bytes: &[u8], room: &mut [u8]) -> VortexResult<u64>
     ensures put { IfOk result (λ size. (size ≡ length bytes.now) × (take size room.new ≡ bytes.now)) }
-    ensures refused { IfErr result (λ error. error ≡ VortexError.ColumnLength (length bytes.now) (length room.old)) }
+    ensures refused { IfErr result (λ error. (error ≡ VortexError.ColumnLength (length bytes.now) (length room.old)) × (length room.old < length bytes.now)) }
     ensures len { length room.new ≡ length room.old }
 {
     let size = bytes.len();

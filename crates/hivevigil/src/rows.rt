@@ -5,22 +5,26 @@ ghost use Rattle.column_base.specs.ValidityForm.{HasLength, flags};
 ghost use Rattle.column_base.specs.Words.{Packs};
 ghost use Rattle.runend_array.specs.Array.{column_of};
 ghost use Rattle.hivevigil.specs.Pairs.{number_in, zero_pair};
+ghost use Rattle.hivevigil.specs.ReadFaults.{IsRefusedOnlyBy, decimals_fault, flags_fault, numbers_fault, truths_fault, words_fault};
 ghost use Rattle.hivevigil.specs.Reads.{AreNumbersFrom, ArePairsFrom, AreTruthWords, AreValidityWords};
 
 use crate::pairs::{Pair, pair_of};
-use column_core::{BitBuffer, BitBufferMut, NativePType, Validity, VortexError, VortexResult};
+use crate::words::{check_range, put_bits, put_same};
+use column_core::{NativePType, Validity, VortexError, VortexResult};
 use runend_array::ArrayRef;
 use std::alloc::Global;
 
 /// The numbers that a flat column stores, from `start` on, as many as there are `items`. Refused as
 /// `Unsupported` where it is no flat column of whole numbers, as `TypeMismatch` where it is one of another type,
 /// and as `BadRange` where the rows do not reach.
+#[tactic(auto, using(crate::proofs::ReadRefusals::numbers_of_type, crate::proofs::ReadRefusals::numbers_of_other))]
 pub(crate) fn read_numbers<T: NativePType>(
     array: &ArrayRef<Global>,
     start: usize,
     items: &mut [T],
 ) -> VortexResult<()>
     ensures items { IfOk result (λ _. AreNumbersFrom (column_of array.now) start (map T.number items.new)) }
+    ensures refused { IsRefusedOnlyBy (numbers_fault T.PTYPE start (length items.old) (column_of array.now)) result }
     ensures len { length items.new ≡ length items.old }
 {
     let ArrayRef::Primitive(numbers) = array else {
@@ -42,6 +46,7 @@ pub(crate) fn read_decimals(
     pairs: &mut [Pair],
 ) -> VortexResult<()>
     ensures pairs { IfOk result (λ _. ArePairsFrom (column_of array.now) start pairs.new) }
+    ensures refused { IsRefusedOnlyBy (decimals_fault start (length pairs.old) (column_of array.now)) result }
     ensures len { length pairs.new ≡ length pairs.old }
 {
     let ArrayRef::Decimal(decimals) = array else {
@@ -57,46 +62,29 @@ pub(crate) fn read_decimals(
 /// no flat column of truth values, and as `ColumnLength` for another number of words.
 pub(crate) fn read_booleans(array: &ArrayRef<Global>, words: &mut [u64]) -> VortexResult<()>
     ensures words { IfOk result (λ _. AreTruthWords (column_of array.now) words.new) }
+    ensures refused { IsRefusedOnlyBy (truths_fault (length words.old) (column_of array.now)) result }
     ensures len { length words.new ≡ length words.old }
 {
     match array {
-        ArrayRef::Bool(truths) => put_words(truths.values(), words),
+        ArrayRef::Bool(truths) => put_bits(truths.values(), words),
         _ => Err(VortexError::Unsupported),
     }
 }
 
 /// A bit for each row of a flat column, 64 to a word: whether it is valid. Refused as `Unsupported` where the
-/// column is not flat, as `ColumnLength` for another number of words, and for want of memory.
-pub(crate) fn read_validity(
-    alloc: Global,
-    array: &ArrayRef<Global>,
-    words: &mut [u64],
-) -> VortexResult<()>
+/// column is not flat, and as `ColumnLength` for another number of words.
+pub(crate) fn read_validity(array: &ArrayRef<Global>, words: &mut [u64]) -> VortexResult<()>
     ensures words { IfOk result (λ _. AreValidityWords (column_of array.now) words.new) }
+    ensures refused { IsRefusedOnlyBy (flags_fault (length words.old) (column_of array.now)) result }
     ensures len { length words.new ≡ length words.old }
 {
     match array {
-        ArrayRef::Primitive(flat) => put_validity(alloc, flat.validity(), flat.len(), words),
-        ArrayRef::Bool(flat) => put_validity(alloc, flat.validity(), flat.len(), words),
-        ArrayRef::Decimal(flat) => put_validity(alloc, flat.validity(), flat.len(), words),
-        ArrayRef::VarBinView(flat) => put_validity(alloc, flat.validity(), flat.len(), words),
+        ArrayRef::Primitive(flat) => put_validity(flat.validity(), flat.len(), words),
+        ArrayRef::Bool(flat) => put_validity(flat.validity(), flat.len(), words),
+        ArrayRef::Decimal(flat) => put_validity(flat.validity(), flat.len(), words),
+        ArrayRef::VarBinView(flat) => put_validity(flat.validity(), flat.len(), words),
         _ => Err(VortexError::Unsupported),
     }
-}
-
-/// Are there so many rows from `start` on? Else refused as `BadRange`, with the stop wanted, 2^64 - 1 where
-/// no `usize` has it.
-pub(crate) fn check_range(start: usize, count: usize, length: usize) -> VortexResult<()>
-    ensures { IfOk result (λ _. start + count ≤ length) }
-{
-    if start > length || count > length - start {
-        return Err(VortexError::BadRange {
-            start,
-            stop: start.saturating_add(count),
-            length,
-        });
-    }
-    Ok(())
 }
 
 // The items from `start` on, as many as there is room for.
@@ -121,40 +109,16 @@ fn copy_pairs(stored: &[i128], start: usize, pairs: &mut [Pair])
     }
 }
 
-// Copies all words.
-fn put_words(bits: &BitBuffer<Global>, words: &mut [u64]) -> VortexResult<()>
-    ensures packed { IfOk result (λ _. Packs words.new bits.now) }
-    ensures len { length words.new ≡ length words.old }
-{
-    let stored = bits.words();
-    if words.len() != stored.len() {
-        return Err(VortexError::ColumnLength {
-            left: stored.len(),
-            right: words.len(),
-        });
-    }
-    words.copy_from_slice(stored);
-    Ok(())
-}
-
 // The bits of a validity of so many rows.
-fn put_validity(
-    alloc: Global,
-    validity: &Validity<Global>,
-    count: usize,
-    words: &mut [u64],
-) -> VortexResult<()>
+fn put_validity(validity: &Validity<Global>, count: usize, words: &mut [u64]) -> VortexResult<()>
     requires { HasLength (form_of validity.now) count }
     ensures packed { IfOk result (λ _. Packs words.new (flags (form_of validity.now) count)) }
+    ensures refused { IsRefusedOnlyBy (words_fault count (length words.old)) result }
     ensures len { length words.new ≡ length words.old }
 {
     match validity {
-        Validity::Bits(bits) => put_words(bits, words),
-        Validity::AllInvalid => {
-            put_words(&BitBufferMut::full(alloc, false, count)?.freeze(), words)
-        }
-        Validity::NonNullable | Validity::AllValid => {
-            put_words(&BitBufferMut::full(alloc, true, count)?.freeze(), words)
-        }
+        Validity::Bits(bits) => put_bits(bits, words),
+        Validity::AllInvalid => put_same(false, count, words),
+        Validity::NonNullable | Validity::AllValid => put_same(true, count, words),
     }
 }

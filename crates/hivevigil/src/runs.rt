@@ -1,11 +1,12 @@
 //! Run columns of what other handles hold, and what run columns consist of.
-ghost use Rattle.std.specs.Prelude.{◌≡◌, ◌≢◌, length, take, IfOk, IfErr, IsOkUnless};
+ghost use Rattle.std.specs.Prelude.{◌≡◌, length, IfOk, IfErr, IsOkUnless};
 ghost use Rattle.runend_array.specs.Array.{column_of};
 ghost use Rattle.runend_array.specs.Column.{column_of_runs};
-ghost use Rattle.runend_array.specs.Fault.{PartsFault};
-ghost use Rattle.runend_column.specs.Fault.{RecordFault};
+ghost use Rattle.column_core.specs.Refusal.{IsRefusedBy};
 ghost use Rattle.hivevigil.specs.Makers.{AreRecordedRuns, AreRunsOf, IsCopyOf};
-ghost use Rattle.hivevigil.specs.Reads.{AreEndsOf, AreRunValuesOf, IsRecordOf, form_number, offset_in};
+ghost use Rattle.hivevigil.specs.Ending.{IsShortOr};
+ghost use Rattle.hivevigil.specs.Reads.{AreRunValuesOf, form_number, offset_in};
+ghost use Rattle.hivevigil.specs.RunParts.{AreEndsOf, IsRecordAtFront, RecordedFault, RunsFault, SerializeFault, no_runs_fault};
 
 use crate::flat::{Boxed, boxed};
 use crate::row_value::put_bytes;
@@ -41,7 +42,7 @@ pub(crate) fn run_column(
     count: usize,
 ) -> VortexResult<Boxed>
     ensures made { IfOk result (λ made. AreRunsOf offset count ends.now values.now made.value) }
-    ensures refused { IfErr result (λ error. error ≢ VortexError.OutOfMemory → PartsFault (column_of ends.now) (column_of values.now) offset count error) }
+    ensures refused { IfErr result (λ error. IsShortOr (RunsFault offset count ends.now values.now) error) }
 {
     let (ends, values) = copies(alloc, ends, values)?;
     let runs = RunEnd::try_new_offset_length(
@@ -65,7 +66,7 @@ pub(crate) fn recorded_column(
     values: &ArrayRef<Global>,
 ) -> VortexResult<Boxed>
     ensures made { IfOk result (λ made. AreRecordedRuns bytes.now dtype count ends.now values.now made.value) }
-    ensures refused { IfErr result (λ error. error ≢ VortexError.OutOfMemory → RecordFault bytes.now dtype count (column_of ends.now) (column_of values.now) error) }
+    ensures refused { IfErr result (λ error. IsShortOr (RecordedFault bytes.now dtype count ends.now values.now) error) }
 {
     let (ends, values) = copies(alloc, ends, values)?;
     let runs = deserialize(dtype, count, bytes, ends, values, &mut plain_context(alloc))?;
@@ -74,7 +75,8 @@ pub(crate) fn recorded_column(
 
 /// A copy of the ends of a run column. Refused as `Unsupported` where it is none, else for want of memory.
 pub(crate) fn ends_of(alloc: Global, array: &ArrayRef<Global>) -> VortexResult<Boxed>
-    ensures { IfOk result (λ made. AreEndsOf (column_of array.now) (column_of made.value)) }
+    ensures made { IfOk result (λ made. AreEndsOf (column_of array.now) (column_of made.value)) }
+    ensures refused { IsRefusedBy (no_runs_fault (column_of array.now)) result }
 {
     match array {
         ArrayRef::RunEnd(runs) => boxed_copy(alloc, runs.ends()),
@@ -84,7 +86,8 @@ pub(crate) fn ends_of(alloc: Global, array: &ArrayRef<Global>) -> VortexResult<B
 
 /// A copy of the values of a run column. Refused as `Unsupported` where it is none, else for want of memory.
 pub(crate) fn values_of(alloc: Global, array: &ArrayRef<Global>) -> VortexResult<Boxed>
-    ensures { IfOk result (λ made. AreRunValuesOf (column_of array.now) (column_of made.value)) }
+    ensures made { IfOk result (λ made. AreRunValuesOf (column_of array.now) (column_of made.value)) }
+    ensures refused { IsRefusedBy (no_runs_fault (column_of array.now)) result }
 {
     match array {
         ArrayRef::RunEnd(runs) => boxed_copy(alloc, runs.values()),
@@ -122,7 +125,8 @@ pub(crate) fn put_record(
     array: &ArrayRef<Global>,
     room: &mut [u8],
 ) -> VortexResult<usize>
-    ensures put { IfOk result (λ size. IsRecordOf (column_of array.now) (take size room.new)) }
+    ensures put { IfOk result (λ size. IsRecordAtFront (column_of array.now) size room.new) }
+    ensures refused { IfErr result (λ error. IsShortOr (SerializeFault (length room.old) array.now) error) }
     ensures len { length room.new ≡ length room.old }
 {
     let ArrayRef::RunEnd(runs) = array else {

@@ -1,9 +1,10 @@
 //! Texts and bytes of a flat column, many rows at once.
-ghost use Rattle.std.specs.Prelude.{◌≡◌, ℕ, ◌+◌, ◌-◌, ◌++◌, ◌<◌, ◌≤◌, pos, take, length, map, slice_range, slice_index_or, IfOk, IfSome, None};
+ghost use Rattle.std.specs.Prelude.{◌≡◌, ℕ, ◌+◌, ◌-◌, ◌^◌, ◌++◌, ◌<◌, ◌≤◌, pos, take, length, map, slice_range, slice_index_or, IfOk, MatchOption, MatchResult, None};
 ghost use Rattle.runend_array.specs.Array.{column_of};
-ghost use Rattle.hivevigil.specs.Reads.{AreBytesFrom, AreOffsetsFrom, bytes_of, bytes_of_rows, text_rows};
+ghost use Rattle.hivevigil.specs.ReadFaults.{IsRefusedOnlyBy, bytes_fault, offset_fault, offsets_fault, room_fault};
+ghost use Rattle.hivevigil.specs.Reads.{AreBytesFrom, AreOffsetsFrom, bytes_of, bytes_of_rows, size_between, text_rows};
 
-use crate::rows::check_range;
+use crate::words::{check_range, check_room};
 use column_core::{NativePType, ScalarView, VarBinViewArray, VortexError, VortexResult};
 use runend_array::ArrayRef;
 use std::alloc::Global;
@@ -12,12 +13,14 @@ use std::alloc::Global;
 /// the last is how many bytes these rows have. Refused as `Unsupported` where it is no flat column of texts or
 /// bytes, as `BadRange` where there is no offset or the rows do not reach, and as `CastOutOfRange` where the type
 /// has no such offset.
+#[tactic(auto, using(crate::proofs::ReadRefusals::offsets_none, crate::proofs::ReadRefusals::offsets_past, crate::proofs::ReadRefusals::offsets_there, crate::proofs::ReadRefusals::refused_so))]
 pub(crate) fn read_offsets<T: NativePType>(
     array: &ArrayRef<Global>,
     start: usize,
     offsets: &mut [T],
 ) -> VortexResult<()>
     ensures offsets { IfOk result (λ _. AreOffsetsFrom (column_of array.now) start (map T.number offsets.new)) }
+    ensures refused { IsRefusedOnlyBy (offsets_fault T.PTYPE start (length offsets.old) (column_of array.now)) result }
     ensures len { length offsets.new ≡ length offsets.old }
 {
     let ArrayRef::VarBinView(texts) = array else {
@@ -38,6 +41,7 @@ pub(crate) fn read_offsets<T: NativePType>(
 /// The bytes of `count` rows from row `start` on, one after the other. Refused as `Unsupported` where it is no flat
 /// column of texts or bytes, as `BadRange` where the rows do not reach, and as `ColumnLength`, with their number
 /// and the room, unless the room is for just these bytes.
+#[tactic(auto, using(crate::proofs::ReadRefusals::bytes_past, crate::proofs::ReadRefusals::bytes_there))]
 pub(crate) fn read_bytes(
     array: &ArrayRef<Global>,
     start: usize,
@@ -45,19 +49,14 @@ pub(crate) fn read_bytes(
     bytes: &mut [u8],
 ) -> VortexResult<()>
     ensures bytes { IfOk result (λ _. AreBytesFrom (column_of array.now) start count bytes.new) }
+    ensures refused { IsRefusedOnlyBy (bytes_fault start count (length bytes.old) (column_of array.now)) result }
     ensures len { length bytes.new ≡ length bytes.old }
 {
     let ArrayRef::VarBinView(texts) = array else {
         return Err(VortexError::Unsupported);
     };
     check_range(start, count, texts.len())?;
-    let needed = size_of_rows(texts, start, start + count);
-    if needed != Some(bytes.len()) {
-        return Err(VortexError::ColumnLength {
-            left: needed.unwrap_or(usize::MAX),
-            right: bytes.len(),
-        });
-    }
+    check_bytes(texts, start, start + count, bytes.len())?;
     put_rows(texts, start, start + count, bytes);
     Ok(())
 }
@@ -74,7 +73,8 @@ fn put_offsets<T: NativePType>(
     requires within { stop ≤ length texts.now.views }
     requires counted { length (text_rows texts.now) ≡ length texts.now.views }
     requires room { length offsets.old ≡ stop - start + 1 }
-    ensures offsets { IfOk result (λ _. (k : ℕ) → k < stop - start + 1 → slice_index_or (map T.number offsets.new) k (pos 0) ≡ pos (length (bytes_of_rows (slice_range (text_rows texts.now) start (start + k))))) }
+    ensures offsets { IfOk result (λ _. (k : ℕ) → k < stop - start + 1 → slice_index_or (map T.number offsets.new) k (pos 0) ≡ pos (size_between texts.now start (start + k))) }
+    ensures refused { IsRefusedOnlyBy (offset_fault T.PTYPE (size_between texts.now start stop)) result }
     ensures len { length offsets.new ≡ length offsets.old }
 {
     let mut size: usize = 0;
@@ -89,7 +89,7 @@ fn put_offsets<T: NativePType>(
 
 // Both together, where a `usize` has it.
 fn add_size(size: usize, more: usize) -> VortexResult<usize>
-    ensures { IfOk result (λ sum. sum ≡ size + more) }
+    ensures { MatchResult result (λ sum. sum ≡ size + more) (λ error. (error ≡ VortexError.CastOutOfRange) × (2 ^ 64 ≤ size + more)) }
 {
     match size.checked_add(more) {
         Some(sum) => Ok(sum),
@@ -98,12 +98,37 @@ fn add_size(size: usize, more: usize) -> VortexResult<usize>
 }
 
 // The offset in its type.
+#[tactic(auto, using(crate::proofs::ReadRefusals::offset_there, crate::proofs::ReadRefusals::offset_past))]
 fn offset_of<T: NativePType>(size: usize) -> VortexResult<T>
-    ensures { IfOk result (λ offset. T.number offset ≡ pos size) }
+    ensures number { IfOk result (λ offset. T.number offset ≡ pos size) }
+    ensures refused { IsRefusedOnlyBy (offset_fault T.PTYPE size) result }
 {
     match T::narrow(size as i128) {
         Some(offset) => Ok(offset),
         None => Err(VortexError::CastOutOfRange),
+    }
+}
+
+// Is the room for just the bytes of the rows from `start` to `stop - 1`? Else refused as `ColumnLength`, with their
+// number, 2^64 - 1 where no `usize` has it, and the room.
+fn check_bytes(
+    texts: &VarBinViewArray<Global>,
+    start: usize,
+    stop: usize,
+    room: usize,
+) -> VortexResult<()>
+    requires order { start ≤ stop }
+    requires within { stop ≤ length texts.now.views }
+    requires counted { length (text_rows texts.now) ≡ length texts.now.views }
+    ensures there { IfOk result (λ _. size_between texts.now start stop ≡ room) }
+    ensures refused { IsRefusedOnlyBy (room_fault (size_between texts.now start stop) room) result }
+{
+    match size_of_rows(texts, start, stop) {
+        Some(needed) => check_room(needed, room),
+        None => Err(VortexError::ColumnLength {
+            left: usize::MAX,
+            right: room,
+        }),
     }
 }
 
@@ -113,7 +138,7 @@ fn size_of_rows(texts: &VarBinViewArray<Global>, start: usize, stop: usize) -> O
     requires order { start ≤ stop }
     requires within { stop ≤ length texts.now.views }
     requires counted { length (text_rows texts.now) ≡ length texts.now.views }
-    ensures { IfSome result (λ size. size ≡ length (bytes_of_rows (slice_range (text_rows texts.now) start stop))) }
+    ensures { let size = size_between texts.now start stop in MatchOption result (2 ^ 64 ≤ size) (λ told. told ≡ size) }
 {
     let mut size: usize = 0;
     for row in start..stop {

@@ -1,7 +1,8 @@
 //! Flat columns of the texts and bytes that C passes, one behind the other, with offsets.
-ghost use Rattle.std.specs.Prelude.{◌≡◌, ◌+◌, ◌-◌, [], ◌∷◌, map, length, pos, IfOk, IfSome};
+ghost use Rattle.std.specs.Prelude.{◌≡◌, ◌+◌, ◌-◌, [], ◌∷◌, map, length, pos, IfErr, IfOk, IfSome, IsOkUnless, MatchOption};
 ghost use Rattle.hivevigil.specs.Bits.{validity_by};
-ghost use Rattle.hivevigil.specs.Makers.{AreCuts, AreTextsOf};
+ghost use Rattle.hivevigil.specs.Ending.{IsShortOr};
+ghost use Rattle.hivevigil.specs.Makers.{AreCuts, AreTextsOf, CutsFault, IsCut, TextsFault};
 
 use crate::bits::validity_of;
 use crate::flat::{Boxed, boxed};
@@ -13,6 +14,7 @@ use std::alloc::Global;
 /// The flat column whose row i is the bytes from offset i up to offset i + 1. Refused as `NoRunsWindow` where
 /// there is no offset, as `EndsNotStrict`, with the row, where an offset is negative or below the one before,
 /// as the bits of its validity are, and then as `VarBinViewArray::try_new` refuses.
+#[tactic(auto, using(crate::proofs::Cuts::cuts_refused, crate::proofs::Cuts::bits_refused, crate::proofs::Cuts::texts_refused))]
 pub(crate) fn texts<T: NativePType>(
     alloc: Global,
     kind: VarBinKind,
@@ -22,7 +24,8 @@ pub(crate) fn texts<T: NativePType>(
     bits: &[u8],
     first: usize,
 ) -> VortexResult<Boxed>
-    ensures { IfOk result (λ made. AreTextsOf kind (map T.number offsets.now) bytes.now (validity_by nulls bits.now first (length offsets.now - 1)) made.value) }
+    ensures made { IfOk result (λ made. AreTextsOf kind (map T.number offsets.now) bytes.now (validity_by nulls bits.now first (length offsets.now - 1)) made.value) }
+    ensures refused { IfErr result (λ error. IsShortOr (TextsFault kind (map T.number offsets.now) bytes.now nulls bits.now first) error) }
 {
     let views = views_between(alloc, offsets)?;
     let validity = validity_of(alloc, nulls, bits, first, views.len())?;
@@ -32,8 +35,10 @@ pub(crate) fn texts<T: NativePType>(
 }
 
 // A view from each offset to the next.
+#[tactic(auto, using(crate::proofs::Cuts::first_uncut))]
 fn views_between<T: NativePType>(alloc: Global, offsets: &[T]) -> VortexResult<Vec<View>>
-    ensures { IfOk result (λ views. AreCuts (map T.number offsets.now) views.items) }
+    ensures cuts { IfOk result (λ views. AreCuts (map T.number offsets.now) views.items) }
+    ensures refused { IfErr result (λ error. IsShortOr (CutsFault (map T.number offsets.now)) error) }
 {
     if offsets.is_empty() {
         return Err(VortexError::NoRunsWindow {
@@ -53,8 +58,10 @@ fn views_between<T: NativePType>(alloc: Global, offsets: &[T]) -> VortexResult<V
 }
 
 // The view from one offset to the next of the first buffer.
+#[tactic(auto, using(crate::proofs::Cuts::uncut_start, crate::proofs::Cuts::uncut_stop, crate::proofs::Cuts::uncut_order, crate::proofs::Cuts::is_cut))]
 fn view_between<T: NativePType>(start: T, stop: T) -> Option<View>
-    ensures { IfSome result (λ view. (view.buffer ≡ 0) × (pos view.start ≡ T.number start) × (pos (view.start + view.size) ≡ T.number stop)) }
+    ensures view { IfSome result (λ view. (view.buffer ≡ 0) × (pos view.start ≡ T.number start) × (pos (view.start + view.size) ≡ T.number stop)) }
+    ensures cut { MatchOption result (¬ IsCut (T.number start) (T.number stop)) (λ _. IsCut (T.number start) (T.number stop)) }
 {
     let start = usize::try_from(start.widen()).ok()?;
     let stop = usize::try_from(stop.widen()).ok()?;
@@ -68,7 +75,8 @@ fn view_between<T: NativePType>(start: T, stop: T) -> Option<View>
 
 // These bytes as the one buffer.
 fn only_buffer(alloc: Global, bytes: &[u8]) -> VortexResult<Vec<Bytes<Global>>>
-    ensures { IfOk result (λ buffers. buffers.items ≡ bytes.now ∷ []) }
+    ensures buffer { IfOk result (λ buffers. buffers.items ≡ bytes.now ∷ []) }
+    ensures only { IsOkUnless result VortexError.OutOfMemory }
 {
     let mut buffers = Vec::with_capacity(alloc, 1)?;
     buffers.push(Bytes::copy_from_slice(alloc, bytes)?)?;

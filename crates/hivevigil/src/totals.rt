@@ -1,6 +1,5 @@
 //! Sums, as C reads them.
-ghost use Rattle.std.specs.Prelude.{◌≡◌};
-ghost use Rattle.hivevigil.specs.Totals.{answer_in};
+ghost use Rattle.hivevigil.specs.Totals.{IsAnswerTold};
 
 use column_sums::{SumAnswer, SumValue};
 
@@ -17,7 +16,7 @@ pub struct Total {
 
 /// The sum for C.
 pub(crate) fn total_of(answer: SumAnswer) -> Total
-    ensures { answer_in result ≡ answer }
+    ensures { IsAnswerTold answer result }
 {
     let (kind, as_unsigned, as_signed) = match answer.sum {
         None => (0, 0, 0),

@@ -1,14 +1,14 @@
 //! Calls that ask about a column.
-ghost use Rattle.std.specs.Prelude.{◌≡◌, IfSome, IsSomeAnd, length, pos, Some};
+ghost use Rattle.std.specs.Prelude.{◌≡◌, IsSomeAnd, MatchOption, length, pos, Some};
 ghost use Rattle.column_order.specs.OrderFacts as order;
-ghost use Rattle.column_sums.specs.SumAnswer.{IsSumAnswer};
 ghost use Rattle.runend_array.specs.Array.{column_of, dtype_of, rows};
 ghost use Rattle.runend_commands.specs.declared.command.Command.TheVariants.{Sum, IsConstant, IsSorted};
+ghost use Rattle.runend_commands.specs.Meaning.{plain};
 ghost use Rattle.hivevigil.specs.Ending.{EndsOn, EndsOnExtreme, EndsOnRow};
 ghost use Rattle.hivevigil.specs.Flags.{Tells, flag_of};
 ghost use Rattle.hivevigil.specs.Kinds.{IsKindOf};
 ghost use Rattle.hivevigil.specs.Reads.{form_number, offset_in};
-ghost use Rattle.hivevigil.specs.Totals.{answer_in};
+ghost use Rattle.hivevigil.specs.Totals.{IsTotalOf};
 ghost use Rattle.hivevigil.specs.Values.{IsExtremeOf, IsShownAt};
 
 use crate::error_fields::{ErrorFields, NO_COLUMN, tell};
@@ -31,7 +31,7 @@ pub extern "C" fn hv_sum(
     error: &mut ErrorFields,
 ) -> i32
     ensures same { column.new.column ≡ column.old.column }
-    ensures told { result ≡ pos 0 → IsSomeAnd column.old.column (λ c. IsSumAnswer (dtype_of c) (rows c) (answer_in total.new)) }
+    ensures told { result ≡ pos 0 → IsSomeAnd column.old.column (λ c. IsTotalOf (dtype_of c) (rows c) total.new) }
     ensures ended { EndsOn column.old.column (Some Sum) result error.new }
 {
     let Some(array) = column.take(alloc) else {
@@ -102,7 +102,7 @@ pub extern "C" fn hv_extreme(
     error: &mut ErrorFields,
 ) -> i32
     ensures same { column.new.column ≡ column.old.column }
-    ensures told { result ≡ pos 0 → IsSomeAnd column.old.column (λ c. IsExtremeOf (flag_of greatest) (rows c) text.new value.new) }
+    ensures told { result ≡ pos 0 → IsSomeAnd column.old.column (λ c. IsExtremeOf (flag_of greatest) (plain c) text.new value.new) }
     ensures ended { EndsOnExtreme (flag_of greatest) (length text.old) column.old.column result error.new }
 {
     let Some(array) = column.take(alloc) else {
@@ -141,7 +141,7 @@ pub extern "C" fn hv_at(
 #[unsafe(no_mangle)]
 pub extern "C" fn hv_length(alloc: Global, column: &mut Handle) -> usize
     ensures same { column.new.column ≡ column.old.column }
-    ensures told { IfSome column.old.column (λ c. result ≡ length (rows c)) }
+    ensures told { MatchOption column.old.column (result ≡ 0) (λ c. result ≡ length (rows c)) }
 {
     let Some(array) = column.take(alloc) else {
         return 0;
@@ -155,7 +155,7 @@ pub extern "C" fn hv_length(alloc: Global, column: &mut Handle) -> usize
 #[unsafe(no_mangle)]
 pub extern "C" fn hv_kind_of(alloc: Global, column: &mut Handle) -> Kind
     ensures same { column.new.column ≡ column.old.column }
-    ensures told { IfSome column.old.column (λ c. IsKindOf (dtype_of c) result) }
+    ensures told { MatchOption column.old.column (result.number ≡ 255) (λ c. IsKindOf (dtype_of c) result) }
 {
     let Some(array) = column.take(alloc) else {
         return kinds::no_kind();
@@ -169,7 +169,7 @@ pub extern "C" fn hv_kind_of(alloc: Global, column: &mut Handle) -> Kind
 #[unsafe(no_mangle)]
 pub extern "C" fn hv_form(alloc: Global, column: &mut Handle) -> u8
     ensures same { column.new.column ≡ column.old.column }
-    ensures told { IfSome column.old.column (λ c. result ≡ form_number (column_of c)) }
+    ensures told { MatchOption column.old.column (result ≡ 255) (λ c. result ≡ form_number (column_of c)) }
 {
     let Some(array) = column.take(alloc) else {
         return 255;
@@ -183,7 +183,7 @@ pub extern "C" fn hv_form(alloc: Global, column: &mut Handle) -> u8
 #[unsafe(no_mangle)]
 pub extern "C" fn hv_offset(alloc: Global, column: &mut Handle) -> usize
     ensures same { column.new.column ≡ column.old.column }
-    ensures told { IfSome column.old.column (λ c. result ≡ offset_in (column_of c)) }
+    ensures told { MatchOption column.old.column (result ≡ 0) (λ c. result ≡ offset_in (column_of c)) }
 {
     let Some(array) = column.take(alloc) else {
         return 0;

@@ -1,6 +1,10 @@
-//! Calls that read many rows at once.
-ghost use Rattle.std.specs.Prelude.{◌≡◌, IsSomeAnd, map, pos};
+//! Calls that read many rows at once. None of them takes memory.
+#![tactic(auto, using(crate::proofs::ReadEndings::read_empty, crate::proofs::ReadEndings::read_done, crate::proofs::ReadEndings::read_refused))]
+
+ghost use Rattle.std.specs.Prelude.{◌≡◌, IsSomeAnd, length, map, pos};
+ghost use Rattle.column_base.specs.declared.dtype.PType.TheVariants.{U8, U16, U32, U64, I8, I16, I32, I64};
 ghost use Rattle.runend_array.specs.Array.{column_of, rows};
+ghost use Rattle.hivevigil.specs.ReadFaults.{EndsOnRead, bytes_fault, decimals_fault, flags_fault, numbers_fault, offsets_fault, truths_fault};
 ghost use Rattle.hivevigil.specs.Reads.{AreBytesFrom, AreNumbersFrom, AreOffsetsFrom, ArePairsFrom, AreTruthWords, AreValidityWords};
 
 use crate::error_fields::{ErrorFields, NO_COLUMN, tell_done};
@@ -9,7 +13,8 @@ use crate::pairs::Pair;
 use crate::{rows, text_rows};
 use std::alloc::Global;
 
-/// The numbers that a flat column stores, from row `start` on, as many as there are `items`.
+/// The numbers that a flat column stores, from row `start` on, as many as there are `items`. Refused as
+/// `rows::read_numbers` says.
 #[unsafe(no_mangle)]
 pub extern "C" fn hv_read_u8(
     alloc: Global,
@@ -20,6 +25,7 @@ pub extern "C" fn hv_read_u8(
 ) -> i32
     ensures same { column.new.column ≡ column.old.column }
     ensures told { result ≡ pos 0 → IsSomeAnd column.old.column (λ c. AreNumbersFrom (column_of c) start (map pos items.new)) }
+    ensures ended { EndsOnRead (numbers_fault U8 start (length items.old)) column.old.column result error.new }
 {
     let Some(array) = column.take(alloc) else {
         return NO_COLUMN;
@@ -29,7 +35,8 @@ pub extern "C" fn hv_read_u8(
     tell_done(outcome, error)
 }
 
-/// The numbers that a flat column stores, from row `start` on, as many as there are `items`.
+/// The numbers that a flat column stores, from row `start` on, as many as there are `items`. Refused as
+/// `rows::read_numbers` says.
 #[unsafe(no_mangle)]
 pub extern "C" fn hv_read_u16(
     alloc: Global,
@@ -40,6 +47,7 @@ pub extern "C" fn hv_read_u16(
 ) -> i32
     ensures same { column.new.column ≡ column.old.column }
     ensures told { result ≡ pos 0 → IsSomeAnd column.old.column (λ c. AreNumbersFrom (column_of c) start (map pos items.new)) }
+    ensures ended { EndsOnRead (numbers_fault U16 start (length items.old)) column.old.column result error.new }
 {
     let Some(array) = column.take(alloc) else {
         return NO_COLUMN;
@@ -49,7 +57,8 @@ pub extern "C" fn hv_read_u16(
     tell_done(outcome, error)
 }
 
-/// The numbers that a flat column stores, from row `start` on, as many as there are `items`.
+/// The numbers that a flat column stores, from row `start` on, as many as there are `items`. Refused as
+/// `rows::read_numbers` says.
 #[unsafe(no_mangle)]
 pub extern "C" fn hv_read_u32(
     alloc: Global,
@@ -60,6 +69,7 @@ pub extern "C" fn hv_read_u32(
 ) -> i32
     ensures same { column.new.column ≡ column.old.column }
     ensures told { result ≡ pos 0 → IsSomeAnd column.old.column (λ c. AreNumbersFrom (column_of c) start (map pos items.new)) }
+    ensures ended { EndsOnRead (numbers_fault U32 start (length items.old)) column.old.column result error.new }
 {
     let Some(array) = column.take(alloc) else {
         return NO_COLUMN;
@@ -69,7 +79,8 @@ pub extern "C" fn hv_read_u32(
     tell_done(outcome, error)
 }
 
-/// The numbers that a flat column stores, from row `start` on, as many as there are `items`.
+/// The numbers that a flat column stores, from row `start` on, as many as there are `items`. Refused as
+/// `rows::read_numbers` says.
 #[unsafe(no_mangle)]
 pub extern "C" fn hv_read_u64(
     alloc: Global,
@@ -80,6 +91,7 @@ pub extern "C" fn hv_read_u64(
 ) -> i32
     ensures same { column.new.column ≡ column.old.column }
     ensures told { result ≡ pos 0 → IsSomeAnd column.old.column (λ c. AreNumbersFrom (column_of c) start (map pos items.new)) }
+    ensures ended { EndsOnRead (numbers_fault U64 start (length items.old)) column.old.column result error.new }
 {
     let Some(array) = column.take(alloc) else {
         return NO_COLUMN;
@@ -89,7 +101,8 @@ pub extern "C" fn hv_read_u64(
     tell_done(outcome, error)
 }
 
-/// The numbers that a flat column stores, from row `start` on, as many as there are `items`.
+/// The numbers that a flat column stores, from row `start` on, as many as there are `items`. Refused as
+/// `rows::read_numbers` says.
 #[unsafe(no_mangle)]
 pub extern "C" fn hv_read_i8(
     alloc: Global,
@@ -100,6 +113,7 @@ pub extern "C" fn hv_read_i8(
 ) -> i32
     ensures same { column.new.column ≡ column.old.column }
     ensures told { result ≡ pos 0 → IsSomeAnd column.old.column (λ c. AreNumbersFrom (column_of c) start (items.new)) }
+    ensures ended { EndsOnRead (numbers_fault I8 start (length items.old)) column.old.column result error.new }
 {
     let Some(array) = column.take(alloc) else {
         return NO_COLUMN;
@@ -109,7 +123,8 @@ pub extern "C" fn hv_read_i8(
     tell_done(outcome, error)
 }
 
-/// The numbers that a flat column stores, from row `start` on, as many as there are `items`.
+/// The numbers that a flat column stores, from row `start` on, as many as there are `items`. Refused as
+/// `rows::read_numbers` says.
 #[unsafe(no_mangle)]
 pub extern "C" fn hv_read_i16(
     alloc: Global,
@@ -120,6 +135,7 @@ pub extern "C" fn hv_read_i16(
 ) -> i32
     ensures same { column.new.column ≡ column.old.column }
     ensures told { result ≡ pos 0 → IsSomeAnd column.old.column (λ c. AreNumbersFrom (column_of c) start (items.new)) }
+    ensures ended { EndsOnRead (numbers_fault I16 start (length items.old)) column.old.column result error.new }
 {
     let Some(array) = column.take(alloc) else {
         return NO_COLUMN;
@@ -129,7 +145,8 @@ pub extern "C" fn hv_read_i16(
     tell_done(outcome, error)
 }
 
-/// The numbers that a flat column stores, from row `start` on, as many as there are `items`.
+/// The numbers that a flat column stores, from row `start` on, as many as there are `items`. Refused as
+/// `rows::read_numbers` says.
 #[unsafe(no_mangle)]
 pub extern "C" fn hv_read_i32(
     alloc: Global,
@@ -140,6 +157,7 @@ pub extern "C" fn hv_read_i32(
 ) -> i32
     ensures same { column.new.column ≡ column.old.column }
     ensures told { result ≡ pos 0 → IsSomeAnd column.old.column (λ c. AreNumbersFrom (column_of c) start (items.new)) }
+    ensures ended { EndsOnRead (numbers_fault I32 start (length items.old)) column.old.column result error.new }
 {
     let Some(array) = column.take(alloc) else {
         return NO_COLUMN;
@@ -149,7 +167,8 @@ pub extern "C" fn hv_read_i32(
     tell_done(outcome, error)
 }
 
-/// The numbers that a flat column stores, from row `start` on, as many as there are `items`.
+/// The numbers that a flat column stores, from row `start` on, as many as there are `items`. Refused as
+/// `rows::read_numbers` says.
 #[unsafe(no_mangle)]
 pub extern "C" fn hv_read_i64(
     alloc: Global,
@@ -160,6 +179,7 @@ pub extern "C" fn hv_read_i64(
 ) -> i32
     ensures same { column.new.column ≡ column.old.column }
     ensures told { result ≡ pos 0 → IsSomeAnd column.old.column (λ c. AreNumbersFrom (column_of c) start (items.new)) }
+    ensures ended { EndsOnRead (numbers_fault I64 start (length items.old)) column.old.column result error.new }
 {
     let Some(array) = column.take(alloc) else {
         return NO_COLUMN;
@@ -169,7 +189,8 @@ pub extern "C" fn hv_read_i64(
     tell_done(outcome, error)
 }
 
-/// The decimals that a flat column stores, from row `start` on, as many as there are `pairs`.
+/// The decimals that a flat column stores, from row `start` on, as many as there are `pairs`. Refused as
+/// `rows::read_decimals` says.
 #[unsafe(no_mangle)]
 pub extern "C" fn hv_read_decimals(
     alloc: Global,
@@ -180,6 +201,7 @@ pub extern "C" fn hv_read_decimals(
 ) -> i32
     ensures same { column.new.column ≡ column.old.column }
     ensures told { result ≡ pos 0 → IsSomeAnd column.old.column (λ c. ArePairsFrom (column_of c) start pairs.new) }
+    ensures ended { EndsOnRead (decimals_fault start (length pairs.old)) column.old.column result error.new }
 {
     let Some(array) = column.take(alloc) else {
         return NO_COLUMN;
@@ -189,7 +211,8 @@ pub extern "C" fn hv_read_decimals(
     tell_done(outcome, error)
 }
 
-/// The truth values that a flat column stores, 64 to a word, in as few words as can be.
+/// The truth values that a flat column stores, 64 to a word, in as few words as can be. Refused as
+/// `rows::read_booleans` says.
 #[unsafe(no_mangle)]
 pub extern "C" fn hv_read_bools(
     alloc: Global,
@@ -199,6 +222,7 @@ pub extern "C" fn hv_read_bools(
 ) -> i32
     ensures same { column.new.column ≡ column.old.column }
     ensures told { result ≡ pos 0 → IsSomeAnd column.old.column (λ c. AreTruthWords (column_of c) words.new) }
+    ensures ended { EndsOnRead (truths_fault (length words.old)) column.old.column result error.new }
 {
     let Some(array) = column.take(alloc) else {
         return NO_COLUMN;
@@ -208,7 +232,7 @@ pub extern "C" fn hv_read_bools(
     tell_done(outcome, error)
 }
 
-/// A bit for each row of a flat column, 64 to a word: whether it is valid.
+/// A bit for each row of a flat column, 64 to a word: whether it is valid. Refused as `rows::read_validity` says.
 #[unsafe(no_mangle)]
 pub extern "C" fn hv_read_validity(
     alloc: Global,
@@ -218,16 +242,18 @@ pub extern "C" fn hv_read_validity(
 ) -> i32
     ensures same { column.new.column ≡ column.old.column }
     ensures told { result ≡ pos 0 → IsSomeAnd column.old.column (λ c. AreValidityWords (column_of c) words.new) }
+    ensures ended { EndsOnRead (flags_fault (length words.old)) column.old.column result error.new }
 {
     let Some(array) = column.take(alloc) else {
         return NO_COLUMN;
     };
-    let outcome = rows::read_validity(alloc, &array, words);
+    let outcome = rows::read_validity(&array, words);
     column.put(array);
     tell_done(outcome, error)
 }
 
-/// The offsets of the texts or bytes of a flat column, from row `start` on and from 0: one more than rows.
+/// The offsets of the texts or bytes of a flat column, from row `start` on and from 0: one more than rows. Refused
+/// as `text_rows::read_offsets` says.
 #[unsafe(no_mangle)]
 pub extern "C" fn hv_read_offsets(
     alloc: Global,
@@ -238,6 +264,7 @@ pub extern "C" fn hv_read_offsets(
 ) -> i32
     ensures same { column.new.column ≡ column.old.column }
     ensures told { result ≡ pos 0 → IsSomeAnd column.old.column (λ c. AreOffsetsFrom (column_of c) start offsets.new) }
+    ensures ended { EndsOnRead (offsets_fault I32 start (length offsets.old)) column.old.column result error.new }
 {
     let Some(array) = column.take(alloc) else {
         return NO_COLUMN;
@@ -247,7 +274,8 @@ pub extern "C" fn hv_read_offsets(
     tell_done(outcome, error)
 }
 
-/// The offsets of the texts or bytes of a flat column, from row `start` on and from 0: one more than rows.
+/// The offsets of the texts or bytes of a flat column, from row `start` on and from 0: one more than rows. Refused
+/// as `text_rows::read_offsets` says.
 #[unsafe(no_mangle)]
 pub extern "C" fn hv_read_large_offsets(
     alloc: Global,
@@ -258,6 +286,7 @@ pub extern "C" fn hv_read_large_offsets(
 ) -> i32
     ensures same { column.new.column ≡ column.old.column }
     ensures told { result ≡ pos 0 → IsSomeAnd column.old.column (λ c. AreOffsetsFrom (column_of c) start offsets.new) }
+    ensures ended { EndsOnRead (offsets_fault I64 start (length offsets.old)) column.old.column result error.new }
 {
     let Some(array) = column.take(alloc) else {
         return NO_COLUMN;
@@ -267,7 +296,8 @@ pub extern "C" fn hv_read_large_offsets(
     tell_done(outcome, error)
 }
 
-/// The bytes of `count` texts or bytes of a flat column, from row `start` on, one after the other.
+/// The bytes of `count` texts or bytes of a flat column, from row `start` on, one after the other. Refused as
+/// `text_rows::read_bytes` says.
 #[unsafe(no_mangle)]
 pub extern "C" fn hv_read_bytes(
     alloc: Global,
@@ -279,6 +309,7 @@ pub extern "C" fn hv_read_bytes(
 ) -> i32
     ensures same { column.new.column ≡ column.old.column }
     ensures told { result ≡ pos 0 → IsSomeAnd column.old.column (λ c. AreBytesFrom (column_of c) start count bytes.new) }
+    ensures ended { EndsOnRead (bytes_fault start count (length bytes.old)) column.old.column result error.new }
 {
     let Some(array) = column.take(alloc) else {
         return NO_COLUMN;

@@ -1,11 +1,12 @@
 //! Calls that make run columns of what handles hold, and take them apart; sessions; and the end of a handle.
-ghost use Rattle.std.specs.Prelude.{◌≡◌, ◌≢◌, IsSomeAnd, None, pos, take};
+ghost use Rattle.std.specs.Prelude.{◌≡◌, ◌≢◌, IsSomeAnd, MatchOption, None, length, pos};
 ghost use Rattle.runend_array.specs.Array.{column_of};
 ghost use Rattle.runend_array.specs.SessionForm.{crate_thresholds};
-ghost use Rattle.hivevigil.specs.Ending.{EndsAlways, WhereAll, WhereBoth};
+ghost use Rattle.hivevigil.specs.Ending.{EndsAlways, EndsOnHeld, EndsOnParts, EndsOnRuns, WhereAll, WhereBoth};
 ghost use Rattle.hivevigil.specs.Kinds.{dtype_by};
 ghost use Rattle.hivevigil.specs.Makers.{AreRecordedRuns, AreRunsOf, IsCopyOf};
-ghost use Rattle.hivevigil.specs.Reads.{AreEndsOf, AreRunValuesOf, IsRecordOf};
+ghost use Rattle.hivevigil.specs.Reads.{AreRunValuesOf};
+ghost use Rattle.hivevigil.specs.RunParts.{AreEndsOf, IsRecordAtFront, RecordedFault, RunsFault, SerializeFault};
 ghost use Rattle.hivevigil.specs.Sessions.{HasAllKernels, thresholds_in};
 
 use crate::commands::answer;
@@ -18,6 +19,7 @@ use std::alloc::Global;
 
 /// The run column of these ends and values, of which `count` rows from row `offset` on are shown. Both are copied,
 /// and stay. Refused as the run column of such parts is.
+#[tactic(auto, using(crate::proofs::PartEndings::no_ends, crate::proofs::PartEndings::no_values, crate::proofs::PartEndings::parts_done, crate::proofs::PartEndings::parts_refused))]
 #[unsafe(no_mangle)]
 pub extern "C" fn hv_runs(
     alloc: Global,
@@ -32,6 +34,7 @@ pub extern "C" fn hv_runs(
     ensures same_values { values.new.column ≡ values.old.column }
     ensures made { result ≡ pos 0 → WhereAll (AreRunsOf offset count) ends.old.column values.old.column out.new.column }
     ensures kept { result ≢ pos 0 → out.new.column ≡ out.old.column }
+    ensures ended { EndsOnParts (RunsFault offset count) ends.old.column values.old.column result error.new }
 {
     let Some(lent_ends) = ends.take(alloc) else {
         return NO_COLUMN;
@@ -48,6 +51,7 @@ pub extern "C" fn hv_runs(
 
 /// The run column of copies of these parts, `count` rows of this type, by its record. Answers 23 where the number
 /// is of no type, or of lists; else refused as the record of such parts is.
+#[tactic(auto, using(crate::proofs::PartEndings::no_ends, crate::proofs::PartEndings::no_values, crate::proofs::PartEndings::parts_done, crate::proofs::PartEndings::parts_refused))]
 #[unsafe(no_mangle)]
 pub extern "C" fn hv_deserialize(
     alloc: Global,
@@ -63,6 +67,7 @@ pub extern "C" fn hv_deserialize(
     ensures same_values { values.new.column ≡ values.old.column }
     ensures made { result ≡ pos 0 → IsSomeAnd (dtype_by kind.now.number kind.now) (λ dtype. WhereAll (AreRecordedRuns bytes.now dtype count) ends.old.column values.old.column out.new.column) }
     ensures kept { result ≢ pos 0 → out.new.column ≡ out.old.column }
+    ensures ended { MatchOption (dtype_by kind.now.number kind.now) (result ≡ pos 23) (λ dtype. EndsOnParts (RecordedFault bytes.now dtype count) ends.old.column values.old.column result error.new) }
 {
     let Some(dtype) = kinds::dtype_of(kind) else {
         return BAD_NUMBER;
@@ -82,6 +87,7 @@ pub extern "C" fn hv_deserialize(
 
 /// The record of a run column: its bytes go to the front of `bytes`, and `size` says how many they are. Answers 11,
 /// with their number and the room, where they have no room there.
+#[tactic(auto, using(crate::proofs::PartEndings::held_empty, crate::proofs::PartEndings::held_done, crate::proofs::PartEndings::held_refused))]
 #[unsafe(no_mangle)]
 pub extern "C" fn hv_serialize(
     alloc: Global,
@@ -91,7 +97,8 @@ pub extern "C" fn hv_serialize(
     error: &mut ErrorFields,
 ) -> i32
     ensures same { column.new.column ≡ column.old.column }
-    ensures told { result ≡ pos 0 → IsSomeAnd column.old.column (λ c. IsRecordOf (column_of c) (take size.new bytes.new)) }
+    ensures told { result ≡ pos 0 → IsSomeAnd column.old.column (λ c. IsRecordAtFront (column_of c) size.new bytes.new) }
+    ensures ended { EndsOnHeld (SerializeFault (length bytes.old)) column.old.column result error.new }
 {
     let Some(array) = column.take(alloc) else {
         return NO_COLUMN;
@@ -102,6 +109,7 @@ pub extern "C" fn hv_serialize(
 }
 
 /// The ends of a run column, copied.
+#[tactic(auto, using(crate::proofs::PartEndings::runs_empty, crate::proofs::PartEndings::runs_done, crate::proofs::PartEndings::runs_refused))]
 #[unsafe(no_mangle)]
 pub extern "C" fn hv_ends(
     alloc: Global,
@@ -112,6 +120,7 @@ pub extern "C" fn hv_ends(
     ensures same { column.new.column ≡ column.old.column }
     ensures made { result ≡ pos 0 → WhereBoth (λ c d. AreEndsOf (column_of c) (column_of d)) column.old.column out.new.column }
     ensures kept { result ≢ pos 0 → out.new.column ≡ out.old.column }
+    ensures ended { EndsOnRuns column.old.column result error.new }
 {
     let Some(array) = column.take(alloc) else {
         return NO_COLUMN;
@@ -122,6 +131,7 @@ pub extern "C" fn hv_ends(
 }
 
 /// The values of a run column, copied.
+#[tactic(auto, using(crate::proofs::PartEndings::runs_empty, crate::proofs::PartEndings::runs_done, crate::proofs::PartEndings::runs_refused))]
 #[unsafe(no_mangle)]
 pub extern "C" fn hv_values(
     alloc: Global,
@@ -132,6 +142,7 @@ pub extern "C" fn hv_values(
     ensures same { column.new.column ≡ column.old.column }
     ensures made { result ≡ pos 0 → WhereBoth (λ c d. AreRunValuesOf (column_of c) (column_of d)) column.old.column out.new.column }
     ensures kept { result ≢ pos 0 → out.new.column ≡ out.old.column }
+    ensures ended { EndsOnRuns column.old.column result error.new }
 {
     let Some(array) = column.take(alloc) else {
         return NO_COLUMN;

@@ -1,8 +1,9 @@
 //! Calls that make flat columns of texts and bytes.
 ghost use Rattle.std.specs.Prelude.{◌≡◌, ◌≢◌, ◌-◌, IsSomeAnd, length, pos};
 ghost use Rattle.hivevigil.specs.Bits.{validity_by};
+ghost use Rattle.hivevigil.specs.Ending.{EndsAs};
 ghost use Rattle.hivevigil.specs.Kinds.{varbin_kind_by};
-ghost use Rattle.hivevigil.specs.Makers.{AreTextsOf};
+ghost use Rattle.hivevigil.specs.Makers.{AreTextsOf, TextsFault};
 
 use crate::commands::answer;
 use crate::error_fields::ErrorFields;
@@ -13,6 +14,7 @@ use std::alloc::Global;
 
 /// The flat column of texts, or of bytes where `binary` is not 0, whose row i is the bytes from offset i up to
 /// offset i + 1. Nulls are told as to `hv_u8`. Refused as `texts::texts` says.
+#[tactic(auto, using(crate::proofs::PartEndings::as_done, crate::proofs::PartEndings::as_refused))]
 #[unsafe(no_mangle)]
 pub extern "C" fn hv_texts(
     alloc: Global,
@@ -27,6 +29,7 @@ pub extern "C" fn hv_texts(
 ) -> i32
     ensures made { result ≡ pos 0 → IsSomeAnd out.new.column (λ c. AreTextsOf (varbin_kind_by binary) offsets.now bytes.now (validity_by nulls bits.now first (length offsets.now - 1)) c) }
     ensures kept { result ≢ pos 0 → out.new.column ≡ out.old.column }
+    ensures ended { EndsAs (TextsFault (varbin_kind_by binary) offsets.now bytes.now nulls bits.now first) result error.new }
 {
     answer(
         texts(
@@ -45,6 +48,7 @@ pub extern "C" fn hv_texts(
 
 /// The flat column of texts, or of bytes where `binary` is not 0, whose row i is the bytes from offset i up to
 /// offset i + 1. Nulls are told as to `hv_u8`. Refused as `texts::texts` says.
+#[tactic(auto, using(crate::proofs::PartEndings::as_done, crate::proofs::PartEndings::as_refused))]
 #[unsafe(no_mangle)]
 pub extern "C" fn hv_large_texts(
     alloc: Global,
@@ -59,6 +63,7 @@ pub extern "C" fn hv_large_texts(
 ) -> i32
     ensures made { result ≡ pos 0 → IsSomeAnd out.new.column (λ c. AreTextsOf (varbin_kind_by binary) offsets.now bytes.now (validity_by nulls bits.now first (length offsets.now - 1)) c) }
     ensures kept { result ≢ pos 0 → out.new.column ≡ out.old.column }
+    ensures ended { EndsAs (TextsFault (varbin_kind_by binary) offsets.now bytes.now nulls bits.now first) result error.new }
 {
     answer(
         texts(

@@ -1,8 +1,11 @@
-use Rattle.std.proofs.Common.{◌≡◌, ◌≤◌, ◌<◌, ◌∙◌, ◌+◌, ◌-◌, ℕ, length, ap, sym, arith}
-use Rattle.std.specs.Prelude.{slice_range}
+use Rattle.std.proofs.Common.{◌≡◌, ◌≤◌, ◌<◌, ◌∙◌, ◌+◌, ◌-◌, ◌^◌, ℕ, length, ap, sym, arith}
+use Rattle.std.specs.Prelude.{slice_range, Some}
 use Rattle.std.proofs.lemmas.List.{length-set}
-use Rattle.hivevigil.specs.Reads.{bytes_of_rows, text_rows}
-use Rattle.hivevigil.proofs.TextRows.{first_offset, next_offset, none_yet, offset_after, offset_more, offset_none, size_more}
+use Rattle.column_base.specs.declared.error.VortexError.{VortexError}
+use Rattle.hivevigil.specs.Reads.{bytes_of_rows, size_between, text_rows}
+use Rattle.hivevigil.specs.ReadFaults.{offset_fault}
+use Rattle.hivevigil.proofs.ReadRefusals.{offset_above, offset_huge, passed_on}
+use Rattle.hivevigil.proofs.TextRows.{first_offset, has_room, next_offset, none_yet, offset_after, offset_more, offset_none, size_more}
 use Rattle.hivevigil.proofs.text_rows.put_offsets.Goals as goal
 
 pub loop-row-init : goal.loop-row-init
@@ -11,7 +14,8 @@ loop-row-init g c =
     record {
       len = length-set c.args.offsets.now 0 c.in_ok-offsets.field-0;
       size = sym (ap length (none_yet rows c.args.start));
-      so_far = first_offset g.T.NativePType.number (offset_after rows c.args.start) c.args.offsets.now c.args.start c.in_ok-offsets.field-0 (omega (arith, c.requires.room)) (c.in_ok-offsets.ensures ∙ offset_none rows c.args.start);
+      so_far = first_offset g.T.NativePType.number (offset_after rows c.args.start) c.args.offsets.now c.args.start c.in_ok-offsets.field-0 (omega (arith, c.requires.room)) (c.in_ok-offsets.ensures.number ∙ offset_none rows c.args.start);
+      fits = c.in_ok-offsets.ensures.refused;
     }
 
 pub loop-row-preserved : goal.loop-row-preserved
@@ -29,5 +33,31 @@ loop-row-preserved g c =
     record {
       len = length-set c.loop-row.offsets (row - start + 1) c.in_ok-offsets-2.field-0 ∙ c.loop-row.invariant.len;
       size = grown;
-      so_far = next_offset g.T.NativePType.number (offset_after rows start) c.loop-row.offsets start row c.in_ok-offsets-2.field-0 order room c.loop-row.invariant.so_far (c.in_ok-offsets-2.ensures ∙ offset_more rows start row c.in_ok-size.size order grown);
+      so_far = next_offset g.T.NativePType.number (offset_after rows start) c.loop-row.offsets start row c.in_ok-offsets-2.field-0 order room c.loop-row.invariant.so_far (c.in_ok-offsets-2.ensures.number ∙ offset_more rows start row c.in_ok-size.size order grown);
+      fits = c.in_ok-offsets-2.ensures.refused;
     }
+
+-- where a row has no offset, the last has none
+pub returns-in_err-size-clause-refused : goal.returns-in_err-size-clause-refused
+returns-in_err-size-clause-refused g c =
+    let texts = c.args.texts.now in
+    let room = has_room (text_rows texts) c.args.start c.loop-row.row c.args.stop c.loop-row.auto.row c.loop-row-test.true (omega (arith, c.requires.within, c.requires.counted)) in
+    let more = ap length c.bytes_at-more.ensures in
+    let huge : 2 ^ 64 ≤ size_between texts c.args.start c.args.stop = omega (arith, room, more, c.loop-row.invariant.size, c.in_err-size.ensures.1) in
+    passed_on _ c.in_err-size.field-0.0 c.from_residual-in_err-size.result c.from_residual-in_err-size.ensures.1
+    (offset_huge g.T.NativePType.PTYPE (size_between texts c.args.start c.args.stop) huge ∙ ap (λ (e : VortexError). Some e) (sym c.in_err-size.ensures.0))
+
+pub returns-in_err-offsets-2-clause-refused : goal.returns-in_err-offsets-2-clause-refused
+returns-in_err-offsets-2-clause-refused g c =
+    let texts = c.args.texts.now in
+    let room = has_room (text_rows texts) c.args.start c.loop-row.row c.args.stop c.loop-row.auto.row c.loop-row-test.true (omega (arith, c.requires.within, c.requires.counted)) in
+    let more = ap length c.bytes_at-more.ensures in
+    let within : c.in_ok-size.size ≤ size_between texts c.args.start c.args.stop = omega (arith, room, more, c.loop-row.invariant.size, c.in_ok-size.ensures) in
+    passed_on _ c.in_err-offsets-2.field-0.0 c.from_residual-in_err-offsets-2.result c.from_residual-in_err-offsets-2.ensures.1
+    (offset_above g.T.NativePType.PTYPE c.in_ok-size.size (size_between texts c.args.start c.args.stop) c.in_err-offsets-2.field-0.0 c.in_err-offsets-2.ensures.refused within)
+
+pub returns-clause-refused : goal.returns-clause-refused
+returns-clause-refused g c =
+    let stops : c.loop-row.row ≡ c.args.stop = omega (arith, c.loop-row-test.false, c.loop-row.auto.row-end c.requires.order) in
+    let all : c.loop-row.size ≡ size_between c.args.texts.now c.args.start c.args.stop = c.loop-row.invariant.size ∙ ap (λ (n : ℕ). size_between c.args.texts.now c.args.start n) stops in
+    ap (λ (n : ℕ). offset_fault g.T.NativePType.PTYPE n) (sym all) ∙ c.loop-row.invariant.fits
