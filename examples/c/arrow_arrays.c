@@ -15,9 +15,17 @@ static struct ArrowArray out_array;
 #define IMPORT(schema, array) hv_arrow_import(&session, schema, array, &column, &error)
 #define EXPORT(from) hv_arrow_export(&session, from, "x", &out_schema, &out_array, &error)
 
+/* The release callbacks of structs that are the test's own. */
+static void release_schema(struct ArrowSchema *it) { it->release = NULL; }
+static void release_array(struct ArrowArray *it) { it->release = NULL; }
+
 static struct ArrowArray array_of(int64_t rows, int64_t offset, int64_t count, const void **buffers) {
-    return (struct ArrowArray){
-        .length = rows, .null_count = -1, .offset = offset, .n_buffers = count, .buffers = buffers};
+    return (struct ArrowArray){.length = rows,
+                               .null_count = -1,
+                               .offset = offset,
+                               .n_buffers = count,
+                               .buffers = buffers,
+                               .release = release_array};
 }
 
 /* What the column exports comes in again with the same rows. */
@@ -36,9 +44,11 @@ static void check_round_trip(const char *format, const char *rows) {
 static const int64_t run_items[4] = {-9, 7, 0, 8};
 static const uint8_t run_bits[1] = {0x0b};
 static int32_t run_ends[3] = {2, 5, 6};
-static struct ArrowSchema ends_schema = {.format = "i"}, values_schema = {.format = "l", .flags = ARROW_FLAG_NULLABLE};
+static struct ArrowSchema ends_schema = {.release = release_schema, .format = "i"},
+                          values_schema = {.release = release_schema, .format = "l", .flags = ARROW_FLAG_NULLABLE};
 static struct ArrowSchema *run_schemas[2] = {&ends_schema, &values_schema};
-static struct ArrowSchema runs_schema = {.format = "+r", .n_children = 2, .children = run_schemas};
+static struct ArrowSchema runs_schema = {
+    .release = release_schema, .format = "+r", .n_children = 2, .children = run_schemas};
 static struct ArrowArray ends_array, values_array, *run_arrays[2] = {&ends_array, &values_array}, runs_array;
 
 static void make_runs(void) {
@@ -46,7 +56,8 @@ static void make_runs(void) {
     ends_buffers[1] = run_ends, values_buffers[0] = run_bits, values_buffers[1] = run_items;
     ends_array = array_of(3, 0, 2, ends_buffers);
     values_array = array_of(3, 1, 2, values_buffers);
-    runs_array = (struct ArrowArray){.length = 4, .offset = 1, .n_children = 2, .children = run_arrays};
+    runs_array = (struct ArrowArray){
+        .release = release_array, .length = 4, .offset = 1, .n_children = 2, .children = run_arrays};
 }
 
 static void check_run_ends_of_each_width(void) {
@@ -55,20 +66,21 @@ static void check_run_ends_of_each_width(void) {
     const char *const formats[3] = {"s", "i", "l"};
     const void *const ends[3] = {narrow, run_ends, wide};
     for (int width = 0; width < 3; width++) {
-        struct ArrowSchema schema = {.format = formats[width]};
+        struct ArrowSchema schema = {.release = release_schema, .format = formats[width]};
         struct ArrowArray array = array_of(3, width == 2, 2, BUFFERS(NULL, ends[width]));
         run_schemas[0] = &schema, run_arrays[0] = &array;
         CHECK(!IMPORT(&runs_schema, &runs_array));
         CHECK(hv_form(&column) == FORM_RUNS && hv_offset(&column) == 1);
         check_round_trip("+r", "7 null null null");
         CHECK(!EXPORT(&column));
-        CHECK(out_array.offset == 1 && out_array.null_count == 0 && out_array.n_buffers == 0 &&
+        CHECK(out_array.offset == 0 && out_array.null_count == 0 && out_array.n_buffers == 0 &&
               out_array.n_children == 2);
-        CHECK(strcmp(out_schema.children[0]->format, "s") == 0); /* the greatest end is 6 */
+        CHECK(strcmp(out_schema.children[0]->format, "s") == 0); /* ends 1 and 4, counted from row 1 */
         CHECK(strcmp(out_schema.children[0]->name, "run_ends") == 0 &&
               strcmp(out_schema.children[1]->name, "values") == 0);
-        CHECK(!(out_schema.children[0]->flags & ARROW_FLAG_NULLABLE) && out_array.children[0]->length == 3);
-        CHECK(((const int16_t *)out_array.children[0]->buffers[1])[2] == 6 && out_array.children[1]->null_count == 1);
+        CHECK(!(out_schema.children[0]->flags & ARROW_FLAG_NULLABLE) && out_array.children[0]->length == 2);
+        CHECK(((const int16_t *)out_array.children[0]->buffers[1])[0] == 1);
+        CHECK(((const int16_t *)out_array.children[0]->buffers[1])[1] == 4 && out_array.children[1]->null_count == 1);
         hv_arrow_release(&out_schema, &out_array);
     }
     run_schemas[0] = &ends_schema, run_arrays[0] = &ends_array;
@@ -90,24 +102,35 @@ static void check_first_run_of_no_rows(void) {
     hv_free(&values);
 }
 
-/* The last end decides the width: 2^15 - 1 and 2^31 - 1 are the greatest of int16 and int32. */
+/* The number of rows decides the width, 2^15 - 1 and 2^31 - 1 are the greatest of int16 and int32; how far into its
+ * runs the window lies does not. */
 static void check_width_of_ends(void) {
-    const uint64_t last[6] = {255, INT16_MAX, INT16_MAX + 1, INT32_MAX, (uint64_t)INT32_MAX + 1, INT64_MAX};
+    const uint64_t rows[6] = {255, INT16_MAX, INT16_MAX + 1, INT32_MAX, (uint64_t)INT32_MAX + 1, INT64_MAX};
     const char *const formats[6] = {"s", "s", "i", "i", "l", "l"};
     const int8_t two[2] = {1, 2};
     hv_column ends = HV_EMPTY, values = HV_EMPTY;
     CHECK(!hv_i8(two, 2, NOT_NULLABLE, &values, &error));
-    for (size_t i = 0; i < COUNT(last); i++) {
-        const uint64_t items[2] = {2, last[i]};
-        CHECK(!hv_u64(items, 2, NOT_NULLABLE, &ends, &error) && !hv_runs(&ends, &values, 1, 3, &column, &error));
+    for (size_t i = 0; i < COUNT(rows); i++) {
+        const uint64_t items[2] = {2, rows[i]};
+        CHECK(!hv_u64(items, 2, NOT_NULLABLE, &ends, &error));
+        CHECK(!hv_runs(&ends, &values, 0, rows[i], &column, &error));
         CHECK(!EXPORT(&column) && strcmp(out_schema.children[0]->format, formats[i]) == 0);
         CHECK(!hv_arrow_import(&session, &out_schema, &out_array, &again, &error));
-        CHECK_ROWS(&again, "1 2 2");
+        CHECK(hv_length(&again) == rows[i]);
+        CHECK(!hv_slice(&session, &again, 1, 4, &column, &error));
+        CHECK_ROWS(&column, "1 2 2");
+        hv_arrow_release(&out_schema, &out_array);
+        CHECK(!hv_runs(&ends, &values, 1, 3, &column, &error) && !EXPORT(&column));
+        const int16_t *shown = (const int16_t *)out_array.children[0]->buffers[1];
+        CHECK(strcmp(out_schema.children[0]->format, "s") == 0 && shown[0] == 1 && shown[1] == 3);
         hv_arrow_release(&out_schema, &out_array);
     }
-    const uint64_t past[2] = {2, (uint64_t)INT64_MAX + 1};
-    CHECK(!hv_u64(past, 2, NOT_NULLABLE, &ends, &error) && !hv_runs(&ends, &values, 1, 3, &column, &error));
-    CHECK_REFUSED(EXPORT(&column), HV_ARROW_ENDS_TOO_LARGE, (uint64_t)INT64_MAX + 1, 0, 0);
+    const uint64_t past[2] = {(uint64_t)INT64_MAX + 1, (uint64_t)INT64_MAX + 3};
+    CHECK(!hv_u64(past, 2, NOT_NULLABLE, &ends, &error));
+    CHECK(!hv_runs(&ends, &values, INT64_MAX, 3, &column, &error));
+    check_round_trip("+r", "1 2 2");
+    CHECK(!hv_runs(&ends, &values, 0, (uint64_t)INT64_MAX + 1, &column, &error));
+    CHECK_REFUSED(EXPORT(&column), HV_UNSUPPORTED, 0, 0, 0); /* no array has so many rows */
     CHECK(!out_schema.release && !out_array.release);
     hv_free(&ends);
     hv_free(&values);
@@ -136,11 +159,12 @@ static void check_runs_refused(void) {
 /* runs whose values are runs: 7 7 7 null, as runs of 3 and 1 rows over 7 7 null in runs */
 static void check_runs_in_runs(void) {
     const int16_t outer[3] = {1, 3, 4};
-    struct ArrowSchema schema = {.format = "s"}, *schemas[2] = {&schema, &runs_schema};
-    struct ArrowSchema nested_schema = {.format = "+r", .n_children = 2, .children = schemas};
+    struct ArrowSchema schema = {.release = release_schema, .format = "s"}, *schemas[2] = {&schema, &runs_schema};
+    struct ArrowSchema nested_schema = {
+        .release = release_schema, .format = "+r", .n_children = 2, .children = schemas};
     struct ArrowArray array = array_of(3, 0, 2, BUFFERS(NULL, outer)), inner = runs_array,
                       *arrays[2] = {&array, &inner};
-    struct ArrowArray nested = {.length = 4, .n_children = 2, .children = arrays};
+    struct ArrowArray nested = {.release = release_array, .length = 4, .n_children = 2, .children = arrays};
     inner.offset = 0, inner.length = 3;
     CHECK(!IMPORT(&nested_schema, &nested));
     check_round_trip("+r", "7 7 7 null");
@@ -151,8 +175,9 @@ static void check_dictionary(void) {
     int8_t codes[5] = {7, 1, 0, 9, 1};
     const uint8_t bits[1] = {0x17};
     const int32_t offsets[4] = {0, 1, 2, 6};
-    struct ArrowSchema texts_schema = {.format = "u"};
-    struct ArrowSchema schema = {.format = "c", .flags = ARROW_FLAG_NULLABLE, .dictionary = &texts_schema};
+    struct ArrowSchema texts_schema = {.release = release_schema, .format = "u"};
+    struct ArrowSchema schema = {
+        .release = release_schema, .format = "c", .flags = ARROW_FLAG_NULLABLE, .dictionary = &texts_schema};
     struct ArrowArray texts = array_of(3, 0, 3, BUFFERS(NULL, offsets, "abcdef")),
                       array = array_of(4, 1, 2, BUFFERS(bits, codes));
     array.dictionary = &texts;
@@ -167,10 +192,11 @@ static void check_dictionary(void) {
     array.dictionary = &texts;
     /* runs of a dictionary: b a a a */
     const int32_t two_ends[2] = {1, 4};
-    struct ArrowSchema two_schema = {.format = "i"}, *schemas[2] = {&two_schema, &schema};
-    struct ArrowSchema nested_schema = {.format = "+r", .n_children = 2, .children = schemas};
+    struct ArrowSchema two_schema = {.release = release_schema, .format = "i"}, *schemas[2] = {&two_schema, &schema};
+    struct ArrowSchema nested_schema = {
+        .release = release_schema, .format = "+r", .n_children = 2, .children = schemas};
     struct ArrowArray two = array_of(2, 0, 2, BUFFERS(NULL, two_ends)), *arrays[2] = {&two, &array};
-    struct ArrowArray nested = {.length = 4, .n_children = 2, .children = arrays};
+    struct ArrowArray nested = {.release = release_array, .length = 4, .n_children = 2, .children = arrays};
     CHECK(!IMPORT(&nested_schema, &nested));
     check_round_trip("+r", "\"b\" \"a\" \"a\" \"a\"");
 }
@@ -200,7 +226,7 @@ static void check_flat_forms(void) {
     const hv_pair pairs[2] = {{5, 0}, {UINT64_MAX, -1}};
     const int64_t wide_offsets[4] = {0, 1, 1, 3};
     const int32_t days[2] = {0, 19000};
-    struct ArrowSchema schema = {.format = "b"};
+    struct ArrowSchema schema = {.release = release_schema, .format = "b"};
     struct ArrowArray array = array_of(6, 3, 2, BUFFERS(NULL, truths));
     CHECK(!IMPORT(&schema, &array));
     check_round_trip("b", "false false true false true true"); /* bits 3 to 8 */
@@ -240,12 +266,17 @@ static void check_constants(void) {
 /* Column 1 of a batch of two columns, of which the batch shows rows 1 to 2. */
 static void check_batch(void) {
     const int16_t first[3] = {1, 2, 3}, second[4] = {9, 4, 5, 6};
-    struct ArrowSchema schema = {.format = "s"}, *schemas[2] = {&schema, &schema};
-    struct ArrowSchema batch_schema = {.format = "+s", .n_children = 2, .children = schemas};
+    struct ArrowSchema schema = {.release = release_schema, .format = "s"}, *schemas[2] = {&schema, &schema};
+    struct ArrowSchema batch_schema = {.release = release_schema, .format = "+s", .n_children = 2, .children = schemas};
     struct ArrowArray a = array_of(3, 0, 2, BUFFERS(NULL, first)), b = array_of(3, 1, 2, BUFFERS(NULL, second));
     struct ArrowArray *arrays[2] = {&a, &b};
-    struct ArrowArray batch = {
-        .length = 2, .offset = 1, .n_buffers = 1, .buffers = BUFFERS(NULL), .n_children = 2, .children = arrays};
+    struct ArrowArray batch = {.release = release_array,
+                               .length = 2,
+                               .offset = 1,
+                               .n_buffers = 1,
+                               .buffers = BUFFERS(NULL),
+                               .n_children = 2,
+                               .children = arrays};
     CHECK(!hv_arrow_import_child(&session, &batch_schema, &batch, 1, &column, &error));
     CHECK_ROWS(&column, "5 6");
     CHECK(hv_arrow_import_child(&session, &batch_schema, &batch, 2, &column, &error) == HV_ARROW_INVALID);
@@ -256,10 +287,10 @@ static void check_batch(void) {
 }
 
 static void check_invalid_arrays(void) {
-    const char *const formats[] = {"g", "e", "+l", "n", "d:10,2,256", "d:39,2", "w:4", "vu", ""};
+    const char *const formats[] = {"g", "e", "+l", "n", "d:10,2,256", "d:39,2", "+w:4", "+vl", ""};
     const uint64_t items[4] = {0};
     const int32_t falling[3] = {0, 2, -1};
-    struct ArrowSchema schema = {.format = "l"};
+    struct ArrowSchema schema = {.release = release_schema, .format = "l"};
     struct ArrowArray array = array_of(2, 0, 2, BUFFERS(NULL, items));
     for (size_t i = 0; i < COUNT(formats); i++) {
         schema.format = formats[i];
@@ -267,12 +298,10 @@ static void check_invalid_arrays(void) {
     }
     schema.format = "l", array = array_of(2, 0, 2, BUFFERS(NULL, NULL));
     CHECK(IMPORT(&schema, &array) == HV_ARROW_INVALID);
-    array = array_of(2, 0, 2, BUFFERS(NULL, (const char *)items + 1)); /* not aligned */
-    CHECK(IMPORT(&schema, &array) == HV_ARROW_INVALID);
     array = array_of(2, INT64_MAX, 2, BUFFERS(NULL, items));
     CHECK(IMPORT(&schema, &array) == HV_ARROW_INVALID);
     schema.format = "u", array = array_of(2, 0, 3, BUFFERS(NULL, falling, "ab"));
-    CHECK(IMPORT(&schema, &array) == HV_ARROW_INVALID);
+    CHECK_REFUSED(IMPORT(&schema, &array), HV_ENDS_NOT_STRICT, 1, 0, 0);
     CHECK(hv_arrow_import(&session, NULL, &array, &column, &error) == HV_ARROW_INVALID);
     hv_free(&column);
     CHECK(EXPORT(&column) == HV_NO_COLUMN);
@@ -288,9 +317,45 @@ static void check_moved_child(void) {
     out_schema.children[1]->release = NULL;
     hv_arrow_release(&out_schema, &out_array);
     CHECK(!hv_arrow_import(&session, &moved_schema, &moved, &again, &error));
-    CHECK_ROWS(&again, "7 null 8");
+    CHECK_ROWS(&again, "7 null");
     hv_arrow_release(&moved_schema, &moved);
     CHECK(!moved.release && !moved_schema.release);
+}
+
+/* Columns one after the other: runs and constants as runs, with a flat one among them flat. */
+static void check_concat(void) {
+    const int16_t items[3] = {4, 4, 9};
+    const uint8_t bits[1] = {0x05}, truths[1] = {0x05};
+    hv_column parts[3] = {HV_EMPTY, HV_EMPTY, HV_EMPTY};
+    CHECK(!hv_i16(items, 3, NOT_NULLABLE, &column, &error) && !hv_encode(&session, &column, &parts[0], &error));
+    CHECK(!hv_slice(&session, &parts[0], 0, 2, &parts[1], &error)); /* a constant */
+    CHECK(!hv_i16(items, 3, NULLS_BY(bits, 0), &column, &error) && !hv_encode(&session, &column, &parts[2], &error));
+    CHECK(!hv_arrow_concat(&session, parts, 3, &column, &error) && hv_form(&column) == FORM_RUNS);
+    CHECK_ROWS(&column, "4 4 9 4 4 4 null 9");
+    CHECK(!hv_arrow_concat(&session, parts, 2, &column, &error) && hv_kind_of(&column).nullable == 0);
+    CHECK_ROWS(&column, "4 4 9 4 4");
+    hv_column windows[2] = {HV_EMPTY, HV_EMPTY}; /* 4 9 9 of runs that end before rows 2 and 8 */
+    const uint8_t far_ends[2] = {2, 8};
+    CHECK(!hv_u8(far_ends, 2, NOT_NULLABLE, &windows[0], &error) && !hv_values(&parts[0], &windows[1], &error));
+    CHECK(!hv_runs(&windows[0], &windows[1], 1, 3, &column, &error));
+    CHECK(!hv_clone(&column, &windows[0], &error) && !hv_clone(&column, &windows[1], &error));
+    CHECK(!hv_arrow_concat(&session, windows, 2, &column, &error) && hv_form(&column) == FORM_RUNS);
+    CHECK_ROWS(&column, "4 9 9 4 9 9");
+    hv_free(&windows[0]);
+    hv_free(&windows[1]);
+    CHECK(!hv_decode(&session, &parts[2], &column, &error));
+    hv_free(&parts[2]);
+    parts[2] = column, column.at = NULL;
+    CHECK(!hv_arrow_concat(&session, parts, 3, &column, &error) && hv_form(&column) == FORM_FLAT);
+    CHECK_ROWS(&column, "4 4 9 4 4 4 null 9");
+    CHECK(!hv_bools(truths, 1, 0, 3, NOT_NULLABLE, &parts[1], &error));
+    CHECK_REFUSED(hv_arrow_concat(&session, parts, 3, &column, &error), HV_TYPE_MISMATCH, 0, 0, 0);
+    CHECK_REFUSED(hv_arrow_concat(&session, parts, 0, &column, &error), HV_UNSUPPORTED, 0, 0, 0);
+    hv_free(&parts[1]);
+    CHECK(hv_arrow_concat(&session, parts, 3, &column, &error) == HV_NO_COLUMN);
+    CHECK_ROWS(&column, "4 4 9 4 4 4 null 9");
+    hv_free(&parts[0]);
+    hv_free(&parts[2]);
 }
 
 int main(void) {
@@ -308,6 +373,7 @@ int main(void) {
     check_batch();
     check_moved_child();
     check_invalid_arrays();
+    check_concat();
     hv_free(&column);
     hv_free(&again);
     puts("arrays of each form come in, and go out and in again");

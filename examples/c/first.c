@@ -1,5 +1,5 @@
 /* A first program: rows become runs, and are asked for. */
-#include "hivevigil.h"
+#include "hivevigil_errors.h"
 #include <inttypes.h>
 #include <stdio.h>
 
@@ -18,8 +18,10 @@ int main(void) {
     if (!answer) printf("%zu rows, sum %" PRId64 "\n", hv_length(&runs), total.as_signed); /* 9 rows, sum 62 */
 
     if (!answer) answer = hv_slice(&session, &runs, 2, 12, &part, &error);
-    if (answer == HV_BAD_RANGE) /* rows 2 to 12 of 9 */
-        printf("refused: rows %" PRIu64 " to %" PRIu64 " of %" PRIu64 "\n", error.first, error.second, error.third);
+    if (answer) { /* refused: rows 2 to 12 are not among 9 rows */
+        char text[HV_ERROR_TEXT];
+        printf("refused: %s\n", hv_error_text(answer, &error, text));
+    }
 
     hv_free(&flat);
     hv_free(&runs);
