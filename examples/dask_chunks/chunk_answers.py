@@ -1,15 +1,19 @@
 """What is asked of one chunk of rows, and how the answers about two chunks, one behind the other, are joined: the
 answer over all chunks is the same however the rows are cut. That the answers about joined rows are the joined answers
-is proved of the definitions: `crates/chunk_laws` (rows, filters, sums, least and greatest, sorted, encodings)."""
+is proved of the definitions: `crates/chunk_laws` (rows, filters, sums, least and greatest, sorted, encodings).
+
+Totals are added here as numbers without bounds, and no chunk's sum leaves 64 bits. An engine that has to answer null
+where the sum of all rows leaves them on the way keeps three numbers of each chunk: the total, and the least and the
+greatest of its sums on the way (`sum_from_three_numbers`, `three_numbers_of_joined`)."""
 import sys
 from dataclasses import dataclass
 from pathlib import Path
 
-sys.path.insert(0, str(Path(__file__).resolve().parent.parent / "python"))
+sys.path.insert(0, str(Path(__file__).resolve().parents[2] / "python"))
 
 import numpy
 
-from hivevigil import GE, Column
+from hivevigil import Column
 
 
 @dataclass(frozen=True)
@@ -32,26 +36,19 @@ class Answer:
 NOTHING = Answer(0, 0, 0, 0, None, None, 0, 0, True, None, None, 0, 0)
 
 
-def column_of(chunk):
-    """The column of a masked array of whole numbers: a masked row is null."""
-    rows = numpy.ma.getdata(chunk)
-    mask = numpy.ma.getmaskarray(chunk)
-    return Column.from_buffer(rows, (~mask).tolist())
-
-
 def answer_of(chunk, threshold):
     """The answers about one chunk, which is encoded first."""
     if len(chunk) == 0:
         return NOTHING
-    with column_of(chunk) as flat, flat.encode() as runs:
-        kept = runs.filter(runs.compare(GE, threshold))
+    with Column.of(chunk) as flat, flat.encode() as runs:  # a masked row is null
+        kept = runs[runs.ge(threshold)]
         return Answer(
             rows=len(runs),
             present=int(numpy.ma.count(chunk)),
-            runs=len(runs.ends()),
+            runs=runs.run_count(),
             total=runs.sum(),
-            least=runs.least(),
-            greatest=runs.greatest(),
+            least=runs.min(),
+            greatest=runs.max(),
             kept_rows=len(kept),
             kept_total=kept.sum(),
             is_sorted=runs.is_sorted(),

@@ -11,13 +11,13 @@ def quoted(name):
 
 def load(database, path, numbers):
     """The CSV as the table `readings`; an empty field is null, and a column of `numbers` has whole numbers."""
-    with open(path, newline="", encoding="utf-8") as file:
+    with open(path, newline="", encoding="utf-8-sig") as file:
         reader = csv.reader(file)
         names = next(reader)
         columns = ", ".join(f"{quoted(name)} {'INTEGER' if name in numbers else 'TEXT'}" for name in names)
         database.execute(f"CREATE TABLE readings ({columns})")
         places = ", ".join("?" for _ in names)
-        rows = ([field or None for field in row] for row in reader)
+        rows = ([field or None for field in row] for row in reader if row)
         database.executemany(f"INSERT INTO readings VALUES ({places})", rows)
 
 

@@ -1,9 +1,10 @@
 """A CSV of any size through GDAL's Arrow stream into columns, batch by batch: encoded, filtered and summed, with
-SQLite's answers beside ours. Ends with 1 where the two differ.
+SQLite's answers beside ours. Ends with 1 where the two differ, and with 2 and one line on standard error where there is
+nothing to answer: no such file, no CSV, a broken line, no column that is served, GDAL missing or too old.
 
     /usr/bin/python3 examples/gdal_csv/summary.py FILE.csv [--where COLUMN OPERATOR VALUE] [--batch ROWS] [--no-sqlite]
 
-Debian: apt-get install gdal-bin python3-gdal (and python3-numpy, which comes with it).
+Debian: apt-get install gdal-bin python3-gdal.
 """
 import argparse
 import sys
@@ -12,20 +13,14 @@ from dataclasses import dataclass, field
 from datetime import date, timedelta
 from pathlib import Path
 
-sys.path.insert(0, str(Path(__file__).resolve().parent.parent / "python"))
+sys.path.insert(0, str(Path(__file__).resolve().parents[2] / "python"))
 
-import numpy
-from osgeo import gdal
-
-import hivevigil
 import sqlite_answers
-from hivevigil import Column
-from progress import Progress
+from hivevigil import ArrowSchema, Column, HivevigilError
+from hivevigil.csv_files import BadFile, lines_of
+from hivevigil.progress import Progress
 
-OPERATORS = {
-    "=": hivevigil.EQ, "!=": hivevigil.NE, ">": hivevigil.GT,
-    ">=": hivevigil.GE, "<": hivevigil.LT, "<=": hivevigil.LE,
-}
+OPERATORS = {"=": "==", "!=": "!=", ">": ">", ">=": ">=", "<": "<", "<=": "<="}
 OPTIONS = ["AUTODETECT_TYPE=YES", "AUTODETECT_WIDTH=NO", "EMPTY_STRING_AS_NULL=YES"]
 NUMBERS, TEXTS, DAYS = "number", "text", "day"
 
@@ -54,12 +49,12 @@ class Summary:
             return
         joined = self.rows > 0 and runs[0] == self.last
         self.rows += len(flat)
-        self.present += int(bits_of(flat.validity(), len(flat)).sum())
-        self.runs += len(runs.ends()) - joined
-        self.last = runs[len(runs) - 1]
+        self.present += len(flat) - flat.null_count
+        self.runs += runs.run_count() - joined
+        self.last = runs[-1]
         self.before += flat.nbytes
         self.after += runs.nbytes
-        least, greatest = runs.least(), runs.greatest()
+        least, greatest = runs.min(), runs.max()
         if least is not None:
             self.least = least if self.least is None else min(self.least, least)
             self.greatest = greatest if self.greatest is None else max(self.greatest, greatest)
@@ -80,34 +75,22 @@ def sum_of(column):
     return total
 
 
-def bits_of(bitmap, rows):
-    return numpy.unpackbits(numpy.frombuffer(bitmap, numpy.uint8), bitorder="little", count=rows).astype(bool)
-
-
-def in_runs(flat):
-    """The column in runs. Whole numbers are encoded by the library; of other types the ends are found by comparing each
-    row with the next, where null is equal to null."""
-    if flat.kind.number < hivevigil.TYPES.index("bool"):
-        return flat.encode()
-    rows = len(flat)
-    if rows == 0:
-        return flat.clone()
-    equal = flat.slice(0, rows - 1).compare(hivevigil.EQ, flat.slice(1, rows))
-    valid = bits_of(flat.validity(), rows)
-    same = bits_of(equal.truths(), rows - 1) & valid[:-1] & valid[1:] | ~valid[:-1] & ~valid[1:]
-    ends = numpy.append(numpy.flatnonzero(~same) + 1, rows).astype(numpy.uint32)
-    values = flat.take(Column.from_buffer(ends - 1))
-    return Column.runs(Column.from_buffer(ends), values, 0, rows)
-
-
 def address_of(part):
     return int(part._getPtr())
 
 
-def open_layer(path):
+def open_stream(path, batch_rows):
+    """GDAL's Arrow stream over the file, and what has to live as long."""
+    try:
+        from osgeo import gdal
+    except ImportError:
+        raise BadFile("GDAL for Python is not installed (Debian: apt-get install gdal-bin python3-gdal)") from None
     gdal.UseExceptions()
     data = gdal.OpenEx(path, gdal.OF_VECTOR, allowed_drivers=["CSV"], open_options=OPTIONS)
-    return data, data.GetLayer(0)
+    layer = data.GetLayer(0)
+    if not hasattr(layer, "GetArrowStream"):
+        raise BadFile(f"this takes GDAL 3.6 or later, which has a stream of Arrow arrays, and not {gdal.__version__}")
+    return data, layer, layer.GetArrowStream([f"MAX_FEATURES_IN_BATCH={batch_rows}", "INCLUDE_FID=NO"])
 
 
 def what_of(arrow_format):
@@ -118,17 +101,20 @@ def what_of(arrow_format):
 def read(path, batch_rows, where):
     """The summary of each column that is served, the formats of the others, and the seconds that reading and our calls
     took."""
-    data, layer = open_layer(path)
-    stream = layer.GetArrowStream([f"MAX_FEATURES_IN_BATCH={batch_rows}", "INCLUDE_FID=NO"])
+    rows = rows_in(path)
+    *_held, stream = open_stream(path, batch_rows)
     schema_part = stream.GetSchema()
-    schema = hivevigil.ArrowSchema.from_address(address_of(schema_part))
+    schema = ArrowSchema.from_address(address_of(schema_part))
     names = [schema.children[child].contents.name.decode() for child in range(schema.n_children)]
     formats = [schema.children[child].contents.format.decode() for child in range(schema.n_children)]
     served = {name: Summary(name, what_of(item)) for name, item in zip(names, formats) if what_of(item)}
     others = {name: item for name, item in zip(names, formats) if name not in served}
+    if not served:
+        found = ", ".join(sorted(set(formats)))
+        raise BadFile(f"{path}: no column is served: whole numbers, dates and texts are, and not Arrow's {found}")
     if where:
         where.find(served)
-    progress, begin, ours = Progress(lines_of(path) - 1, "rows"), time.perf_counter(), 0.0
+    progress, begin, ours = Progress(rows, "rows"), time.perf_counter(), 0.0
     while (batch := stream.GetNextRecordBatch()) is not None:
         start = time.perf_counter()
         rows = add_batch(schema, address_of(batch), {name: names.index(name) for name in served}, served, where)
@@ -139,8 +125,8 @@ def read(path, batch_rows, where):
 
 
 def add_batch(schema, batch, places, served, where):
-    flats = {name: Column.from_batch(schema, batch, place) for name, place in places.items()}
-    runs = {name: in_runs(flat) for name, flat in flats.items()}
+    flats = {name: Column.from_arrow_structs(schema, batch, place) for name, place in places.items()}
+    runs = {name: flat.to_runs() for name, flat in flats.items()}
     for name, summary in served.items():
         summary.add(flats[name], runs[name])
     if where:
@@ -150,10 +136,13 @@ def add_batch(schema, batch, places, served, where):
     return max((len(flat) for flat in flats.values()), default=0)
 
 
-def lines_of(path):
-    """How many lines there are, for the progress bar; a field that spans lines counts more than once."""
-    with open(path, "rb") as file:
-        return sum(block.count(b"\n") for block in iter(lambda: file.read(1 << 20), b""))
+def rows_in(path):
+    """How many rows there are. GDAL fills a line that is too short and cuts one that is too long: here both are refused,
+    and so is what is no UTF-8 or has two columns of one name."""
+    try:
+        return sum(1 for _ in lines_of(path)) - 1
+    except UnicodeDecodeError as error:
+        raise BadFile(f"{path}: no UTF-8: {error.reason} 0x{error.object[error.start]:02x}") from None
 
 
 def as_written(summary, value):
@@ -223,24 +212,31 @@ class Where:
     def find(self, served):
         """Reads the value as the column's type wants it: a number, a text, or the days from 1970 to a date."""
         if self.operator not in OPERATORS or self.column not in served:
-            raise SystemExit(f"--where takes a column of {', '.join(served)} and one of {' '.join(OPERATORS)}")
+            raise BadFile(f"--where takes a column of {', '.join(served)} and one of {' '.join(OPERATORS)}")
         what = served[self.column].what
         try:
             self.value = self.text if what == TEXTS else int(self.text) if what == NUMBERS else self.days()
         except ValueError as error:
-            raise SystemExit(f"--where: {self.column} is no such {what}: {error}") from None
+            raise BadFile(f"--where: {self.column} is no such {what}: {error}") from None
 
     def days(self):
         return (date.fromisoformat(self.text) - date(1970, 1, 1)).days
 
 
-def main():
+def arguments():
     parser = argparse.ArgumentParser(description="Summarises a CSV, with SQLite's answers beside ours.")
     parser.add_argument("file")
     parser.add_argument("--where", nargs=3, metavar=("COLUMN", "OPERATOR", "VALUE"))
     parser.add_argument("--batch", type=int, default=65536, metavar="ROWS")
     parser.add_argument("--no-sqlite", action="store_true")
     chosen = parser.parse_args()
+    if chosen.batch < 1:
+        parser.error("--batch takes a number of rows from 1 on")
+    return chosen
+
+
+def summarise(chosen):
+    """Prints the answers, and returns how many columns SQLite answers otherwise."""
     where = Where(*chosen.where) if chosen.where else None
     summaries, others, reading, ours = read(chosen.file, chosen.batch, where)
     print_table(summaries, where)
@@ -248,8 +244,15 @@ def main():
         print(f"{name}: left out, its Arrow format {item} is not served")
     before, after = sum(it.before for it in summaries), sum(it.after for it in summaries)
     print(f"GDAL read for {reading:.2f} s; our calls took {ours:.2f} s; {before:,} bytes before, {after:,} after")
-    if not chosen.no_sqlite:
-        sys.exit(1 if compare_with_sqlite(chosen.file, summaries, where) else 0)
+    return 0 if chosen.no_sqlite else compare_with_sqlite(chosen.file, summaries, where)
+
+
+def main():
+    try:
+        sys.exit(1 if summarise(arguments()) else 0)
+    except (BadFile, HivevigilError, OSError, OverflowError, RuntimeError) as error:
+        print(f"summary: {error}", file=sys.stderr)  # GDAL's refusals are RuntimeErrors
+        sys.exit(2)
 
 
 if __name__ == "__main__":

@@ -1,6 +1,22 @@
-"""The structs and calls of hivevigil.h and arrow_calls.c, as ctypes declares them."""
+"""The shared object: where it is, the structs of hivevigil.h, and what each call takes, as ctypes declares it.
+
+Calls hold the interpreter's lock (PyDLL), so that threads call one at a time, as the header asks of columns that were
+made one from the other.
+"""
+from __future__ import annotations
+
 import ctypes
+import os
+import sys
 from ctypes import POINTER, c_char_p, c_int8, c_int32, c_int64, c_size_t, c_uint8, c_uint64, c_void_p
+from pathlib import Path
+from typing import Any
+
+from ._arrow_structs import ArrowArray, ArrowArrayStream, ArrowSchema
+from .errors import refusal
+
+VARIABLE = "HIVEVIGIL_SO"
+_NAME = "libhivevigil.so"
 
 
 class Handle(ctypes.Structure):
@@ -18,17 +34,20 @@ class Kind(ctypes.Structure):
 class Value(ctypes.Structure):
     _fields_ = [("as_unsigned", c_uint64), ("as_signed", c_int64), ("kind", c_uint8), ("truth", c_uint8)]
 
-    def read(self, text):
-        """The value for Python; `text` is the buffer that was given beside it."""
-        if self.kind < 5:
-            wide = (self.as_signed << 64) + self.as_unsigned
-            return (None, self.as_unsigned, self.as_signed, bool(self.truth), wide)[self.kind]
-        data = text.raw[: self.as_unsigned]
-        return data.decode() if self.kind == 5 else data
-
 
 class Total(ctypes.Structure):
     _fields_ = [("as_unsigned", c_uint64), ("as_signed", c_int64), ("kind", c_uint8), ("empty", c_uint8)]
+
+
+class Pair(ctypes.Structure):
+    _fields_ = [("low", c_uint64), ("high", c_int64)]
+
+
+class ArrowOptions(ctypes.Structure):
+    _fields_ = [
+        ("form", c_uint8), ("end_bits", c_uint8), ("offset_bits", c_uint8), ("bits_of_float", c_uint8),
+        ("format", c_char_p), ("dictionary", POINTER(Handle)),
+    ]
 
 
 class Session(ctypes.Structure):
@@ -39,38 +58,21 @@ class Session(ctypes.Structure):
     ]
 
 
-class ArrowSchema(ctypes.Structure):
-    pass
-
-
-class ArrowArray(ctypes.Structure):
-    pass
-
-
-ArrowSchema._fields_ = [
-    ("format", c_char_p), ("name", c_char_p), ("metadata", c_void_p), ("flags", c_int64), ("n_children", c_int64),
-    ("children", POINTER(POINTER(ArrowSchema))), ("dictionary", POINTER(ArrowSchema)),
-    ("release", ctypes.CFUNCTYPE(None, POINTER(ArrowSchema))), ("private_data", c_void_p),
-]
-ArrowArray._fields_ = [
-    ("length", c_int64), ("null_count", c_int64), ("offset", c_int64), ("n_buffers", c_int64), ("n_children", c_int64),
-    ("buffers", POINTER(c_void_p)), ("children", POINTER(POINTER(ArrowArray))), ("dictionary", POINTER(ArrowArray)),
-    ("release", ctypes.CFUNCTYPE(None, POINTER(ArrowArray))), ("private_data", c_void_p),
-]
+NUMBERS = {
+    "u8": c_uint8, "u16": ctypes.c_uint16, "u32": ctypes.c_uint32, "u64": c_uint64,
+    "i8": c_int8, "i16": ctypes.c_int16, "i32": c_int32, "i64": c_int64,
+}
 
 _HANDLE, _FIELDS, _SESSION = POINTER(Handle), POINTER(Fields), POINTER(Session)
 _VALIDITY = [c_uint8, c_char_p, c_size_t, c_size_t]
 _VALUE = [POINTER(Value), c_char_p, c_size_t]
 _SHOWN = [POINTER(Value), c_void_p, c_size_t]
 _COMMAND = [_SESSION, _HANDLE]
-_NUMBERS = {
-    "u8": c_uint8, "u16": ctypes.c_uint16, "u32": ctypes.c_uint32, "u64": c_uint64,
-    "i8": c_int8, "i16": ctypes.c_int16, "i32": c_int32, "i64": c_int64,
-}
 
 # each call that can be refused: what it takes before `out`, if it makes a column, and the fields
-_MAKERS = {
+_MAKERS: dict[str, list[Any]] = {
     "hv_bools": [c_char_p, c_size_t, c_size_t, c_size_t, *_VALIDITY],
+    "hv_decimals": [POINTER(Pair), c_size_t, c_uint8, c_int8, *_VALIDITY],
     "hv_large_texts": [c_uint8, POINTER(c_int64), c_size_t, c_char_p, c_size_t, *_VALIDITY],
     "hv_runs": [_HANDLE, _HANDLE, c_size_t, c_size_t],
     "hv_clone": [_HANDLE],
@@ -89,8 +91,9 @@ _MAKERS = {
     "hv_deserialize": [POINTER(Kind), c_size_t, c_char_p, c_size_t, _HANDLE, _HANDLE],
     "hv_import_array": [_SESSION, c_void_p, c_void_p],
     "hv_import_child": [_SESSION, c_void_p, c_void_p, c_int64],
+    "hv_concat_columns": [_SESSION, _HANDLE, c_size_t],
 }
-_QUESTIONS = {
+_QUESTIONS: dict[str, list[Any]] = {
     "hv_sum": [*_COMMAND, POINTER(Total)],
     "hv_is_constant": [*_COMMAND, POINTER(c_uint8)],
     "hv_is_sorted": [*_COMMAND, c_uint8, POINTER(c_uint8)],
@@ -98,25 +101,32 @@ _QUESTIONS = {
     "hv_at": [_HANDLE, c_size_t, *_SHOWN],
     "hv_read_bools": [_HANDLE, POINTER(c_uint64), c_size_t],
     "hv_read_validity": [_HANDLE, POINTER(c_uint64), c_size_t],
+    "hv_read_decimals": [_HANDLE, c_size_t, POINTER(Pair), c_size_t],
     "hv_read_large_offsets": [_HANDLE, c_size_t, POINTER(c_int64), c_size_t],
+    "hv_read_bytes": [_HANDLE, c_size_t, c_size_t, c_char_p, c_size_t],
     "hv_serialize": [_HANDLE, c_char_p, c_size_t, POINTER(c_size_t)],
-    "hv_export_array": [*_COMMAND, c_char_p, POINTER(ArrowSchema), POINTER(ArrowArray)],
-    "hv_export_dictionary": [*_COMMAND, _HANDLE, c_char_p, POINTER(ArrowSchema), POINTER(ArrowArray)],
+    "hv_export_with": [*_COMMAND, c_char_p, POINTER(ArrowOptions), POINTER(ArrowSchema), POINTER(ArrowArray)],
+    "hv_export_stream": [
+        *_COMMAND, POINTER(c_char_p), c_size_t, c_size_t, POINTER(ArrowOptions), POINTER(ArrowArrayStream),
+    ],
+    "hv_import_stream": [_SESSION, POINTER(ArrowArrayStream), _HANDLE, c_size_t, c_char_p, c_char_p, c_size_t],
 }
-_PLAIN = {
+_PLAIN: dict[str, tuple[list[Any], Any]] = {
     "hv_session_initial": ([_SESSION], None),
     "hv_length": ([_HANDLE], c_size_t),
     "hv_kind_of": ([_HANDLE], Kind),
     "hv_form": ([_HANDLE], c_uint8),
     "hv_offset": ([_HANDLE], c_size_t),
     "hv_free": ([_HANDLE], None),
+    "hv_capsule_calls": ([c_void_p, c_void_p], None),
+    "hv_capsule_room": ([c_size_t], c_void_p),
 }
 
 
-def declare(library):
+def _declare(library: Any) -> None:
     """Sets what each call takes and answers."""
     makers, questions = dict(_MAKERS), dict(_QUESTIONS)
-    for name, number in _NUMBERS.items():
+    for name, number in NUMBERS.items():
         makers["hv_" + name] = [POINTER(number), c_size_t, *_VALIDITY]
         questions["hv_read_" + name] = [_HANDLE, c_size_t, POINTER(number), c_size_t]
     for name, takes in makers.items():
@@ -127,3 +137,41 @@ def declare(library):
         getattr(library, name).restype = c_int32
     for name, (takes, answers) in _PLAIN.items():
         getattr(library, name).argtypes, getattr(library, name).restype = takes, answers
+
+
+def _load() -> tuple[Any, Any]:
+    """The shared object that the environment names, else the one beside this file, else that of the checkout."""
+    named = os.environ.get(VARIABLE)
+    here = Path(__file__).resolve()
+    places = [Path(named)] if named else [here.parent / _NAME, here.parents[2] / "lib" / _NAME]
+    for place in places:
+        if place.exists():
+            libraries = ctypes.PyDLL(str(place)), ctypes.CDLL(str(place))
+            for library in libraries:
+                _declare(library)
+            return libraries
+    looked = ", ".join(map(str, places))
+    raise ImportError(f"no {_NAME}: looked for {looked}; `sh examples/build.sh` makes it, {VARIABLE} names another")
+
+
+if not getattr(sys, "_is_gil_enabled", lambda: True)():
+    raise ImportError("calls need the interpreter's lock, which this build of Python is without")
+calls, calls_without_lock = _load()
+
+
+def initial_session() -> Session:
+    """The session with every kernel and the thresholds of the crate that is ported."""
+    session = Session()
+    calls.hv_session_initial(session)
+    return session
+
+
+session = initial_session()
+
+
+def ask(call: Any, *arguments: Any) -> None:
+    """Calls, and raises the refusal if there is one."""
+    fields = Fields()
+    answer = call(*arguments, fields)
+    if answer:
+        raise refusal(answer, fields.first, fields.second, fields.third)

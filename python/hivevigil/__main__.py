@@ -1,0 +1,52 @@
+"""python -m hivevigil FILE.csv: for each column its type, rows, nulls, runs, and bytes before and after."""
+from __future__ import annotations
+
+import argparse
+import csv
+import sys
+from collections.abc import Callable
+
+from . import report
+from .csv_files import BadFile
+from .errors import HivevigilError
+
+
+def _arguments() -> argparse.Namespace:
+    parser = argparse.ArgumentParser(prog="python -m hivevigil", description="What a CSV's columns take in runs.")
+    parser.add_argument("file", metavar="FILE.csv", help="the first line has the names; an empty field is null")
+    parser.add_argument("--plot", metavar="FILE.svg", help="draws how long the runs are (needs Matplotlib)")
+    parser.add_argument("--batch", type=int, default=65536, metavar="ROWS", help="rows that are read at once")
+    parser.add_argument("--reader", choices=("gdal", "csv"), help="GDAL (where it is there), or Python's csv module")
+    chosen = parser.parse_args()
+    if chosen.batch < 1:
+        parser.error("--batch takes at least one row")
+    return chosen
+
+
+def _plotter() -> Callable[[report.Report, str], None]:
+    try:
+        from . import plot
+    except ImportError:
+        raise ImportError("--plot needs Matplotlib (Debian: python3-matplotlib)") from None
+    return plot.save
+
+
+def main() -> int:
+    """The status: 0, or 1 where the file could not be read or drawn, which one line says."""
+    chosen = _arguments()
+    try:
+        save = _plotter() if chosen.plot else None
+        found = report.read(chosen.file, chosen.batch, chosen.reader)
+        print(*report.table(found), sep="\n")
+        if save:
+            save(found, chosen.plot)
+        return 0
+    except UnicodeDecodeError as error:
+        print(f"{chosen.file}: no UTF-8: {error}", file=sys.stderr)
+    except (BadFile, csv.Error, HivevigilError, OSError, ImportError, ValueError) as error:
+        print(error, file=sys.stderr)
+    return 1
+
+
+if __name__ == "__main__":
+    sys.exit(main())

@@ -1,0 +1,190 @@
+"""Columns in and out of Arrow's C data interface, as PyCapsules and as the two structs.
+
+A capsule owns its struct, and what the struct holds until a consumer moves it; the destructors are C's, so that a
+capsule may be dropped while an exception is on its way.
+"""
+from __future__ import annotations
+
+import ctypes
+from collections.abc import Iterator
+from ctypes import byref, c_char_p, c_void_p, py_object
+from typing import TYPE_CHECKING, Any, Optional
+
+from ._arrow_structs import ArrowArray, ArrowArrayStream, ArrowSchema
+from ._library import ArrowOptions, Fields, Handle, ask, calls, calls_without_lock, session
+from .errors import ArrowStreamFailed, TypeMismatch, refusal
+
+if TYPE_CHECKING:
+    from .column import Column
+
+_AS_IT_LIES, _AS_RUNS, _AS_FLAT = range(3)
+_RUNS, _BATCH = b"+r", b"+s"
+_WORDS = 512  # bytes of what a stream says of its failure
+
+
+def _declared(name: str, answers: Any, *takes: Any) -> Any:
+    call = getattr(ctypes.pythonapi, name)
+    call.restype, call.argtypes = answers, takes
+    return call
+
+
+_new_capsule = _declared("PyCapsule_New", py_object, c_void_p, c_char_p, c_void_p)
+_pointer_of = _declared("PyCapsule_GetPointer", c_void_p, py_object, c_char_p)
+
+_NAMES = {ArrowSchema: b"arrow_schema", ArrowArray: b"arrow_array", ArrowArrayStream: b"arrow_array_stream"}
+_DROPS = {
+    kind: ctypes.cast(getattr(calls, "hv_drop_" + name.decode()), c_void_p) for kind, name in _NAMES.items()
+}
+calls.hv_capsule_calls(
+    *(ctypes.cast(getattr(ctypes.pythonapi, name), c_void_p) for name in ("PyCapsule_IsValid", "PyCapsule_GetPointer"))
+)
+
+
+def _new(kind: Any) -> tuple[Any, Any]:
+    """A capsule of a struct that is all zero, and the struct."""
+    room = calls.hv_capsule_room(ctypes.sizeof(kind))
+    if not room:
+        raise MemoryError
+    return _new_capsule(room, _NAMES[kind], _DROPS[kind]), kind.from_address(room)
+
+
+def _held(capsule: Any, kind: Any) -> Any:
+    """The struct that a capsule holds, which the capsule releases."""
+    part = kind.from_address(_pointer_of(capsule, _NAMES[kind]))
+    if not part.release:
+        raise ValueError(f"the {_NAMES[kind].decode()} of the capsule was released")
+    return part
+
+
+# ---- Out ----
+
+
+class Exported:
+    """An ArrowSchema and an ArrowArray that are ours to release, as long as nobody moved them."""
+
+    def __init__(self) -> None:
+        self.schema, self.array = ArrowSchema(), ArrowArray()
+
+    def release(self) -> None:
+        for part in (self.array, self.schema):
+            if part.release:
+                part.release(part)
+
+    def __del__(self) -> None:
+        self.release()
+
+    def __enter__(self) -> tuple[ArrowSchema, ArrowArray]:
+        return self.schema, self.array
+
+    def __exit__(self, *_: object) -> None:
+        self.release()
+
+
+def export(column: Column, name: str, format: Optional[str], dictionary: Optional[Column]) -> Exported:
+    options = ArrowOptions()
+    options.format = None if format is None else format.encode()
+    beside = None if dictionary is None else column._beside(dictionary)
+    if beside is not None:
+        options.dictionary = beside._as_parameter_
+    exported = Exported()
+    ask(calls.hv_export_with, session, column, name.encode(), options, exported.schema, exported.array)
+    return exported
+
+
+def _options(requested: Any) -> Iterator[Any]:
+    """What is tried in turn: the form and format that a consumer asks for, the form alone, the column as it lies."""
+    if requested is not None:
+        schema = _held(requested, ArrowSchema)
+        is_runs = schema.format == _RUNS and schema.n_children == 2
+        values = schema.children[1].contents if is_runs else schema
+        form = _AS_RUNS if is_runs else _AS_FLAT
+        yield ArrowOptions(form=form, format=values.format)
+        yield ArrowOptions(form=form)
+    yield ArrowOptions()
+
+
+def array_capsules(column: Column, requested: Any) -> tuple[Any, Any]:
+    schema_capsule, schema = _new(ArrowSchema)
+    array_capsule, items = _new(ArrowArray)
+    for options in _options(requested):
+        try:
+            ask(calls.hv_export_with, session, column, b"", options, schema, items)
+            return schema_capsule, array_capsule
+        except TypeMismatch:
+            continue
+    raise TypeMismatch()
+
+
+def schema_capsule(column: Column) -> Any:
+    return array_capsules(column, None)[0]
+
+
+def stream_capsule(column: Column, requested: Any) -> Any:
+    """A stream of arrays with one chunk: all rows."""
+    capsule, stream = _new(ArrowArrayStream)
+    for options in _options(requested):
+        try:
+            ask(calls.hv_export_stream, session, column, None, 1, 0, options, stream)
+            return capsule
+        except TypeMismatch:
+            continue
+    raise TypeMismatch()
+
+
+# ---- In ----
+
+
+def import_columns(source: Any, kind: type[Column]) -> dict[str, Column]:
+    """The columns of an object that hands out capsules: of a batch or a table by name, of an array one without name."""
+    if hasattr(source, "__arrow_c_array__"):
+        return _of_array(source.__arrow_c_array__(), kind)
+    if hasattr(source, "__arrow_c_stream__"):
+        return _of_stream(source.__arrow_c_stream__(), kind)
+    raise TypeError(f"{type(source).__name__} has neither __arrow_c_array__ nor __arrow_c_stream__")
+
+
+def _names_of(schema: Any) -> Optional[list[str]]:
+    """The names of a batch's children; None of an array."""
+    if schema.format != _BATCH:
+        return None
+    names = [(schema.children[child].contents.name or b"").decode() for child in range(schema.n_children)]
+    if len(set(names)) < len(names):
+        raise ValueError(f"two columns have one name: {', '.join(names)}")
+    return names
+
+
+def _of_array(capsules: Any, kind: type[Column]) -> dict[str, Column]:
+    schema, items = _held(capsules[0], ArrowSchema), _held(capsules[1], ArrowArray)
+    names = _names_of(schema)
+    if names is None:
+        return {"": kind._made(calls.hv_import_array, session, byref(schema), byref(items))}
+    return {
+        name: kind._made(calls.hv_import_child, session, byref(schema), byref(items), child)
+        for child, name in enumerate(names)
+    }
+
+
+def _of_stream(capsule: Any, kind: type[Column]) -> dict[str, Column]:
+    """All chunks as one column each. The interpreter's lock is given up meanwhile: a stream may wait for a thread that
+    needs it, and no column that exists is touched."""
+    stream = _held(capsule, ArrowArrayStream)
+    names = _stream_names(stream)
+    count = 1 if names is None else len(names)
+    handles, words, fields = (Handle * max(1, count))(), ctypes.create_string_buffer(_WORDS), Fields()
+    number = calls_without_lock.hv_import_stream(session, byref(stream), handles, count, None, words, _WORDS, fields)
+    if number == ArrowStreamFailed.number:
+        raise ArrowStreamFailed(fields.first, words=words.value.decode(errors="replace"))
+    if number:
+        raise refusal(number, fields.first, fields.second, fields.third)
+    columns = [kind._owning(Handle(handle.at)) for handle in handles[:count]]
+    return dict(zip(names if names is not None else [""], columns))
+
+
+def _stream_names(stream: Any) -> Optional[list[str]]:
+    with Exported() as (schema, _):
+        failed = stream.get_schema(byref(stream), byref(schema))
+        if failed:
+            words = stream.get_last_error(byref(stream)) or b""
+            raise ArrowStreamFailed(failed, words=words.decode(errors="replace"))
+        return _names_of(schema)
+

@@ -1,0 +1,233 @@
+"""From rows, buffers and NumPy arrays to the calls that make flat columns. A `Made` is a call and what it takes."""
+from __future__ import annotations
+
+import array
+import ctypes
+from collections.abc import Iterable, Sequence
+from decimal import Decimal
+from itertools import accumulate
+from numbers import Integral
+from typing import Any, Optional
+
+from ._library import NUMBERS, Kind, Pair, calls
+from ._types import GREATEST_PRECISION, LETTERS, TYPES, checked_places, range_of
+from ._values import is_truth, unscaled
+from .errors import ColumnLength
+
+Made = tuple[Any, ...]
+_DIGITS = bytes([48, 49]) + bytes(254)  # the bytes 0 and 1 as the letters 0 and 1
+_FLAT, _NO_NULLS, _BY_BITS = 0, 1, 2
+
+
+def bits_of(flags: Iterable[Any]) -> bytes:
+    """Flags as bits, the first the least of the first byte, and a byte where there are none."""
+    if hasattr(flags, "dtype"):
+        import numpy
+
+        return numpy.packbits(numpy.asarray(flags, dtype=bool), bitorder="little").tobytes() + b"\0"
+    letters = bytes(map(bool, flags))[::-1].translate(_DIGITS)
+    return int(letters or b"0", 2).to_bytes(len(letters) // 8 + 1, "little")
+
+
+def validity_of(valid: Optional[Sequence[Any]], rows: int, nullable: bool = False) -> tuple[int, bytes, int, int]:
+    """What the makers take: nulls, bits, their number of bytes, and the first bit."""
+    if valid is None:
+        return (_NO_NULLS if nullable else _FLAT), b"\0", 0, 0
+    if len(valid) != rows:
+        raise ColumnLength(rows, len(valid))
+    bits = bits_of(valid)
+    return _BY_BITS, bits, len(bits), 0
+
+
+# ---- Rows as Python has them ----
+
+
+def _sort_of(kind: type) -> str:
+    """What values of a class of Python are."""
+    if kind is bool or kind.__module__ == "numpy" and kind.__name__ in ("bool_", "bool"):
+        return "bool"
+    for sort, classes in (("whole", Integral), ("decimal", Decimal), ("utf8", str)):
+        if issubclass(kind, classes):
+            return sort
+    if issubclass(kind, (bytes, bytearray, memoryview)):
+        return "binary"
+    why = "; floating-point numbers are not values of this library" if issubclass(kind, float) else ""
+    raise TypeError(f"no column has values of class {kind.__name__}{why}")
+
+
+def inferred(rows: Sequence[Any]) -> Kind:
+    """The type of rows: i64, or u64 where a number needs it; the least decimal of all; bool, utf8, binary."""
+    present = [row for row in rows if row is not None]
+    sorts = {_sort_of(kind) for kind in set(map(type, present))}
+    nullable = len(present) < len(rows)
+    if not sorts:
+        raise ValueError("no row tells a type: name one, as Column.of(rows, 'i64')")
+    if sorts == {"whole", "decimal"}:
+        sorts = {"decimal"}
+    if len(sorts) > 1:
+        raise TypeError(f"the rows are of several types: {', '.join(sorted(sorts))}")
+    (sort,) = sorts
+    if sort == "decimal":
+        return Kind(TYPES.index("decimal"), nullable, *_places_of(present))
+    return Kind(TYPES.index(_whole_type_of(present) if sort == "whole" else sort), nullable, 0, 0)
+
+
+def _whole_type_of(present: Sequence[int]) -> str:
+    least, greatest = int(min(present)), int(max(present))
+    for name in ("i64", "u64"):
+        if least in range_of(name) and greatest in range_of(name):
+            return name
+    raise OverflowError(f"no type of whole numbers has both {least} and {greatest}")
+
+
+def _places_of(present: Sequence[Any]) -> tuple[int, int]:
+    """The least scale that has all places of the rows, and the least precision beside it."""
+    parts = [Decimal(row).as_tuple() for row in present]
+    exponents = [part.exponent for part in parts if isinstance(part.exponent, int)]
+    if len(exponents) < len(parts):
+        raise ValueError("a row is no number: a decimal column has neither NaN nor infinity")
+    scale = max(0, -min(exponents))
+    precision = max(len(part.digits) + exponent + scale for part, exponent in zip(parts, exponents))
+    if max(precision, scale) > GREATEST_PRECISION:
+        raise OverflowError(f"the rows need {max(precision, scale)} digits, and a decimal has {GREATEST_PRECISION}")
+    return checked_places(max(precision, scale, 1), scale)
+
+
+def flat_of(rows: Sequence[Any], kind: Kind) -> Made:
+    """The flat column of rows of a type; None is null."""
+    flags = [row is not None for row in rows]
+    all_valid = all(flags)
+    name = TYPES[kind.number]
+    validity = validity_of(None if all_valid else flags, len(rows), bool(kind.nullable))
+    if name in LETTERS:
+        return numbers_of(_numbers(rows, name, all_valid), validity)
+    if name == "bool":
+        return truths_of(bits_of(_truths(rows)), len(rows), validity)
+    if name == "decimal":
+        return decimals_of(_pairs(rows, kind), kind, validity)
+    return texts_of(_encoded(rows, name), name, validity)
+
+
+def _numbers(rows: Sequence[Any], name: str, all_valid: bool) -> array.array[int]:
+    try:
+        return array.array(LETTERS[name], rows if all_valid else [0 if row is None else row for row in rows])
+    except OverflowError:
+        wrong = next(row for row in rows if row is not None and int(row) not in range_of(name))
+        raise OverflowError(f"{wrong} is no value of type {name}") from None
+
+
+def _truths(rows: Sequence[Any]) -> list[bool]:
+    wrong = next((row for row in rows if row is not None and not is_truth(row)), None)
+    if wrong is not None:
+        raise TypeError(f"{wrong!r} is no truth value")
+    return list(map(bool, rows))
+
+
+def _pairs(rows: Sequence[Any], kind: Kind) -> bytes:
+    numbers = (0 if row is None else unscaled(row, kind.precision, kind.scale) for row in rows)
+    return b"".join(number.to_bytes(16, "little", signed=True) for number in numbers)
+
+
+def _encoded(rows: Sequence[Any], name: str) -> list[bytes]:
+    wanted: Any = str if name == "utf8" else (bytes, bytearray, memoryview)
+    for row in rows:
+        if row is not None and not isinstance(row, wanted):
+            raise TypeError(f"{row!r} is no value of type {name}")
+    return [b"" if row is None else row.encode() if name == "utf8" else bytes(row) for row in rows]
+
+
+# ---- Items as C has them ----
+
+
+def numbers_of(items: Any, validity: tuple[Any, ...]) -> Made:
+    """A buffer of whole numbers in one dimension."""
+    view = memoryview(items)
+    name = type_of_view(view)
+    if not view.contiguous:
+        view = memoryview(view.tobytes()).cast(LETTERS[name])
+    number, rows = NUMBERS[name], view.shape[0] if view.shape else 0
+    if rows == 0:
+        passed = (number * 1)()
+    else:
+        passed = (number * rows).from_buffer_copy(view) if view.readonly else (number * rows).from_buffer(view)
+    return getattr(calls, "hv_" + name), passed, rows, *validity
+
+
+def truths_of(bits: bytes, rows: int, validity: tuple[Any, ...]) -> Made:
+    return calls.hv_bools, bits, len(bits), 0, rows, *validity
+
+
+def decimals_of(data: bytes, kind: Kind, validity: tuple[Any, ...]) -> Made:
+    """Numbers of 16 bytes."""
+    rows = len(data) // 16
+    pairs = (Pair * rows).from_buffer_copy(data) if rows else (Pair * 1)()
+    return calls.hv_decimals, pairs, rows, kind.precision, kind.scale, *validity
+
+
+def texts_of(encoded: Sequence[bytes], name: str, validity: tuple[Any, ...]) -> Made:
+    offsets = array.array("q", accumulate(map(len, encoded), initial=0))
+    return texts_at(offsets, b"".join(encoded), name, validity)
+
+
+def texts_at(offsets: array.array[int], data: bytes, name: str, validity: tuple[Any, ...]) -> Made:
+    """Texts or bytes by their offsets."""
+    passed = (ctypes.c_int64 * len(offsets)).from_buffer(offsets)
+    return calls.hv_large_texts, name == "binary", passed, len(offsets), data, len(data), *validity
+
+
+def type_of_view(view: memoryview) -> str:
+    """The type of a buffer's items, by its format and width: 'i32' of 'i', '<i4' or 'l' of four bytes."""
+    letter = view.format.lstrip("@=<")
+    if len(letter) != 1 or letter not in "bhilqBHILQ" or view.ndim != 1:
+        raise TypeError(f"no buffer of whole numbers in one dimension: format {view.format!r}, {view.ndim} dimensions")
+    return ("u" if letter.isupper() else "i") + str(8 * view.itemsize)
+
+
+# ---- Arrays of other libraries ----
+
+
+def is_arrow(items: Any) -> bool:
+    """Whether an object hands out Arrow's capsules."""
+    return hasattr(items, "__arrow_c_array__") or hasattr(items, "__arrow_c_stream__")
+
+
+def is_array(items: Any) -> bool:
+    """Whether an object is an array of NumPy, of pandas, or of an Arrow library, and not an iterable of rows."""
+    return hasattr(items, "dtype") or hasattr(items, "isna") or is_arrow(items)
+
+
+def of_numpy(items: Any, valid: Optional[Any] = None) -> Made:
+    """A NumPy array in one dimension; a masked row is null."""
+    import numpy
+
+    if isinstance(items, numpy.ma.MaskedArray):
+        masks: Any = numpy.ma
+        valid = ~masks.getmaskarray(items)
+        items = items.data
+    if items.ndim != 1:
+        raise ValueError(f"a column has one dimension, and the array has {items.ndim}")
+    if items.dtype.kind in "iu":
+        native = numpy.ascontiguousarray(items, items.dtype.newbyteorder("="))
+        return numbers_of(native, validity_of(valid, len(items)))
+    if items.dtype.kind == "b":
+        return truths_of(bits_of(items), len(items), validity_of(valid, len(items)))
+    if items.dtype.kind not in "OUS":
+        hint = "; its .view('i8') are whole numbers" if items.dtype.kind in "mM" else ""
+        raise TypeError(f"no column has items of dtype {items.dtype}{hint}")
+    rows = items.tolist() if valid is None else [row if flag else None for row, flag in zip(items.tolist(), valid)]
+    name = {"U": "utf8", "S": "binary"}.get(items.dtype.kind)
+    return flat_of(rows, Kind(TYPES.index(name), 0, 0, 0) if name else inferred(rows))
+
+
+def of_pandas(items: Any) -> Made:
+    """A Series, an Index or an array of pandas; what pandas calls missing is null."""
+    import numpy
+
+    missing = numpy.asarray(items.isna())
+    valid = ~missing if missing.any() else None
+    native = getattr(items.dtype, "numpy_dtype", items.dtype)
+    if getattr(native, "kind", "O") not in "iub":
+        return of_numpy(numpy.asarray(items.astype(object)), valid)
+    if native is items.dtype:
+        return of_numpy(numpy.asarray(items), valid)
+    return of_numpy(items.to_numpy(dtype=native, na_value=native.type(0)), ~missing)

@@ -1,0 +1,118 @@
+"""The runs that a column shows, its rows by way of them, and columns of any type put into runs."""
+from __future__ import annotations
+
+import array
+import sys
+from bisect import bisect_left, bisect_right
+from collections.abc import Iterator
+from itertools import chain, compress, repeat
+from typing import TYPE_CHECKING, Any, NamedTuple, Optional
+
+from . import _reading
+from ._library import calls
+from ._making import numbers_of, truths_of, validity_of
+from ._types import WHOLE_NUMBERS
+from ._values import Scalar
+
+if TYPE_CHECKING:
+    from .column import Column
+
+
+class Run(NamedTuple):
+    """Rows `start` to `stop` - 1 of a column, which all have this value."""
+
+    start: int
+    stop: int
+    value: Scalar
+
+
+class Visible(NamedTuple):
+    """What a run column shows: how many runs, where the first of them end, counted from its first row, their values."""
+
+    runs: int
+    stops: list[int]
+    values: Column
+
+
+def visible(column: Column, most: Optional[int] = None) -> Visible:
+    """The visible runs of a run column, or as many of the first."""
+    ends, offset, rows = column.ends().to_array(), column.offset, column._length
+    first = bisect_right(ends, offset)
+    count = bisect_left(ends, offset + rows) + 1 - first if rows else 0
+    behind = first + (count if most is None else min(count, most))
+    stops = [min(end - offset, rows) for end in ends[first:behind]]
+    return Visible(count, stops, column.values().slice(first, behind))
+
+
+def lengths(stops: list[int]) -> list[int]:
+    return [stop - start for start, stop in zip(chain((0,), stops), stops)]
+
+
+def rows(column: Column) -> Iterator[Scalar]:
+    """Row by row; of runs each value is read once."""
+    if column.form == "runs":
+        shown = visible(column)
+        return chain.from_iterable(map(_repeated, _flat_rows(shown.values), lengths(shown.stops)))
+    if column.form == "constant":
+        return _repeated(column[0], column._length) if column._length else iter(())
+    return _flat_rows(column)
+
+
+def _flat_rows(column: Column) -> Iterator[Scalar]:
+    """Row by row, written out first where the column is not flat."""
+    return chain.from_iterable(_reading.blocks(column._flat()))
+
+
+def _repeated(value: Scalar, count: int) -> Iterator[Scalar]:
+    return repeat(value, min(count, sys.maxsize))  # repeat counts no further, nor does who reads
+
+
+def stored_runs(column: Column, most: Optional[int] = None) -> Iterator[Run]:
+    """The runs of a run column, or of a constant, or as many of the first."""
+    if column.form == "constant":
+        return iter([Run(0, column._length, column[0])] if column._length else [])
+    shown = visible(column, most)
+    return map(Run, chain((0,), shown.stops), shown.stops, _flat_rows(shown.values))
+
+
+def null_count(column: Column) -> int:
+    """How many rows are null."""
+    if not column.nullable:
+        return 0
+    if column.form == "constant":
+        return column._length if column._length and column[0] is None else 0
+    if column.form == "runs":
+        shown = visible(column)
+        return sum(compress(lengths(shown.stops), _reading.null_flags(shown.values._flat())))
+    return _reading.null_flags(column).count(1)
+
+
+def to_runs(column: Column) -> Column:
+    """The column in as few runs as there can be. Whole numbers are encoded by the library; of other types the last row
+    of each run is found by comparing each row with the next, where null is equal to null."""
+    if column.type.rstrip("?") in WHOLE_NUMBERS:
+        return column.encode()
+    flat, length = column._flat(), column._length
+    if length == 0:
+        return column.from_runs(column.of([], "u8"), flat)
+    last_of_run = column._made(*truths_of(_ends_of_runs(flat), length, validity_of(None, length)))
+    letter = "B" if length < 2**8 else "H" if length < 2**16 else "I" if length < 2**32 else "Q"
+    numbers = array.array(letter, range(1, length + 1))
+    ends = column._made(*numbers_of(numbers, validity_of(None, length))).filter(last_of_run)
+    return column.from_runs(ends._flat(), flat.filter(last_of_run)._flat())
+
+
+def _ends_of_runs(flat: Column) -> bytes:
+    """A bit for each row: 1 where the next row differs, and behind the last."""
+    length = len(flat)
+    pairs = (1 << (length - 1)) - 1
+    equal = flat.slice(0, length - 1).eq(flat.slice(1, length))._flat()
+    same = _bits(equal, calls.hv_read_bools)
+    if flat.nullable:
+        valid = _bits(flat, calls.hv_read_validity)
+        same = same & valid & (valid >> 1) | ~valid & ~(valid >> 1)
+    return (~same & pairs | 1 << (length - 1)).to_bytes(length // 8 + 1, "little")
+
+
+def _bits(column: Column, read: Any) -> int:
+    return int.from_bytes(_reading.bitmap(column, read), "little")

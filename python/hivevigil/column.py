@@ -1,0 +1,454 @@
+"""A column: rows of one type, each a value or null, flat, as one constant, or as runs."""
+from __future__ import annotations
+
+import array
+import ctypes
+from collections.abc import Iterator, Sequence
+from typing import Any, Optional
+
+from . import _arrow, _copying, _indexing, _making, _reading, _runs, _showing
+from ._library import Handle, Kind, Total, Value, ask, calls, session
+from ._runs import Run
+from ._types import FORMS, LETTERS, SIGNED, TYPES, WIDTHS, kind_of, text_of
+from ._values import Scalar, operator_of, passed, row_of, shown, size_of, whole
+from .errors import ColumnLength, NoColumn, Unsupported
+
+
+class Column:
+    """Rows of one type, each a value or null. What a command makes is a new column; the old one stays as it was.
+
+    A column is freed by `with`, by `free()`, or when nothing refers to it; each call on one that was freed is refused
+    as NoColumn. Threads may use columns: each call holds the interpreter's lock.
+    """
+
+    __slots__ = ("_handle", "_as_parameter_", "__weakref__")
+    _handle: Handle
+    _as_parameter_: Any  # what ctypes passes where a call is lent a column, which so lives as long as the call
+
+    def __init__(self, *_: object, **__: object) -> None:
+        raise TypeError("Column.of(rows) makes a column; so do from_buffer, from_runs, from_arrow and from_record")
+
+    # ---- Life ----
+
+    @classmethod
+    def _owning(cls, handle: Handle) -> Column:
+        column = cls.__new__(cls)
+        column._handle, column._as_parameter_ = handle, ctypes.pointer(handle)
+        return column
+
+    @classmethod
+    def _made(cls, call: Any, *arguments: Any) -> Column:
+        column = cls._owning(Handle())
+        ask(call, *arguments, column._handle)
+        return column
+
+    def _there(self) -> Column:
+        """The column, for calls that refuse nothing; the others refuse a freed one by themselves."""
+        if self.freed:
+            raise NoColumn()
+        return self
+
+    def _beside(self, other: Column) -> Column:
+        """The other column. Two handles of one call are two, so a column beside itself is copied."""
+        return self.copy() if other is self else _column(other)
+
+    def free(self) -> None:
+        """Frees the column now. Each call on it is refused from then on, but for this one and `freed`."""
+        calls.hv_free(self._handle)
+
+    @property
+    def freed(self) -> bool:
+        return not self._handle.at
+
+    def __del__(self, free: Any = calls.hv_free) -> None:  # kept here: modules are emptied before the last columns
+        if hasattr(self, "_handle"):
+            free(self._handle)
+
+    def __enter__(self) -> Column:
+        return self._there()
+
+    def __exit__(self, *_: object) -> None:
+        self.free()
+
+    def copy(self) -> Column:
+        """The same column in the same form, which is freed by itself."""
+        return self._made(calls.hv_clone, self)
+
+    def __copy__(self) -> Column:
+        return self.copy()
+
+    def __deepcopy__(self, _: Any) -> Column:
+        return self.copy()
+
+    def __reduce__(self) -> Any:
+        return _copying.reduced(self)
+
+    # ---- Making ----
+
+    @classmethod
+    def of(cls, rows: Any, type: Any = None) -> Column:
+        """The column of a list, any iterable, or an array of NumPy, pandas or an Arrow library; None (or masked, or
+        missing) is null.
+
+        The type is inferred where none is given: whole numbers are i64 (u64 where one needs it) or as the array has
+        them, decimal.Decimal the least decimal that has all of them, then bool, utf8 and binary. A type is given as
+        'i32', 'decimal(10, 2)', int, str or a dtype; 'i32?' may be null also where no row is.
+        """
+        asked = None if type is None else kind_of(type)
+        if isinstance(rows, str):
+            raise TypeError("rows come first, then their type: Column.of([1, 2], 'i64')")
+        if isinstance(rows, (array.array, memoryview, bytes, bytearray)) or _making.is_array(rows):
+            column = cls._of_array(rows)
+            return column if asked is None else column._as(asked)
+        rows = list(rows)
+        return cls._made(*_making.flat_of(rows, _making.inferred(rows) if asked is None else asked))
+
+    @classmethod
+    def _of_array(cls, rows: Any) -> Column:
+        if isinstance(rows, Column):
+            return rows.copy()
+        if hasattr(rows, "isna"):
+            return cls._made(*_making.of_pandas(rows))
+        if _making.is_arrow(rows):
+            return cls.from_arrow(rows)
+        return cls._made(*_making.of_numpy(rows)) if hasattr(rows, "dtype") else cls.from_buffer(rows)
+
+    def _as(self, asked: Kind) -> Column:
+        """The same rows as a type, which may be null where a row is, or where it says so."""
+        asked.nullable = asked.nullable or self._kind.nullable
+        if bytes(asked) == bytes(self._kind):
+            return self
+        same_sort = TYPES[asked.number] in LETTERS and TYPES[self._kind.number] in LETTERS
+        if same_sort or asked.number == self._kind.number and TYPES[asked.number] != "decimal":
+            return self._made(calls.hv_cast, session, self, asked)
+        return self._made(*_making.flat_of(self.to_list(), asked))
+
+    @classmethod
+    def from_buffer(cls, items: Any, valid: Optional[Sequence[Any]] = None) -> Column:
+        """The flat column of a buffer of whole numbers: an array, a memoryview, a NumPy array. Null where a flag of
+        `valid` is false. The items are copied."""
+        return cls._made(*_making.numbers_of(items, _making.validity_of(valid, len(memoryview(items)))))
+
+    @classmethod
+    def from_runs(cls, ends: Any, values: Any, offset: int = 0, rows: Optional[int] = None) -> Column:
+        """The runs that end before these rows, with a value for each, of which `rows` rows from row `offset` on are
+        shown; without `rows` all to the last end. Both are copied; ends are whole numbers without sign."""
+        end_column = ends if isinstance(ends, Column) else cls.of(ends, None if hasattr(ends, "dtype") else "u64")
+        end_column = end_column._as(kind_of("u64")) if end_column.type in SIGNED else end_column
+        value_column = values if isinstance(values, Column) else cls.of(values)
+        start = size_of(offset, "the offset")
+        if rows is None:
+            rows = max(0, whole(end_column[-1], "an end") - start) if len(end_column) else 0
+        count = size_of(rows, "the number of rows")
+        return cls._made(calls.hv_runs, end_column, end_column._beside(value_column), start, count)
+
+    @classmethod
+    def from_record(cls, type: Any, rows: int, record: bytes, ends: Column, values: Column) -> Column:
+        """The run column of this many rows that a metadata record describes, over copies of ends and values."""
+        count, data = size_of(rows, "the number of rows"), bytes(record)
+        passed_record = (kind_of(type), count, data or b"\0", len(data))
+        return cls._made(calls.hv_deserialize, *passed_record, _column(ends), ends._beside(values))
+
+    @classmethod
+    def from_arrow(cls, source: Any) -> Column:
+        """A copy of what an object of any Arrow library holds, by its capsules (`__arrow_c_array__`, else
+        `__arrow_c_stream__`, whose chunks become one column): an array, or a batch or table of one column."""
+        columns = _arrow.import_columns(source, cls)
+        if len(columns) != 1:
+            raise ValueError(f"{len(columns)} columns, {', '.join(columns)}: columns_from_arrow takes more than one")
+        return columns.popitem()[1]
+
+    @classmethod
+    def from_arrow_structs(cls, schema: Any, items: Any, child: Optional[int] = None) -> Column:
+        """A copy of an array by the two structs of Arrow's C data interface, or their addresses, which stay the
+        producer's; with `child`, of that column of a batch."""
+        structs = (session, _address(schema), _address(items))
+        if child is None:
+            return cls._made(calls.hv_import_array, *structs)
+        return cls._made(calls.hv_import_child, *structs, size_of(child, "the child"))
+
+    # ---- Commands ----
+
+    def encode(self) -> Column:
+        """As few runs as there can be, of whole numbers alone; to_runs() serves every type."""
+        return self._made(calls.hv_encode, session, self)
+
+    def to_runs(self) -> Column:
+        """As few runs as there can be, of rows of any type."""
+        return _runs.to_runs(self)
+
+    def decode(self) -> Column:
+        """The rows written out in a flat form."""
+        return self._made(calls.hv_decode, session, self)
+
+    def _flat(self) -> Column:
+        return self if self.form == "flat" else self.decode()
+
+    def slice(self, start: int, stop: int) -> Column:
+        """The rows from `start` to `stop` - 1, which have to be there; `column[start:stop]` cuts as Python does."""
+        return self._made(calls.hv_slice, session, self, size_of(start, "the start"), size_of(stop, "the stop"))
+
+    def cast(self, type: Any, nullable: Optional[bool] = None) -> Column:
+        """Each row as the same value of a type, 'i8' or 'i8?'. It may be null as this column may, unless `nullable` or
+        a '?' says otherwise."""
+        kind = kind_of(type)
+        kind.nullable = nullable if nullable is not None else kind.nullable or self._kind.nullable
+        return self._made(calls.hv_cast, session, self, kind)
+
+    def take(self, indices: Any) -> Column:
+        """The rows at the indices: a column, a list, or an array; null at a null index. Of lists and arrays negative
+        indices count from the end."""
+        return self._made(calls.hv_take, session, self, self._beside(_indexing.indices_of(self, indices)))
+
+    def filter(self, mask: Any) -> Column:
+        """The rows at which the mask, a column in any form, a list or an array, is true; null selects nothing."""
+        return self._made(calls.hv_filter, session, self, self._beside(_indexing.mask_of(self, mask)))
+
+    def take_from(self, dictionary: Any) -> Column:
+        """The rows of the dictionary that these codes number from 0; null stays null."""
+        values = dictionary if isinstance(dictionary, Column) else self.of(dictionary)
+        return self._made(calls.hv_take_from, session, self, self._beside(values))
+
+    def compare(self, operator: str, right: Any) -> Column:
+        """Row by row whether `row operator right`, for a column or one value, with one of == != > >= < <=; null where
+        either is null."""
+        sign = operator_of(operator)
+        if isinstance(right, Column):
+            return self._made(calls.hv_compare, session, self, sign, self._beside(right))
+        return self._made(calls.hv_compare_scalar, session, self, sign, *passed(self._kind, right))
+
+    def eq(self, right: Any) -> Column:
+        return self.compare("==", right)
+
+    def ne(self, right: Any) -> Column:
+        return self.compare("!=", right)
+
+    def gt(self, right: Any) -> Column:
+        return self.compare(">", right)
+
+    def ge(self, right: Any) -> Column:
+        return self.compare(">=", right)
+
+    def lt(self, right: Any) -> Column:
+        return self.compare("<", right)
+
+    def le(self, right: Any) -> Column:
+        return self.compare("<=", right)
+
+    def fill(self, value: Any) -> Column:
+        """A value in place of each null, after which the type has no null."""
+        return self._made(calls.hv_fill, session, self, *passed(self._kind, value))
+
+    # ---- Questions ----
+
+    def __len__(self) -> int:
+        """How many rows; runs may have more than len() can answer, 2**63 and above."""
+        return self._length
+
+    @property
+    def _length(self) -> int:
+        return int(calls.hv_length(self._there()))
+
+    @property
+    def _kind(self) -> Kind:
+        kind: Kind = calls.hv_kind_of(self._there())
+        return kind
+
+    @property
+    def type(self) -> str:
+        """The type as text: 'i64', 'decimal(10, 2)', and 'i64?' where rows may be null."""
+        return text_of(self._kind)
+
+    @property
+    def nullable(self) -> bool:
+        """Whether the type has null."""
+        return bool(self._kind.nullable)
+
+    @property
+    def form(self) -> str:
+        """'flat', 'constant', 'lists' or 'runs'."""
+        return FORMS[calls.hv_form(self._there())]
+
+    @property
+    def offset(self) -> int:
+        """Of runs how many of their rows lie before the window; else 0."""
+        return int(calls.hv_offset(self._there()))
+
+    @property
+    def null_count(self) -> int:
+        """How many rows are null."""
+        return _runs.null_count(self)
+
+    def sum(self) -> Optional[int]:
+        """The sum of the rows that are not null, 0 where there is none; None where it left the range of 64 bits."""
+        total = Total()
+        ask(calls.hv_sum, session, self, total)
+        return (None, int(total.as_unsigned), int(total.as_signed))[total.kind]
+
+    def is_constant(self) -> bool:
+        """Whether any two rows are equal, null equal to null."""
+        return self._truth(calls.hv_is_constant)
+
+    def is_sorted(self, strict: bool = False) -> bool:
+        """Whether no row is above the next (strict: whether each is below it), null below all else."""
+        return self._truth(calls.hv_is_sorted, bool(strict))
+
+    def _truth(self, call: Any, *arguments: Any) -> bool:
+        truth = ctypes.c_uint8()
+        ask(call, session, self, *arguments, truth)
+        return bool(truth.value)
+
+    def min(self) -> Scalar:
+        """The least row that is not null; None where all are null."""
+        return self._shown(calls.hv_extreme, session, self, 0)
+
+    def max(self) -> Scalar:
+        """The greatest row that is not null; None where all are null."""
+        return self._shown(calls.hv_extreme, session, self, 1)
+
+    def __getitem__(self, key: Any) -> Any:
+        """A row by its number, from the end where it is negative; else a column: of a slice, of a mask's rows (a
+        column, a list, or an array of truth values), or of the rows at indices."""
+        return _indexing.selected(self, key)
+
+    def at(self, row: int) -> Scalar:
+        """The row, from the end where it is negative."""
+        return self._at(row_of(row, self._length))
+
+    def _at(self, row: int) -> Scalar:
+        return self._shown(calls.hv_at, self, row)
+
+    def _shown(self, call: Any, *arguments: Any) -> Scalar:
+        """A value, asked for again with more room where its text has none."""
+        room = 64
+        while True:
+            value, text = Value(), ctypes.create_string_buffer(room)
+            try:
+                ask(call, *arguments, value, text, room)
+                return shown(value, self._kind, text)
+            except ColumnLength as short:
+                room = short.fields[0]
+
+    # ---- Reading ----
+
+    def __iter__(self) -> Iterator[Scalar]:
+        """Row by row, read in blocks; of runs each value is read once."""
+        return _runs.rows(self)
+
+    def blocks(self, rows: int = _reading.BLOCK) -> Iterator[Column]:
+        """The column in pieces of so many rows, the last one of what is left."""
+        step = size_of(rows, "the rows of a block")
+        if step == 0:
+            raise ValueError("a block has at least one row")
+        length = self._length
+        return (self.slice(start, min(start + step, length)) for start in range(0, length, step))
+
+    def to_list(self) -> list[Scalar]:
+        """The rows as values of Python: int, bool, decimal.Decimal, str, bytes, and None for null."""
+        return list(self)
+
+    def to_numpy(self, null: Any = None) -> Any:
+        """The rows as a NumPy array of the type's dtype; of decimals, texts and bytes an array of objects, in which
+        null is None. Whole numbers and truth values that may be null are a masked array, or, with `null`, a plain one
+        that has this value in place of null."""
+        return _copying.to_numpy(self, null)
+
+    def __array__(self, dtype: Any = None, copy: Any = None) -> Any:
+        """As NumPy asks for it: of objects, with None, where a row is null, since a mask would be lost."""
+        if copy is False:
+            raise ValueError("the rows of a column are copied for NumPy")
+        return _copying.as_numpy(self, dtype)
+
+    def to_pandas(self) -> Any:
+        """The rows as a pandas.Series, of a dtype with a mask (Int64, boolean) where they may be null."""
+        return _copying.to_pandas(self)
+
+    def to_array(self) -> array.array[int]:
+        """The stored numbers of a flat column of whole numbers, which NumPy reads without a copy."""
+        if TYPES[self._kind.number] not in LETTERS or self.form != "flat":
+            raise Unsupported()
+        return _reading.numbers(self, 0, len(self))
+
+    def validity(self) -> bytes:
+        """Arrow's bitmap of a flat column: row i is valid where bit i % 8 of byte i // 8 is 1."""
+        return _reading.bitmap(self, calls.hv_read_validity)
+
+    def truths(self) -> bytes:
+        """The stored truth values of a flat column, as a bitmap."""
+        return _reading.bitmap(self, calls.hv_read_bools)
+
+    def runs(self) -> Iterator[Run]:
+        """The runs that the column shows, each as (start, stop, value), counted from its first row. Of runs and
+        constants these are the stored ones; of a flat column as few as there can be."""
+        return _runs.stored_runs(self if self.form in ("runs", "constant") else self.to_runs())
+
+    def run_count(self) -> int:
+        """How many runs runs() gives."""
+        if self.form == "constant":
+            return min(1, self._length)
+        return _runs.visible(self if self.form == "runs" else self.to_runs(), most=0).runs
+
+    def ends(self) -> Column:
+        """The stored ends of a run column, before its window too; of a constant the end of its one run."""
+        if self.form == "constant":
+            return self.of([self._length] if self._length else [], "u64")
+        return self._made(calls.hv_ends, self)
+
+    def values(self) -> Column:
+        """The value of each stored run."""
+        if self.form == "constant":
+            return self.slice(0, min(1, self._length)).decode()
+        return self._made(calls.hv_values, self)
+
+    def record(self) -> bytes:
+        """The metadata record of a run column."""
+        data, size = ctypes.create_string_buffer(64), ctypes.c_size_t()
+        ask(calls.hv_serialize, self, data, len(data), size)
+        return data.raw[: size.value]
+
+    @property
+    def nbytes(self) -> int:
+        """How many bytes the rows take in this form: items, bits, offsets of 32 bits and texts; ends and values."""
+        if self.form in ("runs", "constant"):
+            return self.ends().nbytes + self.values().nbytes
+        kind, rows = self._kind, len(self)
+        bits = (rows + 7) // 8
+        validity = bits if kind.nullable else 0
+        name = TYPES[kind.number]
+        if name in ("utf8", "binary"):
+            return 4 * (rows + 1) + _reading.texts(self, 0, rows)[0][rows] + validity
+        return (bits if name == "bool" else rows * WIDTHS[name]) + validity
+
+    # ---- Arrow ----
+
+    def to_arrow(self, name: str = "", format: Optional[str] = None, dictionary: Optional[Column] = None) -> Any:
+        """The column as the two structs of Arrow's C data interface, which `with` releases; a mover sets `release` to
+        null. `format` is one of the type's, as 'tdD' of i32; with a `dictionary` these are codes over it."""
+        return _arrow.export(self, name, format, dictionary)
+
+    def __arrow_c_schema__(self) -> Any:
+        return _arrow.schema_capsule(self)
+
+    def __arrow_c_array__(self, requested_schema: Any = None) -> tuple[Any, Any]:
+        return _arrow.array_capsules(self, requested_schema)
+
+    def __arrow_c_stream__(self, requested_schema: Any = None) -> Any:
+        return _arrow.stream_capsule(self, requested_schema)
+
+    # ---- Looking ----
+
+    def __repr__(self) -> str:
+        return _showing.text(self)
+
+    def _repr_html_(self) -> str:
+        return _showing.html(self)
+
+
+def _column(other: Any) -> Column:
+    if not isinstance(other, Column):
+        raise TypeError(f"a Column is expected, not {type(other).__name__}")
+    return other
+
+
+def _address(part: Any) -> int:
+    return part if isinstance(part, int) else ctypes.addressof(part)

@@ -1,0 +1,147 @@
+"""A CSV file by Python's csv module: the type of each column from all of its fields, then its rows in batches.
+
+The first line has the names, an empty field is null, and every line has as many fields as the first one. There are two
+passes over the file, so that its size does not matter.
+"""
+from __future__ import annotations
+
+import csv
+import re
+from collections.abc import Callable, Iterator
+from dataclasses import dataclass, field
+from datetime import date
+from decimal import Decimal
+from itertools import islice
+from typing import Any, Optional
+
+from ._types import GREATEST_PRECISION, range_of
+from .column import Column
+
+_EPOCH = date(1970, 1, 1).toordinal()
+_TRUTHS = {"true": True, "false": False}
+_WHOLE = re.compile(r"-?(?:0|[1-9]\d{0,37})", re.ASCII)
+_DECIMAL = re.compile(_WHOLE.pattern + r"(?:\.\d+)?", re.ASCII)
+_DATE = re.compile(r"\d{4}-\d\d-\d\d", re.ASCII)
+
+
+class BadFile(Exception):
+    """A file that is no CSV, by a sentence."""
+
+
+def _is_date(text: str) -> bool:
+    try:
+        return bool(_DATE.fullmatch(text)) and bool(date.fromisoformat(text))
+    except ValueError:
+        return False
+
+
+_TESTS: dict[str, Callable[[str], Any]] = {
+    "truth": _TRUTHS.__contains__, "whole": _WHOLE.fullmatch, "decimal": _DECIMAL.fullmatch, "date": _is_date,
+}
+
+
+@dataclass
+class Guess:
+    """What all fields of a column are, so far: truth values, whole numbers, decimals, dates; else texts."""
+
+    could_be: set[str] = field(default_factory=lambda: set(_TESTS))
+    least: int = 0
+    greatest: int = 0
+    digits: int = 1  # before the point
+    places: int = 0  # behind it
+    seen: bool = False
+
+    def add(self, texts: set[str]) -> None:
+        texts = texts - {""}
+        self.seen = self.seen or bool(texts)
+        self.could_be = {sort for sort in self.could_be if all(map(_TESTS[sort], texts))}
+        if "whole" in self.could_be:
+            self.least = min(self.least, *map(int, texts), 0)
+            self.greatest = max(self.greatest, *map(int, texts), 0)
+        if "decimal" in self.could_be:
+            parts = [text.lstrip("-").partition(".") for text in texts]
+            self.digits = max([self.digits, *(len(before) for before, _, _ in parts)])
+            self.places = max([self.places, *(len(behind) for _, _, behind in parts)])
+
+    def type(self) -> str:
+        """The type of the column; texts where no row says more."""
+        if not self.seen:
+            return "utf8?"
+        if "truth" in self.could_be:
+            return "bool?"
+        if "whole" in self.could_be:
+            for name in ("i32", "i64"):
+                if self.least in range_of(name) and self.greatest in range_of(name):
+                    return name + "?"
+        if "decimal" in self.could_be and self.digits + self.places <= GREATEST_PRECISION:
+            return f"decimal({self.digits + self.places}, {self.places})?"
+        return "date?" if "date" in self.could_be else "utf8?"
+
+
+def _reader_of(type: str) -> Callable[[str], Any]:
+    """How a field of a type is read."""
+    name = type.rstrip("?").partition("(")[0]
+    readers: dict[str, Callable[[str], Any]] = {
+        "i32": int, "i64": int, "decimal": Decimal, "bool": _TRUTHS.__getitem__, "utf8": str,
+        "date": lambda text: date.fromisoformat(text).toordinal() - _EPOCH,
+    }
+    return readers[name]
+
+
+def lines_of(path: str) -> Iterator[list[str]]:
+    """The names, then the fields of each row, as many as there are names; lines without a field are skipped."""
+    with open(path, newline="", encoding="utf-8-sig") as file:
+        reader = csv.reader(file, delimiter=_separator(file.readline()), strict=True)
+        file.seek(0)
+        try:
+            names: list[str] = next(reader, [])
+            if not names:
+                raise BadFile(f"{path}: no line of names")
+            if len(set(names)) < len(names):
+                raise BadFile(f"{path}: two columns have one name")
+            yield names
+            for fields in filter(None, reader):
+                if len(fields) != len(names):
+                    raise BadFile(f"{path}: line {reader.line_num} has {len(fields)} fields, the first {len(names)}")
+                yield fields
+        except csv.Error as error:
+            raise BadFile(f"{path}: line {reader.line_num}: {error}") from None
+
+
+def _separator(names: str) -> str:
+    """What stands between the names: a comma where there is one."""
+    return next((mark for mark in ",;\t|" if mark in names), ",")
+
+
+class CsvFile:
+    """The columns of a CSV file, or those of these names, by their types."""
+
+    def __init__(self, path: str, batch_rows: int, only: Optional[set[str]] = None) -> None:
+        self.path, self.batch_rows = path, batch_rows
+        self.names = next(lines_of(path))
+        self.kept = [place for place, name in enumerate(self.names) if only is None or name in only]
+        self.types: dict[str, str] = {}
+        self.passes = 2
+
+    def _batches(self) -> Iterator[list[list[str]]]:
+        """The fields of each kept column, batch by batch."""
+        rows = islice(lines_of(self.path), 1, None)
+        while batch := list(islice(rows, self.batch_rows)):
+            yield [[row[place] for row in batch] for place in self.kept]
+
+    def batches(self, advance: Callable[[int], None]) -> Iterator[dict[str, Column]]:
+        """The columns of each batch; `advance` is told how many rows were read, in each of the two passes."""
+        guesses = [Guess() for _ in self.kept]
+        for fields in self._batches():
+            for guess, texts in zip(guesses, fields):
+                guess.add(set(texts))
+            advance(len(fields[0]))
+        self.types = {self.names[place]: guess.type() for place, guess in zip(self.kept, guesses)}
+        for fields in self._batches():
+            yield {name: _column(texts, kind) for (name, kind), texts in zip(self.types.items(), fields)}
+            advance(len(fields[0]))
+
+
+def _column(texts: list[str], kind: str) -> Column:
+    read = _reader_of(kind)
+    return Column.of([read(text) if text else None for text in texts], "i32?" if kind == "date?" else kind)

@@ -1,0 +1,170 @@
+"""Refusals of the library as exceptions, one class for each number of hivevigil.h and hivevigil_arrow.h.
+
+Each is a HivevigilError, and the exception of Python that a caller expects: a row that is not there is an IndexError,
+a column that was freed a ValueError, a refused request for memory a MemoryError.
+"""
+from __future__ import annotations
+
+from typing import ClassVar
+
+
+class HivevigilError(Exception):
+    """A refusal: its `number`, its three `fields` (0 where the refusal has fewer), and a sentence by `str`."""
+
+    number: ClassVar[int] = 0
+    sentence: ClassVar[str] = "the call was refused"
+
+    def __init__(self, *fields: int) -> None:
+        super().__init__(*fields)
+        self.fields: tuple[int, ...] = (*fields, 0, 0, 0)[:3]
+
+    def __str__(self) -> str:
+        return self.sentence.format(*self.fields)
+
+
+class EndsNotUnsigned(HivevigilError, TypeError):
+    number, sentence = 1, "ends of runs are a flat column of an unsigned type without null"
+
+
+class LengthsDiffer(HivevigilError, ValueError):
+    number, sentence = 2, "there are {0} ends and {1} values: each run has one of both"
+
+
+class NoRunsWindow(HivevigilError, ValueError):
+    number, sentence = 3, "there is no run, yet a window of {1} rows from row {0} on"
+
+
+class EndsNotStrict(HivevigilError, ValueError):
+    number, sentence = 4, "the end of run {0} is not above the end before it"
+
+
+class WindowOverflow(HivevigilError, OverflowError):
+    number, sentence = 5, "offset {0} and length {1} add up to 2**64 or more"
+
+
+class FirstEndBelowOffset(HivevigilError, ValueError):
+    number, sentence = 6, "the first run ends before row {0}, below the offset {1}"
+
+
+class LastEndBelowWindow(HivevigilError, ValueError):
+    number, sentence = 7, "the last run ends before row {0}, the window before row {1}"
+
+
+class OutOfBounds(HivevigilError, IndexError):
+    number, sentence = 8, "row {0} of a column of {1} rows"
+
+    def __str__(self) -> str:
+        if self.fields[0] == 2**64 - 1:
+            return f"a row that is negative, or past 2**64 - 2, of a column of {self.fields[1]} rows"
+        return super().__str__()
+
+
+class BadRange(HivevigilError, IndexError):
+    number, sentence = 9, "rows {0} to {1} of a column of {2} rows"
+
+
+class MaskLength(HivevigilError, ValueError):
+    number, sentence = 10, "a mask of {0} rows over a column of {1} rows"
+
+
+class ColumnLength(HivevigilError, ValueError):
+    number, sentence = 11, "{0} rows beside {1} rows"
+
+
+class TypeMismatch(HivevigilError, TypeError):
+    number, sentence = 12, "the types do not go together"
+
+
+class Unsupported(HivevigilError, TypeError):
+    number, sentence = 13, "the call does not serve columns of this type or form"
+
+
+class CastOutOfRange(HivevigilError, OverflowError):
+    number, sentence = 14, "a row is no value of the type"
+
+
+class NullNotAllowed(HivevigilError, ValueError):
+    number, sentence = 15, "a row is null, and the type has no null"
+
+
+class NullFill(HivevigilError, ValueError):
+    number, sentence = 16, "nulls are filled by a value, and null is none"
+
+
+class BadMetadata(HivevigilError, ValueError):
+    number, sentence = 17, "the bytes are no metadata record"
+
+
+class EndsTypeNumber(HivevigilError, ValueError):
+    number, sentence = 18, "{0} is not the number of a type of ends"
+
+
+class RunCount(HivevigilError, ValueError):
+    number, sentence = 19, "the record says {0} runs, and there are {1}"
+
+
+class OnlyPrimitive(HivevigilError, TypeError):
+    number, sentence = 20, "the encoder serves whole numbers alone; to_runs() serves each type"
+
+
+class OutOfMemory(HivevigilError, MemoryError):
+    number, sentence = 21, "a request for memory was refused"
+
+
+class NoColumn(HivevigilError, ValueError):
+    number, sentence = 22, "the column was freed"
+
+
+class BadNumber(HivevigilError, ValueError):
+    number, sentence = 23, "the number stands for no type, or for no operator"
+
+
+class ArrowInvalid(HivevigilError, ValueError):
+    number, sentence = 101, "the Arrow array is not legal: {0}"
+    reasons = (
+        "it is none of its format",
+        "a struct is missing or was released",
+        "a pointer that the format needs is null",
+        "it has not the buffers or children of its format",
+        "a length or an offset is negative, or past what there is",
+        "null_count is not the number of nulls",
+        "an array of runs has a bitmap, or a run end is null",
+        "schema and array differ in having a dictionary, or codes are no whole numbers",
+        "a view of texts is not within its buffers",
+    )
+
+    def __str__(self) -> str:
+        reason = self.fields[0]
+        return self.sentence.format(self.reasons[reason if reason < len(self.reasons) else 0])
+
+
+class ArrowEndsTooLarge(HivevigilError, OverflowError):
+    number, sentence = 102, "a run ends before row {0}, past the greatest end of its width, {1}"
+
+
+class ArrowStreamFailed(HivevigilError, OSError):
+    """The stream's own failure; `words` are what it says of it."""
+
+    number, sentence = 103, "the Arrow stream failed with {0}"
+
+    def __init__(self, *fields: int, words: str = "") -> None:
+        super().__init__(*fields)
+        self.words = words
+
+    def __str__(self) -> str:
+        return f"{super().__str__()}: {self.words}" if self.words else super().__str__()
+
+
+CLASSES: dict[int, type[HivevigilError]] = {kind.number: kind for kind in HivevigilError.__subclasses__()}
+
+
+class UnknownRefusal(HivevigilError):
+    """A number that this package does not know: the shared object is of another version."""
+
+    sentence = "refusal {0} with fields {1}, {2}"
+
+
+def refusal(number: int, *fields: int) -> HivevigilError:
+    """The exception for a number and the fields that the library wrote."""
+    kind = CLASSES.get(number)
+    return kind(*fields) if kind else UnknownRefusal(number, *fields[:2])

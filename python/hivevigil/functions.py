@@ -1,0 +1,33 @@
+"""What makes columns of columns, and of what Arrow libraries hold; the version."""
+from __future__ import annotations
+
+from collections.abc import Iterable
+from importlib import metadata
+from pathlib import Path
+from typing import Any
+
+from ._arrow import import_columns
+from ._library import Handle, calls, session
+from .column import Column
+
+
+def columns_from_arrow(source: Any) -> dict[str, Column]:
+    """The columns of a batch or table of any Arrow library by name, copied through its capsules."""
+    return import_columns(source, Column)
+
+
+def concat(columns: Iterable[Column]) -> Column:
+    """The rows of columns of one type, one column after the other: runs where each is runs or a constant, else flat."""
+    given = list(columns)
+    handles = (Handle * max(1, len(given)))()
+    for place, column in enumerate(given):
+        handles[place] = column._there()._handle
+    return Column._made(calls.hv_concat_columns, session, handles, len(given))
+
+
+def version() -> str:
+    """Of a checkout what its file VERSION says, else that of the installed package."""
+    package = Path(__file__).resolve().parents[1]
+    if (package / "pyproject.toml").exists() and (package.parent / "VERSION").exists():
+        return (package.parent / "VERSION").read_text().strip()
+    return metadata.version("hivevigil")

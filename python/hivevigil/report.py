@@ -1,0 +1,128 @@
+"""What the columns of a CSV file take in runs: a line for each column."""
+from __future__ import annotations
+
+from collections import Counter
+from collections.abc import Iterator
+from dataclasses import dataclass, field
+from pathlib import Path
+from typing import Optional, Union
+
+from . import gdal_files
+from ._runs import lengths, visible
+from ._values import Scalar
+from .column import Column
+from .csv_files import CsvFile, lines_of
+from .gdal_files import GdalFile, Inexact
+from .progress import Progress
+
+PATIENCE = 1.0  # seconds before a progress bar is drawn
+
+
+@dataclass
+class Summary:
+    """What is known of one column so far. A run that the next batch may go on is not yet counted in `run_lengths`."""
+
+    name: str
+    rows: int = 0
+    nulls: int = 0
+    before: int = 0
+    after: int = 0
+    run_lengths: Counter[int] = field(default_factory=Counter)
+    last: Scalar = None
+    open_rows: int = 0
+
+    @property
+    def runs(self) -> int:
+        return sum(self.run_lengths.values())
+
+    def add(self, flat: Column) -> None:
+        """One batch, as it came."""
+        if len(flat) == 0:
+            return
+        with flat.to_runs() as runs:
+            found = lengths(visible(runs).stops)
+            if self.open_rows and runs[0] == self.last:
+                found[0] += self.open_rows
+            else:
+                self.close()
+            self.open_rows, self.last = found.pop(), runs[-1]
+            self.run_lengths.update(found)
+            self.rows += len(flat)
+            self.nulls += runs.null_count
+            self.before += flat.nbytes
+            self.after += runs.nbytes
+
+    def close(self) -> None:
+        """The last run ends."""
+        if self.open_rows:
+            self.run_lengths[self.open_rows] += 1
+            self.open_rows = 0
+
+
+@dataclass
+class Report:
+    """The summaries of a file's columns, their types by name, and what read the file."""
+
+    summaries: list[Summary]
+    types: dict[str, str]
+    reader: str
+
+
+def read(path: str, batch_rows: int, reader: Optional[str] = None) -> Report:
+    """Reads a file by GDAL where it is there, else by Python's csv module. Columns in which GDAL sees floating-point
+    numbers, or times, are read by the csv module; so is all of a file of which GDAL changes a value or a name."""
+    chosen = reader or ("gdal" if gdal_files.available() else "csv")
+    if chosen == "csv":
+        return _summed(CsvFile(path, batch_rows), _rows_about(path), "the csv module")
+    rows = sum(1 for _ in lines_of(path)) - 1  # a broken file is refused here, where GDAL would guess
+    try:
+        gdal_file = GdalFile(path, batch_rows)
+        report = _summed(gdal_file, rows, "GDAL")
+    except Inexact as error:
+        return _summed(CsvFile(path, batch_rows), rows, f"the csv module (GDAL: {error})")
+    if not gdal_file.left_out:
+        return report
+    others = _summed(CsvFile(path, batch_rows, gdal_file.left_out), rows, "the csv module")
+    return _joined(report, others, list(gdal_file.places))
+
+
+def _summed(file: Union[CsvFile, GdalFile], rows: int, reader: str) -> Report:
+    progress = Progress(rows * file.passes, "rows", PATIENCE)
+    summaries: dict[str, Summary] = {}
+    for columns in file.batches(progress.advance):
+        for name, column in columns.items():
+            with column:
+                summaries.setdefault(name, Summary(name)).add(column)
+    progress.end()
+    for name in file.types:
+        summaries.setdefault(name, Summary(name)).close()
+    return Report(list(summaries.values()), file.types, reader)
+
+
+def _joined(by_gdal: Report, by_csv: Report, names: list[str]) -> Report:
+    """The columns of both in the order of these names."""
+    summaries = {summary.name: summary for summary in by_gdal.summaries + by_csv.summaries}
+    types = {**by_gdal.types, **by_csv.types}
+    readers = f"{by_gdal.reader}, {' '.join(sorted(by_csv.types))} by {by_csv.reader}"
+    in_order = [name for name in names if name in summaries]
+    return Report([summaries[name] for name in in_order], {name: types[name] for name in in_order}, readers)
+
+
+def _rows_about(path: str) -> int:
+    """How many lines there are behind the first, for the progress bar; a field of several lines counts as them."""
+    with Path(path).open("rb") as file:
+        return max(0, sum(block.count(b"\n") for block in iter(lambda: file.read(1 << 20), b"")) - 1)
+
+
+def table(report: Report) -> Iterator[str]:
+    """The report as lines."""
+    head = ("column", "type", "rows", "nulls", "runs", "bytes before", "bytes after")
+    rows = [
+        (it.name, report.types[it.name], *map("{:,}".format, (it.rows, it.nulls, it.runs, it.before, it.after)))
+        for it in report.summaries
+    ]
+    widths = [max(len(row[place]) for row in [head, *rows]) for place in range(len(head))]
+    for name, kind, *numbers in [head, *rows]:
+        yield "  ".join([name.ljust(widths[0]), kind.ljust(widths[1]), *map(str.rjust, numbers, widths[2:])])
+    before, after = (sum(getattr(it, name) for it in report.summaries) for name in ("before", "after"))
+    yield f"{before:,} bytes before, {after:,} after; read by {report.reader}"

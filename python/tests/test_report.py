@@ -1,0 +1,179 @@
+"""python -m hivevigil over CSV files: tables worked out by hand, both readers, bad files, the figure."""
+import os
+import subprocess
+import sys
+from pathlib import Path
+from xml.etree import ElementTree
+
+import hivevigil
+import pytest
+from hivevigil import gdal_files, report
+from hivevigil.csv_files import BadFile, CsvFile
+from hivevigil.progress import Progress
+
+FINDS = {**os.environ, "PYTHONPATH": str(Path(hivevigil.__file__).parents[1])}
+READERS = ["csv", pytest.param("gdal", marks=pytest.mark.skipif(not gdal_files.available(), reason="no GDAL 3.6"))]
+CSV = """\
+place,day,count,open,price
+Oslo,2024-01-01,7,true,1.50
+Oslo,2024-01-01,7,true,
+Oslo,2024-01-02,,false,-20
+"Le Mans, F",2024-01-02,8,,0.125
+,,8,,0.125
+"""
+# texts: 5 offsets and 1, of 4 bytes, the letters, and a byte of bits; runs: an end of a byte each, then as flat rows
+TABLE = """\
+column  type            rows  nulls  runs  bytes before  bytes after
+place   utf8?              5      1     3            47           34
+day     date?              5      1     3            21           16
+count   i32?               5      1     3            21           16
+open    bool?              5      2     3             2            5
+price   decimal(5, 3)?     5      1     4            81           69
+172 bytes before, 140 after; read by {}
+"""
+
+
+def run(*arguments):
+    command = [sys.executable, "-m", "hivevigil", *map(str, arguments)]
+    return subprocess.run(command, env=FINDS, capture_output=True, text=True)
+
+
+@pytest.fixture
+def file(tmp_path):
+    path = tmp_path / "small.csv"
+    path.write_text(CSV)
+    return path
+
+
+@pytest.mark.parametrize("reader", READERS)
+@pytest.mark.parametrize("batch", [1, 2, 100])
+def test_table(file, reader, batch):
+    ended = run(file, "--reader", reader, "--batch", batch)
+    assert (ended.returncode, ended.stderr) == (0, "")
+    by = "the csv module" if reader == "csv" else "GDAL, price by the csv module"
+    if batch == 100:
+        assert ended.stdout == TABLE.format(by)
+    columns = [line.split()[:5] for line in ended.stdout.splitlines()[1:5]]
+    assert columns == [line.split()[:5] for line in TABLE.splitlines()[1:5]]
+
+
+@pytest.mark.parametrize("reader", READERS)
+@pytest.mark.parametrize("batch", [1, 2, 3, 100])
+def test_runs_go_on_over_batches(file, reader, batch):
+    found = report.read(str(file), batch, reader)
+    lengths = {summary.name: dict(summary.run_lengths) for summary in found.summaries}
+    assert lengths == {
+        "place": {3: 1, 1: 2}, "day": {2: 2, 1: 1}, "count": {2: 2, 1: 1}, "open": {2: 2, 1: 1}, "price": {1: 3, 2: 1},
+    }
+
+
+@pytest.mark.parametrize("reader", READERS)
+@pytest.mark.parametrize(
+    "text, words",
+    [
+        ("", "no line of names"),
+        ("a,a\n1,2\n", "one name"),
+        ("a,b\n1,2,3\n", "line 2 has 3 fields, the first 2"),
+        ("a,b\n1,2\n\n3\n", "line 4 has 1 fields, the first 2"),
+        ('a,b\n"1,2\n', "line 2: unexpected end"),
+    ],
+)
+def test_bad_files(tmp_path, reader, text, words):
+    path = tmp_path / "bad.csv"
+    path.write_text(text)
+    with pytest.raises(BadFile, match=words):
+        report.read(str(path), 10, reader)
+    ended = run(path, "--reader", reader)
+    assert (ended.returncode, ended.stdout, len(ended.stderr.splitlines())) == (1, "", 1)
+
+
+@pytest.mark.parametrize("reader", READERS)
+def test_files_that_are_not_there_and_not_texts(tmp_path, reader):
+    path = tmp_path / "latin.csv"
+    path.write_bytes(b"a\n\xff\n")
+    for given in (path, tmp_path / "none.csv", tmp_path):
+        ended = run(given, "--reader", reader)
+        assert (ended.returncode, ended.stdout, len(ended.stderr.splitlines())) == (1, "", 1)
+    assert run(path, "--batch", 0).returncode == 2
+
+
+@pytest.mark.parametrize("reader", READERS)
+def test_files_without_rows_and_without_values(tmp_path, reader):
+    for text, rows in (("a,b\n", 0), ("a,b\n,\n,\n", 2)):
+        path = tmp_path / "little.csv"
+        path.write_text(text)
+        found = report.read(str(path), 10, reader)
+        assert [(it.name, it.rows, it.nulls, it.runs) for it in found.summaries] == [
+            ("a", rows, rows, min(1, rows)), ("b", rows, rows, min(1, rows)),
+        ]
+
+
+@pytest.mark.parametrize(
+    "fields, type",
+    [
+        (["1", "-2147483648"], "i32?"), (["2147483648"], "i64?"), (["9223372036854775808"], "decimal(19, 0)?"),
+        (["007"], "utf8?"), (["1", "2.5"], "decimal(2, 1)?"), (["1" * 39], "utf8?"), (["1e5"], "utf8?"),
+        (["true", "false"], "bool?"), (["true", "1"], "utf8?"), (["2024-02-29"], "date?"), (["2023-02-29"], "utf8?"),
+        (["", ""], "utf8?"), (["1", "x"], "utf8?"), (["-0.5", ""], "decimal(2, 1)?"), (["１"], "utf8?"),
+    ],
+)
+def test_types_of_fields(tmp_path, fields, type):
+    path = tmp_path / "fields.csv"
+    path.write_text("a,b\n" + "".join(f"{field},x\n" for field in fields), encoding="utf-8")
+    file = CsvFile(str(path), 1)
+    columns = [columns["a"] for columns in file.batches(lambda _: None)]
+    assert file.types["a"] == type
+    if type in ("i32?", "i64?"):
+        assert [column[0] for column in columns] == list(map(int, fields))
+
+
+def test_other_separators(tmp_path):
+    path = tmp_path / "semicolons.csv"
+    path.write_text("\ufeffa;b\n1;2,5\n", encoding="utf-8")
+    assert CsvFile(str(path), 9).names == ["a", "b"]
+
+
+@pytest.mark.skipif(not gdal_files.available(), reason="no GDAL 3.6")
+def test_a_number_that_gdal_would_change(tmp_path):
+    path = tmp_path / "wide.csv"
+    path.write_text("a,b\n99999999999999999999,1\n1,2\n")
+    found = report.read(str(path), 10)
+    assert found.types["a"] == "decimal(20, 0)?" and "overflow" in found.reader
+
+
+@pytest.mark.skipif(not gdal_files.available(), reason="no GDAL 3.6")
+@pytest.mark.parametrize("names", ["a,,b", "WKT,x,b", "a,the_geom,b", "_xmax,y,b"])
+def test_names_that_gdal_may_change(tmp_path, names):
+    path = tmp_path / "names.csv"
+    path.write_text(f"{names}\n1,2.5,x\n2,3.5,y\n")
+    by_gdal, by_csv = report.read(str(path), 10), report.read(str(path), 10, "csv")
+    assert by_gdal.types == by_csv.types and list(by_gdal.types) == names.split(",")
+
+
+def test_without_matplotlib(file, tmp_path):
+    (tmp_path / "matplotlib.py").write_text("raise ImportError")
+    finds = {**FINDS, "PYTHONPATH": f"{tmp_path}{os.pathsep}{FINDS['PYTHONPATH']}"}
+    command = [sys.executable, "-m", "hivevigil", file, "--plot", tmp_path / "figure.svg"]
+    ended = subprocess.run(command, env=finds, capture_output=True, text=True)
+    assert (ended.returncode, ended.stdout) == (1, "") and "Matplotlib" in ended.stderr
+
+
+def test_figure(file, tmp_path):
+    pytest.importorskip("matplotlib")
+    figure = tmp_path / "figure.svg"
+    ended = run(file, "--plot", figure)
+    assert (ended.returncode, ended.stderr) == (0, "")
+    assert ElementTree.parse(figure).getroot().tag.endswith("svg")
+    assert run(file, "--plot", tmp_path / "none" / "figure.svg").returncode == 1
+
+
+def test_progress(capsys):
+    bar = Progress(200, "rows")
+    bar.advance(100)
+    bar.end()
+    half, whole = capsys.readouterr().err.splitlines()
+    assert half.startswith("[####################....................]  50 %  100 of 200 rows, ")
+    assert whole.startswith("[########################################] 100 %  200 of 200 rows, ")
+    quiet = Progress(200, "rows", patience=60)
+    quiet.end()
+    assert capsys.readouterr().err == ""

@@ -1,0 +1,105 @@
+"""A column in any form reads as its rows do: in lists, by index, in slices, as arrays, copied and pickled."""
+import copy
+import pickle
+
+import numpy
+import pytest
+from hivevigil import Column
+from hypothesis import given
+from hypothesis import strategies as st
+from rows import TYPES, runs_of, samples
+
+DTYPES = {
+    "u8": "uint8", "u16": "uint16", "u32": "uint32", "u64": "uint64",
+    "i8": "int8", "i16": "int16", "i32": "int32", "i64": "int64", "bool": "bool",
+}
+
+
+@given(samples())
+def test_reads_as_a_list(sample):
+    column, rows = sample.column, sample.rows
+    assert column.to_list() == rows and list(column) == rows and len(column) == len(rows)
+    assert [type(row) for row in column] == [type(row) for row in rows]
+    assert column.type.rstrip("?") == sample.type
+    assert column.null_count == rows.count(None)
+    assert column.nullable or None not in rows
+    assert [value for value in column.decode()] == rows and column.decode().form == "flat"
+
+
+@given(samples(), st.integers(-60, 60))
+def test_a_row(sample, row):
+    if -len(sample.rows) <= row < len(sample.rows):
+        assert sample.column[row] == sample.rows[row] == sample.column.at(row) == sample.column[numpy.int64(row)]
+    else:
+        with pytest.raises(IndexError):
+            sample.column[row]
+
+
+@given(samples(), st.none() | st.integers(-60, 60), st.none() | st.integers(-60, 60), st.integers(-5, 5))
+def test_a_slice(sample, start, stop, step):
+    cut = slice(start, stop, step or None)
+    part = sample.column[cut]
+    assert part.to_list() == sample.rows[cut] and part.type.rstrip("?") == sample.type
+
+
+@given(samples())
+def test_runs(sample):
+    fewest = runs_of(sample.rows)
+    assert list(sample.column.to_runs().runs()) == fewest
+    assert sample.column.to_runs().run_count() == len(fewest)
+    stored = list(sample.column.runs())
+    assert sample.column.run_count() == len(stored) >= len(fewest)
+    assert [run.start for run in stored[1:]] == [run.stop for run in stored[:-1]]
+    assert [run.value for run in stored for _ in range(run.stop - run.start)] == sample.rows
+
+
+def test_more_rows_than_len_can_answer():
+    rows = 2**64 - 1
+    for column in (Column.from_runs([3, rows], ["a", "b"]), Column.from_runs([rows], ["b"])[:rows]):
+        assert column[rows - 1] == column[-1] == "b" and column[10:12].to_list() == ["b", "b"]
+        assert column[-2:].to_list() == ["b", "b"]
+        assert list(column.runs())[-1][1:] == (rows, "b") and column.run_count() in (1, 2)
+        assert f"{rows:,} rows" in repr(column) and f"{rows:,} rows" in column._repr_html_()
+        assert pickle.loads(pickle.dumps(column))[rows - 1] == "b" and next(iter(column)) in ("a", "b")
+        with pytest.raises(IndexError):
+            column[rows]
+        with pytest.raises(OverflowError):
+            len(column)
+    assert Column.from_runs([3, rows], ["a", "b"])[[rows - 1, -1, 0]].to_list() == ["b", "b", "a"]
+
+
+@given(samples(), st.integers(1, 20))
+def test_blocks(sample, size):
+    pieces = [piece.to_list() for piece in sample.column.blocks(size)]
+    assert pieces == [sample.rows[at : at + size] for at in range(0, len(sample.rows), size)]
+
+
+@given(samples())
+def test_copies_are_columns_of_their_own(sample):
+    copies = [copy.copy(sample.column), copy.deepcopy(sample.column), sample.column.copy()]
+    copies += [pickle.loads(pickle.dumps(sample.column, protocol)) for protocol in (2, 4, 5)]
+    facts = [(one.type, one.form if one.form != "constant" else "runs") for one in copies]
+    assert set(facts) == {(sample.column.type, sample.column.form.replace("constant", "runs"))}
+    sample.column.free()
+    assert all(one.to_list() == sample.rows for one in copies)
+
+
+@given(samples(types=tuple(TYPES[:9])))
+def test_numpy_of_numbers_and_truths(sample):
+    items = sample.column.to_numpy()
+    assert items.tolist() == sample.rows
+    assert isinstance(items, numpy.ma.MaskedArray) == sample.column.nullable
+    assert items.dtype.name == DTYPES[sample.type]
+    null = True if sample.type == "bool" else 1
+    plain = sample.column.to_numpy(null=null)
+    filled = [null if row is None else row for row in sample.rows]
+    assert plain.tolist() == filled and not isinstance(plain, numpy.ma.MaskedArray)
+    assert numpy.asarray(sample.column).tolist() == sample.rows
+    assert Column.of(items).to_list() == sample.rows and Column.of(items).type.rstrip("?") == sample.type
+
+
+@given(samples(types=tuple(TYPES[9:])))
+def test_numpy_of_objects(sample):
+    items = sample.column.to_numpy()
+    assert items.dtype == object and items.tolist() == sample.rows == numpy.asarray(sample.column).tolist()
+    assert sample.column.to_numpy(null="none").tolist() == ["none" if row is None else row for row in sample.rows]
