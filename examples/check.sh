@@ -12,19 +12,19 @@ trap 'rm -rf "$work"' EXIT
 passed=0 failed=0 skipped=0
 c_flags="-std=c11 -Wall -Wextra -Werror -Iinclude"
 cxx_flags="-std=c++17 -Wall -Wextra -Werror -Iinclude"
-watched="-O1 -g -fsanitize=address,undefined -fno-sanitize-recover=all"
+watched="-O0 -g -fsanitize=address,undefined -fno-sanitize-recover=all"
 
 has() { command -v "$1" >/dev/null 2>&1; }
 skip() { skipped=$((skipped + 1)); echo "skipped: $1, no $2"; }
 
-# run NAME COMMAND..: the last line of what it says is shown, and all of it where it fails
+# run NAME COMMAND..: the last line of what it says is shown that is not empty, and all of it where it fails
 run() {
     name=$1
     shift
     begin=$(date +%s)
     if "$@" >"$work/log" 2>&1 </dev/null; then
         passed=$((passed + 1))
-        echo "passed: $name ($(($(date +%s) - begin)) s): $(tail -n 1 "$work/log")"
+        echo "passed: $name ($(($(date +%s) - begin)) s): $(grep . "$work/log" | tail -n 1)"
     else
         failed=$((failed + 1))
         echo "FAILED: $name"
@@ -49,9 +49,22 @@ names_agree() {
         grep -o 'hv_[a-z0-9_]*(' | tr -d '(' | sort -u >"$work/declared"
     diff "$work/declared" "$work/exported" && echo "$(wc -l <"$work/declared") calls"
 }
-has nm && run "the header declares what the library exports" names_agree || skip "names of the header" nm
+# the shared object shows these, and for callers without a C header those over Arrow; and says its binary interface
+shared_agrees() {
+    nm -D --defined-only lib/libhivevigil.so | awk '{ print $3 }' | sort -u >"$work/shown"
+    $cc -Iinclude -c examples/python/arrow_calls.c -o "$work/arrow_calls.o" &&
+        nm "$work/arrow_calls.o" | awk '$2 == "T" { print $3 }' | sort -u - "$work/declared" | diff - "$work/shown" &&
+        readelf -d lib/libhivevigil.so | grep -o 'libhivevigil\.so\.[0-9.]*[0-9]' | grep -q . &&
+        echo "$(wc -l <"$work/shown") calls"
+}
+if has nm && has readelf; then
+    run "the header declares what the library exports" names_agree
+    run "the shared object exports these and no other" shared_agrees
+else
+    skip "names of the header" "nm and readelf"
+fi
 
-for test in first answers refusals arrow_arrays; do
+for test in first errors layout answers refusals arrow_arrays; do
     run "c/$test.c" built "$cc" "$c_flags -O2" "examples/c/$test.c"
 done
 wraps="-Wl,--wrap=malloc,--wrap=calloc,--wrap=realloc,--wrap=free"
@@ -59,13 +72,22 @@ run "c/refused_memory.c" built "$cc" "$c_flags -O2 $wraps" examples/c/refused_me
 
 echo 'int main(void) { return 0; }' >"$work/empty.c"
 if $cc $watched "$work/empty.c" -o "$work/empty" 2>/dev/null && "$work/empty"; then
-    for test in answers refusals arrow_arrays; do
+    for test in errors answers refusals arrow_arrays; do
         run "c/$test.c under sanitizers" built "$cc" "$c_flags $watched" "examples/c/$test.c"
     done
     has "$cxx" && run "cpp/demo.cpp under sanitizers" built "$cxx" "$cxx_flags $watched" examples/cpp/demo.cpp
+    arrow_flags=$watched arrow_how=" under sanitizers"
 else
     skip "the address and undefined-behaviour sanitizers" "-fsanitize of $cc"
+    arrow_flags=-O2 arrow_how=
 fi
+
+# Arrow: each rule by hand, random legal arrays and broken ones, and each request for memory refused. arrow_random and
+# arrow_broken take a number of arrays and a seed: ten thousand each run here, more by hand.
+for test in arrow_rules arrow_options arrow_streams arrow_random arrow_broken; do
+    run "c/$test.c$arrow_how" built "$cc" "$c_flags $arrow_flags" "examples/c/$test.c"
+done
+run "c/arrow_memory.c" built "$cc" "$c_flags -O0 $wraps" examples/c/arrow_memory.c
 
 under_valgrind() {
     $cc $c_flags -O1 -g ${2:-} "examples/c/$1.c" lib/libhivevigil.a -o "$work/program" &&
@@ -86,11 +108,17 @@ fi
 
 if has cargo && cargo --version >/dev/null 2>&1; then
     export CARGO_TARGET_DIR="$work/target"
-    with="--quiet --offline --manifest-path examples/rust/Cargo.toml"
-    run "rust, its tests" timeout 100 cargo test $with --tests
+    with="--quiet --offline --manifest-path rust/Cargo.toml"
+    run "rust, its tests and those of its pages" timeout 200 cargo test $with
     run "rust, the demonstration" timeout 100 cargo run $with --example demo
 else
     skip "rust" cargo
+fi
+
+if has "$python"; then
+    run "errors, types, operators and forms stand once" "$python" tools/lists.py
+else
+    skip "that errors, types, operators and forms stand once" "$python"
 fi
 
 if has "$python" && "$python" -c 'import ctypes' 2>/dev/null; then
@@ -111,18 +139,75 @@ if found=$(python_with numpy); then
 else
     skip "python/demo.py with NumPy" "NumPy for Python"
 fi
+if found=$(python_with pytest,hypothesis,numpy,pandas); then
+    quick="env HYPOTHESIS_PROFILE=few HYPOTHESIS_STORAGE_DIRECTORY=$work/hypothesis timeout 300"
+    run "python, its tests" $quick "$found" -m pytest -q -p no:cacheprovider python/tests
+else
+    skip "python, its tests" "pytest, Hypothesis, NumPy and pandas for Python"
+fi
+if has "$python"; then
+    "$python" examples/gdal_csv/make_readings.py 2000 >"$work/few.csv"
+    run "python -m hivevigil" env PYTHONPATH=python timeout 60 "$python" -m hivevigil "$work/few.csv" --reader csv
+else
+    skip "python -m hivevigil" "$python"
+fi
+for library in pyarrow polars duckdb; do
+    if found=$(python_with "$library"); then
+        run "arrow_exchange/exchange.py $library" timeout 120 "$found" examples/arrow_exchange/exchange.py "$library"
+    else
+        skip "Arrow arrays exchanged with $library" "$library for Python"
+    fi
+done
 if found=$(python_with osgeo.gdal,numpy,sqlite3); then
     "$found" examples/gdal_csv/make_readings.py 20000 >"$work/readings.csv"
     summary="timeout 60 $found examples/gdal_csv/summary.py $work/readings.csv"
     run "gdal_csv/summary.py" $summary --batch 4096 --where status '>' 0
     run "gdal_csv/summary.py by a text" $summary --where station = Dakar
+    run "gdal_csv/edge_cases.py" timeout 200 "$found" examples/gdal_csv/edge_cases.py
 else
     skip "gdal_csv/summary.py" "GDAL for Python"
 fi
 if found=$(python_with dask.array,distributed,numpy); then
     run "dask_chunks/chunks.py" timeout 60 "$found" examples/dask_chunks/chunks.py --rows 100000 --chunks 1 7 100
+    # a cluster that starts workers anew may take minutes on a busy machine: no answer in time is no wrong answer
+    timeout -k 10 200 "$found" examples/dask_chunks/dying_workers.py >"$work/dying" 2>&1 </dev/null
+    status=$?
+    if [ "$status" = 124 ] || [ "$status" = 137 ]; then
+        skip "dask_chunks/dying_workers.py" "answer within 200 s"
+    else
+        run "dask_chunks/dying_workers.py" sh -c "cat '$work/dying'; exit $status"
+    fi
 else
     skip "dask_chunks/chunks.py" "Dask for Python"
+fi
+
+# what is installed and packed, used in empty folders
+package() { run "$1" timeout 120 sh examples/packages.sh "$2" "$work/dist"; }
+run "dist.sh" sh dist.sh "$work/dist"
+if has pkg-config; then
+    package "installed, C" c
+    package "the .tar.gz, C" tar
+    if [ -e "$(ls "$work"/dist/*.deb 2>/dev/null)" ]; then
+        package "the Debian package, C" deb
+    else
+        skip "the Debian package" dpkg-deb
+    fi
+else
+    skip "what is installed, and the .tar.gz and Debian package, in C" pkg-config
+fi
+if has cmake && has "$cxx"; then package "installed, C++" cpp; else skip "installed, C++" "cmake and $cxx"; fi
+if has cargo && cargo --version >/dev/null 2>&1 && has pkg-config; then
+    package "installed, Rust" rust
+else
+    skip "installed, Rust" "cargo and pkg-config"
+fi
+package "installed and taken away" uninstall
+if ! [ -e "$(ls "$work"/dist/*.whl 2>/dev/null)" ]; then
+    skip "the wheel" "setuptools and wheel for Python"
+elif "$python" -c 'import ensurepip, venv' 2>/dev/null; then
+    package "the wheel, Python" wheel
+else
+    skip "the wheel, Python" "venv for $python"
 fi
 
 echo "$passed passed, $failed failed, $skipped skipped"

@@ -1,162 +1,32 @@
 // Columns as C++17 values, over hivevigil.h: made by a call, moved and never copied unawares, freed by scope.
 // A refusal is thrown as hv::Error. Header alone; nothing here is proved.
 //
+//     hv::Column runs = hv::Column::of(std::vector<int64_t>{4, 4, 4, 7, 7, 9}).encode();
+//     for (const hv::Run &run : runs.runs()) use(run.start, run.stop, run.value);
+//     for (const hv::Value &row : runs) use(row);
+//
 // A column is used by one thread at a time, with all columns that were made one from the other.
 #ifndef HIVEVIGIL_HPP
 #define HIVEVIGIL_HPP
-#include "hivevigil.h"
-#include <array>
-#include <cstdint>
-#include <stdexcept>
-#include <string>
+#include "hivevigil_values.hpp"
+#include <algorithm>
+#include <cstddef>
+#include <initializer_list>
 #include <string_view>
-#include <type_traits>
-#include <utility>
-#include <variant>
-#include <vector>
 
 namespace hv {
 
-// What a call refused: its number, as HV_OUT_OF_BOUNDS, and its fields in the order of hivevigil.h.
-class Error : public std::runtime_error {
-public:
-    Error(int32_t number, hv_error fields)
-        : std::runtime_error(text_of(number, fields)), number(number), fields(fields) {}
-    const int32_t number;
-    const hv_error fields;
-
-private:
-    static std::string text_of(int32_t number, hv_error fields) {
-        return "hivevigil: error " + std::to_string(number) + " (" + std::to_string(fields.first) + ", " +
-               std::to_string(fields.second) + ", " + std::to_string(fields.third) + ")";
-    }
-};
-
-// 128 bits: high * 2^64 + low.
-struct Decimal {
-    uint64_t low;
-    int64_t high;
-    friend bool operator==(Decimal left, Decimal right) { return left.low == right.low && left.high == right.high; }
-    friend bool operator!=(Decimal left, Decimal right) { return !(left == right); }
-};
-
-using Null = std::monostate;
-using Bytes = std::vector<uint8_t>;
-
-// A row: null, a whole number, a truth value, a decimal, a text or bytes.
-using Value = std::variant<Null, uint64_t, int64_t, bool, Decimal, std::string, Bytes>;
-
-// A sum: the number, or Null where it left the range of 64 bits. `empty`: no row is valid, and the sum is 0.
-struct Sum {
-    std::variant<Null, uint64_t, int64_t> total;
-    bool empty;
-};
-
-enum class Form : uint8_t { flat = 0, constant = 1, lists = 2, runs = 3, none = 255 };
-enum class Operator : uint8_t {
-    equal = HV_EQ,
-    not_equal = HV_NE,
-    greater = HV_GT,
-    greater_or_equal = HV_GE,
-    less = HV_LT,
-    less_or_equal = HV_LE
-};
-
-// The session with every kernel and the thresholds of the library.
-inline const hv_session &initial_session() {
-    static const hv_session session = [] {
-        hv_session made{};
-        hv_session_initial(&made);
-        return made;
-    }();
-    return session;
-}
-
-namespace detail {
-
-// The calls of one native type.
-template <class T> struct Native;
-#define HV_NATIVE(type, suffix) \
-    template <> struct Native<type> { \
-        static constexpr auto make = hv_##suffix; \
-        static constexpr auto read = hv_read_##suffix; \
-    };
-HV_NATIVE(uint8_t, u8)
-HV_NATIVE(uint16_t, u16)
-HV_NATIVE(uint32_t, u32)
-HV_NATIVE(uint64_t, u64)
-HV_NATIVE(int8_t, i8)
-HV_NATIVE(int16_t, i16)
-HV_NATIVE(int32_t, i32)
-HV_NATIVE(int64_t, i64)
-#undef HV_NATIVE
-
-// The flags as bits, 8 to a byte, and a byte where there are none.
-inline Bytes bits_of(const std::vector<bool> &flags) {
-    Bytes bits(flags.size() / 8 + 1);
-    for (size_t row = 0; row < flags.size(); row++)
-        bits[row / 8] = static_cast<uint8_t>(bits[row / 8] | (flags[row] << (row % 8)));
-    return bits;
-}
-
-inline std::vector<bool> flags_of(const std::vector<uint64_t> &words, size_t rows) {
-    std::vector<bool> flags(rows);
-    for (size_t row = 0; row < rows; row++) flags[row] = words[row / 64] >> (row % 64) & 1;
-    return flags;
-}
-
-// A value as C passes it, with the bytes of a text beside it.
-class Passed {
-public:
-    explicit Passed(const Value &value) {
-        std::visit([this](const auto &item) { set(item); }, value);
-    }
-    hv_value value{};
-    const uint8_t *text = &none;
-    size_t size = 0;
-
-private:
-    uint8_t none = 0;
-    void set(Null) { value.kind = HV_NULL; }
-    void set(uint64_t item) { value.kind = HV_UNSIGNED, value.as_unsigned = item; }
-    void set(int64_t item) { value.kind = HV_SIGNED, value.as_signed = item; }
-    void set(bool item) { value.kind = HV_TRUTH, value.truth = item; }
-    void set(Decimal item) { value.kind = HV_DECIMAL_VALUE, value.as_unsigned = item.low, value.as_signed = item.high; }
-    void set(const std::string &item) { point(HV_TEXT, reinterpret_cast<const uint8_t *>(item.data()), item.size()); }
-    void set(const Bytes &item) { point(HV_BYTES, item.data(), item.size()); }
-    void point(uint8_t kind, const uint8_t *bytes, size_t length) {
-        value.kind = kind, value.as_unsigned = length;
-        if (length) text = bytes, size = length;
-    }
-};
-
-inline Value value_of(const hv_value &value, const Bytes &text) {
-    auto end = text.begin() + static_cast<std::ptrdiff_t>(value.kind >= HV_TEXT ? value.as_unsigned : 0);
-    switch (value.kind) {
-    case HV_UNSIGNED: return value.as_unsigned;
-    case HV_SIGNED: return value.as_signed;
-    case HV_TRUTH: return value.truth != 0;
-    case HV_DECIMAL_VALUE: return Decimal{value.as_unsigned, value.as_signed};
-    case HV_TEXT: return std::string(text.begin(), end);
-    case HV_BYTES: return Bytes(text.begin(), end);
-    default: return Null{};
-    }
-}
-
-// Throws what a call refused.
-template <class Call> void ask(Call call) {
-    hv_error fields{};
-    if (int32_t answer = call(&fields)) throw Error(answer, fields);
-}
-
-} // namespace detail
+class Runs;
 
 class Column {
 public:
     Column() = default;
+    // A column that was moved away has no rows and no form; a command on it is refused as HV_NO_COLUMN.
     Column(Column &&other) noexcept : handle(std::exchange(other.handle, hv_column HV_EMPTY)) {}
     Column &operator=(Column &&other) noexcept {
-        std::swap(handle, other.handle);
+        hv_column taken = std::exchange(other.handle, hv_column HV_EMPTY);
+        hv_free(&handle);
+        handle = taken;
         return *this;
     }
     Column(const Column &) = delete;
@@ -165,10 +35,27 @@ public:
 
     // ---- Made of rows ----
 
-    // Whole numbers, of which none is null.
-    template <class T> static Column of(const std::vector<T> &items) { return of(items.data(), items.size(), nullptr); }
+    // Whole numbers, of which none is null: of a vector, an array, a view, a span or a list.
+    template <class Items, class T = detail::Item<Items>, class = std::enable_if_t<detail::is_number<T>>>
+    static Column of(const Items &items) {
+        return of(std::data(items), std::size(items), nullptr);
+    }
+    template <class T> static Column of(std::initializer_list<T> items) {
+        return of(items.begin(), items.size(), nullptr);
+    }
     // Whole numbers, null where the flag is false.
-    template <class T> static Column of(const std::vector<T> &items, const std::vector<bool> &valid) {
+    template <class Items, class T = detail::Item<Items>, class = std::enable_if_t<detail::is_number<T>>>
+    static Column of(const Items &items, const std::vector<bool> &valid) {
+        return of(std::data(items), std::size(items), &valid);
+    }
+    template <class T> static Column of(std::initializer_list<T> items, const std::vector<bool> &valid) {
+        return of(items.begin(), items.size(), &valid);
+    }
+    // Whole numbers, null where there is none.
+    template <class T> static Column of(const std::vector<std::optional<T>> &rows) {
+        std::vector<T> items;
+        std::vector<bool> valid;
+        for (const std::optional<T> &row : rows) items.push_back(row.value_or(T{})), valid.push_back(row.has_value());
         return of(items.data(), items.size(), &valid);
     }
     static Column truths(const std::vector<bool> &rows, const std::vector<bool> *valid = nullptr) {
@@ -260,15 +147,31 @@ public:
 
     // ---- Questions ----
 
+    // Is there a column? Not of one that was moved away.
+    explicit operator bool() const { return form() != Form::none; }
     size_t size() const { return hv_length(&handle); }
+    bool empty() const { return size() == 0; }
     hv_kind kind() const { return hv_kind_of(&handle); }
     Form form() const { return static_cast<Form>(hv_form(&handle)); }
     size_t offset() const { return hv_offset(&handle); }
+    // Row `row`, refused as HV_OUT_OF_BOUNDS past the end; so is [].
     Value at(size_t row) const {
         return shown([&](auto *value, auto *text, size_t room, auto *error) {
             return hv_at(&handle, row, value, text, room, error);
         });
     }
+    Value operator[](size_t row) const { return at(row); }
+    // The row as T (a whole number of the column's sign, bool, Decimal, std::string, Bytes), none where it is null.
+    template <class T> std::optional<T> get(size_t row) const { return detail::optional_of<T>(at(row)); }
+
+    // ---- Iterated ----
+
+    // The rows in turn, each looked up when it is asked for.
+    detail::Walk<Column> begin() const { return {this, 0}; }
+    detail::Walk<Column> end() const { return {this, size()}; }
+    Value item(size_t row) const { return at(row); }
+    // The runs as they are stored, cut to the window. A constant is one run, and each row of other forms is one.
+    Runs runs() const;
     // The least row that is not null; Null where there is none.
     Value least(const hv_session &session = initial_session()) const { return extreme(0, session); }
     Value greatest(const hv_session &session = initial_session()) const { return extreme(1, session); }
@@ -295,12 +198,26 @@ public:
 
     // The stored numbers of a flat column, where a row is null too.
     template <class T> std::vector<T> numbers() const {
+        if (!*this) return {};
         std::vector<T> items(size());
+        read(0, items.data(), items.size());
+        return items;
+    }
+    // As many of them as there is room for, from row `start` on; refused as HV_BAD_RANGE past the end.
+    template <class T> void read(size_t start, T *items, size_t count) const {
         T none{};
         detail::ask([&](auto *error) {
-            return detail::Native<T>::read(&handle, 0, items.empty() ? &none : items.data(), items.size(), error);
+            return detail::Native<T>::read(&handle, start, count ? items : &none, count, error);
         });
-        return items;
+    }
+    // The rows of a flat column of whole numbers, none where a row is null.
+    template <class T> std::vector<std::optional<T>> optionals() const {
+        const std::vector<T> items = numbers<T>();
+        const std::vector<bool> valid = validity();
+        std::vector<std::optional<T>> rows(items.size());
+        for (size_t row = 0; row < rows.size(); row++)
+            if (valid[row]) rows[row] = items[row];
+        return rows;
     }
     std::vector<bool> truths() const { return flags(hv_read_bools); }
     std::vector<bool> validity() const { return flags(hv_read_validity); }
@@ -376,12 +293,71 @@ private:
         });
     }
     template <class Read> std::vector<bool> flags(Read read) const {
+        if (!*this) return {};
         const size_t rows = size(), count = rows / 64 + (rows % 64 != 0);
         std::vector<uint64_t> words(count + 1);
         detail::ask([&](auto *error) { return read(&handle, words.data(), count, error); });
         return detail::flags_of(words, rows);
     }
 };
+
+// The runs of a column, each cut to the window. Ends and values are the run column's, copied.
+class Runs {
+public:
+    explicit Runs(const Column &column) : rows(column.size()), form(column.form()) {
+        if (form == Form::runs) {
+            read_ends(column.ends());
+            values = column.values();
+            offset = column.offset();
+            first = position_of(offset);
+            count = rows ? position_of(offset + rows - 1) + 1 - first : 0;
+        } else if (form != Form::none) {
+            values = column.clone();
+            count = form == Form::constant && rows ? 1 : rows;
+        }
+    }
+    size_t size() const { return count; }
+    bool empty() const { return count == 0; }
+    detail::Walk<Runs> begin() const { return {this, 0}; }
+    detail::Walk<Runs> end() const { return {this, count}; }
+    // Run `index` of those that the window shows; refused as HV_OUT_OF_BOUNDS past the last.
+    Run at(size_t index) const {
+        if (index >= count) throw Error(HV_OUT_OF_BOUNDS, {index, count, 0});
+        return item(index);
+    }
+    Run operator[](size_t index) const { return at(index); }
+    Run item(size_t index) const {
+        if (form == Form::constant) return {0, rows, values.at(0)};
+        if (form != Form::runs) return {index, index + 1, values.at(index)};
+        const size_t run = first + index;
+        const size_t start = index ? static_cast<size_t>(ends[run - 1]) - offset : 0;
+        return {start, std::min(static_cast<size_t>(ends[run]) - offset, rows), values.at(run)};
+    }
+
+private:
+    std::vector<uint64_t> ends;
+    Column values;
+    size_t rows, offset = 0, first = 0, count = 0;
+    Form form;
+
+    // The run that stores this row, counted before the window is cut: the first whose end is past it.
+    size_t position_of(size_t row) const {
+        return static_cast<size_t>(std::upper_bound(ends.begin(), ends.end(), row) - ends.begin());
+    }
+    template <class T> void widen(const Column &column) {
+        for (T end : column.numbers<T>()) ends.push_back(end);
+    }
+    void read_ends(const Column &column) {
+        switch (column.kind().number) {
+        case HV_U8: return widen<uint8_t>(column);
+        case HV_U16: return widen<uint16_t>(column);
+        case HV_U32: return widen<uint32_t>(column);
+        default: return widen<uint64_t>(column);
+        }
+    }
+};
+
+inline Runs Column::runs() const { return Runs(*this); }
 
 } // namespace hv
 #endif

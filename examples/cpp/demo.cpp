@@ -1,6 +1,7 @@
-// Columns freed by scope, refusals as exceptions, and a column beside itself. Answers were worked out by hand.
+// Columns freed by scope, rows and runs iterated, refusals as exceptions. Answers were worked out by hand.
 #include "hivevigil.hpp"
 #include "hivevigil_arrow.h"
+#include <array>
 #include <cstdlib>
 #include <iostream>
 
@@ -80,12 +81,74 @@ static void check_refusals() {
     } catch (const hv::Error &error) {
         CHECK(error.number == HV_BAD_RANGE && error.fields.first == 5 && error.fields.second == 11 &&
               error.fields.third == 10);
-        CHECK(std::string(error.what()) == "hivevigil: error 9 (5, 11, 10)");
+        CHECK(std::string(error.what()) == "rows 5 to 11 are not among 10 rows");
+        CHECK(std::string(error.name()) == "HV_BAD_RANGE");
     }
     try {
         Column::of<int32_t>({1, 2}, {true});
         CHECK(!"refused");
     } catch (const hv::Error &error) { CHECK(error.number == HV_COLUMN_LENGTH); }
+}
+
+// start, stop and value of each run, as one text
+static std::string runs_of(const Column &column) {
+    std::string text;
+    for (const hv::Run &run : column.runs()) {
+        text += std::to_string(run.start) + "-" + std::to_string(run.stop) + ":";
+        const auto *value = std::get_if<int64_t>(&run.value);
+        text += value ? std::to_string(*value) + " " : "null ";
+    }
+    return text;
+}
+
+static void check_iteration() {
+    const Column runs = made().encode();
+    CHECK(runs_of(runs) == "0-2:1 2-4:null 4-5:2 5-8:3 8-10:null ");
+    CHECK(runs_of(runs.slice(3, 7)) == "0-1:null 1-2:2 2-4:3 " && runs.slice(3, 7).runs().size() == 3);
+    CHECK(runs_of(runs.slice(6, 7)) == "0-1:3 " && runs_of(runs.slice(4, 4)).empty());
+    CHECK(runs_of(made().slice(3, 5)) == "0-1:null 1-2:2 " && runs_of(Column()).empty());
+    CHECK(runs.runs().at(3).size() == 3 && runs.runs()[4].value == Value(Null{}));
+    size_t rows = 0, nulls = 0;
+    for (const Value &row : runs) rows++, nulls += std::holds_alternative<Null>(row);
+    CHECK(rows == 10 && nulls == 4);
+}
+
+static void check_views_and_optionals() {
+    const std::array<int16_t, 3> items = {5, 5, -6};
+    const uint8_t bytes[] = {1, 2};
+    const Column column = Column::of(items);
+    CHECK(column.kind().number == HV_I16 && column.get<int16_t>(2) == int16_t{-6} && column[1] == number(5));
+    CHECK(Column::of(hv::View<int16_t>(items)).size() == 3 && Column::of(bytes).get<uint8_t>(1) == uint8_t{2});
+    const std::vector<std::optional<int64_t>> rows = {7, std::nullopt, 9};
+    const Column some = Column::of(rows);
+    CHECK(!some.get<int64_t>(1) && some.get<int64_t>(2) == 9 && some.optionals<int64_t>() == rows);
+    std::array<int16_t, 2> part = {};
+    column.read(1, part.data(), part.size());
+    CHECK(part == (std::array<int16_t, 2>{5, -6}));
+    CHECK(Column::texts({"one"}).get<std::string>(0) == "one" && Column::truths({true}).get<bool>(0) == true);
+    try {
+        some.get<std::string>(0);
+        CHECK(!"refused");
+    } catch (const hv::Error &error) { CHECK(error.number == HV_TYPE_MISMATCH); }
+    try {
+        some.runs().at(3);
+        CHECK(!"refused");
+    } catch (const hv::Error &error) { CHECK(std::string(error.what()) == "row 3 is not among 3 rows"); }
+}
+
+static void check_moves() {
+    Column first = made(), second = Column::of<uint8_t>({1, 2});
+    first = std::move(second);
+    CHECK(first.size() == 2 && !second && second.empty() && second.form() == hv::Form::none);
+    CHECK(second.begin() == second.end() && second.runs().empty() && second.numbers<uint8_t>().empty());
+    CHECK(second.validity().empty() && second.truths().empty() && second.offset() == 0);
+    Column &same = first;
+    first = std::move(same);
+    CHECK(first.size() == 2);
+    try {
+        second.encode();
+        CHECK(!"refused");
+    } catch (const hv::Error &error) { CHECK(error.number == HV_NO_COLUMN); }
 }
 
 static void check_arrow() {
@@ -104,6 +167,9 @@ int main() {
     check_runs();
     check_own_runs();
     check_other_types();
+    check_iteration();
+    check_views_and_optionals();
+    check_moves();
     check_refusals();
     check_arrow();
     std::cout << "columns are freed by scope, and refusals are thrown\n";

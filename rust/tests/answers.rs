@@ -75,14 +75,8 @@ fn runs_answer_as_rows() -> Result<(), Error> {
         [Value::Signed(3), Value::Signed(1)]
     );
     assert_eq!(
-        runs.cast(Kind {
-            number: 7,
-            nullable: 1,
-            ..Kind::default()
-        })?
-        .kind()
-        .number,
-        7
+        runs.cast(Kind::I64.nullable())?.kind(),
+        Kind::I64.nullable()
     );
     Ok(())
 }
@@ -90,7 +84,7 @@ fn runs_answer_as_rows() -> Result<(), Error> {
 #[test]
 fn parts_of_runs() -> Result<(), Error> {
     let (ends, values) = (Column::new(&[2u16, 3, 5])?, Column::new(&[7i8, 8, 9])?);
-    let own = Column::runs(&ends, &values, 1, 4)?;
+    let own = Column::from_runs(&ends, &values, 1, 4)?;
     assert_eq!(rows(&own)?, [7, 8, 9, 9].map(Value::Signed));
     assert_eq!(
         (own.offset(), own.serialize()?),
@@ -153,12 +147,12 @@ fn refusals_have_their_fields() -> Result<(), Error> {
     );
     let (ends, values) = (Column::new(&[2u16, 2, 5])?, Column::new(&[7i8, 8, 9])?);
     assert_eq!(
-        Column::runs(&ends, &values, 0, 5).err(),
+        Column::from_runs(&ends, &values, 0, 5).err(),
         Some(refused(4, 1, 0, 0))
     );
     assert_eq!(
         refused(9, 5, 11, 10).to_string(),
-        "hivevigil: error 9 (5, 11, 10)"
+        "rows 5 to 11 are not among 10 rows"
     );
     Ok(())
 }

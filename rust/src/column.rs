@@ -1,6 +1,6 @@
 //! Columns, and how they are made of rows.
 use crate::raw::{self, Handle};
-use crate::{ask, Error, Fields, Kind, Native, COLUMN_LENGTH};
+use crate::{ask, Error, Fields, Kind, Native};
 use std::cell::UnsafeCell;
 use std::ptr;
 
@@ -35,15 +35,7 @@ impl Nulls {
     fn of(rows: usize, valid: Option<&[bool]>) -> Result<Nulls, Error> {
         let flags = valid.unwrap_or(&[]);
         if valid.is_some() && flags.len() != rows {
-            let fields = Fields {
-                first: rows as u64,
-                second: flags.len() as u64,
-                third: 0,
-            };
-            return Err(Error {
-                number: COLUMN_LENGTH,
-                fields,
-            });
+            return Err(Error::lengths(rows, flags.len()));
         }
         let number = if valid.is_some() { 2 } else { 0 };
         Ok(Nulls {
@@ -93,6 +85,7 @@ impl Column {
         })
     }
 
+    /// Truth values, null where `valid` is given and false.
     pub fn truths(rows: &[bool], valid: Option<&[bool]>) -> Result<Column, Error> {
         let (nulls, truths) = (Nulls::of(rows.len(), valid)?, bits_of(rows));
         let (bits, count) = (nulls.bits.as_ptr(), nulls.bits.len());
@@ -112,6 +105,7 @@ impl Column {
         })
     }
 
+    /// Numbers of `precision` digits, `scale` of them behind the point: 12 with scale 1 is 1.2.
     pub fn decimals(
         rows: &[i128],
         precision: u8,
@@ -141,11 +135,13 @@ impl Column {
         })
     }
 
+    /// Texts, null where `valid` is given and false.
     pub fn texts(rows: &[&str], valid: Option<&[bool]>) -> Result<Column, Error> {
         let rows: Vec<&[u8]> = rows.iter().map(|row| row.as_bytes()).collect();
         Column::cut(false, &rows, valid)
     }
 
+    /// Bytes, null where `valid` is given and false.
     pub fn bytes(rows: &[&[u8]], valid: Option<&[bool]>) -> Result<Column, Error> {
         Column::cut(true, rows, valid)
     }
@@ -176,7 +172,7 @@ impl Column {
     }
 
     /// Runs of these ends and values, of which `rows` rows from row `offset` on are shown. Both are copied.
-    pub fn runs(
+    pub fn from_runs(
         ends: &Column,
         values: &Column,
         offset: usize,
@@ -209,6 +205,7 @@ impl Column {
         })
     }
 
+    /// The same column in the same form, in memory of its own but for the bytes of texts, which are shared.
     pub fn try_clone(&self) -> Result<Column, Error> {
         Column::made(|out, fields| unsafe { raw::hv_clone(self.handle.get(), out, fields) })
     }

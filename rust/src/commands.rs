@@ -13,18 +13,22 @@ impl Column {
         Column::made(|out, fields| call(&session, self.handle.get(), out, fields))
     }
 
+    /// As few runs as there can be, with ends of the least type; refused as `OnlyPrimitive` unless the rows are whole
+    /// numbers.
     pub fn encode(&self) -> Result<Column, Error> {
         self.command(|session, column, out, fields| unsafe {
             raw::hv_encode(session, column, out, fields)
         })
     }
 
+    /// The rows written out in a flat form.
     pub fn decode(&self) -> Result<Column, Error> {
         self.command(|session, column, out, fields| unsafe {
             raw::hv_decode(session, column, out, fields)
         })
     }
 
+    /// The rows of a range, refused as `BadRange` where they are not all there.
     pub fn slice(&self, rows: Range<usize>) -> Result<Column, Error> {
         let Range { start, end } = rows;
         self.command(|session, column, out, fields| unsafe {
@@ -32,12 +36,15 @@ impl Column {
         })
     }
 
+    /// Each row as the same value of another type; refused as `CastOutOfRange` or `NullNotAllowed` at the first row that
+    /// is none, and as `Unsupported` unless both types are of whole numbers or of one kind that is no list.
     pub fn cast(&self, kind: Kind) -> Result<Column, Error> {
         self.command(|session, column, out, fields| unsafe {
             raw::hv_cast(session, column, &kind, out, fields)
         })
     }
 
+    /// The rows at the indices, a flat column of whole numbers: null at a null index; refused as `OutOfBounds`.
     pub fn take(&self, indices: &Column) -> Result<Column, Error> {
         let (session, column) = (Session::initial(), self.handle.get());
         self.beside(indices, |indices, out, fields| unsafe {
@@ -45,6 +52,7 @@ impl Column {
         })
     }
 
+    /// The rows at which the mask, a flat column of truth values, is true: a null in the mask selects nothing.
     pub fn filter(&self, mask: &Column) -> Result<Column, Error> {
         let (session, column) = (Session::initial(), self.handle.get());
         self.beside(mask, |mask, out, fields| unsafe {
@@ -60,6 +68,7 @@ impl Column {
         })
     }
 
+    /// Row by row whether `left operator right`, null where either is null.
     pub fn compare(&self, operator: Operator, right: &Column) -> Result<Column, Error> {
         let (session, left, operator) = (Session::initial(), self.handle.get(), operator as u8);
         self.beside(right, |right, out, fields| unsafe {
@@ -67,6 +76,7 @@ impl Column {
         })
     }
 
+    /// The same against one value, of the column's type or null.
     pub fn compare_value(&self, operator: Operator, value: &Value) -> Result<Column, Error> {
         let (passed, text) = value.passed();
         self.command(|session, column, out, fields| unsafe {
@@ -84,6 +94,7 @@ impl Column {
         })
     }
 
+    /// A value in place of each null, after which the type has no null; refused as `NullFill` for null.
     pub fn fill(&self, value: &Value) -> Result<Column, Error> {
         let (passed, text) = value.passed();
         self.command(|session, column, out, fields| unsafe {

@@ -1,35 +1,66 @@
 //! Rows and sums.
 use crate::raw::RawValue;
+use std::fmt;
 
 /// A row.
 #[derive(Clone, Debug, PartialEq, Eq)]
 pub enum Value {
+    /// No value.
     Null,
     /// Of an unsigned type.
     Unsigned(u64),
     /// Of a signed type.
     Signed(i64),
+    /// A truth value.
     Truth(bool),
+    /// The digits of a decimal, whose scale is the column's.
     Decimal(i128),
+    /// A text.
     Text(String),
+    /// Bytes.
     Bytes(Vec<u8>),
+}
+
+/// Numbers and truth values as Rust writes them, texts and bytes quoted, `null`. A decimal is its digits alone: its scale
+/// is the column's.
+impl fmt::Display for Value {
+    fn fmt(&self, formatter: &mut fmt::Formatter<'_>) -> fmt::Result {
+        match self {
+            Value::Null => formatter.write_str("null"),
+            Value::Unsigned(item) => item.fmt(formatter),
+            Value::Signed(item) => item.fmt(formatter),
+            Value::Truth(item) => item.fmt(formatter),
+            Value::Decimal(item) => item.fmt(formatter),
+            Value::Text(text) => write!(formatter, "{text:?}"),
+            Value::Bytes(bytes) => write!(formatter, "b\"{}\"", bytes.escape_ascii()),
+        }
+    }
 }
 
 /// A sum: `total` is `None` where it left the range of 64 bits; `empty`: no row is valid, and the sum is 0.
 #[derive(Clone, Copy, Debug, PartialEq, Eq)]
 pub struct Sum {
+    /// Of the rows that are not null.
     pub total: Option<i128>,
+    /// Is every row null, or none there?
     pub empty: bool,
 }
 
+/// `row operator value`, by the numbers of `hivevigil.h`.
 #[derive(Clone, Copy, Debug, PartialEq, Eq)]
 #[repr(u8)]
 pub enum Operator {
+    /// `==`
     Equal = 0,
+    /// `!=`
     NotEqual = 1,
+    /// `>`
     Greater = 2,
+    /// `>=`
     GreaterOrEqual = 3,
+    /// `<`
     Less = 4,
+    /// `<=`
     LessOrEqual = 5,
 }
 

@@ -1,21 +1,25 @@
 //! Questions to columns, and what is read out of them.
 use crate::raw::{self, RawTotal, RawValue};
-use crate::{ask, Column, Error, Fields, Form, Kind, Native, Session, Sum, Value, COLUMN_LENGTH};
+use crate::{ask, Column, Error, ErrorKind, Fields, Form, Kind, Native, Session, Sum, Value};
 
 /// Questions.
 impl Column {
+    /// How many rows there are.
     pub fn len(&self) -> usize {
         unsafe { raw::hv_length(self.handle.get()) }
     }
 
+    /// Is there no row?
     pub fn is_empty(&self) -> bool {
         self.len() == 0
     }
 
+    /// The type of the rows.
     pub fn kind(&self) -> Kind {
         unsafe { raw::hv_kind_of(self.handle.get()) }
     }
 
+    /// How the column lies.
     pub fn form(&self) -> Form {
         match unsafe { raw::hv_form(self.handle.get()) } {
             0 => Form::Flat,
@@ -30,6 +34,7 @@ impl Column {
         unsafe { raw::hv_offset(self.handle.get()) }
     }
 
+    /// The sum of the rows that are not null; refused as `Unsupported` unless they are whole numbers.
     pub fn sum(&self) -> Result<Sum, Error> {
         let (session, mut total) = (Session::initial(), RawTotal::default());
         ask(|fields| unsafe { raw::hv_sum(&session, self.handle.get(), &mut total, fields) })?;
@@ -73,6 +78,7 @@ impl Column {
         self.extreme(0)
     }
 
+    /// The greatest row that is not null; `Null` where there is none.
     pub fn greatest(&self) -> Result<Value, Error> {
         self.extreme(1)
     }
@@ -92,6 +98,7 @@ impl Column {
         })
     }
 
+    /// Row `row`, refused as `OutOfBounds` past the end.
     pub fn at(&self, row: usize) -> Result<Value, Error> {
         shown(|value, text, fields| unsafe {
             raw::hv_at(
@@ -104,10 +111,6 @@ impl Column {
             )
         })
     }
-
-    pub fn rows(&self) -> impl Iterator<Item = Result<Value, Error>> + '_ {
-        (0..self.len()).map(|row| self.at(row))
-    }
 }
 
 /// Rows and parts read out.
@@ -115,8 +118,19 @@ impl Column {
     /// The stored numbers of a flat column, where a row is null too.
     pub fn numbers<T: Native>(&self) -> Result<Vec<T>, Error> {
         let mut items = vec![T::default(); self.len()];
-        ask(|fields| unsafe { T::read(self.handle.get(), &mut items, fields) })?;
+        self.read(0, &mut items)?;
         Ok(items)
+    }
+
+    /// The same into room of the caller's, as many as it has, from row `start` on; refused as `BadRange` past the end.
+    pub fn read<T: Native>(&self, start: usize, items: &mut [T]) -> Result<(), Error> {
+        ask(|fields| unsafe { T::read(self.handle.get(), start, items, fields) })
+    }
+
+    /// The rows of a flat column of whole numbers, `None` where a row is null.
+    pub fn options<T: Native>(&self) -> Result<Vec<Option<T>>, Error> {
+        let rows = self.numbers()?.into_iter().zip(self.validity()?);
+        Ok(rows.map(|(item, valid)| valid.then_some(item)).collect())
     }
 
     /// Whether each row of a flat column is not null.
@@ -166,7 +180,7 @@ fn shown(
         let mut value = RawValue::default();
         match ask(|fields| call(&mut value, &mut text, fields)) {
             Ok(()) => return Ok(Value::of(value, text)),
-            Err(error) if error.number == COLUMN_LENGTH => {
+            Err(error) if error.kind() == Some(ErrorKind::ColumnLength) => {
                 text.resize(error.fields.first as usize, 0)
             }
             Err(error) => return Err(error),

@@ -1,0 +1,136 @@
+#!/bin/sh
+# Uses the library as its users do, each time in an empty folder outside of the checkout, from what was installed alone:
+#     sh examples/packages.sh c | cpp | rust | uninstall      after install.sh into that folder
+#     sh examples/packages.sh tar | deb | wheel DIST          from the packages that dist.sh made in DIST
+# Nothing is installed beside that folder, which is removed, and no network is used.
+set -eu
+top=$(cd "$(dirname "$0")/.." && pwd)
+cc=${CC:-cc} cxx=${CXX:-c++}
+what=${1:-}
+dist=${2:-$top/dist}
+work=$(mktemp -d)
+trap 'rm -rf "$work"' EXIT
+mkdir "$work/user"
+cd "$work/user"
+
+fail() { echo "$1" >&2; exit 1; }
+# expect TEXT COMMAND..: the command says just that
+expect() {
+    text=$1
+    shift
+    said=$("$@") || fail "$* ended with $?"
+    [ "$said" = "$text" ] || fail "$* said '$said' and not '$text'"
+}
+installed() { sh "$top/install.sh" --prefix "$work/prefix" >/dev/null 2>&1; }
+
+# a C program by pkg-config over the files below $1, by the shared object and by the archive
+c_program() {
+    PKG_CONFIG_PATH=$(dirname "$(find "$1" -name hivevigil.pc)")
+    export PKG_CONFIG_PATH
+    cp "$top/examples/c/first.c" program.c
+    said='9 rows, sum 62
+refused: rows 2 to 12 are not among 9 rows'
+    # shellcheck disable=SC2046
+    "$cc" -std=c11 program.c $(pkg-config --cflags --libs hivevigil) -o program
+    expect "$said" env LD_LIBRARY_PATH="$(pkg-config --variable=libdir hivevigil)" ./program
+    # shellcheck disable=SC2046
+    "$cc" -std=c11 program.c $(pkg-config --cflags hivevigil) "$(pkg-config --variable=libdir hivevigil)/libhivevigil.a" \
+        -o program
+    expect "$said" ./program
+    echo "Hivevigil $(pkg-config --modversion hivevigil) by pkg-config, shared object and archive"
+}
+
+cpp_program() {
+    cat >main.cpp <<'CPP'
+#include <hivevigil.hpp>
+#include <iostream>
+int main() {
+    const hv::Column column = hv::Column::of(std::vector<int64_t>{4, 4, 4, 7, 7, 9}).encode();
+    for (const hv::Run &run : column.runs()) std::cout << run.size() << " of " << std::get<int64_t>(run.value) << "\n";
+}
+CPP
+    cat >CMakeLists.txt <<'CMAKE'
+cmake_minimum_required(VERSION 3.10)
+project(user CXX)
+set(CMAKE_CXX_STANDARD 17)
+find_package(Hivevigil 0.1 REQUIRED)
+foreach(library hivevigil archive)
+  add_executable(by_${library} main.cpp)
+  target_link_libraries(by_${library} Hivevigil::${library})
+endforeach()
+CMAKE
+    cmake -S . -B build -DCMAKE_PREFIX_PATH="$work/prefix" -DCMAKE_CXX_COMPILER="$cxx" >cmake.log 2>&1 &&
+        cmake --build build >>cmake.log 2>&1 || { cat cmake.log; exit 1; }
+    for library in hivevigil archive; do
+        expect '3 of 4
+2 of 7
+1 of 9' "build/by_$library"
+    done
+    sed -i 's/Hivevigil 0.1 REQUIRED/Hivevigil 9.9 REQUIRED/' CMakeLists.txt
+    ! cmake -S . -B other -DCMAKE_PREFIX_PATH="$work/prefix" >cmake.log 2>&1 || fail "CMake took another version"
+    echo "find_package(Hivevigil), by shared object and archive"
+}
+
+# a package that depends on the crate, which finds what is installed by pkg-config
+rust_program() {
+    mkdir -p crate src
+    for part in Cargo.toml build.rs src; do cp -R "$top/rust/$part" crate/; done
+    export CARGO_TARGET_DIR="$work/target" CARGO_NET_OFFLINE=true PKG_CONFIG_PATH="$work/prefix/lib/pkgconfig"
+    printf '[package]\nname = "user"\nversion = "0.1.0"\nedition = "2021"\n\n[workspace]\n' >Cargo.toml
+    cat >src/main.rs <<'RUST'
+fn main() -> Result<(), Box<dyn std::error::Error>> {
+    let column = hivevigil::Column::try_from(&[Some(4i64), Some(4), None][..])?.encode()?;
+    for run in column.runs()? {
+        let run = run?;
+        println!("{:?}: {}", run.rows, run.value);
+    }
+    Ok(())
+}
+RUST
+    cargo add --quiet --path crate hivevigil
+    expect '0..2: 4
+2..3: null' cargo run --quiet
+    echo "cargo add --path, over what pkg-config finds"
+}
+
+python_program() {
+    python=${PYTHON:-python3}
+    "$python" -m venv "$work/venv"
+    "$work/venv/bin/pip" install --quiet --disable-pip-version-check --no-index --no-deps "$dist"/hivevigil-*.whl
+    expect "62 [4, 7]" "$work/venv/bin/python" -c '
+from hivevigil import Column
+runs = Column.of([4, 4, 4, 7, 7, 9, 9, 9, 9]).encode()
+print(runs.sum(), runs[2:4].to_list())'
+    echo "pip install of $(basename "$dist"/hivevigil-*.whl)"
+}
+
+case $what in
+c) installed && c_program "$work/prefix" ;;
+cpp) installed && cpp_program ;;
+rust) installed && rust_program ;;
+uninstall)
+    mkdir -p "$work/prefix/lib" "$work/prefix/include"
+    echo mine >"$work/prefix/lib/mine"
+    before=$(find "$work/prefix" | sort)
+    sh "$top/install.sh" --prefix "$work/prefix" --libdir lib/other >/dev/null 2>&1
+    installed
+    [ "$(find "$work/prefix" -type f | wc -l)" -gt 8 ] || fail "little was installed"
+    [ ! -e "$work/prefix/lib/other" ] || fail "the earlier install was left beside the later"
+    sh "$top/install.sh" --prefix "$work/prefix" --uninstall
+    after=$(find "$work/prefix" | sort)
+    [ "$after" = "$before" ] || fail "before: $before, after: $after"
+    ! sh "$top/install.sh" --prefix "$work/prefix" --uninstall 2>/dev/null || fail "taken away twice"
+    ;;
+tar)
+    tar -xzf "$dist"/hivevigil-*.tar.gz
+    sh hivevigil-*/install.sh --prefix "$work/prefix" >/dev/null 2>&1
+    c_program "$work/prefix"
+    ;;
+deb)
+    dpkg-deb --extract "$dist"/libhivevigil-dev_*.deb "$work/root"
+    dpkg-deb --info "$dist"/libhivevigil-dev_*.deb | grep -q '^ Package: libhivevigil-dev$'
+    c_program "$work/root"
+    ;;
+wheel) python_program ;;
+*) fail "sh examples/packages.sh c | cpp | rust | uninstall, or tar | deb | wheel DIST" ;;
+esac

@@ -1,0 +1,91 @@
+/* The refusals of hivevigil.h in words: a name and a sentence for each number. Header alone, C11 and C++17.
+ *
+ *     char text[HV_ERROR_TEXT];
+ *     fprintf(stderr, "%s: %s\n", hv_error_name(answer), hv_error_text(answer, &error, text));
+ */
+#ifndef HIVEVIGIL_ERRORS_H
+#define HIVEVIGIL_ERRORS_H
+#include "hivevigil.h"
+#include <inttypes.h>
+#include <stdio.h>
+#ifdef __cplusplus
+extern "C" {
+#endif
+
+/* Each number with its sentence, in which %1, %2 and %3 stand for the fields. */
+#define HV_ERRORS(X) \
+    X(HV_OK, "done") \
+    X(HV_ENDS_NOT_UNSIGNED, "ends of runs are a flat column of an unsigned type without null") \
+    X(HV_LENGTHS_DIFFER, "%1 ends and %2 values: each run has one of both") \
+    X(HV_NO_RUNS_WINDOW, "there is no run, yet a window of %2 rows from row %1 on") \
+    X(HV_ENDS_NOT_STRICT, "the end of run %1 is not above the end before it") \
+    X(HV_WINDOW_OVERFLOW, "offset %1 and length %2 add up to 2^64 or more") \
+    X(HV_FIRST_END_BELOW_OFFSET, "the first run ends before row %1, below the offset %2") \
+    X(HV_LAST_END_BELOW_WINDOW, "the last run ends before row %1, the window before row %2") \
+    X(HV_OUT_OF_BOUNDS, "row %1 is not among %2 rows") \
+    X(HV_BAD_RANGE, "rows %1 to %2 are not among %3 rows") \
+    X(HV_MASK_LENGTH, "a mask of %1 rows over %2 rows") \
+    X(HV_COLUMN_LENGTH, "a length of %1 where %2 is there") \
+    X(HV_TYPE_MISMATCH, "the types do not go together") \
+    X(HV_UNSUPPORTED, "the call does not serve columns of this type or form") \
+    X(HV_CAST_OUT_OF_RANGE, "a row is no value of the type") \
+    X(HV_NULL_NOT_ALLOWED, "a row is null, and the type has no null") \
+    X(HV_NULL_FILL, "nulls are filled by a value, and null is none") \
+    X(HV_BAD_METADATA, "the bytes are no metadata record") \
+    X(HV_ENDS_TYPE_NUMBER, "%1 is the number of no type of ends") \
+    X(HV_RUN_COUNT, "the record says %1 runs, and there are %2") \
+    X(HV_ONLY_PRIMITIVE, "whole numbers alone are encoded") \
+    X(HV_OUT_OF_MEMORY, "a request for memory was refused") \
+    X(HV_NO_COLUMN, "there is no column: it was never made, freed or moved away") \
+    X(HV_BAD_NUMBER, "the number stands for no type, or for no operator")
+
+/* Room for every sentence: the longest, with three numbers of 20 digits. */
+enum { HV_ERROR_TEXT = 160 };
+
+/* The number's name in hivevigil.h, "HV_OUT_OF_BOUNDS"; "unknown" of any other number. */
+static inline const char *hv_error_name(int32_t number) {
+    switch (number) {
+#define HV_NAME(name, sentence) \
+    case name: return #name;
+        HV_ERRORS(HV_NAME)
+#undef HV_NAME
+    default: return "unknown";
+    }
+}
+
+/* The number's sentence, its fields not yet written; null of any other number. */
+static inline const char *hv_error_sentence(int32_t number) {
+    switch (number) {
+#define HV_SENTENCE(name, sentence) \
+    case name: return sentence;
+        HV_ERRORS(HV_SENTENCE)
+#undef HV_SENTENCE
+    default: return NULL;
+    }
+}
+
+/* Writes the refusal as a sentence with its fields into `text`, which has room for HV_ERROR_TEXT bytes, and returns
+ * `text`. A number that is not of hivevigil.h is written with its fields. */
+static inline char *hv_error_text(int32_t number, const hv_error *error, char *text) {
+    const uint64_t fields[] = {error->first, error->second, error->third};
+    const char *sentence = hv_error_sentence(number);
+    size_t used = 0;
+    if (!sentence) {
+        snprintf(text, HV_ERROR_TEXT, "error %" PRId32 " (%" PRIu64 ", %" PRIu64 ", %" PRIu64 ")", number, fields[0],
+                 fields[1], fields[2]);
+        return text;
+    }
+    for (; *sentence && used < HV_ERROR_TEXT - 1; sentence++) {
+        if (sentence[0] == '%' && sentence[1] >= '1' && sentence[1] <= '3')
+            used += (size_t)snprintf(text + used, HV_ERROR_TEXT - used, "%" PRIu64, fields[*++sentence - '1']);
+        else
+            text[used++] = *sentence;
+    }
+    text[used < HV_ERROR_TEXT ? used : HV_ERROR_TEXT - 1] = 0;
+    return text;
+}
+
+#ifdef __cplusplus
+}
+#endif
+#endif

@@ -1,0 +1,229 @@
+// What hivevigil.hpp speaks of: refusals, rows, sums, runs, views. Part of hivevigil.hpp, which includes it.
+#ifndef HIVEVIGIL_VALUES_HPP
+#define HIVEVIGIL_VALUES_HPP
+#include "hivevigil_errors.h"
+#include <cstdint>
+#include <iterator>
+#include <optional>
+#include <stdexcept>
+#include <string>
+#include <type_traits>
+#include <utility>
+#include <variant>
+#include <vector>
+
+namespace hv {
+
+// What a call refused: its number, as HV_OUT_OF_BOUNDS, its fields in the order of hivevigil.h, and a sentence.
+class Error : public std::runtime_error {
+public:
+    Error(int32_t number, hv_error fields)
+        : std::runtime_error(text_of(number, fields)), number(number), fields(fields) {}
+    const int32_t number;
+    const hv_error fields;
+    // "HV_OUT_OF_BOUNDS"
+    const char *name() const { return hv_error_name(number); }
+
+private:
+    static std::string text_of(int32_t number, hv_error fields) {
+        char text[HV_ERROR_TEXT];
+        return hv_error_text(number, &fields, text);
+    }
+};
+
+// 128 bits: high * 2^64 + low.
+struct Decimal {
+    uint64_t low;
+    int64_t high;
+    friend bool operator==(Decimal left, Decimal right) { return left.low == right.low && left.high == right.high; }
+    friend bool operator!=(Decimal left, Decimal right) { return !(left == right); }
+};
+
+using Null = std::monostate;
+using Bytes = std::vector<uint8_t>;
+
+// A row: null, a whole number, a truth value, a decimal, a text or bytes.
+using Value = std::variant<Null, uint64_t, int64_t, bool, Decimal, std::string, Bytes>;
+
+// A sum: the number, or Null where it left the range of 64 bits. `empty`: no row is valid, and the sum is 0.
+struct Sum {
+    std::variant<Null, uint64_t, int64_t> total;
+    bool empty;
+};
+
+enum class Form : uint8_t {
+    flat = HV_FORM_FLAT,
+    constant = HV_FORM_CONSTANT,
+    lists = HV_FORM_LISTS,
+    runs = HV_FORM_RUNS,
+    none = HV_FORM_NONE
+};
+enum class Operator : uint8_t {
+    equal = HV_EQ,
+    not_equal = HV_NE,
+    greater = HV_GT,
+    greater_or_equal = HV_GE,
+    less = HV_LT,
+    less_or_equal = HV_LE
+};
+
+// Rows start to stop - 1 of a column, which are stored once.
+struct Run {
+    size_t start, stop;
+    Value value;
+    size_t size() const { return stop - start; }
+};
+
+// Items that lie one after the other, lent and not owned, as C++20's std::span has them.
+template <class T> class View {
+public:
+    constexpr View() = default;
+    constexpr View(const T *items, size_t count) : items(items), count(count) {}
+    // Of a vector, an array or a span.
+    template <class Items, class = std::enable_if_t<std::is_convertible_v<
+                               decltype(std::data(std::declval<const Items &>())), const T *>>>
+    constexpr View(const Items &items) : items(std::data(items)), count(std::size(items)) {}
+    constexpr const T *data() const { return items; }
+    constexpr size_t size() const { return count; }
+    constexpr bool empty() const { return count == 0; }
+    constexpr const T *begin() const { return items; }
+    constexpr const T *end() const { return items + count; }
+    constexpr const T &operator[](size_t index) const { return items[index]; }
+
+private:
+    const T *items = nullptr;
+    size_t count = 0;
+};
+
+// The session with every kernel and the thresholds of the library.
+inline const hv_session &initial_session() {
+    static const hv_session session = [] {
+        hv_session made{};
+        hv_session_initial(&made);
+        return made;
+    }();
+    return session;
+}
+
+namespace detail {
+
+// The calls of one native type.
+template <class T> struct Native;
+#define HV_NATIVE(type, suffix) \
+    template <> struct Native<type> { \
+        static constexpr auto make = hv_##suffix; \
+        static constexpr auto read = hv_read_##suffix; \
+    };
+HV_NATIVE(uint8_t, u8)
+HV_NATIVE(uint16_t, u16)
+HV_NATIVE(uint32_t, u32)
+HV_NATIVE(uint64_t, u64)
+HV_NATIVE(int8_t, i8)
+HV_NATIVE(int16_t, i16)
+HV_NATIVE(int32_t, i32)
+HV_NATIVE(int64_t, i64)
+#undef HV_NATIVE
+
+// The flags as bits, 8 to a byte, and a byte where there are none.
+inline Bytes bits_of(const std::vector<bool> &flags) {
+    Bytes bits(flags.size() / 8 + 1);
+    for (size_t row = 0; row < flags.size(); row++)
+        bits[row / 8] = static_cast<uint8_t>(bits[row / 8] | (flags[row] << (row % 8)));
+    return bits;
+}
+
+inline std::vector<bool> flags_of(const std::vector<uint64_t> &words, size_t rows) {
+    std::vector<bool> flags(rows);
+    for (size_t row = 0; row < rows; row++) flags[row] = words[row / 64] >> (row % 64) & 1;
+    return flags;
+}
+
+// A value as C passes it, with the bytes of a text beside it.
+class Passed {
+public:
+    explicit Passed(const Value &value) {
+        std::visit([this](const auto &item) { set(item); }, value);
+    }
+    hv_value value{};
+    const uint8_t *text = &none;
+    size_t size = 0;
+
+private:
+    uint8_t none = 0;
+    void set(Null) { value.kind = HV_NULL; }
+    void set(uint64_t item) { value.kind = HV_UNSIGNED, value.as_unsigned = item; }
+    void set(int64_t item) { value.kind = HV_SIGNED, value.as_signed = item; }
+    void set(bool item) { value.kind = HV_TRUTH, value.truth = item; }
+    void set(Decimal item) { value.kind = HV_DECIMAL_VALUE, value.as_unsigned = item.low, value.as_signed = item.high; }
+    void set(const std::string &item) { point(HV_TEXT, reinterpret_cast<const uint8_t *>(item.data()), item.size()); }
+    void set(const Bytes &item) { point(HV_BYTES, item.data(), item.size()); }
+    void point(uint8_t kind, const uint8_t *bytes, size_t length) {
+        value.kind = kind, value.as_unsigned = length;
+        if (length) text = bytes, size = length;
+    }
+};
+
+inline Value value_of(const hv_value &value, const Bytes &text) {
+    auto end = text.begin() + static_cast<std::ptrdiff_t>(value.kind >= HV_TEXT ? value.as_unsigned : 0);
+    switch (value.kind) {
+    case HV_UNSIGNED: return value.as_unsigned;
+    case HV_SIGNED: return value.as_signed;
+    case HV_TRUTH: return value.truth != 0;
+    case HV_DECIMAL_VALUE: return Decimal{value.as_unsigned, value.as_signed};
+    case HV_TEXT: return std::string(text.begin(), end);
+    case HV_BYTES: return Bytes(text.begin(), end);
+    default: return Null{};
+    }
+}
+
+// Throws what a call refused.
+template <class Call> void ask(Call call) {
+    hv_error fields{};
+    if (int32_t answer = call(&fields)) throw Error(answer, fields);
+}
+
+// The item type of a vector, an array or a span.
+template <class Items>
+using Item = std::remove_cv_t<std::remove_pointer_t<decltype(std::data(std::declval<const Items &>()))>>;
+template <class T> inline constexpr bool is_number = std::is_integral_v<T> && !std::is_same_v<T, bool>;
+
+// A row as T, null as none; refused as 12 where the row is of another type.
+template <class T> std::optional<T> optional_of(const Value &value) {
+    if (std::holds_alternative<Null>(value)) return std::nullopt;
+    if constexpr (is_number<T>) {
+        if (auto *item = std::get_if<int64_t>(&value); item && std::is_signed_v<T>) return static_cast<T>(*item);
+        if (auto *item = std::get_if<uint64_t>(&value); item && !std::is_signed_v<T>) return static_cast<T>(*item);
+    } else if (auto *item = std::get_if<T>(&value)) {
+        return *item;
+    }
+    throw Error(HV_TYPE_MISMATCH, {});
+}
+
+// Walks positions of a Source, each answered by source.item(position). It refers to the source, which has to live on.
+template <class Source> class Walk {
+public:
+    using iterator_category = std::input_iterator_tag;
+    using value_type = decltype(std::declval<const Source &>().item(0));
+    using difference_type = std::ptrdiff_t;
+    using pointer = const value_type *;
+    using reference = value_type;
+
+    Walk(const Source *source, size_t position) : source(source), position(position) {}
+    value_type operator*() const { return source->item(position); }
+    Walk &operator++() {
+        position++;
+        return *this;
+    }
+    Walk operator++(int) { return Walk(source, position++); }
+    friend bool operator==(const Walk &left, const Walk &right) { return left.position == right.position; }
+    friend bool operator!=(const Walk &left, const Walk &right) { return !(left == right); }
+
+private:
+    const Source *source;
+    size_t position;
+};
+
+} // namespace detail
+
+} // namespace hv
+#endif

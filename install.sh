@@ -1,0 +1,93 @@
+#!/bin/sh
+# Puts the built library in place: headers, archive, shared object, pkg-config and CMake files, licence.
+#     sh install.sh --prefix DIR [--libdir lib]     installs below DIR
+#     sh install.sh --prefix DIR --uninstall        takes away what an install put there, and nothing else
+# DESTDIR, if set, stands before DIR, as for other installers. sh examples/build.sh builds the library first.
+set -eu
+top=$(cd "$(dirname "$0")" && pwd)
+
+fail() { echo "install: $1" >&2; exit "${2:-1}"; }
+usage() { fail "sh install.sh --prefix DIR [--libdir DIR] [--uninstall]" 2; }
+
+prefix='' libdir=lib uninstall=''
+while [ "$#" -gt 0 ]; do
+    case $1 in
+    --prefix | --libdir)
+        [ "$#" -gt 1 ] || usage
+        [ "$1" = --prefix ] && prefix=$2 || libdir=$2
+        shift
+        ;;
+    --uninstall) uninstall=1 ;;
+    *) usage ;;
+    esac
+    shift
+done
+[ "$prefix" ] || usage
+case $libdir in '' | /* | *..*) fail "--libdir is a folder below the prefix, as lib or lib64" 2 ;; esac
+case $prefix in /*) ;; *) prefix=$PWD/$prefix ;; esac
+to=${DESTDIR:-}$prefix
+list=share/hivevigil/installed
+
+# takes away what an earlier install put there, by its list: files, then the folders that it made, where they are empty
+take_away() {
+    folders=$(sed -n 's|/$||p' "$to/$list" | sort -r)
+    grep -v '/$' "$to/$list" | while read -r file; do rm -f "$to/$file"; done
+    for folder in $folders; do rmdir "$to/$folder" 2>/dev/null || true; done
+}
+
+if [ "$uninstall" ]; then
+    [ -f "$to/$list" ] || fail "nothing of Hivevigil is installed below $to"
+    take_away
+    echo "taken away from $to"
+    exit 0
+fi
+
+for library in libhivevigil.a libhivevigil.so; do
+    [ -e "$top/lib/$library" ] || fail "no lib/$library: sh examples/build.sh makes it"
+done
+version=$(cat "$top/VERSION")
+interface=$(sed -E 's/^(0\.[0-9]+|[1-9][0-9]*)\..*/\1/' "$top/VERSION")
+[ ! -f "$to/$list" ] || take_away
+work=$(mktemp -d)
+trap 'rm -rf "$work"' EXIT
+
+# makes a folder below the prefix, and those above it, with a line for each that was not there
+make_folder() {
+    [ ! -d "$to/$1" ] || return 0
+    case $1 in */*) (make_folder "${1%/*}") ;; esac
+    mkdir "$to/$1"
+    echo "$1/" >>"$work/installed"
+}
+# place MODE SOURCE FILE: a file below the prefix, and a line of what an uninstall takes away
+place() {
+    make_folder "$(dirname "$3")"
+    install -m "$1" "$2" "$to/$3"
+    echo "$3" >>"$work/installed"
+}
+# filled TEMPLATE FILE: the same of a file in which the version and folders are written
+filled() {
+    up=$(echo "$(dirname "$2")" | sed 's/[^/][^/]*/../g')
+    sed -e "s|@VERSION@|$version|g" -e "s|@INTERFACE@|$interface|g" -e "s|@LIBDIR@|$libdir|g" -e "s|@UP@|$up|g" \
+        "$top/tools/packages/$1" >"$work/filled"
+    place 644 "$work/filled" "$2"
+}
+
+mkdir -p "$to"
+for header in "$top"/include/*; do place 644 "$header" "include/$(basename "$header")"; done
+place 644 "$top/lib/libhivevigil.a" "$libdir/libhivevigil.a"
+place 755 "$top/lib/libhivevigil.so" "$libdir/libhivevigil.so.$version"
+ln -sf "libhivevigil.so.$version" "$to/$libdir/libhivevigil.so.$interface"
+ln -sf "libhivevigil.so.$interface" "$to/$libdir/libhivevigil.so"
+printf '%s\n' "$libdir/libhivevigil.so.$interface" "$libdir/libhivevigil.so" >>"$work/installed"
+filled hivevigil.pc "$libdir/pkgconfig/hivevigil.pc"
+for file in HivevigilConfig.cmake HivevigilConfigVersion.cmake; do filled "$file" "$libdir/cmake/Hivevigil/$file"; done
+place 644 "$top/LICENSE" share/doc/hivevigil/LICENSE
+place 644 "$top/docs/ABI.md" share/doc/hivevigil/ABI.md
+if [ -e "$top/lib/UNPROVED" ]; then
+    echo "install: this library was built without proof" >&2
+    place 644 "$top/lib/UNPROVED" share/doc/hivevigil/UNPROVED
+fi
+make_folder "$(dirname "$list")"
+echo "$list" >>"$work/installed"
+install -m 644 "$work/installed" "$to/$list"
+echo "Hivevigil $version is installed below $to"

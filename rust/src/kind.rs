@@ -1,0 +1,123 @@
+//! Types of rows, and how columns lie.
+use std::fmt;
+
+/// The type of rows, by the numbers of `hivevigil.h`.
+///
+/// ```
+/// use hivevigil::{Column, Kind};
+/// let wide = Column::new(&[1u8, 2])?.cast(Kind::I64.nullable())?;
+/// assert_eq!((wide.kind(), wide.kind().to_string()), (Kind::I64.nullable(), "i64?".to_string()));
+/// # Ok::<(), hivevigil::Error>(())
+/// ```
+#[repr(C)]
+#[derive(Clone, Copy, Debug, Default, PartialEq, Eq)]
+pub struct Kind {
+    /// Which type, in the order of `hivevigil.h`.
+    pub number: u8,
+    /// 1 where rows may be null, else 0.
+    pub nullable: u8,
+    /// Of decimals: digits.
+    pub precision: u8,
+    /// Of decimals: digits behind the point.
+    pub scale: i8,
+}
+
+macro_rules! kinds {
+    ($($name:ident = $number:literal, $text:literal;)*) => {
+        impl Kind {
+            $(#[doc = concat!("`", $text, "`, without null.")] pub const $name: Kind = Kind::of($number);)*
+
+            /// The types whose number is enough to name them.
+            pub const PLAIN: &'static [Kind] = &[$(Kind::$name,)*];
+
+            fn name(self) -> &'static str {
+                match self.number {
+                    $($number => $text,)*
+                    DECIMAL => "decimal",
+                    LIST => "list",
+                    _ => "none",
+                }
+            }
+        }
+    };
+}
+
+const DECIMAL: u8 = 9;
+const LIST: u8 = 12;
+
+kinds! {
+    U8 = 0, "u8";
+    U16 = 1, "u16";
+    U32 = 2, "u32";
+    U64 = 3, "u64";
+    I8 = 4, "i8";
+    I16 = 5, "i16";
+    I32 = 6, "i32";
+    I64 = 7, "i64";
+    BOOL = 8, "bool";
+    UTF8 = 10, "utf8";
+    BINARY = 11, "binary";
+}
+
+impl Kind {
+    const fn of(number: u8) -> Kind {
+        Kind {
+            number,
+            nullable: 0,
+            precision: 0,
+            scale: 0,
+        }
+    }
+
+    /// Numbers of `precision` digits, `scale` of them behind the point, without null.
+    pub const fn decimal(precision: u8, scale: i8) -> Kind {
+        Kind {
+            number: DECIMAL,
+            nullable: 0,
+            precision,
+            scale,
+        }
+    }
+
+    /// The same type, in which rows may be null.
+    pub const fn nullable(self) -> Kind {
+        Kind {
+            nullable: 1,
+            ..self
+        }
+    }
+
+    /// May rows be null?
+    pub const fn is_nullable(self) -> bool {
+        self.nullable != 0
+    }
+
+    /// Are the rows lists? A list type is only named, and cannot be asked for.
+    pub const fn is_list(self) -> bool {
+        self.number == LIST
+    }
+}
+
+impl fmt::Display for Kind {
+    fn fmt(&self, formatter: &mut fmt::Formatter<'_>) -> fmt::Result {
+        formatter.write_str(self.name())?;
+        if self.number == DECIMAL {
+            write!(formatter, "({}, {})", self.precision, self.scale)?;
+        }
+        formatter.write_str(if self.is_nullable() { "?" } else { "" })
+    }
+}
+
+/// How a column lies.
+#[derive(Clone, Copy, Debug, PartialEq, Eq)]
+#[repr(u8)]
+pub enum Form {
+    /// Row by row.
+    Flat = 0,
+    /// One value for all rows.
+    Constant = 1,
+    /// Lists, which share their elements.
+    Lists = 2,
+    /// Ends and values of runs.
+    Runs = 3,
+}
