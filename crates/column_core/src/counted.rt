@@ -1,5 +1,5 @@
 //! The ends of runs, where each test of an end is counted in contracts alone.
-ghost use Rattle.std.specs.Prelude.{◌≡◌, ◌+◌, ◌-◌, ◌<◌, ◌≤◌, ◌↔◌, IsTrue, length, map, min, slice_index};
+ghost use Rattle.std.specs.Prelude.{◌≡◌, ◌+◌, ◌-◌, ◌^◌, ◌<◌, ◌≤◌, ◌↔◌, IsTrue, length, map, min, slice_index};
 
 mod test_count;
 
@@ -7,9 +7,10 @@ use crate::counted::test_count::TestCount;
 use column_base::UnsignedPType;
 use std::marker::Model;
 
-/// The ends of runs, of which nothing can be read but how many there are, and what `test` and
-/// `rows_to_end` say. The first is one test, and the second counts as the tests that would say the same.
-/// So a contract on the count of tests bounds all that a search can learn of the ends.
+/// The ends of runs, of which nothing can be read but how many there are, and what `test`,
+/// `number_if_ended` and `rows_to_end` say. The first two are one test each, and the third counts as the
+/// tests that would say the same. So a contract on the count of tests bounds all that a search can learn
+/// of the ends.
 ///
 /// A contract sees a record: `ends`, the ends as natural numbers (in rows), and `tests`, how many
 /// tests were made. The count takes no bytes and no time.
@@ -61,8 +62,20 @@ impl<'a, E: UnsignedPType> CountedEnds<'a, E> {
         ensures same { self.new.ends ≡ self.old.ends }
         ensures counted { self.new.tests ≡ self.old.tests + 1 }
     {
-        self.tests = self.tests.plus(1);
-        self.end(run) <= row as u64
+        self.tested_end(run) <= row as u64
+    }
+
+    /// The number where the run ends at or below the row, and else 0. This is one test, and a search
+    /// that adds the number takes no branch on what the test says.
+    #[inline(always)]
+    pub fn number_if_ended(&mut self, run: usize, row: usize, number: usize) -> usize
+        requires { run < length self.old.ends }
+        ensures ended { slice_index self.old.ends run ≤ row → result ≡ number }
+        ensures past { row < slice_index self.old.ends run → result ≡ 0 }
+        ensures same { self.new.ends ≡ self.old.ends }
+        ensures counted { self.new.tests ≡ self.old.tests + 1 }
+    {
+        number & ended_mask(self.tested_end(run), row as u64) as usize
     }
 
     /// How many of `limit` rows, from `position` on, lie before the end of the run. That is what tests
@@ -82,6 +95,18 @@ impl<'a, E: UnsignedPType> CountedEnds<'a, E> {
         rows
     }
 
+    // The end of a run, which counts as one test.
+    #[inline(always)]
+    fn tested_end(&mut self, run: usize) -> u64
+        requires { run < length self.old.ends }
+        ensures end { result ≡ slice_index self.old.ends run }
+        ensures same { self.new.ends ≡ self.old.ends }
+        ensures counted { self.new.tests ≡ self.old.tests + 1 }
+    {
+        self.tests = self.tests.plus(1);
+        self.end(run)
+    }
+
     // The end of a run, for those alone that count it.
     #[inline]
     fn end(&self, run: usize) -> u64
@@ -91,4 +116,15 @@ impl<'a, E: UnsignedPType> CountedEnds<'a, E> {
         let ends = self.ends;
         ends[run].to_u64()
     }
+}
+
+// All ones where the end is at or below the row, and else 0. The upper half of a difference of 128 bits is what it
+// borrowed. A comparison would be made a branch again, which a search misses at every other test.
+#[inline(always)]
+fn ended_mask(end: u64, row: u64) -> u64
+    ensures ended { end ≤ row → result ≡ 2 ^ 64 - 1 }
+    ensures past { row < end → result ≡ 0 }
+{
+    let gap = u128::from(end).wrapping_sub(u128::from(row) + 1);
+    (gap >> 64) as u64
 }
