@@ -23,3 +23,4 @@ pub mod TypedRows
 pub mod VisibleRuns
 pub mod VisibleLaws
 pub mod ValidRuns
+pub mod Steps

@@ -1,5 +1,5 @@
 //! Which run a row is in. Ends and rows count rows, and runs are counted from 0.
-ghost use Rattle.std.specs.Prelude.{◌≡◌, ℕ, ◌+◌, ◌-◌, ◌^◌, ◌<◌, ◌≤◌, IsTrue, count_by, length, map, min, nat_le, nat_lt, unsigned_abs};
+ghost use Rattle.std.specs.Prelude.{◌≡◌, ℕ, ◌+◌, ◌-◌, ◌*◌, ◌^◌, ◌<◌, ◌≤◌, IsTrue, count_by, length, map, min, nat_le, nat_lt, unsigned_abs};
 ghost use Rattle.std.specs.List.Sorted.{IsStrictlyIncreasing};
 ghost use Rattle.column_base.specs.Numbers.{numbers, ptype_of};
 ghost use Rattle.column_base.specs.Types.{IsUnsigned};
@@ -34,27 +34,27 @@ pub fn first_past<E: UnsignedPType>(ends: &mut CountedEnds<'_, E>, row: usize) -
     if ends.len() > NEAR_RUNS {
         search_by_branch(ends, row)
     } else {
-        search_by_product(ends, row)
+        search_by_mask(ends, row)
     }
 }
 
-// The search by halves whose next test waits for this one.
-fn search_by_product<E: UnsignedPType>(ends: &mut CountedEnds<'_, E>, row: usize) -> usize
+// The search by halves whose next test waits for this one. What is left is halved whatever a test says, so that a step
+// waits for one end and one mask.
+fn search_by_mask<E: UnsignedPType>(ends: &mut CountedEnds<'_, E>, row: usize) -> usize
     requires { IsStrictlyIncreasing ends.old.ends }
     ensures place { result ≡ run_at ends.old.ends row }
     ensures same { ends.new.ends ≡ ends.old.ends }
     ensures cost { ends.new.tests ≤ ends.old.tests + digits (length ends.old.ends) }
 {
-    let mut low = 0;
+    let mut run = 0;
+    // The run of the row is at most so many runs behind `run`.
     let mut left = ends.len();
     while left != 0 {
-        let half = left / 2;
-        let ended = ends.test(low + half, row);
-        // Behind the middle of an even number of runs there is one fewer than before it.
-        low += number_if(ended, half + 1);
-        left = half - number_if(ended, 1 - left % 2);
+        let step = left - left / 2;
+        run += ends.number_if_ended(run + step - 1, row, step);
+        left -= step;
     }
-    low
+    run
 }
 
 // The same search whose next test is guessed. As a call of its own it stays a branch.
@@ -78,14 +78,35 @@ fn search_by_branch<E: UnsignedPType>(ends: &mut CountedEnds<'_, E>, row: usize)
     low
 }
 
-// The number where the flag is true, and else 0. A product is no branch, which a search would miss
-// at every other test.
-fn number_if(flag: bool, number: usize) -> usize
-    ensures taken { IsTrue flag → result ≡ number }
-    ensures none { ¬ IsTrue flag → result ≡ 0 }
-    ensures within { result ≤ number }
+/// The runs of four rows, searched side by side, so that their ends are waited for together. It tests
+/// no more ends for a row than a search for that row alone.
+pub fn first_past_four<E: UnsignedPType>(
+    ends: &mut CountedEnds<'_, E>,
+    rows: (usize, usize, usize, usize),
+) -> (usize, usize, usize, usize)
+    requires { IsStrictlyIncreasing ends.old.ends }
+    ensures first { result.0 ≡ run_at ends.old.ends rows.0 }
+    ensures second { result.1 ≡ run_at ends.old.ends rows.1 }
+    ensures third { result.2 ≡ run_at ends.old.ends rows.2 }
+    ensures fourth { result.3 ≡ run_at ends.old.ends rows.3 }
+    ensures same { ends.new.ends ≡ ends.old.ends }
+    ensures cost { ends.new.tests ≤ ends.old.tests + 4 * digits (length ends.old.ends) }
 {
-    usize::from(flag) * number
+    let (mut first, mut second, mut third, mut fourth) = (0, 0, 0, 0);
+    let mut left = ends.len();
+    while left != 0 {
+        let half = left - left / 2;
+        let first_step = ends.number_if_ended(first + half - 1, rows.0, half);
+        let second_step = ends.number_if_ended(second + half - 1, rows.1, half);
+        let third_step = ends.number_if_ended(third + half - 1, rows.2, half);
+        let fourth_step = ends.number_if_ended(fourth + half - 1, rows.3, half);
+        first += first_step;
+        second += second_step;
+        third += third_step;
+        fourth += fourth_step;
+        left -= half;
+    }
+    (first, second, third, fourth)
 }
 
 // The run of a row, over ends as they are stored.

@@ -10,7 +10,7 @@ pub returns-then-len-gt-NEAR_RUNS-clause-bound : goal.returns-then-len-gt-NEAR_R
 returns-then-len-gt-NEAR_RUNS-clause-bound g c = λ k h. omega (arith, digits-least (length c.args.ends.now.ends) k h, c.search_by_branch.ensures.cost)
 
 pub returns-else-len-gt-NEAR_RUNS-clause-count : goal.returns-else-len-gt-NEAR_RUNS-clause-count
-returns-else-len-gt-NEAR_RUNS-clause-count g c = c.search_by_product.ensures.place ∙ run_at-count_by c.args.ends.now.ends c.args.row c.requires
+returns-else-len-gt-NEAR_RUNS-clause-count g c = c.search_by_mask.ensures.place ∙ run_at-count_by c.args.ends.now.ends c.args.row c.requires
 
 pub returns-else-len-gt-NEAR_RUNS-clause-bound : goal.returns-else-len-gt-NEAR_RUNS-clause-bound
-returns-else-len-gt-NEAR_RUNS-clause-bound g c = λ k h. omega (arith, digits-least (length c.args.ends.now.ends) k h, c.search_by_product.ensures.cost)
+returns-else-len-gt-NEAR_RUNS-clause-bound g c = λ k h. omega (arith, digits-least (length c.args.ends.now.ends) k h, c.search_by_mask.ensures.cost)
