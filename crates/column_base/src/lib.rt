@@ -14,5 +14,6 @@ pub use dtype::{DType, DecimalDType, ElementDType, Nullability, PType};
 pub use error::{VortexError, VortexResult};
 pub use mask::Mask;
 pub use native::{NativePType, UnsignedPType};
+pub use shared_buffer::Buffer;
 pub use validity::Validity;
 pub use values::PrimitiveValues;

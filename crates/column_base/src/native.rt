@@ -10,6 +10,7 @@ mod unsigned;
 
 use crate::dtype::PType;
 use crate::values::PrimitiveValues;
+use shared_buffer::Buffer;
 use std::alloc::Allocator;
 
 /// A native type of whole numbers. Equality and order are those of the numbers, a number has at
@@ -36,17 +37,30 @@ pub trait NativePType: Copy + Default + Eq + Ord + Drop {
         ensures typed { ptype_of result ≡ PTYPE };
 
     /// Puts the items in the place of the numbers of a buffer of this type.
-    fn swap_in<A: Allocator>(items: &mut Vec<Self, A>, values: &mut PrimitiveValues<A>)
+    fn swap_in<A: Allocator>(items: &mut Buffer<Self, A>, values: &mut PrimitiveValues<A>)
         requires { ptype_of values.old ≡ PTYPE }
         ensures shows { numbers values.new ≡ map number items.old.items }
         ensures typed { ptype_of values.new ≡ PTYPE };
 
-    /// The buffer of these items. Nothing is copied, and no memory is asked for.
-    final fn wrap<A: Allocator + Copy>(mut items: Vec<Self, A>) -> PrimitiveValues<A>
+    /// The numbers of this vector, shared as `Buffer::shared` shares them. Nothing is copied, and want of memory refuses
+    /// nothing.
+    final fn wrap<A: Allocator + Copy>(items: Vec<Self, A>) -> PrimitiveValues<A>
         ensures shows { numbers result ≡ map number items.items }
         ensures typed { ptype_of result ≡ PTYPE }
     {
-        let mut values = Self::empty(*items.allocator());
+        let alloc = *items.allocator();
+        Self::from_buffer(alloc, Buffer::shared(items))
+    }
+
+    /// The numbers of this buffer. Nothing is copied, and no memory is asked for.
+    final fn from_buffer<A: Allocator + Copy>(
+        alloc: A,
+        mut items: Buffer<Self, A>,
+    ) -> PrimitiveValues<A>
+        ensures shows { numbers result ≡ map number items.items }
+        ensures typed { ptype_of result ≡ PTYPE }
+    {
+        let mut values = Self::empty(alloc);
         Self::swap_in(&mut items, &mut values);
         values
     }
@@ -57,7 +71,7 @@ pub trait NativePType: Copy + Default + Eq + Ord + Drop {
         ensures shows { IfSome result (λ items. map number items.now ≡ numbers values.now) };
 
     /// The items of a buffer by value, where it is of this type.
-    fn into_vec<A: Allocator>(values: PrimitiveValues<A>) -> Option<Vec<Self, A>>
+    fn into_buffer<A: Allocator>(values: PrimitiveValues<A>) -> Option<Buffer<Self, A>>
         ensures typed { IsSome result ↔ (ptype_of values ≡ PTYPE) }
         ensures shows { IfSome result (λ items. map number items.items ≡ numbers values) };
 

@@ -5,23 +5,24 @@ ghost use Rattle.column_base.specs.Numbers.{numbers, ptype_of};
 use crate::dtype::PType;
 use crate::error::{VortexError, VortexResult};
 use crate::native::NativePType;
+use shared_buffer::Buffer;
 use std::alloc::Allocator;
 use std::ops::Range;
 
-/// Numbers of one native type, in order.
+/// Numbers of one native type, in order, in a buffer that columns may share.
 #[derive(Drop)]
 pub enum PrimitiveValues<A: Allocator> {
-    U8(Vec<u8, A>),
-    U16(Vec<u16, A>),
-    U32(Vec<u32, A>),
-    U64(Vec<u64, A>),
-    I8(Vec<i8, A>),
-    I16(Vec<i16, A>),
-    I32(Vec<i32, A>),
-    I64(Vec<i64, A>),
+    U8(Buffer<u8, A>),
+    U16(Buffer<u16, A>),
+    U32(Buffer<u32, A>),
+    U64(Buffer<u64, A>),
+    I8(Buffer<i8, A>),
+    I16(Buffer<i16, A>),
+    I32(Buffer<i32, A>),
+    I64(Buffer<i64, A>),
 }
 
-/// The body at the `Vec` of a buffer, whatever its type.
+/// The body at the `Buffer` of the numbers, whatever their type.
 #[macro_export]
 macro_rules! match_each_native {
     ($values:expr, $items:ident => $body:expr) => {
@@ -38,7 +39,7 @@ macro_rules! match_each_native {
     };
 }
 
-/// The first body at the `Vec` of a buffer of an unsigned type, else the second.
+/// The first body at the `Buffer` of numbers of an unsigned type, else the second.
 #[macro_export]
 macro_rules! match_each_unsigned {
     ($values:expr, $items:ident => $body:expr, _ => $other:expr) => {
@@ -84,17 +85,27 @@ impl<A: Allocator> PrimitiveValues<A> {
 }
 
 impl<A: Allocator + Copy> PrimitiveValues<A> {
-    /// The same numbers of the same type, in memory of their own. Refused as `OutOfMemory` alone.
+    /// The numbers of the vector, shared as `Buffer::shared` shares them. Nothing is copied, and want of memory refuses
+    /// nothing.
+    pub fn from_vec<T: NativePType>(items: Vec<T, A>) -> PrimitiveValues<A>
+        ensures shows { numbers result ≡ map T.number items.items }
+        ensures typed { ptype_of result ≡ T.PTYPE }
+    {
+        T::wrap(items)
+    }
+
+    /// The same numbers of the same type: shared with these where these are shared, and else copied. Refused as
+    /// `OutOfMemory` alone.
     pub fn try_clone(&self, alloc: A) -> VortexResult<PrimitiveValues<A>>
         ensures only { IsOkUnless result VortexError.OutOfMemory }
         ensures shows { IfOk result (λ values. numbers values ≡ numbers self.now) }
         ensures typed { IfOk result (λ values. ptype_of values ≡ ptype_of self.now) }
     {
-        match_each_native!(self, items => copy_of(alloc, items.as_slice()))
+        match_each_native!(self, items => clone_of(alloc, items))
     }
 
-    /// The numbers from `range.start` to `range.end - 1`, of the same type, in memory of their own.
-    /// Refused as `OutOfMemory` alone.
+    /// The numbers from `range.start` to `range.end - 1`, of the same type: shared with these where these are shared,
+    /// and else copied. Refused as `OutOfMemory` alone.
     pub fn slice(&self, alloc: A, range: Range<usize>) -> VortexResult<PrimitiveValues<A>>
         requires ordered { range.start ≤ range.end }
         requires in_bounds { range.end ≤ length (numbers self.now) }
@@ -102,7 +113,17 @@ impl<A: Allocator + Copy> PrimitiveValues<A> {
         ensures shows { IfOk result (λ part. numbers part ≡ slice_range (numbers self.now) range.start range.end) }
         ensures typed { IfOk result (λ part. ptype_of part ≡ ptype_of self.now) }
     {
-        match_each_native!(self, items => part_of(alloc, items.as_slice(), range.start, range.end))
+        match_each_native!(self, items => part_of(alloc, items, range.start, range.end))
+    }
+
+    /// A copy of the numbers, of the same type, shared with none: what these are a part of may then be freed. Refused
+    /// as `OutOfMemory` alone.
+    pub fn compact(&self, alloc: A) -> VortexResult<PrimitiveValues<A>>
+        ensures only { IsOkUnless result VortexError.OutOfMemory }
+        ensures shows { IfOk result (λ values. numbers values ≡ numbers self.now) }
+        ensures typed { IfOk result (λ values. ptype_of values ≡ ptype_of self.now) }
+    {
+        match_each_native!(self, items => copy_of(alloc, items))
     }
 }
 
@@ -119,30 +140,41 @@ fn number_at<T: NativePType>(items: &[T], index: usize) -> i128
     items[index].widen()
 }
 
-fn copy_of<T: NativePType, A: Allocator + Copy>(
+fn clone_of<T: NativePType, A: Allocator + Copy>(
     alloc: A,
-    items: &[T],
+    items: &Buffer<T, A>,
 ) -> VortexResult<PrimitiveValues<A>>
     ensures only { IsOkUnless result VortexError.OutOfMemory }
-    ensures shows { IfOk result (λ values. numbers values ≡ map T.number items.now) }
+    ensures shows { IfOk result (λ values. numbers values ≡ map T.number items.now.items) }
     ensures typed { IfOk result (λ values. ptype_of values ≡ T.PTYPE) }
 {
-    Ok(T::wrap(Vec::from_slice(alloc, items)?))
+    Ok(T::from_buffer(alloc, items.try_clone(alloc)?))
+}
+
+fn copy_of<T: NativePType, A: Allocator + Copy>(
+    alloc: A,
+    items: &Buffer<T, A>,
+) -> VortexResult<PrimitiveValues<A>>
+    ensures only { IsOkUnless result VortexError.OutOfMemory }
+    ensures shows { IfOk result (λ values. numbers values ≡ map T.number items.now.items) }
+    ensures typed { IfOk result (λ values. ptype_of values ≡ T.PTYPE) }
+{
+    Ok(T::from_buffer(alloc, items.compact(alloc)?))
 }
 
 // The numbers from `start` to `stop - 1`.
 #[tactic(auto, using(crate::proofs::Ranges::slice_range_of_map))]
 fn part_of<T: NativePType, A: Allocator + Copy>(
     alloc: A,
-    items: &[T],
+    items: &Buffer<T, A>,
     start: usize,
     stop: usize,
 ) -> VortexResult<PrimitiveValues<A>>
     requires ordered { start ≤ stop }
-    requires in_bounds { stop ≤ length items.now }
+    requires in_bounds { stop ≤ length items.now.items }
     ensures only { IsOkUnless result VortexError.OutOfMemory }
-    ensures shows { IfOk result (λ part. numbers part ≡ slice_range (map T.number items.now) start stop) }
+    ensures shows { IfOk result (λ part. numbers part ≡ slice_range (map T.number items.now.items) start stop) }
     ensures typed { IfOk result (λ part. ptype_of part ≡ T.PTYPE) }
 {
-    copy_of(alloc, &items[start..stop])
+    Ok(T::from_buffer(alloc, items.slice(alloc, start..stop)?))
 }

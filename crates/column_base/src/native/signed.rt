@@ -6,6 +6,7 @@ use super::NativePType;
 use crate::dtype::PType;
 use crate::values::PrimitiveValues;
 use num_traits::cast;
+use shared_buffer::Buffer;
 use std::alloc::Allocator;
 use std::mem;
 
@@ -27,10 +28,10 @@ impl NativePType for i8 {
     }
 
     fn empty<A: Allocator>(alloc: A) -> PrimitiveValues<A> {
-        PrimitiveValues::I8(Vec::new(alloc))
+        PrimitiveValues::I8(Buffer::from_vec(Vec::new(alloc)))
     }
 
-    fn swap_in<A: Allocator>(items: &mut Vec<i8, A>, values: &mut PrimitiveValues<A>) {
+    fn swap_in<A: Allocator>(items: &mut Buffer<i8, A>, values: &mut PrimitiveValues<A>) {
         if let PrimitiveValues::I8(own) = values {
             mem::swap(own, items);
         }
@@ -43,7 +44,7 @@ impl NativePType for i8 {
         }
     }
 
-    fn into_vec<A: Allocator>(values: PrimitiveValues<A>) -> Option<Vec<i8, A>> {
+    fn into_buffer<A: Allocator>(values: PrimitiveValues<A>) -> Option<Buffer<i8, A>> {
         match values {
             PrimitiveValues::I8(items) => Some(items),
             _ => None,
@@ -69,10 +70,10 @@ impl NativePType for i16 {
     }
 
     fn empty<A: Allocator>(alloc: A) -> PrimitiveValues<A> {
-        PrimitiveValues::I16(Vec::new(alloc))
+        PrimitiveValues::I16(Buffer::from_vec(Vec::new(alloc)))
     }
 
-    fn swap_in<A: Allocator>(items: &mut Vec<i16, A>, values: &mut PrimitiveValues<A>) {
+    fn swap_in<A: Allocator>(items: &mut Buffer<i16, A>, values: &mut PrimitiveValues<A>) {
         if let PrimitiveValues::I16(own) = values {
             mem::swap(own, items);
         }
@@ -85,7 +86,7 @@ impl NativePType for i16 {
         }
     }
 
-    fn into_vec<A: Allocator>(values: PrimitiveValues<A>) -> Option<Vec<i16, A>> {
+    fn into_buffer<A: Allocator>(values: PrimitiveValues<A>) -> Option<Buffer<i16, A>> {
         match values {
             PrimitiveValues::I16(items) => Some(items),
             _ => None,
@@ -111,10 +112,10 @@ impl NativePType for i32 {
     }
 
     fn empty<A: Allocator>(alloc: A) -> PrimitiveValues<A> {
-        PrimitiveValues::I32(Vec::new(alloc))
+        PrimitiveValues::I32(Buffer::from_vec(Vec::new(alloc)))
     }
 
-    fn swap_in<A: Allocator>(items: &mut Vec<i32, A>, values: &mut PrimitiveValues<A>) {
+    fn swap_in<A: Allocator>(items: &mut Buffer<i32, A>, values: &mut PrimitiveValues<A>) {
         if let PrimitiveValues::I32(own) = values {
             mem::swap(own, items);
         }
@@ -127,7 +128,7 @@ impl NativePType for i32 {
         }
     }
 
-    fn into_vec<A: Allocator>(values: PrimitiveValues<A>) -> Option<Vec<i32, A>> {
+    fn into_buffer<A: Allocator>(values: PrimitiveValues<A>) -> Option<Buffer<i32, A>> {
         match values {
             PrimitiveValues::I32(items) => Some(items),
             _ => None,
@@ -153,10 +154,10 @@ impl NativePType for i64 {
     }
 
     fn empty<A: Allocator>(alloc: A) -> PrimitiveValues<A> {
-        PrimitiveValues::I64(Vec::new(alloc))
+        PrimitiveValues::I64(Buffer::from_vec(Vec::new(alloc)))
     }
 
-    fn swap_in<A: Allocator>(items: &mut Vec<i64, A>, values: &mut PrimitiveValues<A>) {
+    fn swap_in<A: Allocator>(items: &mut Buffer<i64, A>, values: &mut PrimitiveValues<A>) {
         if let PrimitiveValues::I64(own) = values {
             mem::swap(own, items);
         }
@@ -169,7 +170,7 @@ impl NativePType for i64 {
         }
     }
 
-    fn into_vec<A: Allocator>(values: PrimitiveValues<A>) -> Option<Vec<i64, A>> {
+    fn into_buffer<A: Allocator>(values: PrimitiveValues<A>) -> Option<Buffer<i64, A>> {
         match values {
             PrimitiveValues::I64(items) => Some(items),
             _ => None,

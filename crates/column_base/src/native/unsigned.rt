@@ -7,6 +7,7 @@ use super::{NativePType, UnsignedPType};
 use crate::dtype::PType;
 use crate::values::PrimitiveValues;
 use num_traits::cast;
+use shared_buffer::Buffer;
 use std::alloc::Allocator;
 use std::mem;
 
@@ -28,10 +29,10 @@ impl NativePType for u8 {
     }
 
     fn empty<A: Allocator>(alloc: A) -> PrimitiveValues<A> {
-        PrimitiveValues::U8(Vec::new(alloc))
+        PrimitiveValues::U8(Buffer::from_vec(Vec::new(alloc)))
     }
 
-    fn swap_in<A: Allocator>(items: &mut Vec<u8, A>, values: &mut PrimitiveValues<A>) {
+    fn swap_in<A: Allocator>(items: &mut Buffer<u8, A>, values: &mut PrimitiveValues<A>) {
         if let PrimitiveValues::U8(own) = values {
             mem::swap(own, items);
         }
@@ -44,7 +45,7 @@ impl NativePType for u8 {
         }
     }
 
-    fn into_vec<A: Allocator>(values: PrimitiveValues<A>) -> Option<Vec<u8, A>> {
+    fn into_buffer<A: Allocator>(values: PrimitiveValues<A>) -> Option<Buffer<u8, A>> {
         match values {
             PrimitiveValues::U8(items) => Some(items),
             _ => None,
@@ -70,10 +71,10 @@ impl NativePType for u16 {
     }
 
     fn empty<A: Allocator>(alloc: A) -> PrimitiveValues<A> {
-        PrimitiveValues::U16(Vec::new(alloc))
+        PrimitiveValues::U16(Buffer::from_vec(Vec::new(alloc)))
     }
 
-    fn swap_in<A: Allocator>(items: &mut Vec<u16, A>, values: &mut PrimitiveValues<A>) {
+    fn swap_in<A: Allocator>(items: &mut Buffer<u16, A>, values: &mut PrimitiveValues<A>) {
         if let PrimitiveValues::U16(own) = values {
             mem::swap(own, items);
         }
@@ -86,7 +87,7 @@ impl NativePType for u16 {
         }
     }
 
-    fn into_vec<A: Allocator>(values: PrimitiveValues<A>) -> Option<Vec<u16, A>> {
+    fn into_buffer<A: Allocator>(values: PrimitiveValues<A>) -> Option<Buffer<u16, A>> {
         match values {
             PrimitiveValues::U16(items) => Some(items),
             _ => None,
@@ -112,10 +113,10 @@ impl NativePType for u32 {
     }
 
     fn empty<A: Allocator>(alloc: A) -> PrimitiveValues<A> {
-        PrimitiveValues::U32(Vec::new(alloc))
+        PrimitiveValues::U32(Buffer::from_vec(Vec::new(alloc)))
     }
 
-    fn swap_in<A: Allocator>(items: &mut Vec<u32, A>, values: &mut PrimitiveValues<A>) {
+    fn swap_in<A: Allocator>(items: &mut Buffer<u32, A>, values: &mut PrimitiveValues<A>) {
         if let PrimitiveValues::U32(own) = values {
             mem::swap(own, items);
         }
@@ -128,7 +129,7 @@ impl NativePType for u32 {
         }
     }
 
-    fn into_vec<A: Allocator>(values: PrimitiveValues<A>) -> Option<Vec<u32, A>> {
+    fn into_buffer<A: Allocator>(values: PrimitiveValues<A>) -> Option<Buffer<u32, A>> {
         match values {
             PrimitiveValues::U32(items) => Some(items),
             _ => None,
@@ -154,10 +155,10 @@ impl NativePType for u64 {
     }
 
     fn empty<A: Allocator>(alloc: A) -> PrimitiveValues<A> {
-        PrimitiveValues::U64(Vec::new(alloc))
+        PrimitiveValues::U64(Buffer::from_vec(Vec::new(alloc)))
     }
 
-    fn swap_in<A: Allocator>(items: &mut Vec<u64, A>, values: &mut PrimitiveValues<A>) {
+    fn swap_in<A: Allocator>(items: &mut Buffer<u64, A>, values: &mut PrimitiveValues<A>) {
         if let PrimitiveValues::U64(own) = values {
             mem::swap(own, items);
         }
@@ -170,7 +171,7 @@ impl NativePType for u64 {
         }
     }
 
-    fn into_vec<A: Allocator>(values: PrimitiveValues<A>) -> Option<Vec<u64, A>> {
+    fn into_buffer<A: Allocator>(values: PrimitiveValues<A>) -> Option<Buffer<u64, A>> {
         match values {
             PrimitiveValues::U64(items) => Some(items),
             _ => None,

@@ -11,16 +11,16 @@ part_of-requires-clause-ordered g c = c.requires.ordered
 
 pub part_of-requires-clause-in_bounds : goal.part_of-requires-clause-in_bounds
 part_of-requires-clause-in_bounds g c =
-    let shown = ap (map pos) c.as_slice.ensures.value ∙ sym (ap numbers c.in-U8.is) in
-    upto-arm pos c.as_slice.result.now (numbers c.args.self.now) c.args.range.end shown c.requires.in_bounds
+    let shown = sym (ap numbers c.in-U8.is) in
+    upto-arm pos c.in-U8.items.items (numbers c.args.self.now) c.args.range.end shown c.requires.in_bounds
 
 pub returns-in-U8-clause-only : goal.returns-in-U8-clause-only
 returns-in-U8-clause-only g c = c.part_of.ensures.only
 
 pub returns-in-U8-clause-shows : goal.returns-in-U8-clause-shows
 returns-in-U8-clause-shows g c =
-    let shown = ap (map pos) c.as_slice.ensures.value ∙ sym (ap numbers c.in-U8.is) in
-    part-arm c.part_of.result (map pos c.as_slice.result.now) (numbers c.args.self.now) c.args.range.start c.args.range.end shown c.part_of.ensures.shows
+    let shown = sym (ap numbers c.in-U8.is) in
+    part-arm c.part_of.result (map pos c.in-U8.items.items) (numbers c.args.self.now) c.args.range.start c.args.range.end shown c.part_of.ensures.shows
 
 pub returns-in-U8-clause-typed : goal.returns-in-U8-clause-typed
 returns-in-U8-clause-typed g c = subst (λ (ptype : PType). IfOk c.part_of.result (λ part. ptype_of part ≡ ptype)) (sym (ap ptype_of c.in-U8.is)) c.part_of.ensures.typed
@@ -30,16 +30,16 @@ part_of-requires-in-U16-clause-ordered g c = c.requires.ordered
 
 pub part_of-requires-in-U16-clause-in_bounds : goal.part_of-requires-in-U16-clause-in_bounds
 part_of-requires-in-U16-clause-in_bounds g c =
-    let shown = ap (map pos) c.as_slice-in-U16.ensures.value ∙ sym (ap numbers c.in-U16.is) in
-    upto-arm pos c.as_slice-in-U16.result.now (numbers c.args.self.now) c.args.range.end shown c.requires.in_bounds
+    let shown = sym (ap numbers c.in-U16.is) in
+    upto-arm pos c.in-U16.items.items (numbers c.args.self.now) c.args.range.end shown c.requires.in_bounds
 
 pub returns-in-U16-clause-only : goal.returns-in-U16-clause-only
 returns-in-U16-clause-only g c = c.part_of-in-U16.ensures.only
 
 pub returns-in-U16-clause-shows : goal.returns-in-U16-clause-shows
 returns-in-U16-clause-shows g c =
-    let shown = ap (map pos) c.as_slice-in-U16.ensures.value ∙ sym (ap numbers c.in-U16.is) in
-    part-arm c.part_of-in-U16.result (map pos c.as_slice-in-U16.result.now) (numbers c.args.self.now) c.args.range.start c.args.range.end shown c.part_of-in-U16.ensures.shows
+    let shown = sym (ap numbers c.in-U16.is) in
+    part-arm c.part_of-in-U16.result (map pos c.in-U16.items.items) (numbers c.args.self.now) c.args.range.start c.args.range.end shown c.part_of-in-U16.ensures.shows
 
 pub returns-in-U16-clause-typed : goal.returns-in-U16-clause-typed
 returns-in-U16-clause-typed g c = subst (λ (ptype : PType). IfOk c.part_of-in-U16.result (λ part. ptype_of part ≡ ptype)) (sym (ap ptype_of c.in-U16.is)) c.part_of-in-U16.ensures.typed
@@ -49,16 +49,16 @@ part_of-requires-in-U32-clause-ordered g c = c.requires.ordered
 
 pub part_of-requires-in-U32-clause-in_bounds : goal.part_of-requires-in-U32-clause-in_bounds
 part_of-requires-in-U32-clause-in_bounds g c =
-    let shown = ap (map pos) c.as_slice-in-U32.ensures.value ∙ sym (ap numbers c.in-U32.is) in
-    upto-arm pos c.as_slice-in-U32.result.now (numbers c.args.self.now) c.args.range.end shown c.requires.in_bounds
+    let shown = sym (ap numbers c.in-U32.is) in
+    upto-arm pos c.in-U32.items.items (numbers c.args.self.now) c.args.range.end shown c.requires.in_bounds
 
 pub returns-in-U32-clause-only : goal.returns-in-U32-clause-only
 returns-in-U32-clause-only g c = c.part_of-in-U32.ensures.only
 
 pub returns-in-U32-clause-shows : goal.returns-in-U32-clause-shows
 returns-in-U32-clause-shows g c =
-    let shown = ap (map pos) c.as_slice-in-U32.ensures.value ∙ sym (ap numbers c.in-U32.is) in
-    part-arm c.part_of-in-U32.result (map pos c.as_slice-in-U32.result.now) (numbers c.args.self.now) c.args.range.start c.args.range.end shown c.part_of-in-U32.ensures.shows
+    let shown = sym (ap numbers c.in-U32.is) in
+    part-arm c.part_of-in-U32.result (map pos c.in-U32.items.items) (numbers c.args.self.now) c.args.range.start c.args.range.end shown c.part_of-in-U32.ensures.shows
 
 pub returns-in-U32-clause-typed : goal.returns-in-U32-clause-typed
 returns-in-U32-clause-typed g c = subst (λ (ptype : PType). IfOk c.part_of-in-U32.result (λ part. ptype_of part ≡ ptype)) (sym (ap ptype_of c.in-U32.is)) c.part_of-in-U32.ensures.typed
@@ -68,16 +68,16 @@ part_of-requires-in-U64-clause-ordered g c = c.requires.ordered
 
 pub part_of-requires-in-U64-clause-in_bounds : goal.part_of-requires-in-U64-clause-in_bounds
 part_of-requires-in-U64-clause-in_bounds g c =
-    let shown = ap (map pos) c.as_slice-in-U64.ensures.value ∙ sym (ap numbers c.in-U64.is) in
-    upto-arm pos c.as_slice-in-U64.result.now (numbers c.args.self.now) c.args.range.end shown c.requires.in_bounds
+    let shown = sym (ap numbers c.in-U64.is) in
+    upto-arm pos c.in-U64.items.items (numbers c.args.self.now) c.args.range.end shown c.requires.in_bounds
 
 pub returns-in-U64-clause-only : goal.returns-in-U64-clause-only
 returns-in-U64-clause-only g c = c.part_of-in-U64.ensures.only
 
 pub returns-in-U64-clause-shows : goal.returns-in-U64-clause-shows
 returns-in-U64-clause-shows g c =
-    let shown = ap (map pos) c.as_slice-in-U64.ensures.value ∙ sym (ap numbers c.in-U64.is) in
-    part-arm c.part_of-in-U64.result (map pos c.as_slice-in-U64.result.now) (numbers c.args.self.now) c.args.range.start c.args.range.end shown c.part_of-in-U64.ensures.shows
+    let shown = sym (ap numbers c.in-U64.is) in
+    part-arm c.part_of-in-U64.result (map pos c.in-U64.items.items) (numbers c.args.self.now) c.args.range.start c.args.range.end shown c.part_of-in-U64.ensures.shows
 
 pub returns-in-U64-clause-typed : goal.returns-in-U64-clause-typed
 returns-in-U64-clause-typed g c = subst (λ (ptype : PType). IfOk c.part_of-in-U64.result (λ part. ptype_of part ≡ ptype)) (sym (ap ptype_of c.in-U64.is)) c.part_of-in-U64.ensures.typed
@@ -87,16 +87,16 @@ part_of-requires-in-I8-clause-ordered g c = c.requires.ordered
 
 pub part_of-requires-in-I8-clause-in_bounds : goal.part_of-requires-in-I8-clause-in_bounds
 part_of-requires-in-I8-clause-in_bounds g c =
-    let shown = map-id c.as_slice-in-I8.result.now ∙ c.as_slice-in-I8.ensures.value ∙ sym (ap numbers c.in-I8.is) in
-    upto-arm (λ (n : ℤ). n) c.as_slice-in-I8.result.now (numbers c.args.self.now) c.args.range.end shown c.requires.in_bounds
+    let shown = map-id c.in-I8.items.items ∙ sym (ap numbers c.in-I8.is) in
+    upto-arm (λ (n : ℤ). n) c.in-I8.items.items (numbers c.args.self.now) c.args.range.end shown c.requires.in_bounds
 
 pub returns-in-I8-clause-only : goal.returns-in-I8-clause-only
 returns-in-I8-clause-only g c = c.part_of-in-I8.ensures.only
 
 pub returns-in-I8-clause-shows : goal.returns-in-I8-clause-shows
 returns-in-I8-clause-shows g c =
-    let shown = map-id c.as_slice-in-I8.result.now ∙ c.as_slice-in-I8.ensures.value ∙ sym (ap numbers c.in-I8.is) in
-    part-arm c.part_of-in-I8.result (map (λ (n : ℤ). n) c.as_slice-in-I8.result.now) (numbers c.args.self.now) c.args.range.start c.args.range.end shown c.part_of-in-I8.ensures.shows
+    let shown = map-id c.in-I8.items.items ∙ sym (ap numbers c.in-I8.is) in
+    part-arm c.part_of-in-I8.result (map (λ (n : ℤ). n) c.in-I8.items.items) (numbers c.args.self.now) c.args.range.start c.args.range.end shown c.part_of-in-I8.ensures.shows
 
 pub returns-in-I8-clause-typed : goal.returns-in-I8-clause-typed
 returns-in-I8-clause-typed g c = subst (λ (ptype : PType). IfOk c.part_of-in-I8.result (λ part. ptype_of part ≡ ptype)) (sym (ap ptype_of c.in-I8.is)) c.part_of-in-I8.ensures.typed
@@ -106,16 +106,16 @@ part_of-requires-in-I16-clause-ordered g c = c.requires.ordered
 
 pub part_of-requires-in-I16-clause-in_bounds : goal.part_of-requires-in-I16-clause-in_bounds
 part_of-requires-in-I16-clause-in_bounds g c =
-    let shown = map-id c.as_slice-in-I16.result.now ∙ c.as_slice-in-I16.ensures.value ∙ sym (ap numbers c.in-I16.is) in
-    upto-arm (λ (n : ℤ). n) c.as_slice-in-I16.result.now (numbers c.args.self.now) c.args.range.end shown c.requires.in_bounds
+    let shown = map-id c.in-I16.items.items ∙ sym (ap numbers c.in-I16.is) in
+    upto-arm (λ (n : ℤ). n) c.in-I16.items.items (numbers c.args.self.now) c.args.range.end shown c.requires.in_bounds
 
 pub returns-in-I16-clause-only : goal.returns-in-I16-clause-only
 returns-in-I16-clause-only g c = c.part_of-in-I16.ensures.only
 
 pub returns-in-I16-clause-shows : goal.returns-in-I16-clause-shows
 returns-in-I16-clause-shows g c =
-    let shown = map-id c.as_slice-in-I16.result.now ∙ c.as_slice-in-I16.ensures.value ∙ sym (ap numbers c.in-I16.is) in
-    part-arm c.part_of-in-I16.result (map (λ (n : ℤ). n) c.as_slice-in-I16.result.now) (numbers c.args.self.now) c.args.range.start c.args.range.end shown c.part_of-in-I16.ensures.shows
+    let shown = map-id c.in-I16.items.items ∙ sym (ap numbers c.in-I16.is) in
+    part-arm c.part_of-in-I16.result (map (λ (n : ℤ). n) c.in-I16.items.items) (numbers c.args.self.now) c.args.range.start c.args.range.end shown c.part_of-in-I16.ensures.shows
 
 pub returns-in-I16-clause-typed : goal.returns-in-I16-clause-typed
 returns-in-I16-clause-typed g c = subst (λ (ptype : PType). IfOk c.part_of-in-I16.result (λ part. ptype_of part ≡ ptype)) (sym (ap ptype_of c.in-I16.is)) c.part_of-in-I16.ensures.typed
@@ -125,16 +125,16 @@ part_of-requires-in-I32-clause-ordered g c = c.requires.ordered
 
 pub part_of-requires-in-I32-clause-in_bounds : goal.part_of-requires-in-I32-clause-in_bounds
 part_of-requires-in-I32-clause-in_bounds g c =
-    let shown = map-id c.as_slice-in-I32.result.now ∙ c.as_slice-in-I32.ensures.value ∙ sym (ap numbers c.in-I32.is) in
-    upto-arm (λ (n : ℤ). n) c.as_slice-in-I32.result.now (numbers c.args.self.now) c.args.range.end shown c.requires.in_bounds
+    let shown = map-id c.in-I32.items.items ∙ sym (ap numbers c.in-I32.is) in
+    upto-arm (λ (n : ℤ). n) c.in-I32.items.items (numbers c.args.self.now) c.args.range.end shown c.requires.in_bounds
 
 pub returns-in-I32-clause-only : goal.returns-in-I32-clause-only
 returns-in-I32-clause-only g c = c.part_of-in-I32.ensures.only
 
 pub returns-in-I32-clause-shows : goal.returns-in-I32-clause-shows
 returns-in-I32-clause-shows g c =
-    let shown = map-id c.as_slice-in-I32.result.now ∙ c.as_slice-in-I32.ensures.value ∙ sym (ap numbers c.in-I32.is) in
-    part-arm c.part_of-in-I32.result (map (λ (n : ℤ). n) c.as_slice-in-I32.result.now) (numbers c.args.self.now) c.args.range.start c.args.range.end shown c.part_of-in-I32.ensures.shows
+    let shown = map-id c.in-I32.items.items ∙ sym (ap numbers c.in-I32.is) in
+    part-arm c.part_of-in-I32.result (map (λ (n : ℤ). n) c.in-I32.items.items) (numbers c.args.self.now) c.args.range.start c.args.range.end shown c.part_of-in-I32.ensures.shows
 
 pub returns-in-I32-clause-typed : goal.returns-in-I32-clause-typed
 returns-in-I32-clause-typed g c = subst (λ (ptype : PType). IfOk c.part_of-in-I32.result (λ part. ptype_of part ≡ ptype)) (sym (ap ptype_of c.in-I32.is)) c.part_of-in-I32.ensures.typed
@@ -144,16 +144,16 @@ part_of-requires-in-I64-clause-ordered g c = c.requires.ordered
 
 pub part_of-requires-in-I64-clause-in_bounds : goal.part_of-requires-in-I64-clause-in_bounds
 part_of-requires-in-I64-clause-in_bounds g c =
-    let shown = map-id c.as_slice-in-I64.result.now ∙ c.as_slice-in-I64.ensures.value ∙ sym (ap numbers c.in-I64.is) in
-    upto-arm (λ (n : ℤ). n) c.as_slice-in-I64.result.now (numbers c.args.self.now) c.args.range.end shown c.requires.in_bounds
+    let shown = map-id c.in-I64.items.items ∙ sym (ap numbers c.in-I64.is) in
+    upto-arm (λ (n : ℤ). n) c.in-I64.items.items (numbers c.args.self.now) c.args.range.end shown c.requires.in_bounds
 
 pub returns-in-I64-clause-only : goal.returns-in-I64-clause-only
 returns-in-I64-clause-only g c = c.part_of-in-I64.ensures.only
 
 pub returns-in-I64-clause-shows : goal.returns-in-I64-clause-shows
 returns-in-I64-clause-shows g c =
-    let shown = map-id c.as_slice-in-I64.result.now ∙ c.as_slice-in-I64.ensures.value ∙ sym (ap numbers c.in-I64.is) in
-    part-arm c.part_of-in-I64.result (map (λ (n : ℤ). n) c.as_slice-in-I64.result.now) (numbers c.args.self.now) c.args.range.start c.args.range.end shown c.part_of-in-I64.ensures.shows
+    let shown = map-id c.in-I64.items.items ∙ sym (ap numbers c.in-I64.is) in
+    part-arm c.part_of-in-I64.result (map (λ (n : ℤ). n) c.in-I64.items.items) (numbers c.args.self.now) c.args.range.start c.args.range.end shown c.part_of-in-I64.ensures.shows
 
 pub returns-in-I64-clause-typed : goal.returns-in-I64-clause-typed
 returns-in-I64-clause-typed g c = subst (λ (ptype : PType). IfOk c.part_of-in-I64.result (λ part. ptype_of part ≡ ptype)) (sym (ap ptype_of c.in-I64.is)) c.part_of-in-I64.ensures.typed
