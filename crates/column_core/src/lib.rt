@@ -14,8 +14,9 @@ mod view;
 
 pub use boolean::BoolArray;
 pub use column_base::{
-    BitBuffer, BitBufferMut, DType, DecimalDType, ElementDType, Mask, NativePType, Nullability,
-    PType, PrimitiveValues, SetIndices, UnsignedPType, Validity, VortexError, VortexResult,
+    BitBuffer, BitBufferMut, Buffer, DType, DecimalDType, ElementDType, Mask, NativePType,
+    Nullability, PType, PrimitiveValues, SetIndices, UnsignedPType, Validity, VortexError,
+    VortexResult,
 };
 pub use counted::CountedEnds;
 pub use decimal::DecimalArray;

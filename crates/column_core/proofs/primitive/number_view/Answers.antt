@@ -1,4 +1,4 @@
-use Rattle.std.proofs.Common.{◌<◌, ◌^◌, ℤ, FitsSigned, pos, refl, sym, ap, ◌∙◌, rules}
+use Rattle.std.proofs.Common.{◌<◌, ◌^◌, ℤ, FitsSigned, length, pos, refl, sym, ap, ◌∙◌, rules}
 use Rattle.std.specs.Int.{w8, w16, w32, w64}
 use Rattle.std.proofs.lemmas.List.{map-id}
 use Rattle.std.proofs.lemmas.Int.{to_z-of_z}
@@ -9,7 +9,7 @@ use Rattle.column_core.proofs.primitive.number_view.Goals as goal
 
 pub index-requires : goal.index-requires
 index-requires g c =
-    below-items pos c.in-U8.items.items (numbers c.args.values.now) c.args.index c.in-U8.items.len (sym (ap numbers c.in-U8.is)) c.in-U8.items.ok.0 c.requires
+    below-items pos c.in-U8.items.items (numbers c.args.values.now) c.args.index (length c.in-U8.items.items) (sym (ap numbers c.in-U8.is)) refl c.requires
 
 pub returns-in-U8-clause-row : goal.returns-in-U8-clause-row
 returns-in-U8-clause-row g c =
@@ -22,7 +22,7 @@ returns-in-U8-clause-of_type g c =
 
 pub index-requires-in-U16 : goal.index-requires-in-U16
 index-requires-in-U16 g c =
-    below-items pos c.in-U16.items.items (numbers c.args.values.now) c.args.index c.in-U16.items.len (sym (ap numbers c.in-U16.is)) c.in-U16.items.ok.0 c.requires
+    below-items pos c.in-U16.items.items (numbers c.args.values.now) c.args.index (length c.in-U16.items.items) (sym (ap numbers c.in-U16.is)) refl c.requires
 
 pub returns-in-U16-clause-row : goal.returns-in-U16-clause-row
 returns-in-U16-clause-row g c =
@@ -35,7 +35,7 @@ returns-in-U16-clause-of_type g c =
 
 pub index-requires-in-U32 : goal.index-requires-in-U32
 index-requires-in-U32 g c =
-    below-items pos c.in-U32.items.items (numbers c.args.values.now) c.args.index c.in-U32.items.len (sym (ap numbers c.in-U32.is)) c.in-U32.items.ok.0 c.requires
+    below-items pos c.in-U32.items.items (numbers c.args.values.now) c.args.index (length c.in-U32.items.items) (sym (ap numbers c.in-U32.is)) refl c.requires
 
 pub returns-in-U32-clause-row : goal.returns-in-U32-clause-row
 returns-in-U32-clause-row g c =
@@ -48,7 +48,7 @@ returns-in-U32-clause-of_type g c =
 
 pub index-requires-in-U64 : goal.index-requires-in-U64
 index-requires-in-U64 g c =
-    below-items pos c.in-U64.items.items (numbers c.args.values.now) c.args.index c.in-U64.items.len (sym (ap numbers c.in-U64.is)) c.in-U64.items.ok.0 c.requires
+    below-items pos c.in-U64.items.items (numbers c.args.values.now) c.args.index (length c.in-U64.items.items) (sym (ap numbers c.in-U64.is)) refl c.requires
 
 pub returns-in-U64-clause-row : goal.returns-in-U64-clause-row
 returns-in-U64-clause-row g c =
@@ -61,7 +61,7 @@ returns-in-U64-clause-of_type g c =
 
 pub index-requires-in-I8 : goal.index-requires-in-I8
 index-requires-in-I8 g c =
-    below-items (λ (n : ℤ). n) c.in-I8.items.items (numbers c.args.values.now) c.args.index c.in-I8.items.len (map-id c.in-I8.items.items ∙ sym (ap numbers c.in-I8.is)) c.in-I8.items.ok.0 c.requires
+    below-items (λ (n : ℤ). n) c.in-I8.items.items (numbers c.args.values.now) c.args.index (length c.in-I8.items.items) (map-id c.in-I8.items.items ∙ sym (ap numbers c.in-I8.is)) refl c.requires
 
 pub returns-in-I8-clause-row : goal.returns-in-I8-clause-row
 returns-in-I8-clause-row g c =
@@ -77,7 +77,7 @@ returns-in-I8-clause-of_type g c =
 
 pub index-requires-in-I16 : goal.index-requires-in-I16
 index-requires-in-I16 g c =
-    below-items (λ (n : ℤ). n) c.in-I16.items.items (numbers c.args.values.now) c.args.index c.in-I16.items.len (map-id c.in-I16.items.items ∙ sym (ap numbers c.in-I16.is)) c.in-I16.items.ok.0 c.requires
+    below-items (λ (n : ℤ). n) c.in-I16.items.items (numbers c.args.values.now) c.args.index (length c.in-I16.items.items) (map-id c.in-I16.items.items ∙ sym (ap numbers c.in-I16.is)) refl c.requires
 
 pub returns-in-I16-clause-row : goal.returns-in-I16-clause-row
 returns-in-I16-clause-row g c =
@@ -93,7 +93,7 @@ returns-in-I16-clause-of_type g c =
 
 pub index-requires-in-I32 : goal.index-requires-in-I32
 index-requires-in-I32 g c =
-    below-items (λ (n : ℤ). n) c.in-I32.items.items (numbers c.args.values.now) c.args.index c.in-I32.items.len (map-id c.in-I32.items.items ∙ sym (ap numbers c.in-I32.is)) c.in-I32.items.ok.0 c.requires
+    below-items (λ (n : ℤ). n) c.in-I32.items.items (numbers c.args.values.now) c.args.index (length c.in-I32.items.items) (map-id c.in-I32.items.items ∙ sym (ap numbers c.in-I32.is)) refl c.requires
 
 pub returns-in-I32-clause-row : goal.returns-in-I32-clause-row
 returns-in-I32-clause-row g c =
@@ -109,7 +109,7 @@ returns-in-I32-clause-of_type g c =
 
 pub index-requires-in-I64 : goal.index-requires-in-I64
 index-requires-in-I64 g c =
-    below-items (λ (n : ℤ). n) c.in-I64.items.items (numbers c.args.values.now) c.args.index c.in-I64.items.len (map-id c.in-I64.items.items ∙ sym (ap numbers c.in-I64.is)) c.in-I64.items.ok.0 c.requires
+    below-items (λ (n : ℤ). n) c.in-I64.items.items (numbers c.args.values.now) c.args.index (length c.in-I64.items.items) (map-id c.in-I64.items.items ∙ sym (ap numbers c.in-I64.is)) refl c.requires
 
 pub returns-in-I64-clause-row : goal.returns-in-I64-clause-row
 returns-in-I64-clause-row g c =
