@@ -95,6 +95,19 @@ impl<A: Allocator + Copy> Validity<A> {
         }
     }
 
+    /// The same validity in the same form, with bits that are shared with none. Refused for want of memory alone.
+    pub fn compact(&self, alloc: A) -> VortexResult<Validity<A>>
+        ensures same { IfOk result (λ copy. form_of copy ≡ form_of self.now) }
+        ensures only { IsOkUnless result VortexError.OutOfMemory }
+    {
+        match self {
+            Validity::NonNullable => Ok(Validity::NonNullable),
+            Validity::AllValid => Ok(Validity::AllValid),
+            Validity::AllInvalid => Ok(Validity::AllInvalid),
+            Validity::Bits(bits) => Ok(Validity::Bits(bits.compact(alloc)?)),
+        }
+    }
+
     /// The validity of the rows from `range.start` to `range.end - 1`, with bits only where it says of
     /// both kinds of rows that they are there. Where the type has null, no rows are `AllValid`.
     /// Refused for want of memory alone.

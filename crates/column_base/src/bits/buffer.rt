@@ -1,5 +1,5 @@
 //! A list of bits to read, 64 to a word.
-ghost use Rattle.std.specs.Prelude.{◌≡◌, ◌<◌, ◌≤◌, ◌↔◌, IsTrue, Some, [], length, slice_get, slice_range, count_by, IfOk, IsOkUnless};
+ghost use Rattle.std.specs.Prelude.{◌≡◌, ◌<◌, ◌≤◌, ◌%◌, ◌⊎◌, ◌↔◌, IsTrue, Some, [], length, slice_get, slice_range, count_by, IfOk, IsOkUnless};
 ghost use Rattle.column_base.specs.Bits.{set_indices_of};
 ghost use Rattle.column_base.specs.Words.{Packs, first_bits};
 
@@ -9,14 +9,15 @@ use crate::bits::fills::clear_from;
 use crate::bits::masks::words_for;
 use crate::bits::set_indices::SetIndices;
 use crate::error::{VortexError, VortexResult};
+use shared_buffer::Buffer;
 use std::alloc::Allocator;
 use std::marker::Model;
 use std::ops::Range;
 
-/// Bits, which do not change.
+/// Bits, which do not change, in words that columns may share.
 #[derive(Drop)]
 pub struct BitBuffer<A: Allocator> {
-    words: Vec<u64, A>,
+    words: Buffer<u64, A>,
     count: usize,
 }
 
@@ -32,14 +33,6 @@ impl<A: Allocator> Model for BitBuffer<A> {
 }
 
 impl<A: Allocator> BitBuffer<A> {
-    // The first `count` bits of the words, which have no word more and no 1 behind them.
-    pub(crate) fn of_words(words: Vec<u64, A>, count: usize) -> BitBuffer<A>
-        requires { Packs words.items (first_bits count words.items) }
-        ensures { result ≡ first_bits count words.items }
-    {
-        BitBuffer { words, count }
-    }
-
     /// How many bits there are.
     pub fn len(&self) -> usize
         ensures { result ≡ length self.now }
@@ -67,7 +60,7 @@ impl<A: Allocator> BitBuffer<A> {
     pub fn words(&self) -> &[u64]
         ensures { Packs result.now self.now }
     {
-        &self.words
+        self.words.as_slice()
     }
 
     /// How many bits are true.
@@ -116,28 +109,81 @@ impl<A: Allocator> BitBuffer<A> {
 }
 
 impl<A: Allocator + Copy> BitBuffer<A> {
-    /// The bits from `range.start` to `range.end - 1`. Refused for want of memory alone.
+    // The first `count` bits of the words, which have no word more and no 1 behind them.
+    pub(crate) fn of_words(words: Vec<u64, A>, count: usize) -> BitBuffer<A>
+        requires { Packs words.items (first_bits count words.items) }
+        ensures { result ≡ first_bits count words.items }
+    {
+        BitBuffer {
+            words: Buffer::shared(words),
+            count,
+        }
+    }
+
+    /// The bits from `range.start` to `range.end - 1`. They are shared with these where these are shared and the range
+    /// begins with a word and ends with a word or the last bit, and else copied. Refused for want of memory alone.
     pub fn slice(&self, alloc: A, range: Range<usize>) -> VortexResult<BitBuffer<A>>
         requires ordered { range.start ≤ range.end }
         requires in_bounds { range.end ≤ length self.now }
         ensures bits { IfOk result (λ part. part ≡ slice_range self.now range.start range.end) }
         ensures only { IsOkUnless result VortexError.OutOfMemory }
     {
-        let count = range.end - range.start;
-        let mut part = vec![in alloc; 0; words_for(count)]?;
-        let words = part.as_mut_slice();
-        copy_bits(words, &self.words, range.start);
-        clear_from(words, count);
-        Ok(BitBuffer { words: part, count })
+        let ends_whole = range.end % 64 == 0 || range.end == self.count;
+        if range.start % 64 == 0 && ends_whole {
+            return self.whole_words(alloc, range.start, range.end);
+        }
+        self.copied_bits(alloc, range.start, range.end)
     }
 
-    /// The same bits in memory of their own. Refused for want of memory alone.
+    // The bits from `start` to `stop - 1`, in words that have no other bit.
+    fn whole_words(&self, alloc: A, start: usize, stop: usize) -> VortexResult<BitBuffer<A>>
+        requires ordered { start ≤ stop }
+        requires in_bounds { stop ≤ length self.now }
+        requires first_of_word { start % 64 ≡ 0 }
+        requires last_of_word { (stop % 64 ≡ 0) ⊎ (stop ≡ length self.now) }
+        ensures bits { IfOk result (λ part. part ≡ slice_range self.now start stop) }
+        ensures only { IsOkUnless result VortexError.OutOfMemory }
+    {
+        let words = self.words.slice(alloc, start / 64..words_for(stop))?;
+        Ok(BitBuffer {
+            words,
+            count: stop - start,
+        })
+    }
+
+    // The bits from `start` to `stop - 1`, in words of their own.
+    fn copied_bits(&self, alloc: A, start: usize, stop: usize) -> VortexResult<BitBuffer<A>>
+        requires ordered { start ≤ stop }
+        requires in_bounds { stop ≤ length self.now }
+        ensures bits { IfOk result (λ part. part ≡ slice_range self.now start stop) }
+        ensures only { IsOkUnless result VortexError.OutOfMemory }
+    {
+        let count = stop - start;
+        let mut part = vec![in alloc; 0; words_for(count)]?;
+        let words = part.as_mut_slice();
+        copy_bits(words, self.words.as_slice(), start);
+        clear_from(words, count);
+        Ok(BitBuffer::of_words(part, count))
+    }
+
+    /// The same bits: shared with these where these are shared, and else copied. Refused for want of memory alone.
     pub fn try_clone(&self, alloc: A) -> VortexResult<BitBuffer<A>>
         ensures bits { IfOk result (λ copy. copy ≡ self.now) }
         ensures only { IsOkUnless result VortexError.OutOfMemory }
     {
         Ok(BitBuffer {
-            words: Vec::from_slice(alloc, &self.words)?,
+            words: self.words.try_clone(alloc)?,
+            count: self.count,
+        })
+    }
+    /// A copy of the bits, shared with none: what these are a part of may then be freed. Refused for want of memory
+    /// alone.
+    pub fn compact(&self, alloc: A) -> VortexResult<BitBuffer<A>>
+        ensures bits { IfOk result (λ copy. copy ≡ self.now) }
+        ensures only { IsOkUnless result VortexError.OutOfMemory }
+    {
+        Ok(BitBuffer {
+            words: self.words.compact(alloc)?,
             count: self.count,
         })
     }

@@ -1,20 +1,13 @@
-use Rattle.std.proofs.Common.{◌∙◌, ◌-◌, refl, ap, length}
-use Rattle.column_base.proofs.WordDigits.{opened, view_of, invariant_of, lent}
-use Rattle.column_base.proofs.WordCopies.{part_of}
+use Rattle.std.proofs.Common.{◌∙◌, sym, inl, inr}
+use Rattle.std.proofs.lemmas.Bool.{eqb-true}
+use Rattle.column_base.proofs.WordDigits.{opened}
 use Rattle.column_base.proofs.bits.buffer.BitBuffer.slice.Goals as goal
+use Rattle.column_base.proofs.bits.buffer.BitBuffer.slice.Goals.{then-range-eq0, else-range-eq0}
 
-pub invariant_of-result : goal.invariant_of-result
-invariant_of-result g c =
-    let old = opened c.self.view_is c.self.invariant in
-    let least = c.as_mut_slice-words.ensures.len ∙ c.in_ok-part.ensures.len ∙ c.words_for.ensures in
-    let part = part_of c.args.range.start c.args.range.end (c.args.range.end - c.args.range.start) (length c.as_mut_slice-words.result.now) old c.deref.ensures.value c.requires.ordered c.requires.in_bounds refl c.copy_bits.ensures.len least c.copy_bits.ensures.bits c.clear_from.ensures in
-    let size = c.clear_from.ensures.len ∙ c.copy_bits.ensures.len ∙ ap length c.as_mut_slice-words.ensures.value in
-    invariant_of (lent c.in_ok-part.part part size)
-
-pub returns-clause-bits : goal.returns-clause-bits
-returns-clause-bits g c =
-    let old = opened c.self.view_is c.self.invariant in
-    let least = c.as_mut_slice-words.ensures.len ∙ c.in_ok-part.ensures.len ∙ c.words_for.ensures in
-    let part = part_of c.args.range.start c.args.range.end (c.args.range.end - c.args.range.start) (length c.as_mut_slice-words.result.now) old c.deref.ensures.value c.requires.ordered c.requires.in_bounds refl c.copy_bits.ensures.len least c.copy_bits.ensures.bits c.clear_from.ensures in
-    let size = c.clear_from.ensures.len ∙ c.copy_bits.ensures.len ∙ ap length c.as_mut_slice-words.ensures.value in
-    view_of (lent c.in_ok-part.part part size)
+pub whole_words-requires-clause-last_of_word : goal.whole_words-requires-clause-last_of_word
+whole_words-requires-clause-last_of_word g c =
+    let len = (opened c.self.view_is c.self.invariant).len in
+    elim c.if-range-eq0.branch [
+      | then-range-eq0 w ↦ inl w.if-range-eq0.true
+      | else-range-eq0 w ↦ inr (eqb-true c.args.range.end c.self.inside.count (sym w.ends_whole-is ∙ c.if-ends_whole.true) ∙ sym len)
+    ]
