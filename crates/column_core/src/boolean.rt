@@ -128,7 +128,8 @@ impl<A: Allocator> BoolArray<A> {
 }
 
 impl<A: Allocator + Copy> BoolArray<A> {
-    /// The same column in the same form, in memory of its own. Refused as `OutOfMemory` alone.
+    /// The same column in the same form. Its buffers are shared with these where these are shared, and else copied.
+    /// Refused as `OutOfMemory` alone.
     pub fn try_clone(&self, alloc: A) -> VortexResult<BoolArray<A>>
         ensures only { IsOkUnless result VortexError.OutOfMemory }
         ensures form { IfOk result (λ array. array ≡ self.now) }
@@ -138,8 +139,19 @@ impl<A: Allocator + Copy> BoolArray<A> {
         Ok(BoolArray { bits, validity })
     }
 
-    /// The rows from `range.start` to `range.end - 1`, with the bits as they are stored, in memory of
-    /// their own. Refused as `BadRange`, with both bounds and the number of rows, exactly where the
+    /// A copy of the column in the same form, with buffers that are shared with none: what these are a
+    /// part of may then be freed. Refused as `OutOfMemory` alone.
+    pub fn compact(&self, alloc: A) -> VortexResult<BoolArray<A>>
+        ensures only { IsOkUnless result VortexError.OutOfMemory }
+        ensures form { IfOk result (λ array. array ≡ self.now) }
+    {
+        let bits = self.bits.compact(alloc)?;
+        let validity = self.validity.compact(alloc)?;
+        Ok(BoolArray { bits, validity })
+    }
+
+    /// The rows from `range.start` to `range.end - 1`, with the bits as they are stored, shared with
+    /// these as `BitBuffer::slice` shares them, and else copied. Refused as `BadRange`, with both bounds and the number of rows, exactly where the
     /// range begins after its end or ends after the last row, and that before any memory is taken;
     /// else as `OutOfMemory` alone.
     pub fn slice(&self, alloc: A, range: Range<usize>) -> VortexResult<BoolArray<A>>

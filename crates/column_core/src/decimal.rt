@@ -12,7 +12,7 @@ ghost use Rattle.column_core.specs.Refusal.{range_fault, IsRefusedBy};
 ghost use Rattle.column_core.specs.ScalarView.{sees, IsViewOf};
 
 use crate::view::ScalarView;
-use column_base::{DType, DecimalDType, Validity, VortexError, VortexResult};
+use column_base::{Buffer, DType, DecimalDType, Validity, VortexError, VortexResult};
 use std::alloc::Allocator;
 use std::marker::Model;
 use std::ops::Range;
@@ -22,7 +22,7 @@ use std::ops::Range;
 /// precision. Under null a number is stored that no row shows.
 #[derive(Drop)]
 pub struct DecimalArray<A: Allocator> {
-    values: Vec<i128, A>,
+    values: Buffer<i128, A>,
     decimal: DecimalDType,
     validity: Validity<A>,
 }
@@ -40,9 +40,9 @@ impl<A: Allocator> Model for DecimalArray<A> {
     ghost invariant = { λ a. HasLength (form_of a.validity) (length a.values.items) };
 }
 
-impl<A: Allocator> DecimalArray<A> {
+impl<A: Allocator + Copy> DecimalArray<A> {
     /// The column of these whole numbers of decimals, null where the validity says so. Refused as
-    /// `ColumnLength`, with both lengths, where the validity is of another number of rows.
+    /// `ColumnLength`, with both lengths, where the validity is of another number of rows. Want of memory refuses nothing.
     pub fn try_new(
         values: Vec<i128, A>,
         decimal_dtype: DecimalDType,
@@ -62,7 +62,7 @@ impl<A: Allocator> DecimalArray<A> {
             }
         }
         Ok(DecimalArray {
-            values,
+            values: Buffer::shared(values),
             decimal: decimal_dtype,
             validity,
         })
@@ -78,12 +78,14 @@ impl<A: Allocator> DecimalArray<A> {
         ensures { result ≡ decimal_with decimal_dtype values.items (form_of validity) }
     {
         DecimalArray {
-            values,
+            values: Buffer::shared(values),
             decimal: decimal_dtype,
             validity,
         }
     }
+}
 
+impl<A: Allocator> DecimalArray<A> {
     /// How many rows there are.
     pub fn len(&self) -> usize
         ensures numbers { result ≡ length self.now.numbers }
@@ -117,7 +119,7 @@ impl<A: Allocator> DecimalArray<A> {
     pub fn values(&self) -> &[i128]
         ensures { result.now ≡ self.now.numbers }
     {
-        &self.values
+        self.values.as_slice()
     }
 
     /// Which rows are valid.
@@ -129,7 +131,7 @@ impl<A: Allocator> DecimalArray<A> {
     }
 
     /// The whole numbers of the decimals, their precision and scale, and the validity.
-    pub fn into_parts(self) -> (Vec<i128, A>, DecimalDType, Validity<A>)
+    pub fn into_parts(self) -> (Buffer<i128, A>, DecimalDType, Validity<A>)
         ensures whole { self ≡ decimal_with result.1 result.0.items (form_of result.2) }
         ensures counted { HasLength (form_of result.2) (length result.0.items) }
     {
@@ -143,7 +145,7 @@ impl<A: Allocator> DecimalArray<A> {
         ensures of_type { IsViewOf (decimal_dtype_of self.now) result }
     {
         if self.validity.is_valid(index) {
-            decimal_view(&self.values, index)
+            decimal_view(self.values.as_slice(), index)
         } else {
             ScalarView::Null
         }
@@ -151,12 +153,13 @@ impl<A: Allocator> DecimalArray<A> {
 }
 
 impl<A: Allocator + Copy> DecimalArray<A> {
-    /// The same column in the same form, in memory of its own. Refused as `OutOfMemory` alone.
+    /// The same column in the same form. Its buffers are shared with these where these are shared, and else copied.
+    /// Refused as `OutOfMemory` alone.
     pub fn try_clone(&self, alloc: A) -> VortexResult<DecimalArray<A>>
         ensures only { IsOkUnless result VortexError.OutOfMemory }
         ensures form { IfOk result (λ array. array ≡ self.now) }
     {
-        let values = Vec::from_slice(alloc, &self.values)?;
+        let values = self.values.try_clone(alloc)?;
         let validity = self.validity.try_clone(alloc)?;
         Ok(DecimalArray {
             values,
@@ -165,8 +168,23 @@ impl<A: Allocator + Copy> DecimalArray<A> {
         })
     }
 
-    /// The rows from `range.start` to `range.end - 1`, with the numbers as they are stored, in memory
-    /// of their own. Refused as `BadRange`, with both bounds and the number of rows, exactly where the
+    /// A copy of the column in the same form, with buffers that are shared with none: what these are a
+    /// part of may then be freed. Refused as `OutOfMemory` alone.
+    pub fn compact(&self, alloc: A) -> VortexResult<DecimalArray<A>>
+        ensures only { IsOkUnless result VortexError.OutOfMemory }
+        ensures form { IfOk result (λ array. array ≡ self.now) }
+    {
+        let values = self.values.compact(alloc)?;
+        let validity = self.validity.compact(alloc)?;
+        Ok(DecimalArray {
+            values,
+            decimal: self.decimal,
+            validity,
+        })
+    }
+
+    /// The rows from `range.start` to `range.end - 1`, with the numbers as they are stored, shared with
+    /// these where these are shared, and else copied. Refused as `BadRange`, with both bounds and the number of rows, exactly where the
     /// range begins after its end or ends after the last row, and that before any memory is taken;
     /// else as `OutOfMemory` alone.
     pub fn slice(&self, alloc: A, range: Range<usize>) -> VortexResult<DecimalArray<A>>
@@ -188,7 +206,7 @@ impl<A: Allocator + Copy> DecimalArray<A> {
                 length,
             });
         }
-        let values = Vec::from_slice(alloc, &self.values[range.start..range.end])?;
+        let values = self.values.slice(alloc, range.start..range.end)?;
         let validity = self.validity.slice(alloc, range)?;
         Ok(DecimalArray {
             values,

@@ -97,7 +97,8 @@ impl<A: Allocator> FlatColumn<A> {
 }
 
 impl<A: Allocator + Copy> FlatColumn<A> {
-    /// The same column in the same form, in memory of its own. Refused as `OutOfMemory` alone.
+    /// The same column in the same form. Its buffers are shared with these where these are shared, and else copied.
+    /// Refused as `OutOfMemory` alone.
     pub fn try_clone(&self, alloc: A) -> VortexResult<FlatColumn<A>>
         ensures only { IsOkUnless result VortexError.OutOfMemory }
         ensures form { IfOk result (λ column. leaf_of column ≡ leaf_of self.now) }
@@ -110,8 +111,22 @@ impl<A: Allocator + Copy> FlatColumn<A> {
         }
     }
 
-    /// The rows from `range.start` to `range.end - 1`, in memory of their own. Refused as `BadRange`,
-    /// with both bounds and the number of rows, exactly where the range begins after its end or ends
+    /// A copy of the column in the same form, with buffers that are shared with none: what these are a
+    /// part of may then be freed. The bytes of texts stay shared. Refused as `OutOfMemory` alone.
+    pub fn compact(&self, alloc: A) -> VortexResult<FlatColumn<A>>
+        ensures only { IsOkUnless result VortexError.OutOfMemory }
+        ensures form { IfOk result (λ column. leaf_of column ≡ leaf_of self.now) }
+    {
+        match self {
+            FlatColumn::Primitive(array) => Ok(FlatColumn::Primitive(array.compact(alloc)?)),
+            FlatColumn::Bool(array) => Ok(FlatColumn::Bool(array.compact(alloc)?)),
+            FlatColumn::Decimal(array) => Ok(FlatColumn::Decimal(array.compact(alloc)?)),
+            FlatColumn::VarBinView(array) => Ok(FlatColumn::VarBinView(array.compact(alloc)?)),
+        }
+    }
+
+    /// The rows from `range.start` to `range.end - 1`, in buffers that are shared with these where these are shared,
+    /// and else copied. Refused as `BadRange`, with both bounds and the number of rows, exactly where the range begins after its end or ends
     /// after the last row, and that before any memory is taken; else as `OutOfMemory` alone.
     pub fn slice(&self, alloc: A, range: Range<usize>) -> VortexResult<FlatColumn<A>>
         ensures refused { let count = length (leaf_rows (leaf_of self.now)) in

@@ -14,7 +14,7 @@ ghost use Rattle.column_core.specs.ScalarView.{sees, IsViewOf};
 
 use crate::view::ScalarView;
 use bytes::Bytes;
-use column_base::{DType, Validity, VortexError, VortexResult};
+use column_base::{Buffer, DType, Validity, VortexError, VortexResult};
 use std::alloc::Allocator;
 use std::marker::Model;
 use std::ops::Range;
@@ -40,7 +40,7 @@ pub enum VarBinKind {
 #[derive(Drop)]
 pub struct VarBinViewArray<A: Allocator> {
     kind: VarBinKind,
-    views: Vec<View, A>,
+    views: Buffer<View, A>,
     buffers: Vec<Bytes<A>, A>,
     validity: Validity<A>,
 }
@@ -56,7 +56,7 @@ impl<A: Allocator> Model for VarBinViewArray<A> {
     ghost invariant = { λ a. AreVarBins (varbin_with a.kind a.views.items a.buffers.items (form_of a.validity)) };
 }
 
-impl<A: Allocator> VarBinViewArray<A> {
+impl<A: Allocator + Copy> VarBinViewArray<A> {
     /// The column of these views into these buffers, null where the validity says so. Refused, in
     /// this order, as `ColumnLength`, with both lengths, where the validity is of another number of
     /// rows; as `OutOfBounds`, with the row and the number of rows, for the first valid row whose view
@@ -76,7 +76,7 @@ impl<A: Allocator> VarBinViewArray<A> {
         }
         Ok(VarBinViewArray {
             kind,
-            views,
+            views: Buffer::shared(views),
             buffers,
             validity,
         })
@@ -94,12 +94,14 @@ impl<A: Allocator> VarBinViewArray<A> {
     {
         VarBinViewArray {
             kind,
-            views,
+            views: Buffer::shared(views),
             buffers,
             validity,
         }
     }
+}
 
+impl<A: Allocator> VarBinViewArray<A> {
     /// How many rows there are.
     pub fn len(&self) -> usize
         ensures views { result ≡ length self.now.views }
@@ -137,7 +139,7 @@ impl<A: Allocator> VarBinViewArray<A> {
         ensures stored { result.now ≡ self.now.views }
         ensures accepted { AreVarBins self.now }
     {
-        &self.views
+        self.views.as_slice()
     }
 
     /// The buffers that the views cut.
@@ -156,7 +158,7 @@ impl<A: Allocator> VarBinViewArray<A> {
     }
 
     /// The views, the buffers, whether the rows are texts or bytes, and the validity.
-    pub fn into_parts(self) -> (Vec<View, A>, Vec<Bytes<A>, A>, VarBinKind, Validity<A>)
+    pub fn into_parts(self) -> (Buffer<View, A>, Vec<Bytes<A>, A>, VarBinKind, Validity<A>)
         ensures whole { self ≡ varbin_with result.2 result.0.items result.1.items (form_of result.3) }
         ensures accepted { AreVarBins (varbin_with result.2 result.0.items result.1.items (form_of result.3)) }
     {
@@ -181,13 +183,13 @@ impl<A: Allocator> VarBinViewArray<A> {
 }
 
 impl<A: Allocator + Copy> VarBinViewArray<A> {
-    /// The same column in the same form, with views and validity in memory of their own; the bytes of
-    /// the buffers are shared. Refused as `OutOfMemory` alone.
+    /// The same column in the same form. Its views and validity are shared with these where these are
+    /// shared, and else copied; the bytes of the buffers are shared. Refused as `OutOfMemory` alone.
     pub fn try_clone(&self, alloc: A) -> VortexResult<VarBinViewArray<A>>
         ensures only { IsOkUnless result VortexError.OutOfMemory }
         ensures form { IfOk result (λ array. array ≡ self.now) }
     {
-        let views = Vec::from_slice(alloc, &self.views)?;
+        let views = self.views.try_clone(alloc)?;
         let buffers = share(alloc, &self.buffers)?;
         let validity = self.validity.try_clone(alloc)?;
         Ok(VarBinViewArray {
@@ -198,8 +200,25 @@ impl<A: Allocator + Copy> VarBinViewArray<A> {
         })
     }
 
-    /// The rows from `range.start` to `range.end - 1`, with views and validity in memory of their own;
-    /// all buffers are kept, and their bytes shared. Refused as `BadRange`, with both bounds and the
+    /// A copy of the column in the same form, with views and validity that are shared with none. All
+    /// buffers are kept, and their bytes shared. Refused as `OutOfMemory` alone.
+    pub fn compact(&self, alloc: A) -> VortexResult<VarBinViewArray<A>>
+        ensures only { IsOkUnless result VortexError.OutOfMemory }
+        ensures form { IfOk result (λ array. array ≡ self.now) }
+    {
+        let views = self.views.compact(alloc)?;
+        let buffers = share(alloc, &self.buffers)?;
+        let validity = self.validity.compact(alloc)?;
+        Ok(VarBinViewArray {
+            kind: self.kind,
+            views,
+            buffers,
+            validity,
+        })
+    }
+
+    /// The rows from `range.start` to `range.end - 1`, with views and validity shared with these where
+    /// these are shared, and else copied; all buffers are kept, and their bytes shared. Refused as `BadRange`, with both bounds and the
     /// number of rows, exactly where the range begins after its end or ends after the last row, and
     /// that before any memory is taken; else as `OutOfMemory` alone.
     pub fn slice(&self, alloc: A, range: Range<usize>) -> VortexResult<VarBinViewArray<A>>
@@ -222,7 +241,7 @@ impl<A: Allocator + Copy> VarBinViewArray<A> {
                 length,
             });
         }
-        let views = Vec::from_slice(alloc, &self.views[range.start..range.end])?;
+        let views = self.views.slice(alloc, range.start..range.end)?;
         let buffers = share(alloc, &self.buffers)?;
         let validity = self.validity.slice(alloc, range)?;
         Ok(VarBinViewArray {

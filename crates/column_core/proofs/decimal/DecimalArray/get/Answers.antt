@@ -13,7 +13,7 @@ returns-then-is_valid-clause-row g c =
     let within : c.args.index < length numbers = rw (← c.self.view_is) at c.requires in
     let n = get_or numbers c.args.index (pos 0) in
     let number : slice_get numbers c.args.index ≡ Some n = slice_get-get_or numbers c.args.index (pos 0) within in
-    let seen = rw c.deref.ensures.value at c.decimal_view.ensures.row in
+    let seen = rw c.as_slice.ensures.value at c.decimal_view.ensures.row in
     rw (← c.self.view_is)
     (valid-row_of (λ (m : ℤ). DecimalNumber m) numbers (form_of c.self.inside.validity) (length numbers) c.args.index n (sees c.decimal_view.result)
     c.self.invariant within (sym c.is_valid.ensures ∙ c.if-is_valid.true) number

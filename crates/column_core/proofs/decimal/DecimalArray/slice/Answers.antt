@@ -12,7 +12,7 @@ returns-clause-rows g c =
     let part = c.in_ok-values.values.items in
     let same : length numbers ≡ length c.args.self.now.numbers = ap (λ (form : DecimalForm). length form.numbers) c.self.view_is in
     let within = c.len-length.ensures.numbers in
-    let stored : part ≡ slice_range numbers c.args.range.start c.args.range.end = rw (← c.deref.ensures.value) c.in_ok-values.ensures.items in
+    let stored : part ≡ slice_range numbers c.args.range.start c.args.range.end = c.in_ok-values.ensures in
     rw (← c.self.view_is)
     (range-of_rows (λ (n : ℤ). DecimalNumber n) numbers part (form_of c.self.inside.validity) (form_of c.in_ok-validity.validity) (length numbers) (length part)
     c.args.range.start c.args.range.end refl refl (omega arith) (omega arith) c.self.invariant stored

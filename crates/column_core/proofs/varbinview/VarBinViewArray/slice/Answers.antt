@@ -12,8 +12,8 @@ invariant_of-result g c =
     let part = varbin_with kind c.in_ok-views.views.items c.in_ok-buffers.buffers.items (form_of c.in_ok-validity.validity) in
     let same : length whole.views ≡ length c.args.self.now.views = ap (λ (form : VarBinForm). length form.views) c.self.view_is in
     let within = c.len-length.ensures.views in
-    let views : part.views ≡ slice_range whole.views c.args.range.start c.args.range.end = rw (← c.deref.ensures.value) c.in_ok-views.ensures.items in
-    let buffers : part.buffers ≡ whole.buffers = rw (← c.deref-2.ensures.value) c.in_ok-buffers.ensures.same in
+    let views : part.views ≡ slice_range whole.views c.args.range.start c.args.range.end = c.in_ok-views.ensures in
+    let buffers : part.buffers ≡ whole.buffers = rw (← c.deref.ensures.value) c.in_ok-buffers.ensures.same in
     AreVarBins-of_range whole part c.args.range.start c.args.range.end (omega arith) (omega arith) c.self.invariant refl buffers views
     c.in_ok-validity.ensures.fits (c.in_ok-validity.ensures.flags (length whole.views) c.self.invariant.counted (omega arith))
 
@@ -24,8 +24,8 @@ returns-clause-rows g c =
     let part = varbin_with kind c.in_ok-views.views.items c.in_ok-buffers.buffers.items (form_of c.in_ok-validity.validity) in
     let same : length whole.views ≡ length c.args.self.now.views = ap (λ (form : VarBinForm). length form.views) c.self.view_is in
     let within = c.len-length.ensures.views in
-    let views : part.views ≡ slice_range whole.views c.args.range.start c.args.range.end = rw (← c.deref.ensures.value) c.in_ok-views.ensures.items in
-    let buffers : part.buffers ≡ whole.buffers = rw (← c.deref-2.ensures.value) c.in_ok-buffers.ensures.same in
+    let views : part.views ≡ slice_range whole.views c.args.range.start c.args.range.end = c.in_ok-views.ensures in
+    let buffers : part.buffers ≡ whole.buffers = rw (← c.deref.ensures.value) c.in_ok-buffers.ensures.same in
     rw (← c.self.view_is)
     (varbin_rows-of_range whole part c.args.range.start c.args.range.end (omega arith) (omega arith) c.self.invariant.counted refl buffers views
     (c.in_ok-validity.ensures.flags (length whole.views) c.self.invariant.counted (omega arith)))

@@ -11,7 +11,7 @@ pub returns-in-Some-clause-refused : goal.returns-in-Some-clause-refused
 returns-in-Some-clause-refused g c = rw (c.deref.ensures.value, c.deref-2.ensures.value) at c.in-Some.ensures.fault
 
 pub invariant_of-result : goal.invariant_of-result
-invariant_of-result g c = rw (c.deref.ensures.value, c.deref-2.ensures.value) at (c.in_default.ensures.none.0 refl)
+invariant_of-result g c = rw (c.deref.ensures.value, c.deref-2.ensures.value, ← c.shared.ensures) at (c.in_default.ensures.none.0 refl)
 
 pub returns-clause-accepts : goal.returns-clause-accepts
 returns-clause-accepts g c =
