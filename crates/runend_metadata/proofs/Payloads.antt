@@ -1,10 +1,10 @@
 -- A payload or a field at the front of bytes is found, and it is the only one there.
 use Rattle.std.proofs.Common.{Option, None, Some, ◌≡◌, ℕ, ◌+◌, ◌*◌, ◌/◌, ◌%◌, ◌^◌, ◌<◌, ◌≤◌, List, [], ◌∷◌, ◌++◌, length, take, drop, refl, sym, ap, subst, ◌∙◌, arith, append_assoc}
 use Rattle.std.proofs.lemmas.List.{length-append, length-take, take-append-drop}
-use Rattle.runend_metadata.specs.Spelling.{Begins, BeginsWithNone}
-use Rattle.runend_metadata.specs.Varint.{IsVarint}
+use Rattle.varints.specs.Spelling.{Begins, BeginsWithNone}
+use Rattle.varints.specs.Varint.{IsVarint}
 use Rattle.runend_metadata.specs.Fields.{Payload, varint, eight_bytes, delimited, four_bytes, Field, wire_type, SpellsPayload, key_of, SpellsField, IsPayload, BeginsWithField, BeginsWithPayload}
-use Rattle.runend_metadata.proofs.Varints.{IsVarint-same, Begins-same, rest_same}
+use Rattle.varints.proofs.Varints.{IsVarint-same, Begins-same, rest_same}
 
 -- ---- fronts of one length
 

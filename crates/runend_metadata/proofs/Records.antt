@@ -3,12 +3,12 @@ use Rattle.std.specs.List.{last_or}
 use Rattle.std.proofs.Common.{Option, None, Some, ◌≡◌, ◌↔◌, ℕ, ◌<◌, ◌≤◌, Bool, true, false, cond, eqb, List, [], ◌∷◌, ◌++◌, length, map, filter, ℤ, pos, unwrap_or, Result, Ok, Err, refl, sym, ap, subst, ◌∙◌, arith, append_assoc}
 use Rattle.std.proofs.lemmas.List.{length-append, append-nil, map-append}
 use Rattle.std.proofs.lemmas.List.Elements.{filter-append}
-use Rattle.runend_metadata.specs.Spelling.{Begins, BeginsWithNone}
+use Rattle.varints.specs.Spelling.{Begins, BeginsWithNone}
 use Rattle.runend_metadata.specs.Fields.{Field, Spells, SpellsField, number_in, value_of, last_value, meaning, BeginsWithField, Means, StatesUnknownEndsType, SpellsNumbers, IsNoRecord}
 use Rattle.column_base.specs.declared.error.VortexError.{VortexError}
 use Rattle.column_base.specs.declared.error.VortexError.TheVariants.{EndsTypeNumber}
 use Rattle.runend_metadata.specs.declared.metadata.RunEndMetadata.{RunEndMetadata}
-use Rattle.runend_metadata.proofs.Varints.{StandsFor-long, rest_same}
+use Rattle.varints.proofs.Varints.{StandsFor-long, rest_same}
 use Rattle.runend_metadata.proofs.Payloads.{SpellsField-same}
 
 -- ---- one list of fields

@@ -3,9 +3,9 @@ use Rattle.std.proofs.Common.{length, ◌≡◌, ℕ, zero, suc, ◌+◌, ◌*�
 use Rattle.std.proofs.lemmas.List.{append-nil, length-append}
 use Rattle.std.proofs.lemmas.Int.{ints}
 use Rattle.runend_metadata.specs.EndsType.{IsEndsTypeNumber}
-use Rattle.runend_metadata.specs.Spelling.{Appends, FitsBehind, HasLength}
-use Rattle.runend_metadata.specs.Varint.{IsShortestVarint, IsVarint}
-use Rattle.runend_metadata.proofs.Shortest.{compact_of, shortest, shortest_form}
+use Rattle.varints.specs.Spelling.{Appends, FitsBehind, HasLength}
+use Rattle.varints.specs.Varint.{IsShortestVarint, IsVarint}
+use Rattle.varints.proofs.Shortest.{compact_of, shortest, shortest_form}
 use Rattle.runend_metadata.specs.Fields.{varint, Field, Spells, last_value, meaning, Means}
 use Rattle.runend_metadata.specs.Written.{IsWrittenField, IsWritten}
 use Rattle.runend_metadata.specs.declared.metadata.RunEndMetadata.{RunEndMetadata}

@@ -1,8 +1,8 @@
 -- A record as a list of fields, and what it means.
 use Rattle.std.specs.Prelude.{◌≡◌, ℕ, ◌+◌, ◌*◌, ◌^◌, ◌<◌, ◌≤◌, List, [], ◌∷◌, ◌++◌, length, map, filter, ◌==◌, pos, unwrap_or, Option, None, Some}
 use Rattle.std.specs.List.{last_or}
-use Rattle.runend_metadata.specs.Spelling.{Begins}
-use Rattle.runend_metadata.specs.Varint.{IsVarint}
+use Rattle.varints.specs.Spelling.{Begins}
+use Rattle.varints.specs.Varint.{IsVarint}
 use Rattle.runend_metadata.specs.declared.metadata.RunEndMetadata.{RunEndMetadata}
 
 -- what a field carries: a number, or bytes that are skipped

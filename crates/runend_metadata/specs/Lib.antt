@@ -1,5 +1,3 @@
-pub mod Spelling
-pub mod Varint
 pub mod EndsType
 pub mod Fields
 pub mod Written

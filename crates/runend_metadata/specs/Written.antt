@@ -1,6 +1,6 @@
 -- The written form of a record.
 use Rattle.std.specs.Prelude.{◌≡◌, ℕ, ◌*◌, List, [], ◌++◌, zero, suc, pos}
-use Rattle.runend_metadata.specs.Varint.{IsShortestVarint}
+use Rattle.varints.specs.Varint.{IsShortestVarint}
 use Rattle.runend_metadata.specs.declared.metadata.RunEndMetadata.{RunEndMetadata}
 
 -- 0 is left out; another value is a key of wire type 0 and the value, each a shortest varint

@@ -1,9 +1,9 @@
 //! The fields of a record.
 ghost use Rattle.std.specs.Prelude.{◌≡◌, ◌≤◌, ◌<◌, length, drop, IfSome, IfNone};
-ghost use Rattle.runend_metadata.specs.Spelling.{BeginsWithNone};
+ghost use Rattle.varints.specs.Spelling.{BeginsWithNone};
 ghost use Rattle.runend_metadata.specs.Fields.{SpellsField, IsPayload, BeginsWithField, BeginsWithPayload};
 
-use crate::varint::read_varint;
+use varints::read_varint;
 
 /// The number of a field, and the value that it carries, if it is no bytes.
 #[derive(Clone, Copy)]

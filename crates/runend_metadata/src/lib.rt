@@ -5,7 +5,6 @@
 mod fields;
 pub mod laws;
 mod metadata;
-mod varint;
 
 pub use column_base::{PType, VortexError, VortexResult};
 pub use metadata::RunEndMetadata;

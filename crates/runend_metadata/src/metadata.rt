@@ -2,14 +2,14 @@
 ghost use Rattle.std.specs.Prelude.{◌≡◌, ◌≢◌, ◌≤◌, ℕ, ◌==◌, if◌then◌else◌, unwrap_or, Some, IfSome, IfNone, ◌↔◌, IfOk, IsOkUnless, vec_len, vec_capacity};
 ghost use Rattle.column_base.specs.declared.error.VortexError.TheVariants.{OutOfMemory, BadMetadata, EndsTypeNumber};
 ghost use Rattle.column_base.specs.Types.{IsUnsigned};
-ghost use Rattle.runend_metadata.specs.Spelling.{Appends, HasLength, FitsBehind};
+ghost use Rattle.varints.specs.Spelling.{Appends, HasLength, FitsBehind};
 ghost use Rattle.runend_metadata.specs.Fields.{SpellsNumbers, IsNoRecord};
 ghost use Rattle.runend_metadata.specs.Written.{IsWrittenField};
 
 use crate::fields::{FieldValue, read_field};
-use crate::varint::{push_varint, varint_len};
 use column_base::{PType, VortexError, VortexResult};
 use std::alloc::Allocator;
+use varints::{push_varint, varint_len};
 
 /// What a run column states beside its ends and values.
 #[derive(Clone, Copy, Debug, Default, PartialEq, Eq)]

@@ -1,6 +1,6 @@
 use Rattle.std.proofs.Common.{rules}
 use Rattle.std.proofs.lemmas.List.{nil_from_length}
-use Rattle.runend_metadata.proofs.Varints.{if_none}
+use Rattle.varints.proofs.Varints.{if_none}
 use Rattle.runend_metadata.proofs.Records.{all_read, stuck}
 use Rattle.runend_metadata.proofs.metadata.read_numbers.Goals as goal
 

@@ -1,6 +1,6 @@
 use Rattle.std.proofs.Common.{◌-◌}
-use Rattle.runend_metadata.proofs.Reading.{Reading}
-use Rattle.runend_metadata.proofs.varint.read_varint.Given as goal
+use Rattle.varints.proofs.Reading.{Reading}
+use Rattle.varints.proofs.varint.read_varint.Given as goal
 
 abbrev pub invariant-loop-shift : goal.invariant-loop-shift
 invariant-loop-shift l = Reading l.bytes l.rest l.value l.shift

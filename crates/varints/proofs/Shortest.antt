@@ -2,9 +2,9 @@
 use Rattle.std.proofs.Common.{◌≡◌, ℕ, zero, suc, ◌+◌, ◌*◌, ◌/◌, ◌%◌, ◌^◌, ◌<◌, ◌≤◌, ◌⊎◌, List, [], ◌∷◌, ◌++◌, length, refl, subst, sym, ◌∙◌, ap, append_assoc, arith, inl, inr, ⊎_elim}
 use Rattle.std.proofs.lemmas.Bool.{cases_lt}
 use Rattle.std.proofs.lemmas.List.{length-append}
-use Rattle.runend_metadata.specs.Spelling.{Appends, FitsBehind, HasLength}
-use Rattle.runend_metadata.specs.Varint.{StandsFor, IsShortestVarint}
-use Rattle.runend_metadata.proofs.Varints.{StandsFor-long}
+use Rattle.varints.specs.Spelling.{Appends, FitsBehind, HasLength}
+use Rattle.varints.specs.Varint.{StandsFor, IsShortestVarint}
+use Rattle.varints.proofs.Varints.{StandsFor-long}
 
 -- as bytes stand for a number, but never with a high part of 0
 abbrev pub IsCompact : List ℕ → ℕ → Type 0

@@ -1,6 +1,6 @@
 use Rattle.std.proofs.Common.{arith}
-use Rattle.runend_metadata.proofs.Shortest.{one_more, appended, room_ahead}
-use Rattle.runend_metadata.proofs.varint.push_varint.Goals as goal
+use Rattle.varints.proofs.Shortest.{one_more, appended, room_ahead}
+use Rattle.varints.proofs.varint.push_varint.Goals as goal
 
 pub push_reserved-requires : goal.push_reserved-requires
 push_reserved-requires g c =

@@ -2,8 +2,8 @@
 use Rattle.std.proofs.Common.{◌≡◌, ℕ, ◌+◌, ◌-◌, ◌*◌, ◌^◌, ◌%◌, ◌<◌, ◌≤◌, List, [], ◌∷◌, ◌++◌, length, refl, sym, ap, subst, ◌∙◌, arith, inl, inr}
 use Rattle.std.proofs.Math.Nat.{add-mul, mul_assoc, pow-le-pow_right}
 use Rattle.std.proofs.lemmas.Nat.{pow-add, mul-add-lt}
-use Rattle.runend_metadata.specs.Spelling.{Begins, BeginsWithNone}
-use Rattle.runend_metadata.specs.Varint.{StandsFor, IsVarint}
+use Rattle.varints.specs.Spelling.{Begins, BeginsWithNone}
+use Rattle.varints.specs.Varint.{StandsFor, IsVarint}
 
 -- a varint of n goes on in the rest, with high above the bits that are read
 pub record GoesOn (rest : List ℕ) (value shift n : ℕ) (after : List ℕ) : Type 0 where

@@ -1,7 +1,7 @@
 //! Varints: a number as bytes of seven bits each, the lowest first.
-ghost use Rattle.std.specs.Prelude.{◌≡◌, ◌+◌, ◌*◌, ◌^◌, ◌<◌, ◌≤◌, ◌∷◌, [], IfSome, IfNone, vec_len, vec_capacity};
-ghost use Rattle.runend_metadata.specs.Spelling.{Begins, BeginsWithNone, Appends, HasLength, FitsBehind};
-ghost use Rattle.runend_metadata.specs.Varint.{IsVarint, IsShortestVarint};
+ghost use Rattle.std.specs.Prelude.{◌≡◌, ◌++◌, ◌+◌, ◌*◌, ◌^◌, ◌<◌, ◌≤◌, ◌∷◌, [], IfSome, IfNone, vec_len, vec_capacity};
+ghost use Rattle.varints.specs.Spelling.{Begins, BeginsWithNone, Appends, HasLength, FitsBehind};
+ghost use Rattle.varints.specs.Varint.{IsVarint, IsShortestVarint, varint, BeginsWithNoShortest};
 
 use std::alloc::Allocator;
 
@@ -28,7 +28,7 @@ fn with_bits(value: u64, bits: u8, shift: u32) -> u64
 }
 
 /// The varint at the front, and the bytes after it.
-pub(crate) fn read_varint(bytes: &[u8]) -> Option<(u64, &[u8])>
+pub fn read_varint(bytes: &[u8]) -> Option<(u64, &[u8])>
     ensures found { IfSome result (λ r. Begins IsVarint bytes.now r.0 r.1.now) }
     ensures none { IfNone result (BeginsWithNone IsVarint bytes.now) }
 {
@@ -51,8 +51,22 @@ pub(crate) fn read_varint(bytes: &[u8]) -> Option<(u64, &[u8])>
     Some((with_bits(value, last, LAST_SHIFT), after))
 }
 
+/// The shortest varint at the front, and the bytes after it. A varint with more bytes than its number needs is none.
+pub fn read_shortest(bytes: &[u8]) -> Option<(u64, &[u8])>
+    ensures found { IfSome result (λ r. bytes.now ≡ varint r.0 ++ r.1.now) }
+    ensures small { IfSome result (λ r. r.0 < 2 ^ 64) }
+    ensures none { IfNone result (BeginsWithNoShortest bytes.now) }
+{
+    let (number, rest) = read_varint(bytes)?;
+    let count = varint_len(number);
+    if rest.len() + count != bytes.len() {
+        return None;
+    }
+    Some((number, rest))
+}
+
 /// How many bytes the shortest varint of a number has.
-pub(crate) fn varint_len(n: u64) -> usize
+pub fn varint_len(n: u64) -> usize
     ensures exact { HasLength IsShortestVarint n result }
     ensures most { result ≤ 10 }
 {
@@ -66,7 +80,7 @@ pub(crate) fn varint_len(n: u64) -> usize
 }
 
 /// Writes the shortest varint of a number at the end, where there is room for it.
-pub(crate) fn push_varint<A: Allocator>(out: &mut Vec<u8, A>, n: u64)
+pub fn push_varint<A: Allocator>(out: &mut Vec<u8, A>, n: u64)
     requires room { FitsBehind IsShortestVarint (vec_len out.old) (vec_capacity out.old) n }
     ensures written { Appends IsShortestVarint out.old.items n out.new.items }
     ensures capacity { vec_capacity out.new ≡ vec_capacity out.old }

@@ -1,6 +1,6 @@
 use Rattle.std.proofs.Common.{ℕ, List, ◌++◌, ◌≡◌}
-use Rattle.runend_metadata.proofs.Shortest.{IsCompact, Completes}
-use Rattle.runend_metadata.proofs.varint.push_varint.Given as goal
+use Rattle.varints.proofs.Shortest.{IsCompact, Completes}
+use Rattle.varints.proofs.varint.push_varint.Given as goal
 
 pub record IsWriting (old out : List ℕ) (n rest start capacity : ℕ) : Type 0 where
   pub completed : (tail : List ℕ) → IsCompact tail rest → Completes old n (out ++ tail)

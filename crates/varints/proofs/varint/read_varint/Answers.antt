@@ -1,7 +1,7 @@
 use Rattle.std.proofs.Common.{arith, rules}
-use Rattle.runend_metadata.proofs.Varints.{if_none}
-use Rattle.runend_metadata.proofs.Reading.{bits_fit, bytes_end, last_byte, more_bytes, tenth_byte, tenth_too_large}
-use Rattle.runend_metadata.proofs.varint.read_varint.Goals as goal
+use Rattle.varints.proofs.Varints.{if_none}
+use Rattle.varints.proofs.Reading.{bits_fit, bytes_end, last_byte, more_bytes, tenth_byte, tenth_too_large}
+use Rattle.varints.proofs.varint.read_varint.Goals as goal
 
 pub returns-in_err-byte-clause-none : goal.returns-in_err-byte-clause-none
 returns-in_err-byte-clause-none c =

@@ -1,6 +1,6 @@
 use Rattle.std.proofs.Common.{ℕ, List, ◌+◌, ◌≤◌}
-use Rattle.runend_metadata.proofs.Shortest.{IsCompact, Counted}
-use Rattle.runend_metadata.proofs.varint.varint_len.Given as goal
+use Rattle.varints.proofs.Shortest.{IsCompact, Counted}
+use Rattle.varints.proofs.varint.varint_len.Given as goal
 
 pub record IsCounting (n count rest : ℕ) : Type 0 where
   pub counted : (bytes : List ℕ) → IsCompact bytes n → Counted n count rest bytes

@@ -1,6 +1,6 @@
 use Rattle.std.proofs.Common.{arith}
-use Rattle.runend_metadata.proofs.Shortest.{count_more, all_counted, count_at_most}
-use Rattle.runend_metadata.proofs.varint.varint_len.Goals as goal
+use Rattle.varints.proofs.Shortest.{count_more, all_counted, count_at_most}
+use Rattle.varints.proofs.varint.varint_len.Goals as goal
 
 pub loop-rest-preserved : goal.loop-rest-preserved
 loop-rest-preserved c =

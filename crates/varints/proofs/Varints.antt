@@ -2,8 +2,8 @@
 use Rattle.std.specs.Prelude.{IfNone}
 use Rattle.std.proofs.Common.{Option, None, Some, ◌≡◌, ℕ, ◌<◌, List, [], ◌∷◌, ◌++◌, length, sym, ap, ◌∙◌, arith, inl, inr}
 use Rattle.std.proofs.lemmas.List.{append_cancel_left}
-use Rattle.runend_metadata.specs.Spelling.{Begins}
-use Rattle.runend_metadata.specs.Varint.{StandsFor, IsVarint}
+use Rattle.varints.specs.Spelling.{Begins}
+use Rattle.varints.specs.Varint.{StandsFor, IsVarint}
 
 -- behind equal fronts come equal rests
 pub rest_same : (a b x y : List ℕ) → a ≡ b → a ++ x ≡ b ++ y → x ≡ y

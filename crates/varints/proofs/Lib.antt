@@ -1,0 +1,4 @@
+pub mod Varints
+pub mod Reading
+pub mod Shortest
+pub mod Forms
