@@ -65,8 +65,8 @@ pub fn three_numbers_of_joined()
     ensures { ThreeNumbersOfJoined }
 {}
 
-/// The sum of joined rows of which none is negative is the sum of the parts' sums: null where that of either part is, or
-/// where the two are past the range together.
+/// The sum of joined rows of which none is negative is the sum of the parts' sums: null where that of either part is,
+/// or where the two are past the range together.
 pub fn sum_of_joined_naturals()
     ensures { SumOfJoinedNaturals }
 {}

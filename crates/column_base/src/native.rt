@@ -42,8 +42,8 @@ pub trait NativePType: Copy + Default + Eq + Ord + Drop {
         ensures shows { numbers values.new ≡ map number items.old.items }
         ensures typed { ptype_of values.new ≡ PTYPE };
 
-    /// The numbers of this vector, shared as `Buffer::shared` shares them. Nothing is copied, and want of memory refuses
-    /// nothing.
+    /// The numbers of this vector, shared as `Buffer::shared` shares them. Nothing is copied, and want of memory
+    /// refuses nothing.
     final fn wrap<A: Allocator + Copy>(items: Vec<Self, A>) -> PrimitiveValues<A>
         ensures shows { numbers result ≡ map number items.items }
         ensures typed { ptype_of result ≡ PTYPE }

@@ -150,9 +150,9 @@ impl<A: Allocator + Copy> BoolArray<A> {
         Ok(BoolArray { bits, validity })
     }
 
-    /// The rows from `range.start` to `range.end - 1`, with the bits as they are stored, shared with
-    /// these as `BitBuffer::slice` shares them, and else copied. Refused as `BadRange`, with both bounds and the number of rows, exactly where the
-    /// range begins after its end or ends after the last row, and that before any memory is taken;
+    /// The rows from `range.start` to `range.end - 1`, with the bits as they are stored, shared with these as
+    /// `BitBuffer::slice` shares them, and else copied. Refused as `BadRange`, with both bounds and the number of rows,
+    /// exactly where the range begins after its end or ends after the last row, and that before any memory is taken;
     /// else as `OutOfMemory` alone.
     pub fn slice(&self, alloc: A, range: Range<usize>) -> VortexResult<BoolArray<A>>
         ensures refused { let count = length (bool_rows self.now) in

@@ -41,8 +41,8 @@ impl<A: Allocator> Model for DecimalArray<A> {
 }
 
 impl<A: Allocator + Copy> DecimalArray<A> {
-    /// The column of these whole numbers of decimals, null where the validity says so. Refused as
-    /// `ColumnLength`, with both lengths, where the validity is of another number of rows. Want of memory refuses nothing.
+    /// The column of these whole numbers of decimals, null where the validity says so. Refused as `ColumnLength`, with
+    /// both lengths, where the validity is of another number of rows. Want of memory refuses nothing.
     pub fn try_new(
         values: Vec<i128, A>,
         decimal_dtype: DecimalDType,
@@ -183,10 +183,10 @@ impl<A: Allocator + Copy> DecimalArray<A> {
         })
     }
 
-    /// The rows from `range.start` to `range.end - 1`, with the numbers as they are stored, shared with
-    /// these where these are shared, and else copied. Refused as `BadRange`, with both bounds and the number of rows, exactly where the
-    /// range begins after its end or ends after the last row, and that before any memory is taken;
-    /// else as `OutOfMemory` alone.
+    /// The rows from `range.start` to `range.end - 1`, with the numbers as they are stored, shared with these where
+    /// these are shared, and else copied. Refused as `BadRange`, with both bounds and the number of rows, exactly where
+    /// the range begins after its end or ends after the last row, and that before any memory is taken; else as
+    /// `OutOfMemory` alone.
     pub fn slice(&self, alloc: A, range: Range<usize>) -> VortexResult<DecimalArray<A>>
         ensures refused { let count = length (decimal_rows self.now) in
             IsErrOf result (VortexError.BadRange range.start range.end count) ↔ IsBadRange range.start range.end count }

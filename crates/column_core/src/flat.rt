@@ -126,8 +126,8 @@ impl<A: Allocator + Copy> FlatColumn<A> {
     }
 
     /// The rows from `range.start` to `range.end - 1`, in buffers that are shared with these where these are shared,
-    /// and else copied. Refused as `BadRange`, with both bounds and the number of rows, exactly where the range begins after its end or ends
-    /// after the last row, and that before any memory is taken; else as `OutOfMemory` alone.
+    /// and else copied. Refused as `BadRange`, with both bounds and the number of rows, exactly where the range begins
+    /// after its end or ends after the last row, and that before any memory is taken; else as `OutOfMemory` alone.
     pub fn slice(&self, alloc: A, range: Range<usize>) -> VortexResult<FlatColumn<A>>
         ensures refused { let count = length (leaf_rows (leaf_of self.now)) in
             IsErrOf result (VortexError.BadRange range.start range.end count) ↔ IsBadRange range.start range.end count }

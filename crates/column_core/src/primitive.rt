@@ -161,10 +161,10 @@ impl<A: Allocator + Copy> PrimitiveArray<A> {
         Ok(PrimitiveArray { values, validity })
     }
 
-    /// The rows from `range.start` to `range.end - 1`, with the numbers as they are stored, shared with
-    /// these where these are shared, and else copied. Refused as `BadRange`, with both bounds and the number of rows, exactly where the
-    /// range begins after its end or ends after the last row, and that before any memory is taken;
-    /// else as `OutOfMemory` alone.
+    /// The rows from `range.start` to `range.end - 1`, with the numbers as they are stored, shared with these where
+    /// these are shared, and else copied. Refused as `BadRange`, with both bounds and the number of rows, exactly where
+    /// the range begins after its end or ends after the last row, and that before any memory is taken; else as
+    /// `OutOfMemory` alone.
     pub fn slice(&self, alloc: A, range: Range<usize>) -> VortexResult<PrimitiveArray<A>>
         ensures refused { let count = length (primitive_rows self.now) in
             IsErrOf result (VortexError.BadRange range.start range.end count) ↔ IsBadRange range.start range.end count }

@@ -217,10 +217,10 @@ impl<A: Allocator + Copy> VarBinViewArray<A> {
         })
     }
 
-    /// The rows from `range.start` to `range.end - 1`, with views and validity shared with these where
-    /// these are shared, and else copied; all buffers are kept, and their bytes shared. Refused as `BadRange`, with both bounds and the
-    /// number of rows, exactly where the range begins after its end or ends after the last row, and
-    /// that before any memory is taken; else as `OutOfMemory` alone.
+    /// The rows from `range.start` to `range.end - 1`, with views and validity shared with these where these are
+    /// shared, and else copied; all buffers are kept, and their bytes shared. Refused as `BadRange`, with both bounds
+    /// and the number of rows, exactly where the range begins after its end or ends after the last row, and that before
+    /// any memory is taken; else as `OutOfMemory` alone.
     pub fn slice(&self, alloc: A, range: Range<usize>) -> VortexResult<VarBinViewArray<A>>
         ensures refused { let count = length (varbin_rows self.now) in
             IsErrOf result (VortexError.BadRange range.start range.end count) ↔ IsBadRange range.start range.end count }

@@ -42,8 +42,8 @@ fn commanded_copy<A: Allocator + Copy>(
     on_copy(name, Task::Command(command), columns, ctx)
 }
 
-/// The commands of a list on a copy of the column of this name, but for those at the places that are said to be left out.
-/// Bad where a part of the words is no command that can be given.
+/// The commands of a list on a copy of the column of this name, but for those at the places that are said to be left
+/// out. Bad where a part of the words is no command that can be given.
 pub fn prepare_list<A: Allocator + Copy>(
     name: &str,
     words: &[&str],

@@ -31,8 +31,8 @@ impl<A: Allocator + Copy> Report<A> {
         }
     }
 
-    /// Counts the line that comes behind so many others, and reports it, with its number from 1 and what it was answered,
-    /// where that is not what it expects. Refused for want of memory alone, and then the line is counted, but
+    /// Counts the line that comes behind so many others, and reports it, with its number from 1 and what it was
+    /// answered, where that is not what it expects. Refused for want of memory alone, and then the line is counted, but
     /// its report may be cut.
     pub fn count(&mut self, before: usize, expected: &str, answer: &str) -> VortexResult<()>
         ensures only { IsOkUnless result VortexError.OutOfMemory }

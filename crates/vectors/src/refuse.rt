@@ -248,8 +248,8 @@ fn tried_call<A: Allocator + Copy>(
     Ok(judged(&shown, expected, answered))
 }
 
-// What became of a list: its commands that were not refused for want of memory answer and leave what they do alone, with
-// ample memory.
+// What became of a list: its commands that were not refused for want of memory answer and leave what they do alone,
+// with ample memory.
 fn tried_list<'a>(
     name: &str,
     list: &[&str],
