@@ -66,6 +66,12 @@ position_fits ends offset indices place row given at =
     let within = row_in_bounds indices given.0 place row given.2 at in
     omega arith
 
+-- the same where the index may be null
+pub position_if : (ends : List ℕ) (offset : ℕ) (indices : List (Option ℤ)) (place : ℕ) (row : Option ℕ) → AreInWindow ends offset indices
+    → slice_get indices place ≡ Some (option_map (λ (n : ℕ). pos n) row) → IfSome row (λ n. offset + n < 2 ^ 64)
+position_if ends offset indices place None given at = tt
+position_if ends offset indices place (Some row) given at = position_fits ends offset indices place row given at
+
 -- and its run
 pub run_within : (ends : List ℕ) (offset : ℕ) (indices : List (Option ℤ)) (place row : ℕ) → AreInWindow ends offset indices → slice_get indices place ≡ Some (Some (pos row)) → run_at ends (offset + row) < length ends
 run_within ends offset indices place row given at =

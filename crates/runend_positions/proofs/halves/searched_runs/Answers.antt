@@ -1,54 +1,73 @@
-use Rattle.std.proofs.Common.{◌≡◌, ◌+◌, Some, None, pos, length, take, ap, refl, ◌∙◌, arith}
-use Rattle.std.specs.Prelude.{slice_get}
+use Rattle.std.proofs.Common.{◌+◌, ℤ, Option, Some, pos, length, take, ap, ◌∙◌, arith}
+use Rattle.std.specs.Prelude.{option_map}
+use Rattle.std.proofs.lemmas.Option.{slice_get_within}
 use Rattle.column_base.specs.Mask.{mask_bits}
 use Rattle.column_core.specs.Digits.{digits}
 use Rattle.runend_codec.specs.Window.{run_at}
 use Rattle.runend_positions.specs.Indices.{optional_indices, run_of, valid_count}
-use Rattle.runend_positions.proofs.Bounds.{in_bounds_of_window, position_fits}
-use Rattle.runend_positions.proofs.Places.{answered-all, answered-more, counted-all, counted-null, counted-valid, length-optional_indices, one_search_more}
+use Rattle.runend_positions.proofs.Bounds.{in_bounds_of_window, position_if}
+use Rattle.runend_positions.proofs.Places.{AreFour, answered-all, answered-four, answered-more, counted-all, counted-four, four_searches_more, length-optional_indices, one_index_more}
 use Rattle.runend_positions.proofs.halves.searched_runs.Goals as goal
-use Rattle.runend_positions.proofs.halves.searched_runs.Goals.{in-Some, in-None}
 
-pub named_row-requires-clause-in_bounds : goal.named_row-requires-clause-in_bounds
-named_row-requires-clause-in_bounds g c =
+pub four_rows-requires-clause-in_bounds : goal.four_rows-requires-clause-in_bounds
+four_rows-requires-clause-in_bounds g c =
     in_bounds_of_window c.args.ends.now.ends c.args.offset (optional_indices g.T.NativePType.number c.args.indices.now (mask_bits c.args.mask.now)) c.requires.in_window
 
-pub overflow_add-offset : goal.overflow_add-offset
-overflow_add-offset g c =
-    let indices = optional_indices g.T.NativePType.number c.args.indices.now (mask_bits c.args.mask.now) in
-    let fits = position_fits c.args.ends.now.ends c.args.offset indices c.loop-place.place c.in-Some.row c.requires.in_window c.in-Some.ensures in
-    omega arith
-
-pub loop-place-preserved : goal.loop-place-preserved
-loop-place-preserved g c =
+pub loop-place-preserved-in-Some : goal.loop-place-preserved-in-Some
+loop-place-preserved-in-Some g c =
     let indices = optional_indices g.T.NativePType.number c.args.indices.now (mask_bits c.args.mask.now) in
     let ends = c.args.ends.now.ends in
     let offset = c.args.offset in
     let place = c.loop-place.place in
     let inv = c.loop-place.invariant in
-    elim c.match-named_row.branch [
-      | in-Some w ↦
-          let row = w.in-Some.row in
-          let at : slice_get indices place ≡ Some (Some (pos row)) = w.in-Some.ensures in
-          let run : w.first_past.result ≡ run_of ends offset 0 (Some (pos row)) = w.first_past.ensures.place ∙ ap (λ e. run_at e (offset + row)) inv.same in
-          record {
-            answered = rw (w.runs-is, w.push_reserved.ensures.items) (answered-more (run_of ends offset 0) indices c.loop-place.runs.items place w.first_past.result (Some (pos row)) at inv.answered run);
-            counted = rw (w.runs-is, w.push_reserved.ensures.len) (ap (λ n. n + 1) inv.counted);
-            room = rw (w.runs-is, w.push_reserved.ensures.capacity) inv.room;
-            same = rw w.ends-is (w.first_past.ensures.same ∙ inv.same);
-            cost = rw w.ends-is (one_search_more c.loop-place.ends.tests w.first_past.new.ends.tests c.args.ends.now.tests (valid_count (take place indices)) (valid_count (take (place + 1) indices))
-                (digits (length ends)) inv.cost (rw inv.same at w.first_past.ensures.cost) (counted-valid indices place (pos row) at));
-          }
-      | in-None w ↦
-          let at : slice_get indices place ≡ Some None = w.in-None.ensures in
-          record {
-            answered = rw (w.runs-is, w.push_reserved-in-None.ensures.items) (answered-more (run_of ends offset 0) indices c.loop-place.runs.items place 0 None at inv.answered refl);
-            counted = rw (w.runs-is, w.push_reserved-in-None.ensures.len) (ap (λ n. n + 1) inv.counted);
-            room = rw (w.runs-is, w.push_reserved-in-None.ensures.capacity) inv.room;
-            same = rw w.ends-is inv.same;
-            cost = rw (w.ends-is, counted-null indices place at) inv.cost;
-          }
-    ]
+    let rows = c.in-Some.rows in
+    let long = length-optional_indices g.T.NativePType.number c.args.indices.now (mask_bits c.args.mask.now) c.requires.masked in
+    let at : AreFour indices place rows = record { first = c.in-Some.ensures.first; second = c.in-Some.ensures.second; third = c.in-Some.ensures.third; fourth = c.in-Some.ensures.fourth } in
+    let found = c.first_past_four.ensures in
+    let four = c.first_past_four.result in
+    let pushed = c.push_four.ensures in
+    record {
+      answered = pushed.items ∙ answered-four (run_of ends offset 0) indices c.loop-place.runs.items place rows four at inv.answered
+          (found.first ∙ ap (λ e. run_at e (offset + rows.0)) inv.same) (found.second ∙ ap (λ e. run_at e (offset + rows.1)) inv.same)
+          (found.third ∙ ap (λ e. run_at e (offset + rows.2)) inv.same) (found.fourth ∙ ap (λ e. run_at e (offset + rows.3)) inv.same);
+      within = omega (arith, long, slice_get_within indices (place + 3) (Some (pos rows.3)) at.fourth);
+      counted = pushed.len ∙ ap (λ n. n + 4) inv.counted;
+      room = rw pushed.capacity inv.room;
+      same = found.same ∙ inv.same;
+      cost = four_searches_more c.loop-place.ends.tests c.first_past_four.new.ends.tests c.args.ends.now.tests (valid_count (take place indices)) (valid_count (take (place + 4) indices))
+          (digits (length ends)) inv.cost (rw inv.same at found.cost) (counted-four indices place rows at);
+    }
+
+pub loop-place-preserved : goal.loop-place-preserved
+loop-place-preserved g c =
+    let indices = optional_indices g.T.NativePType.number c.args.indices.now (mask_bits c.args.mask.now) in
+    let ends = c.args.ends.now.ends in
+    let place = c.loop-place.place in
+    let inv = c.loop-place.invariant in
+    let row = c.named_row.result in
+    let index : Option ℤ = option_map (λ n. pos n) row in
+    let pushed = c.push_run.ensures in
+    record {
+      answered = pushed.items ∙ answered-more (run_of ends c.args.offset 0) indices c.loop-place.runs.items place (run_of c.loop-place.ends.ends c.args.offset 0 index) index c.named_row.ensures inv.answered
+          (ap (λ e. run_of e c.args.offset 0 index) inv.same);
+      within = omega (arith, c.loop-place-test.true);
+      counted = pushed.len ∙ ap (λ n. n + 1) inv.counted;
+      room = rw pushed.capacity inv.room;
+      same = pushed.same ∙ inv.same;
+      cost = one_index_more indices place c.loop-place.ends.tests c.push_run.new.ends.tests c.args.ends.now.tests (digits (length ends)) row c.named_row.ensures inv.cost (rw inv.same at pushed.cost) pushed.untested;
+    }
+
+pub push_four-requires : goal.push_four-requires
+push_four-requires g c =
+    let indices = optional_indices g.T.NativePType.number c.args.indices.now (mask_bits c.args.mask.now) in
+    let long = length-optional_indices g.T.NativePType.number c.args.indices.now (mask_bits c.args.mask.now) c.requires.masked in
+    let inv = c.loop-place.invariant in
+    omega (arith, long, inv.counted, inv.room, slice_get_within indices (c.loop-place.place + 3) (Some (pos c.in-Some.rows.3)) c.in-Some.ensures.fourth)
+
+pub push_run-requires-clause-position : goal.push_run-requires-clause-position
+push_run-requires-clause-position g c =
+    let indices = optional_indices g.T.NativePType.number c.args.indices.now (mask_bits c.args.mask.now) in
+    position_if c.args.ends.now.ends c.args.offset indices c.loop-place.place c.named_row.result c.requires.in_window c.named_row.ensures
 
 pub returns-clause-runs : goal.returns-clause-runs
 returns-clause-runs g c =
