@@ -28,8 +28,9 @@ use std::alloc::Allocator;
 /// last one at `count`, and the ends count rows from the first. Ends and values keep their types; the number
 /// under a null is 0. Each run has to show a row, so hidden runs are dropped before.
 ///
-/// Where no neighbours show the same, nothing is copied: the values are answered as they are and the ends in the
-/// memory that they are in, moved where the offset is not 0. Else each run is looked at once more.
+/// Where no neighbours show the same, the values are answered as they are, and the ends in the memory that they are
+/// in, moved where the offset is not 0; ends that have another owner are copied first. Else each run is looked at once
+/// more.
 /// Refused as `OutOfMemory` alone.
 pub fn join_runs<A: Allocator + Copy>(
     alloc: A,
@@ -47,7 +48,8 @@ pub fn join_runs<A: Allocator + Copy>(
     ensures joined { IfOk result (λ parts. AreJoined ends values offset count parts.0 parts.1) }
 {
     if all_differ(&values) {
-        return Ok((ends_in_window(ends, offset, count), values));
+        let ends = ends_in_window(alloc, ends, offset, count)?;
+        return Ok((ends, values));
     }
     let joined = join_parts(alloc, &ends, &values, offset, count);
     drop(ends);
@@ -55,20 +57,26 @@ pub fn join_runs<A: Allocator + Copy>(
     joined
 }
 
-// The ends of runs, each of which shows a row, counted from the first row of the window.
+// The ends of runs, each of which shows a row, counted from the first row of the window: in the memory that they are
+// in where these are its only owner, and else in a copy.
 fn ends_in_window<A: Allocator + Copy>(
+    alloc: A,
     ends: PrimitiveArray<A>,
     offset: usize,
     count: usize,
-) -> PrimitiveArray<A>
+) -> VortexResult<PrimitiveArray<A>>
     requires plain { IsEndsType (primitive_dtype ends) }
     requires window { IsWindow (ends_of ends) offset count }
     requires shown { AllHaveRows (ends_of ends) offset count }
-    ensures ends { ends_of result ≡ map (λ end. min (end - offset) count) (ends_of ends) }
-    ensures dtype { primitive_dtype result ≡ primitive_dtype ends }
+    ensures only { IsOkUnless result VortexError.OutOfMemory }
+    ensures ends { IfOk result (λ moved. ends_of moved ≡ map (λ end. min (end - offset) count) (ends_of ends)) }
+    ensures dtype { IfOk result (λ moved. primitive_dtype moved ≡ primitive_dtype ends) }
 {
     let (stored, _) = ends.into_parts();
-    match_each_unsigned!(stored, items => stored_in_window(items, offset, count), _ => unreachable!())
+    match_each_unsigned!(stored, items => {
+        let items = items.into_vec(alloc)?;
+        Ok(stored_in_window(items, offset, count))
+    }, _ => unreachable!())
 }
 
 // The same of ends as they are stored.

@@ -22,5 +22,5 @@ returns-then-all_differ-clause-joined g c =
     let cover = Covers-run_rows (ends_of ends) (optional_numbers values) c.args.offset c.args.count c.requires.window long in
     let differ = c.all_differ.ensures.differ c.if-all_differ.true in
     let tight = tight-windowed rows (ends_of ends) (optional_numbers values) c.args.offset c.args.count cover c.requires.shown (λ k d h. differ k d (omega (arith, h, counted))) in
-    AreJoined-moved ends values c.ends_in_window.result c.args.offset c.args.count c.requires.window long
-    (subst (λ (moved : List ℕ). IsTightCover rows moved (optional_numbers values)) (sym c.ends_in_window.ensures.ends) tight) c.ends_in_window.ensures.dtype c.requires.computed
+    AreJoined-moved ends values c.in_ok-ends.ends c.args.offset c.args.count c.requires.window long
+    (subst (λ (moved : List ℕ). IsTightCover rows moved (optional_numbers values)) (sym c.in_ok-ends.ensures.ends) tight) c.in_ok-ends.ensures.dtype c.requires.computed
