@@ -13,6 +13,7 @@ ghost use Rattle.runend_array.specs.Encoding.{IsComputedFlat};
 use crate::array::RunEndArray;
 use crate::canonical::{Canonical, array_of};
 use crate::constant::ConstantArray;
+use crate::copies::{Buffers, copy_flat};
 use crate::lists::ListViewArray;
 use crate::session::ExecutionCtx;
 use crate::written::{no_rows, write_constant};
@@ -136,22 +137,34 @@ impl<A: Allocator + Copy> ArrayRef<A> {
         }
     }
 
-    /// An array that is equal in form, in memory of its own. Refused as `OutOfMemory` alone.
+    /// An array that is equal in form. Its buffers are shared with this one's where those are shared, and else copied.
+    /// Refused as `OutOfMemory` alone.
     pub fn try_clone(&self, ctx: &mut ExecutionCtx<A>) -> VortexResult<ArrayRef<A>>
         ensures only { IsOkUnless result VortexError.OutOfMemory }
         ensures form { IfOk result (λ array. column_of array ≡ column_of self.now) }
         ensures session { ctx.new ≡ ctx.old }
     {
-        self.clone_in(*ctx.allocator())
+        self.clone_in(*ctx.allocator(), Buffers::Shared)
+    }
+
+    /// An array that is equal in form, with ends, numbers, bits and views in buffers that are shared with none: those
+    /// that this one shows a part of may then be freed. The bytes of texts and the elements of lists stay shared.
+    /// Refused as `OutOfMemory` alone.
+    pub fn compact(&self, ctx: &mut ExecutionCtx<A>) -> VortexResult<ArrayRef<A>>
+        ensures only { IsOkUnless result VortexError.OutOfMemory }
+        ensures form { IfOk result (λ array. column_of array ≡ column_of self.now) }
+        ensures session { ctx.new ≡ ctx.old }
+    {
+        self.clone_in(*ctx.allocator(), Buffers::Compact)
     }
 
     #[cycle(clone_in)]
-    pub(crate) fn clone_in(&self, alloc: A) -> VortexResult<ArrayRef<A>>
+    pub(crate) fn clone_in(&self, alloc: A, buffers: Buffers) -> VortexResult<ArrayRef<A>>
         ensures only { IsOkUnless result VortexError.OutOfMemory }
         ensures form { IfOk result (λ array. column_of array ≡ column_of self.now) }
     {
         match self {
-            ArrayRef::ListView(lists) => match lists.clone_in(alloc) {
+            ArrayRef::ListView(lists) => match lists.clone_in(alloc, buffers) {
                 Ok(copy) => of_lists(alloc, copy),
                 Err(error) => Err(error),
             },
@@ -159,12 +172,12 @@ impl<A: Allocator + Copy> ArrayRef<A> {
                 Ok(copy) => Ok(ArrayRef::Constant(copy)),
                 Err(error) => Err(error),
             },
-            ArrayRef::RunEnd(array) => match array.clone_in(alloc) {
+            ArrayRef::RunEnd(array) => match array.clone_in(alloc, buffers) {
                 Ok(copy) => ArrayRef::of_runs(alloc, copy),
                 Err(error) => Err(error),
             },
             _ => {
-                let copy = self.lent_flat().try_clone(alloc)?;
+                let copy = copy_flat(alloc, self.lent_flat(), buffers)?;
                 Ok(array_of(copy))
             }
         }
@@ -210,7 +223,7 @@ impl<A: Allocator + Copy> ArrayRef<A> {
     {
         match self {
             ArrayRef::ListView(lists) => {
-                let copy = lists.clone_in(alloc)?;
+                let copy = lists.clone_in(alloc, Buffers::Shared)?;
                 Ok(Canonical::List(copy))
             }
             ArrayRef::Constant(array) => write_constant(alloc, array),

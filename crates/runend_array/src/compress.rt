@@ -59,7 +59,10 @@ fn encode_nulls<A: Allocator + Copy>(
     ensures encoding { IfOk result (λ parts. IsEncoding array.now parts.0 (column_of parts.1)) }
 {
     let ends = Vec::from_slice(alloc, &[array.len() as u64])?;
-    let ends = PrimitiveArray::new_unchecked(PrimitiveValues::U64(ends), Validity::NonNullable);
+    let ends = PrimitiveArray::new_unchecked(
+        PrimitiveValues::from_vec(ends),
+        Validity::NonNullable,
+    );
     let values = null_constant(array.dtype(), 1);
     Ok((ends, ArrayRef::Constant(values)))
 }

@@ -6,6 +6,7 @@ mod array_ref;
 mod canonical;
 pub mod compress;
 mod constant;
+mod copies;
 mod lists;
 pub mod ops;
 mod session;
@@ -18,7 +19,7 @@ pub use array::{
 pub use array_ref::ArrayRef;
 pub use canonical::{Canonical, array_of};
 pub use column_core::{
-    BitBuffer, BitBufferMut, BoolArray, CountedEnds, DType, DecimalArray, DecimalDType,
+    BitBuffer, BitBufferMut, BoolArray, Buffer, CountedEnds, DType, DecimalArray, DecimalDType,
     ElementDType, FlatColumn, Mask, NativePType, Nullability, PType, PrimitiveArray,
     PrimitiveValues, Scalar, ScalarValue, ScalarView, SetIndices, UnsignedPType, Validity,
     VarBinKind, VarBinViewArray, View, VortexError, VortexResult,

@@ -389,7 +389,10 @@ fn zeros_of<A: Allocator + Copy>(alloc: A, count: usize) -> VortexResult<ArrayRe
     ensures form { IfOk result (λ array. column_of array ≡ OfLeaf (OfNumbers (primitive_with U64 (replicate count (pos 0)) NeverNull))) }
 {
     let zeros = copies_of(alloc, 0u64, count)?;
-    let zeros = PrimitiveArray::new_unchecked(PrimitiveValues::U64(zeros), Validity::NonNullable);
+    let zeros = PrimitiveArray::new_unchecked(
+        PrimitiveValues::from_vec(zeros),
+        Validity::NonNullable,
+    );
     Ok(ArrayRef::Primitive(zeros))
 }
 

@@ -15,6 +15,7 @@ ghost use Rattle.runend_array.specs.Encoding.{IsComputedFlat};
 use super::{RunEndArray, plain_ends};
 use crate::array_ref::{ArrayRef, out_of_bounds};
 use crate::canonical::Canonical;
+use crate::copies::Buffers;
 use crate::lists::validity_in_runs;
 use crate::ops;
 use crate::session::ExecutionCtx;
@@ -64,22 +65,23 @@ impl<A: Allocator + Copy> RunEndArray<A> {
         }
     }
 
-    /// A run column that is equal in form, in memory of its own. Refused as `OutOfMemory` alone.
+    /// A run column that is equal in form. Its buffers are shared with this one's where those are shared, and else
+    /// copied. Refused as `OutOfMemory` alone.
     pub fn try_clone(&self, ctx: &mut ExecutionCtx<A>) -> VortexResult<RunEndArray<A>>
         ensures only { IsOkUnless result VortexError.OutOfMemory }
         ensures form { IfOk result (λ array. array ≡ self.now) }
         ensures session { ctx.new ≡ ctx.old }
     {
-        self.clone_in(*ctx.allocator())
+        self.clone_in(*ctx.allocator(), Buffers::Shared)
     }
 
     #[cycle(clone_in)]
-    pub(crate) fn clone_in(&self, alloc: A) -> VortexResult<RunEndArray<A>>
+    pub(crate) fn clone_in(&self, alloc: A, buffers: Buffers) -> VortexResult<RunEndArray<A>>
         ensures only { IsOkUnless result VortexError.OutOfMemory }
         ensures form { IfOk result (λ array. array ≡ self.now) }
     {
-        let ends = self.ends.clone_in(alloc)?;
-        let values = match self.values.clone_in(alloc) {
+        let ends = self.ends.clone_in(alloc, buffers)?;
+        let values = match self.values.clone_in(alloc, buffers) {
             Ok(values) => values,
             Err(error) => {
                 drop(ends);

@@ -6,7 +6,7 @@ ghost use Rattle.runend_array.specs.Lists.{IsRunUpTo, index_at as number_in_row,
 
 use crate::array_ref::ArrayRef;
 use crate::lists::stretch::Stretch;
-use column_core::{DType, Nullability, PType, PrimitiveValues, VortexError, VortexResult};
+use column_core::{Buffer, DType, Nullability, PType, PrimitiveValues, VortexError, VortexResult};
 use std::alloc::Allocator;
 
 /// Is it a flat column of u64 without null?
@@ -36,14 +36,15 @@ pub(crate) fn plain_number_at<A: Allocator + Copy>(column: &ArrayRef<A>, index: 
     }
 }
 
-/// The numbers of a flat column of u64 from row `start` to row `stop - 1`. Refused as `OutOfMemory`
+/// The numbers of a flat column of u64 from row `start` to row `stop - 1`, shared with it where it is
+/// shared. Refused as `OutOfMemory`
 /// alone.
 pub(crate) fn plain_numbers_between<A: Allocator + Copy>(
     column: &ArrayRef<A>,
     alloc: A,
     start: usize,
     stop: usize,
-) -> VortexResult<Vec<u64, A>>
+) -> VortexResult<Buffer<u64, A>>
     requires plain { IsPlainIndex (column_of column.now) }
     requires ordered { start ≤ stop }
     requires in_bounds { stop ≤ length (end_numbers (column_of column.now)) }
@@ -52,7 +53,7 @@ pub(crate) fn plain_numbers_between<A: Allocator + Copy>(
 {
     match column {
         ArrayRef::Primitive(numbers) => match numbers.values() {
-            PrimitiveValues::U64(items) => Ok(Vec::from_slice(alloc, &items[start..stop])?),
+            PrimitiveValues::U64(items) => Ok(items.slice(alloc, start..stop)?),
             _ => unreachable!(),
         },
         _ => unreachable!(),

@@ -20,6 +20,7 @@ ghost use Rattle.column_base.specs.ValidityForm.{HasLength, nullability_in};
 ghost use Rattle.column_base.specs.Validity.{form_of};
 
 use crate::array_ref::{ArrayRef, out_of_bounds};
+use crate::copies::Buffers;
 use crate::lists::index::{index_at, index_from, index_len, is_index};
 use crate::lists::runs::{index_in_runs, validity_in_runs};
 use crate::lists::slice::{index_between, validity_between};
@@ -438,20 +439,20 @@ impl<A: Allocator + Copy> ListViewArray<A> {
 
     /// The lists in the same form; the elements are shared. Refused as `OutOfMemory` alone.
     #[cycle(clone_in)]
-    pub(crate) fn clone_in(&self, alloc: A) -> VortexResult<ListViewArray<A>>
+    pub(crate) fn clone_in(&self, alloc: A, buffers: Buffers) -> VortexResult<ListViewArray<A>>
         ensures only { IsOkUnless result VortexError.OutOfMemory }
         ensures form { IfOk result (λ lists. lists ≡ self.now) }
     {
         let elements = self.elements.clone()?;
-        let offsets = self.offsets.clone_in(alloc)?;
-        let sizes = match self.sizes.clone_in(alloc) {
+        let offsets = self.offsets.clone_in(alloc, buffers)?;
+        let sizes = match self.sizes.clone_in(alloc, buffers) {
             Ok(sizes) => sizes,
             Err(error) => {
                 drop(offsets);
                 return Err(error);
             }
         };
-        let validity = match self.validity.clone_in(alloc) {
+        let validity = match self.validity.clone_in(alloc, buffers) {
             Ok(validity) => validity,
             Err(error) => {
                 drop(sizes);

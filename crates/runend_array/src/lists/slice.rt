@@ -10,18 +10,19 @@ use crate::array_ref::ArrayRef;
 use crate::lists::index::plain_numbers_between;
 use crate::validities::{RowValidity, told_by_rows};
 use column_core::{
-    BitBuffer, BitBufferMut, PrimitiveArray, PrimitiveValues, Validity, VortexError, VortexResult,
+    BitBuffer, BitBufferMut, Buffer, PrimitiveArray, PrimitiveValues, Validity, VortexError,
+    VortexResult,
 };
 use std::alloc::Allocator;
 
-/// The numbers of an index from row `start` to row `stop - 1`. Of runs each is looked at once. Refused
-/// as `OutOfMemory` alone.
+/// The numbers of an index from row `start` to row `stop - 1`, shared with a flat one where that is
+/// shared. Of runs each is looked at once. Refused as `OutOfMemory` alone.
 pub(super) fn numbers_between<A: Allocator + Copy>(
     alloc: A,
     index: &ArrayRef<A>,
     start: usize,
     stop: usize,
-) -> VortexResult<Vec<u64, A>>
+) -> VortexResult<Buffer<u64, A>>
     requires index { IsIndex (column_of index.now) }
     requires ordered { start ≤ stop }
     requires in_bounds { stop ≤ index_count (index_of (column_of index.now)) }
@@ -30,7 +31,10 @@ pub(super) fn numbers_between<A: Allocator + Copy>(
 {
     match index {
         ArrayRef::Primitive(_) => plain_numbers_between(index, alloc, start, stop),
-        ArrayRef::RunEnd(runs) => runs.numbers_between(alloc, start, stop),
+        ArrayRef::RunEnd(runs) => {
+            let numbers = runs.numbers_between(alloc, start, stop)?;
+            Ok(Buffer::shared(numbers))
+        }
         _ => unreachable!(),
     }
 }

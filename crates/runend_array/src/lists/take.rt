@@ -72,7 +72,7 @@ pub(crate) fn index_taken<A: Allocator + Copy>(
     ensures form { IfOk result (λ part. index_of (column_of part) ≡ PlainIndex (map (number_taken (index_of (column_of index.now)) positions.now (form_of places.now)) (range_with_len 0 (length positions.now)))) }
 {
     let numbers = numbers_at(alloc, index, positions, places)?;
-    let values = PrimitiveValues::U64(numbers);
+    let values = PrimitiveValues::from_vec(numbers);
     let flat = PrimitiveArray::new_unchecked(values, Validity::NonNullable);
     Ok(ArrayRef::Primitive(flat))
 }

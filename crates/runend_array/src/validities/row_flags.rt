@@ -8,6 +8,7 @@ ghost use Rattle.runend_array.specs.RowFlags.{IsValidityForm, IsValidityOf, cons
 
 use crate::array_ref::ArrayRef;
 use crate::constant::ConstantArray;
+use crate::copies::Buffers;
 use crate::validities::RowValidity;
 use column_core::{Nullability, ScalarView, Validity, VortexError, VortexResult};
 use std::alloc::Allocator;
@@ -60,7 +61,7 @@ impl<A: Allocator + Copy> ArrayRef<A> {
         ensures plain { IfOk result (λ rows. IsRowValidity rows) }
     {
         match self {
-            ArrayRef::ListView(lists) => lists.validity().clone_in(alloc),
+            ArrayRef::ListView(lists) => lists.validity().clone_in(alloc, Buffers::Shared),
             ArrayRef::Constant(array) => Ok(validity_of_constant(array)),
             ArrayRef::RunEnd(array) => array.validity_in(alloc),
             _ => copy_told(alloc, self.lent_flat().validity()),

@@ -5,6 +5,7 @@ ghost use Rattle.runend_array.specs.Fault.{rows_told};
 ghost use Rattle.runend_array.specs.Lists.{HasRows, IsFlagRunUpTo, flag_stop, row_flag_at, row_nullability};
 
 use crate::array::RunEndArray;
+use crate::copies::{Buffers, copy_bits};
 use crate::lists::Stretch;
 use column_core::{BitBuffer, Nullability, VortexError, VortexResult};
 use std::alloc::Allocator;
@@ -110,9 +111,9 @@ impl<A: Allocator + Copy> RowValidity<A> {
         }
     }
 
-    /// The same validity in the same form, in memory of its own. Refused as `OutOfMemory` alone.
+    /// The same validity in the same form. Refused as `OutOfMemory` alone.
     #[cycle(clone_in)]
-    pub(crate) fn clone_in(&self, alloc: A) -> VortexResult<RowValidity<A>>
+    pub(crate) fn clone_in(&self, alloc: A, buffers: Buffers) -> VortexResult<RowValidity<A>>
         ensures only { IsOkUnless result VortexError.OutOfMemory }
         ensures form { IfOk result (λ copy. validity_of copy ≡ validity_of self.now) }
         ensures plain { IsRowValidity self.now → IfOk result (λ copy. IsRowValidity copy) }
@@ -121,12 +122,12 @@ impl<A: Allocator + Copy> RowValidity<A> {
             RowValidity::NonNullable => Ok(RowValidity::NonNullable),
             RowValidity::AllValid => Ok(RowValidity::AllValid),
             RowValidity::AllInvalid => Ok(RowValidity::AllInvalid),
-            RowValidity::Bits(bits) => match bits.try_clone(alloc) {
+            RowValidity::Bits(bits) => match copy_bits(alloc, bits, buffers) {
                 Ok(copy) => Ok(RowValidity::Bits(copy)),
                 Err(error) => Err(error),
             },
             RowValidity::Runs(runs) => {
-                let copy = runs.clone_in(alloc)?;
+                let copy = runs.clone_in(alloc, buffers)?;
                 let boxed = Box::new(alloc, copy)?;
                 Ok(RowValidity::Runs(boxed))
             }

@@ -8,4 +8,4 @@ pub returns-clause-numbers : goal.returns-clause-numbers
 returns-clause-numbers g c =
     let items = c.in-U64.items.items in
     let stored = sym (naturals-of_pos items) ∙ ap (map unsigned_abs) (ap numbers (sym c.in-U64.is) ∙ c.values.ensures.shows) in
-    rw c.in-Primitive.is (c.in_ok-from_slice-in-U64.ensures.items ∙ ap (λ xs. slice_range xs c.args.start c.args.stop) (c.deref.ensures.value ∙ stored))
+    rw c.in-Primitive.is (c.in_ok-slice-in-U64.ensures ∙ ap (λ xs. slice_range xs c.args.start c.args.stop) stored)
