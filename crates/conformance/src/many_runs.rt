@@ -19,8 +19,8 @@ fn many_runs(alloc: Global) -> VortexResult<ArrayRef<Global>> {
         numbers.push(number)?;
         ends.push(number + 1)?;
     }
-    let ends = PrimitiveArray::try_new(PrimitiveValues::U32(ends), Validity::NonNullable)?;
-    let values = PrimitiveArray::try_new(PrimitiveValues::U32(numbers), Validity::NonNullable)?;
+    let ends = PrimitiveArray::try_new(PrimitiveValues::from_vec(ends), Validity::NonNullable)?;
+    let values = PrimitiveArray::try_new(PrimitiveValues::from_vec(numbers), Validity::NonNullable)?;
     let values = ArrayRef::Primitive(values);
     run_column(ends, values, 0, MANY as usize, &mut context(alloc))
 }
@@ -50,7 +50,7 @@ fn falling(alloc: Global) -> VortexResult<PrimitiveArray<Global>> {
     for passed in 0..MANY {
         numbers.push(MANY - 1 - passed)?;
     }
-    PrimitiveArray::try_new(PrimitiveValues::U32(numbers), Validity::NonNullable)
+    PrimitiveArray::try_new(PrimitiveValues::from_vec(numbers), Validity::NonNullable)
 }
 
 // All rows, the last one first.

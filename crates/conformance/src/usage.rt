@@ -30,7 +30,7 @@ fn rows_with_null(alloc: Global) -> VortexResult<PrimitiveArray<Global>> {
     valid.append_n(false, 2)?;
     valid.append(true)?;
     PrimitiveArray::try_new(
-        PrimitiveValues::I64(numbers),
+        PrimitiveValues::from_vec(numbers),
         Validity::from_bits(valid.freeze()),
     )
 }
@@ -50,7 +50,7 @@ fn rows_are_encoded_summed_and_sliced(rt: HostRuntime) -> Result<(), Fail> {
     let mut ctx = ExecutionCtx::new(session, rt.alloc());
 
     let rows = Vec::from_slice(rt.alloc(), &[4i64, 4, 4, 7, 7, 9])?;
-    let rows = PrimitiveArray::try_new(PrimitiveValues::I64(rows), Validity::NonNullable)?;
+    let rows = PrimitiveArray::try_new(PrimitiveValues::from_vec(rows), Validity::NonNullable)?;
     let runs = RunEnd::encode(ArrayRef::Primitive(rows), &mut ctx)?;
     let total = sum(&runs, &mut ctx);
     let part = slice(&runs, 2..5, &mut ctx);

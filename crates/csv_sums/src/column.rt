@@ -28,7 +28,7 @@ pub fn read_column<R: Read + Drop>(
         }
     }
     let validity = Validity::from_bits(flags.freeze());
-    Ok(PrimitiveArray::try_new(PrimitiveValues::I64(numbers), validity)?)
+    Ok(PrimitiveArray::try_new(PrimitiveValues::from_vec(numbers), validity)?)
 }
 
 // The place of the name among the header's fields.

@@ -103,7 +103,7 @@ impl<'a, A: Allocator + Copy> Listed<'a, A> {
 
 // A flat column of these numbers, for offsets and sizes.
 fn indices_of<A: Allocator + Copy>(numbers: Vec<u64, A>) -> ArrayRef<A> {
-    let numbers = PrimitiveValues::U64(numbers);
+    let numbers = PrimitiveValues::from_vec(numbers);
     ArrayRef::Primitive(PrimitiveArray::new_unchecked(numbers, Validity::NonNullable))
 }
 
