@@ -1,0 +1,106 @@
+-- Run lengths are read as they are written, and in no other way.
+use Rattle.std.proofs.Common.{◌≡◌, ℕ, zero, suc, ◌+◌, ◌-◌, ◌*◌, ◌^◌, ◌<◌, ◌≤◌, Bool, true, false, List, [], ◌∷◌, ◌++◌, length, refl, sym, ap, subst, ◌∙◌, arith, append_assoc}
+use Rattle.std.proofs.lemmas.List.{append-nil, length-append}
+use Rattle.varints.specs.Varint.{varint, BeginsWithNoShortest}
+use Rattle.column_fields.specs.Lengths.{lengths_bytes, Rises, HasNoEnds}
+use Rattle.varints.proofs.Forms.{varint_same, varint_some}
+use Rattle.column_fields.proofs.LengthLaws.{lengths_cons, lengths_none}
+
+-- the ends that are read, and what they have to do with the rest
+pub record Progress (bytes rest : List ℕ) (first : Bool) (start : ℕ) (read : List ℕ) : Type 0 where
+  pub onward : (tail : List ℕ) → rest ≡ lengths_bytes start tail → bytes ≡ lengths_bytes 0 (read ++ tail)
+  pub rises : (tail : List ℕ) → Rises first start tail → Rises true 0 (read ++ tail)
+  pub only : (all : List ℕ) → Rises true 0 all → bytes ≡ lengths_bytes 0 all → (tail : List ℕ) × (all ≡ read ++ tail) × Rises first start tail × (rest ≡ lengths_bytes start tail)
+
+pub started : (bytes read : List ℕ) → read ≡ [] → Progress bytes bytes true 0 read
+started bytes read none = rw none (record { onward = λ tail e. e; rises = λ tail h. h; only = λ all h e. (all, refl, h, e) })
+
+rises_none : (first : Bool) (start : ℕ) → Rises first start []
+unfolding Rises
+rises_none first start = tt
+
+rises_cons : (first : Bool) (start end : ℕ) (tail : List ℕ) → start ≤ end → end < 2 ^ 64 → (first ≡ false → start < end) → Rises false end tail → Rises first start (end ∷ tail)
+unfolding Rises
+rises_cons first start end tail a b c d = (a, b, c, d)
+
+record Parts (first : Bool) (start end : ℕ) (tail : List ℕ) : Type 0 where
+  pub le : start ≤ end
+  pub small : end < 2 ^ 64
+  pub later : first ≡ false → start < end
+  pub rest : Rises false end tail
+
+rises_parts : (first : Bool) (start end : ℕ) (tail : List ℕ) → Rises first start (end ∷ tail) → Parts first start end tail
+unfolding Rises
+rises_parts first start end tail h = record { le = h.0; small = h.1; later = h.2; rest = h.3 }
+
+-- the next end of runs whose lengths begin with this one
+record Next (first : Bool) (start len : ℕ) (after tail : List ℕ) : Type 0 where
+  pub others : List ℕ
+  pub end : ℕ
+  pub is : tail ≡ end ∷ others
+  pub end-is : end ≡ start + len
+  pub parts : Parts first start end others
+  pub rest : after ≡ lengths_bytes end others
+
+next_at : (first : Bool) (start len : ℕ) (rest after tail : List ℕ) → len < 2 ^ 64 → rest ≡ varint len ++ after → Rises first start tail → rest ≡ lengths_bytes start tail → Next first start len after tail
+next_at first start len rest after [] small r h e = absurd (omega (arith, ap length r, length-append (varint len) after, varint_some len small, ap length e, ap length (lengths_none start)))
+next_at first start len rest after (end ∷ others) small r h e =
+    let p = rises_parts first start end others h in
+    let same = varint_same len (end - start) after (lengths_bytes end others) small (omega (arith, p.small)) (sym r ∙ e ∙ lengths_cons start end others) in
+    record { others = others; end = end; is = refl; end-is = omega (arith, same.0, p.le); parts = p; rest = same.1 }
+
+pub one_more : (bytes rest after : List ℕ) (first : Bool) (start len end : ℕ) (read new : List ℕ) → Progress bytes rest first start read → len < 2 ^ 64 → rest ≡ varint len ++ after → (first ≡ false → 0 < len) → end ≡ start + len → end < 2 ^ 64 → new ≡ read ++ end ∷ [] → Progress bytes after false end new
+one_more bytes rest after first start len end read new h small r some is fits n = rw n (record {
+  onward = λ tail e.
+      let here : rest ≡ lengths_bytes start (end ∷ tail) = r ∙ ap (λ (t : List ℕ). varint len ++ t) e ∙ ap (λ (k : ℕ). varint k ++ lengths_bytes end tail) (omega arith) ∙ sym (lengths_cons start end tail) in
+      h.onward (end ∷ tail) here ∙ ap (lengths_bytes 0) (sym (append_assoc read (end ∷ []) tail));
+  rises = λ tail k. subst (λ (t : List ℕ). Rises true 0 t) (sym (append_assoc read (end ∷ []) tail)) (h.rises (end ∷ tail) (rises_cons first start end tail (omega arith) fits (λ e. let lt : 0 < len = some e in omega arith) k));
+  only = λ all k e.
+      let o = h.only all k e in
+      let x = next_at first start len rest after o.0 small r o.2 o.3 in
+      let e-is : x.end ≡ end = x.end-is ∙ sym is in
+      (x.others, o.1 ∙ ap (λ (t : List ℕ). read ++ t) (x.is ∙ ap (λ (k : ℕ). k ∷ x.others) e-is) ∙ sym (append_assoc read (end ∷ []) x.others), subst (λ (k : ℕ). Rises false k x.others) e-is x.parts.rest, subst (λ (k : ℕ). after ≡ lengths_bytes k x.others) e-is x.rest);
+})
+
+pub all_read : (bytes rest : List ℕ) (first : Bool) (start : ℕ) (read : List ℕ) → Progress bytes rest first start read → rest ≡ [] → (bytes ≡ lengths_bytes 0 read) × Rises true 0 read
+all_read bytes rest first start read h none =
+    (h.onward [] (none ∙ sym (lengths_none start)) ∙ ap (lengths_bytes 0) (append-nil read), subst (λ (t : List ℕ). Rises true 0 t) (append-nil read) (h.rises [] (rises_none first start)))
+
+no_length_at : (rest tail : List ℕ) (first : Bool) (start : ℕ) → 0 < length rest → BeginsWithNoShortest rest → Rises first start tail → rest ≡ lengths_bytes start tail → ⊥
+no_length_at rest [] first start some h k e = omega (arith, ap length e, ap length (lengths_none start))
+no_length_at rest (end ∷ others) first start some h k e = let p = rises_parts first start end others k in h.none (end - start) (lengths_bytes end others) (omega (arith, p.small)) (e ∙ lengths_cons start end others)
+
+pub no_length : (bytes rest : List ℕ) (first : Bool) (start : ℕ) (read : List ℕ) → Progress bytes rest first start read → 0 < length rest → BeginsWithNoShortest rest → HasNoEnds bytes
+no_length bytes rest first start read h some absent = record { none = λ ends k e. let o = h.only ends k e in no_length_at rest o.0 first start some absent o.2 o.3 }
+
+pub no_row : (bytes rest after : List ℕ) (first : Bool) (start len : ℕ) (read : List ℕ) → Progress bytes rest first start read → len < 2 ^ 64 → rest ≡ varint len ++ after → first ≡ false → len ≡ 0 → HasNoEnds bytes
+no_row bytes rest after first start len read h small r later none = record {
+  none = λ ends k e.
+      let o = h.only ends k e in
+      let x = next_at first start len rest after o.0 small r o.2 o.3 in
+      omega (arith, x.parts.later later, x.end-is);
+}
+
+pub too_far : (bytes rest after : List ℕ) (first : Bool) (start len : ℕ) (read : List ℕ) → Progress bytes rest first start read → len < 2 ^ 64 → rest ≡ varint len ++ after → 2 ^ 64 ≤ start + len → HasNoEnds bytes
+too_far bytes rest after first start len read h small r far = record {
+  none = λ ends k e.
+      let o = h.only ends k e in
+      let x = next_at first start len rest after o.0 small r o.2 o.3 in
+      omega (arith, x.parts.small, x.end-is);
+}
+
+pub shorter : (len : ℕ) (rest after : List ℕ) → len < 2 ^ 64 → rest ≡ varint len ++ after → length after < length rest
+shorter len rest after small r = omega (arith, ap length r, length-append (varint len) after, varint_some len small)
+
+-- ends that rise have lengths of their own
+pub lengths_same : (first : Bool) (start : ℕ) (a b : List ℕ) → Rises first start a → Rises first start b → lengths_bytes start a ≡ lengths_bytes start b → a ≡ b
+lengths_same first start [] [] h k e = refl
+lengths_same first start [] (d ∷ b) h k e =
+    let p = rises_parts first start d b k in
+    absurd (omega (arith, ap length e, ap length (lengths_none start), ap length (lengths_cons start d b), length-append (varint (d - start)) (lengths_bytes d b), varint_some (d - start) (omega (arith, p.small))))
+lengths_same first start (c ∷ a) b h k e =
+    let p = rises_parts first start c a h in
+    let x = next_at first start (c - start) (lengths_bytes start (c ∷ a)) (lengths_bytes c a) b (omega (arith, p.small)) (lengths_cons start c a) k e in
+    let e-is : x.end ≡ c = omega (arith, x.end-is, p.le) in
+    let tails : a ≡ x.others = lengths_same false c a x.others p.rest (subst (λ (n : ℕ). Rises false n x.others) e-is x.parts.rest) (x.rest ∙ ap (λ (n : ℕ). lengths_bytes n x.others) e-is) in
+    ap (λ (t : List ℕ). c ∷ t) tails ∙ ap (λ (n : ℕ). n ∷ x.others) (sym e-is) ∙ sym x.is

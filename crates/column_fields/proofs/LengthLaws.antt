@@ -1,0 +1,39 @@
+-- Run lengths are those of ends.
+use Rattle.std.proofs.Common.{◌≡◌, ℕ, zero, suc, ◌+◌, ◌-◌, ◌*◌, ◌^◌, ◌<◌, ◌≤◌, ℤ, pos, List, [], ◌∷◌, ◌++◌, length, get_or, map, drop, refl, sym, ap, subst, ◌∙◌, arith, append_assoc, add-one}
+use Rattle.std.specs.Prelude.{unsigned_abs}
+use Rattle.std.specs.List.{flat_map}
+use Rattle.std.proofs.lemmas.List.{append-nil, length-append, drop_all, nil_from_length}
+use Rattle.std.proofs.Math.Seq.{drop-cons}
+use Rattle.varints.specs.Varint.{varint}
+use Rattle.column_fields.specs.Field.{bytes_field}
+use Rattle.column_fields.specs.Lengths.{lengths_from, lengths_bytes}
+
+-- the ends of unsigned numbers are these numbers
+pub ends_stored : (ns : List ℕ) → map unsigned_abs (map (λ (n : ℕ). pos n) ns) ≡ map (λ n. n) ns
+ends_stored [] = refl
+ends_stored (n ∷ ns) = ap (λ xs. n ∷ xs) (ends_stored ns)
+
+pub lengths_cons : (start end : ℕ) (ends : List ℕ) → lengths_bytes start (end ∷ ends) ≡ varint (end - start) ++ lengths_bytes end ends
+unfolding lengths_bytes lengths_from
+lengths_cons start end ends = refl
+
+pub lengths_none : (start : ℕ) → lengths_bytes start [] ≡ []
+unfolding lengths_bytes lengths_from
+lengths_none start = refl
+
+ahead : {X : Type 0} (xs : List X) (i : ℕ) (x : X) → i < length xs → x ≡ get_or xs i x → drop i xs ≡ x ∷ drop (i + 1) xs
+ahead xs i x lt is = drop-cons xs i x lt ∙ ap (λ y. y ∷ drop (suc i) xs) (sym is) ∙ ap (λ (k : ℕ). x ∷ drop k xs) (sym (add-one i))
+
+pub lengths_step : {X : Type 0} (f : X → ℕ) (xs : List X) (i start : ℕ) (x : X) (out new whole : List ℕ) → i < length xs → x ≡ get_or xs i x → out ++ lengths_bytes start (map f (drop i xs)) ≡ whole → new ≡ out ++ varint (f x - start) → new ++ lengths_bytes (f x) (map f (drop (i + 1) xs)) ≡ whole
+lengths_step f xs i start x out new whole lt is inv n =
+    let one : lengths_bytes start (map f (drop i xs)) ≡ varint (f x - start) ++ lengths_bytes (f x) (map f (drop (i + 1) xs)) = ap (λ ys. lengths_bytes start (map f ys)) (ahead xs i x lt is) ∙ lengths_cons start (f x) (map f (drop (i + 1) xs)) in
+    ap (λ (t : List ℕ). t ++ lengths_bytes (f x) (map f (drop (i + 1) xs))) n ∙ append_assoc out (varint (f x - start)) (lengths_bytes (f x) (map f (drop (i + 1) xs))) ∙ ap (λ (t : List ℕ). out ++ t) (sym one) ∙ inv
+
+pub lengths_done : {X : Type 0} (f : X → ℕ) (xs : List X) (i start : ℕ) (out whole : List ℕ) → length xs ≤ i → out ++ lengths_bytes start (map f (drop i xs)) ≡ whole → out ≡ whole
+lengths_done f xs i start out whole le inv =
+    let none : lengths_bytes start (map f (drop i xs)) ≡ [] = ap (λ ys. lengths_bytes start (map f ys)) (drop_all i xs le) ∙ lengths_none start in
+    sym (append-nil out) ∙ ap (λ (t : List ℕ). out ++ t) (sym none) ∙ inv
+
+pub puts_bytes : (field count : ℕ) (content old mid new : List ℕ) → count ≡ length content → mid ≡ old ++ (varint (field * 8 + 2) ++ varint count) → new ≡ mid ++ content → new ≡ old ++ bytes_field field content
+unfolding bytes_field
+puts_bytes field count content old mid new c m n = rw (n, m, c) (simp append_assoc)

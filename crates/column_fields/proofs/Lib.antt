@@ -1,0 +1,13 @@
+pub mod FieldLaws
+pub mod TypeLaws
+pub mod NumberLaws
+pub mod NumberSame
+pub mod BitLaws
+pub mod BitReading
+pub mod Refusals
+pub mod ValidityLaws
+pub mod LengthLaws
+pub mod EndReading
+pub mod HeaderLaws
+pub mod FlatFieldLaws
+pub mod RunFieldLaws

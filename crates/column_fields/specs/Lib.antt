@@ -1,0 +1,10 @@
+pub mod Field
+pub mod Types
+pub mod NumberBytes
+pub mod BitBytes
+pub mod Refusal
+pub mod Validity
+pub mod Lengths
+pub mod Header
+pub mod FlatFields
+pub mod RunFields

@@ -1,0 +1,116 @@
+//! Fields of a message, in their one spelling.
+ghost use Rattle.std.specs.Prelude.{◌≡◌, ◌≢◌, ◌+◌, ◌*◌, ◌^◌, ◌<◌, ◌≤◌, ◌++◌, length, IfSome, IfNone, OnOk, IsOkUnless};
+ghost use Rattle.varints.specs.Varint.{varint};
+ghost use Rattle.column_fields.specs.Field.{number_field, bytes_field, HasNoNumberField, HasNoConstantField, HasNoBytesField, IsNoBytesField};
+
+use column_base::{VortexError, VortexResult};
+use std::alloc::Allocator;
+use varints::{push_varint, read_shortest};
+
+/// Writes the shortest varint of a number at the end.
+pub fn put_varint<A: Allocator>(out: &mut Vec<u8, A>, number: u64) -> VortexResult<()>
+    ensures ok { OnOk result (out.new.items ≡ out.old.items ++ varint number) }
+    ensures only { IsOkUnless result VortexError.OutOfMemory }
+{
+    out.reserve(10)?;
+    push_varint(out, number);
+    Ok(())
+}
+
+/// Writes a field with a number.
+pub fn put_number<A: Allocator>(out: &mut Vec<u8, A>, field: u64, number: u64) -> VortexResult<()>
+    requires { field < 16 }
+    ensures ok { OnOk result (out.new.items ≡ out.old.items ++ number_field field number) }
+    ensures only { IsOkUnless result VortexError.OutOfMemory }
+{
+    put_varint(out, field * 8)?;
+    put_varint(out, number)?;
+    Ok(())
+}
+
+/// Writes the key and the length of a field of so many bytes, which the caller puts behind them.
+pub fn put_bytes_key<A: Allocator>(
+    out: &mut Vec<u8, A>,
+    field: u64,
+    count: usize,
+) -> VortexResult<()>
+    requires { field < 16 }
+    ensures ok { OnOk result (out.new.items ≡ out.old.items ++ (varint (field * 8 + 2) ++ varint count)) }
+    ensures only { IsOkUnless result VortexError.OutOfMemory }
+{
+    put_varint(out, field * 8 + 2)?;
+    put_varint(out, count as u64)?;
+    Ok(())
+}
+
+/// Writes a field with bytes.
+pub fn put_bytes<A: Allocator>(out: &mut Vec<u8, A>, field: u64, content: &[u8]) -> VortexResult<()>
+    requires { field < 16 }
+    ensures ok { OnOk result (out.new.items ≡ out.old.items ++ bytes_field field content.now) }
+    ensures only { IsOkUnless result VortexError.OutOfMemory }
+{
+    put_bytes_key(out, field, content.len())?;
+    out.extend_from_slice(content)?;
+    Ok(())
+}
+
+/// The number of the field at the front, if it has that field number, and the bytes after it.
+pub fn read_number(bytes: &[u8], field: u64) -> Option<(u64, &[u8])>
+    requires { field < 16 }
+    ensures found { IfSome result (λ r. bytes.now ≡ number_field field r.0 ++ r.1.now) }
+    ensures small { IfSome result (λ r. r.0 < 2 ^ 64) }
+    ensures none { IfNone result (HasNoNumberField field bytes.now) }
+{
+    let (key, rest) = read_shortest(bytes)?;
+    if key != field * 8 {
+        return None;
+    }
+    let (number, rest) = read_shortest(rest)?;
+    Some((number, rest))
+}
+
+/// The bytes after the field at the front, if it is that field with that number.
+pub fn read_constant(bytes: &[u8], field: u64, number: u64) -> Option<&[u8]>
+    requires { field < 16 }
+    ensures found { IfSome result (λ rest. bytes.now ≡ number_field field number ++ rest.now) }
+    ensures none { IfNone result (HasNoConstantField field number bytes.now) }
+{
+    let (found, rest) = read_number(bytes, field)?;
+    if found != number {
+        return None;
+    }
+    Some(rest)
+}
+
+/// The bytes in the field at the front, if it has that field number, and the bytes after it.
+pub fn read_bytes(bytes: &[u8], field: u64) -> Option<(&[u8], &[u8])>
+    requires { field < 16 }
+    ensures found { IfSome result (λ r. bytes.now ≡ bytes_field field r.0.now ++ r.1.now) }
+    ensures small { IfSome result (λ r. length r.0.now < 2 ^ 64) }
+    ensures none { IfNone result (HasNoBytesField field bytes.now) }
+{
+    let (key, rest) = read_shortest(bytes)?;
+    if key != field * 8 + 2 {
+        return None;
+    }
+    let (count, rest) = read_shortest(rest)?;
+    if count > rest.len() as u64 {
+        return None;
+    }
+    let (content, rest) = rest.split_at(count as usize);
+    Some((content, rest))
+}
+
+/// The bytes in the field that the bytes are, if it has that field number and nothing comes behind it.
+pub fn read_last_bytes(bytes: &[u8], field: u64) -> Option<&[u8]>
+    requires { field < 16 }
+    ensures found { IfSome result (λ content. bytes.now ≡ bytes_field field content.now) }
+    ensures small { IfSome result (λ content. length content.now < 2 ^ 64) }
+    ensures none { IfNone result (IsNoBytesField field bytes.now) }
+{
+    let (content, rest) = read_bytes(bytes, field)?;
+    if rest.len() != 0 {
+        return None;
+    }
+    Some(content)
+}

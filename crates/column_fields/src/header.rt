@@ -1,0 +1,40 @@
+//! What each message begins with.
+ghost use Rattle.std.specs.Prelude.{◌≡◌, ◌^◌, ◌<◌, ◌++◌, IfSome, IfNone, OnOk, IsOkUnless};
+ghost use Rattle.column_fields.specs.Header.{header_bytes, HasNoHeader};
+
+use crate::fields::{put_number, read_constant, read_number};
+use column_base::{VortexError, VortexResult};
+use std::alloc::Allocator;
+
+/// The number of the type of the rows, the number of the form, and how many rows.
+#[derive(Clone, Copy)]
+pub struct Header {
+    pub kind: u64,
+    pub form: u64,
+    pub rows: u64,
+}
+
+/// Writes a header at the end. Refused as `OutOfMemory` alone.
+pub fn put_header<A: Allocator>(out: &mut Vec<u8, A>, stated: Header) -> VortexResult<()>
+    ensures ok { OnOk result (out.new.items ≡ out.old.items ++ header_bytes stated.kind stated.form stated.rows) }
+    ensures only { IsOkUnless result VortexError.OutOfMemory }
+{
+    put_number(out, 1, 1)?;
+    put_number(out, 2, stated.kind)?;
+    put_number(out, 3, stated.form)?;
+    put_number(out, 4, stated.rows)?;
+    Ok(())
+}
+
+/// The header at the front, and the bytes after it.
+pub fn read_header(bytes: &[u8]) -> Option<(Header, &[u8])>
+    ensures found { IfSome result (λ r. bytes.now ≡ header_bytes r.0.kind r.0.form r.0.rows ++ r.1.now) }
+    ensures small { IfSome result (λ r. (r.0.kind < 2 ^ 64) × (r.0.form < 2 ^ 64) × (r.0.rows < 2 ^ 64)) }
+    ensures none { IfNone result (HasNoHeader bytes.now) }
+{
+    let after_version = read_constant(bytes, 1, 1)?;
+    let (kind, after_kind) = read_number(after_version, 2)?;
+    let (form, after_form) = read_number(after_kind, 3)?;
+    let (rows, rest) = read_number(after_form, 4)?;
+    Some((Header { kind, form, rows }, rest))
+}

@@ -1,0 +1,109 @@
+//! Buffers of native numbers as bytes.
+ghost use Rattle.std.specs.Prelude.{◌≡◌, ◌+◌, ◌*◌, ◌++◌, length, map, All, OnOk, IfOk, IsOkUnless, vec_capacity};
+ghost use Rattle.column_base.specs.Types.{HasNumber};
+ghost use Rattle.column_base.specs.Numbers.{numbers, ptype_of};
+ghost use Rattle.column_fields.specs.NumberBytes.{numbers_bytes, size_of};
+
+use crate::stored::StoredNumber;
+use column_base::{PType, PrimitiveValues, VortexError, VortexResult, match_each_native};
+use std::alloc::Allocator;
+
+/// How many bytes a number of that type has.
+pub fn size_of_type(ptype: PType) -> usize
+    ensures { result ≡ size_of ptype }
+{
+    match ptype {
+        PType::U8 | PType::I8 => 1,
+        PType::U16 | PType::I16 => 2,
+        PType::U32 | PType::I32 => 4,
+        PType::U64 | PType::I64 => 8,
+    }
+}
+
+/// Writes the numbers at the end.
+fn put_all<T: StoredNumber, A: Allocator>(out: &mut Vec<u8, A>, items: &[T]) -> VortexResult<()>
+    ensures ok { OnOk result (out.new.items ≡ out.old.items ++ numbers_bytes T.PTYPE (map T.number items.now)) }
+    ensures fits { OnOk result (All (λ n. HasNumber T.PTYPE n) (map T.number items.now)) }
+    ensures only { IsOkUnless result VortexError.OutOfMemory }
+{
+    for item in items {
+        item.put(out)?;
+    }
+    Ok(())
+}
+
+/// Writes the numbers of a buffer at the end.
+pub fn put_values<A: Allocator, B: Allocator>(
+    out: &mut Vec<u8, B>,
+    values: &PrimitiveValues<A>,
+) -> VortexResult<()>
+    ensures ok { OnOk result (out.new.items ≡ out.old.items ++ numbers_bytes (ptype_of values.now) (numbers values.now)) }
+    ensures fits { OnOk result (All (λ n. HasNumber (ptype_of values.now) n) (numbers values.now)) }
+    ensures only { IsOkUnless result VortexError.OutOfMemory }
+{
+    match_each_native!(values, items => put_all(out, items.as_slice()))
+}
+
+/// So many numbers, of which these are the bytes. Takes memory for them, and for no more.
+fn load_all<T: StoredNumber, A: Allocator>(
+    alloc: A,
+    bytes: &[u8],
+    count: usize,
+) -> VortexResult<Vec<T, A>>
+    requires { length bytes.now ≡ count * size_of T.PTYPE }
+    ensures shows { IfOk result (λ v. numbers_bytes T.PTYPE (map T.number v.items) ≡ bytes.now) }
+    ensures counted { IfOk result (λ v. length v.items ≡ count) }
+    ensures fits { IfOk result (λ v. All (λ n. HasNumber T.PTYPE n) (map T.number v.items)) }
+    ensures memory { IfOk result (λ v. vec_capacity v ≡ count) }
+    ensures only { IsOkUnless result VortexError.OutOfMemory }
+{
+    let mut items = Vec::with_capacity(alloc, count)?;
+    let mut rest = bytes;
+    for _row in 0..count {
+        let (front, back) = rest.split_at(T::size());
+        items.push_reserved(T::load(front));
+        rest = back;
+    }
+    Ok(items)
+}
+
+fn load_as<T: StoredNumber, A: Allocator + Copy>(
+    alloc: A,
+    bytes: &[u8],
+    count: usize,
+) -> VortexResult<PrimitiveValues<A>>
+    requires { length bytes.now ≡ count * size_of T.PTYPE }
+    ensures typed { IfOk result (λ v. ptype_of v ≡ T.PTYPE) }
+    ensures shows { IfOk result (λ v. numbers_bytes T.PTYPE (numbers v) ≡ bytes.now) }
+    ensures counted { IfOk result (λ v. length (numbers v) ≡ count) }
+    ensures fits { IfOk result (λ v. All (λ n. HasNumber T.PTYPE n) (numbers v)) }
+    ensures only { IsOkUnless result VortexError.OutOfMemory }
+{
+    Ok(T::wrap(load_all::<T, A>(alloc, bytes, count)?))
+}
+
+/// A buffer of so many numbers of a type, of which these are the bytes. Takes memory for them, and for no more.
+pub fn load_values<A: Allocator + Copy>(
+    alloc: A,
+    ptype: PType,
+    bytes: &[u8],
+    count: usize,
+) -> VortexResult<PrimitiveValues<A>>
+    requires { length bytes.now ≡ count * size_of ptype }
+    ensures typed { IfOk result (λ v. ptype_of v ≡ ptype) }
+    ensures shows { IfOk result (λ v. numbers_bytes ptype (numbers v) ≡ bytes.now) }
+    ensures counted { IfOk result (λ v. length (numbers v) ≡ count) }
+    ensures fits { IfOk result (λ v. All (λ n. HasNumber ptype n) (numbers v)) }
+    ensures only { IsOkUnless result VortexError.OutOfMemory }
+{
+    match ptype {
+        PType::U8 => load_as::<u8, A>(alloc, bytes, count),
+        PType::U16 => load_as::<u16, A>(alloc, bytes, count),
+        PType::U32 => load_as::<u32, A>(alloc, bytes, count),
+        PType::U64 => load_as::<u64, A>(alloc, bytes, count),
+        PType::I8 => load_as::<i8, A>(alloc, bytes, count),
+        PType::I16 => load_as::<i16, A>(alloc, bytes, count),
+        PType::I32 => load_as::<i32, A>(alloc, bytes, count),
+        PType::I64 => load_as::<i64, A>(alloc, bytes, count),
+    }
+}

@@ -1,0 +1,150 @@
+//! Native numbers as bytes, the lowest first.
+ghost use Rattle.std.specs.Prelude.{◌≡◌, ◌++◌, length, OnOk, IsOkUnless};
+ghost use Rattle.column_fields.specs.NumberBytes.{number_bytes, size_of};
+ghost use Rattle.column_base.specs.Types.{HasNumber};
+
+use column_base::{NativePType, VortexError, VortexResult};
+use std::alloc::Allocator;
+
+/// A native number that is stored as bytes.
+pub(crate) trait StoredNumber: NativePType {
+    /// How many bytes it has.
+    fn size() -> usize
+        ensures { result ≡ size_of Self.PTYPE };
+
+    /// Writes it at the end.
+    fn put<A: Allocator>(self, out: &mut Vec<u8, A>) -> VortexResult<()>
+        ensures fits { HasNumber Self.PTYPE (Self.number self) }
+        ensures ok { OnOk result (out.new.items ≡ out.old.items ++ number_bytes Self.PTYPE (Self.number self)) }
+        ensures only { IsOkUnless result VortexError.OutOfMemory };
+
+    /// The number of these bytes.
+    fn load(bytes: &[u8]) -> Self
+        requires { length bytes.now ≡ size_of Self.PTYPE }
+        ensures shows { number_bytes Self.PTYPE (Self.number result) ≡ bytes.now }
+        ensures fits { HasNumber Self.PTYPE (Self.number result) };
+}
+
+impl StoredNumber for u8 {
+    fn size() -> usize {
+        1
+    }
+
+    fn put<A: Allocator>(self, out: &mut Vec<u8, A>) -> VortexResult<()> {
+        out.extend_from_slice(&self.to_le_bytes())?;
+        Ok(())
+    }
+
+    fn load(bytes: &[u8]) -> u8 {
+        u8::from_le_bytes([bytes[0]])
+    }
+}
+
+impl StoredNumber for u16 {
+    fn size() -> usize {
+        2
+    }
+
+    fn put<A: Allocator>(self, out: &mut Vec<u8, A>) -> VortexResult<()> {
+        out.extend_from_slice(&self.to_le_bytes())?;
+        Ok(())
+    }
+
+    fn load(bytes: &[u8]) -> u16 {
+        u16::from_le_bytes([bytes[0], bytes[1]])
+    }
+}
+
+impl StoredNumber for u32 {
+    fn size() -> usize {
+        4
+    }
+
+    fn put<A: Allocator>(self, out: &mut Vec<u8, A>) -> VortexResult<()> {
+        out.extend_from_slice(&self.to_le_bytes())?;
+        Ok(())
+    }
+
+    fn load(bytes: &[u8]) -> u32 {
+        u32::from_le_bytes([bytes[0], bytes[1], bytes[2], bytes[3]])
+    }
+}
+
+impl StoredNumber for u64 {
+    fn size() -> usize {
+        8
+    }
+
+    fn put<A: Allocator>(self, out: &mut Vec<u8, A>) -> VortexResult<()> {
+        out.extend_from_slice(&self.to_le_bytes())?;
+        Ok(())
+    }
+
+    fn load(bytes: &[u8]) -> u64 {
+        u64::from_le_bytes([
+            bytes[0], bytes[1], bytes[2], bytes[3], bytes[4], bytes[5], bytes[6], bytes[7],
+        ])
+    }
+}
+
+impl StoredNumber for i8 {
+    fn size() -> usize {
+        1
+    }
+
+    fn put<A: Allocator>(self, out: &mut Vec<u8, A>) -> VortexResult<()> {
+        out.extend_from_slice(&self.to_le_bytes())?;
+        Ok(())
+    }
+
+    fn load(bytes: &[u8]) -> i8 {
+        i8::from_le_bytes([bytes[0]])
+    }
+}
+
+impl StoredNumber for i16 {
+    fn size() -> usize {
+        2
+    }
+
+    fn put<A: Allocator>(self, out: &mut Vec<u8, A>) -> VortexResult<()> {
+        out.extend_from_slice(&self.to_le_bytes())?;
+        Ok(())
+    }
+
+    fn load(bytes: &[u8]) -> i16 {
+        i16::from_le_bytes([bytes[0], bytes[1]])
+    }
+}
+
+impl StoredNumber for i32 {
+    fn size() -> usize {
+        4
+    }
+
+    fn put<A: Allocator>(self, out: &mut Vec<u8, A>) -> VortexResult<()> {
+        out.extend_from_slice(&self.to_le_bytes())?;
+        Ok(())
+    }
+
+    fn load(bytes: &[u8]) -> i32 {
+        i32::from_le_bytes([bytes[0], bytes[1], bytes[2], bytes[3]])
+    }
+}
+
+impl StoredNumber for i64 {
+    fn size() -> usize {
+        8
+    }
+
+    fn put<A: Allocator>(self, out: &mut Vec<u8, A>) -> VortexResult<()> {
+        out.extend_from_slice(&self.to_le_bytes())?;
+        Ok(())
+    }
+
+    fn load(bytes: &[u8]) -> i64 {
+        i64::from_le_bytes([
+            bytes[0], bytes[1], bytes[2], bytes[3], bytes[4], bytes[5], bytes[6], bytes[7],
+        ])
+    }
+}
