@@ -111,8 +111,10 @@ if has cargo && cargo --version >/dev/null 2>&1; then
     with="--quiet --offline --manifest-path rust/Cargo.toml"
     run "rust, its tests and those of its pages" timeout 200 cargo test $with
     run "rust, the demonstration" timeout 100 cargo run $with --example demo
+    run "bench, every line over few rows" timeout 300 sh bench/run.sh --smoke
 else
     skip "rust" cargo
+    skip "bench, every line over few rows" cargo
 fi
 
 if has "$python"; then

@@ -1,0 +1,23 @@
+//! Plain Rust kernels over runs of `Vec`, each in the strongest form that is known here. Where the library must leave
+//! nulls blank and neighbours joined, so must they.
+mod aggregate;
+mod compare;
+mod decode;
+mod encode;
+mod filter;
+mod join;
+mod look;
+mod map;
+mod take;
+
+pub use aggregate::{is_constant, is_sorted, least, sum, Addend};
+pub use compare::{less_by_runs, less_by_turns};
+pub use decode::{decode, decode_truths, decode_truths_by_turns};
+pub use encode::{encode, encode_by_words};
+pub use filter::{filter, filter_joined, filter_truths, Kept};
+pub use look::{look_up, look_up_by_halves, slice, Slice};
+pub use map::{cast, fill, take_from};
+pub use take::{take, take_truths};
+
+/// Marks calls that are timed: they stay calls, as those of the library are.
+pub use std::hint::black_box;

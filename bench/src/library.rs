@@ -1,0 +1,362 @@
+//! The library's columns, by its calls for C and with nothing between.
+use crate::bits::Bits;
+use crate::data::{Flat, Runs, Truths};
+use crate::raw::{self, Handle, Pair, RawTotal, RawValue};
+use hivevigil::{Fields, Form, Kind, Session};
+use std::cell::UnsafeCell;
+use std::ptr;
+
+/// A column of the library, freed when it is dropped.
+pub struct Column(UnsafeCell<Handle>);
+
+impl Drop for Column {
+    fn drop(&mut self) {
+        unsafe { raw::hv_free(self.0.get()) }
+    }
+}
+
+/// What a bench asks is never refused: the program ends where it is.
+fn done(call: impl FnOnce(*mut Fields) -> i32) {
+    let mut fields = Fields::default();
+    let number = call(&mut fields);
+    assert!(number == 0, "the library answers {number} {fields:?}");
+}
+
+fn made(call: impl FnOnce(*mut Handle, *mut Fields) -> i32) -> Column {
+    let column = Column(UnsafeCell::new(Handle {
+        at: ptr::null_mut(),
+    }));
+    done(|fields| call(column.0.get(), fields));
+    column
+}
+
+/// What the makers take as validity.
+fn nulls(flags: &Option<Bits>) -> (u8, *const u8, usize) {
+    static NONE: u64 = 0;
+    match flags {
+        Some(bits) if bits.len > 0 => (2, bits.bytes().as_ptr(), bits.bytes().len()),
+        other => (u8::from(other.is_some()), ptr::addr_of!(NONE).cast(), 0),
+    }
+}
+
+/// A kind of rows that both sides store in the same way.
+pub trait Item: Copy + PartialEq + Default + std::fmt::Debug + 'static {
+    fn column(rows: &Flat<Self>) -> Column;
+    fn read(column: &Column) -> Vec<Self>;
+}
+
+macro_rules! items {
+    ($($type:ty, $make:ident, $read:ident;)*) => { $(
+        impl Item for $type {
+            fn column(rows: &Flat<$type>) -> Column {
+                let (number, bits, len) = nulls(&rows.flags);
+                let (items, count) = (rows.items.as_ptr(), rows.items.len());
+                made(|out, fields| unsafe { raw::$make(items, count, number, bits, len, 0, out, fields) })
+            }
+            fn read(column: &Column) -> Vec<$type> {
+                let mut items = vec![<$type>::default(); column.len()];
+                let (room, count) = (items.as_mut_ptr(), items.len());
+                done(|fields| unsafe { raw::$read(column.0.get(), 0, room, count, fields) });
+                items
+            }
+        }
+    )* };
+}
+
+items! {
+    u8, hv_u8, hv_read_u8;
+    u32, hv_u32, hv_read_u32;
+    u64, hv_u64, hv_read_u64;
+    i32, hv_i32, hv_read_i32;
+    i64, hv_i64, hv_read_i64;
+}
+
+/// Digits of the decimals here, and behind the point.
+const DIGITS: (u8, i8) = (30, 2);
+
+extern "C" {
+    fn hv_read_decimals(
+        column: *mut Handle,
+        start: usize,
+        pairs: *mut Pair,
+        len: usize,
+        error: *mut Fields,
+    ) -> i32;
+    fn hv_read_bools(column: *mut Handle, words: *mut u64, len: usize, error: *mut Fields) -> i32;
+    fn hv_read_large_offsets(
+        column: *mut Handle,
+        start: usize,
+        offsets: *mut i64,
+        len: usize,
+        error: *mut Fields,
+    ) -> i32;
+    fn hv_read_bytes(
+        column: *mut Handle,
+        start: usize,
+        rows: usize,
+        bytes: *mut u8,
+        len: usize,
+        error: *mut Fields,
+    ) -> i32;
+}
+
+impl Item for i128 {
+    fn column(rows: &Flat<i128>) -> Column {
+        let (number, bits, len) = nulls(&rows.flags);
+        let pair = |item: &i128| Pair {
+            low: *item as u64,
+            high: (*item >> 64) as i64,
+        };
+        let pairs: Vec<Pair> = rows.items.iter().map(pair).collect();
+        let (precision, scale) = DIGITS;
+        made(|out, fields| unsafe {
+            let (items, count) = (pairs.as_ptr(), pairs.len());
+            raw::hv_decimals(
+                items, count, precision, scale, number, bits, len, 0, out, fields,
+            )
+        })
+    }
+
+    fn read(column: &Column) -> Vec<i128> {
+        let mut pairs = vec![Pair::default(); column.len()];
+        let (room, count) = (pairs.as_mut_ptr(), pairs.len());
+        done(|fields| unsafe { hv_read_decimals(column.0.get(), 0, room, count, fields) });
+        pairs
+            .iter()
+            .map(|pair| i128::from(pair.high) << 64 | i128::from(pair.low))
+            .collect()
+    }
+}
+
+/// Columns of other kinds, and of runs.
+impl Column {
+    pub fn truths(rows: &Truths) -> Column {
+        let (number, bits, len) = nulls(&rows.flags);
+        let (truths, bytes) = (rows.bits.bytes().as_ptr(), rows.bits.bytes().len());
+        let count = rows.bits.len;
+        made(|out, fields| unsafe {
+            raw::hv_bools(truths, bytes, 0, count, number, bits, len, 0, out, fields)
+        })
+    }
+
+    /// Texts that lie one after the other in `bytes`.
+    pub fn texts(offsets: &[i64], bytes: &[u8], flags: &Option<Bits>) -> Column {
+        let (number, bits, len) = nulls(flags);
+        made(|out, fields| unsafe {
+            let (starts, count) = (offsets.as_ptr(), offsets.len());
+            let (some, size) = (bytes.as_ptr(), bytes.len());
+            raw::hv_large_texts(
+                0, starts, count, some, size, number, bits, len, 0, out, fields,
+            )
+        })
+    }
+
+    /// The runs of these ends, whose values are a column.
+    pub fn runs(ends: &[u32], values: &Column) -> Column {
+        let rows = ends.last().map_or(0, |end| *end as usize);
+        let ends = u32::column(&Flat {
+            items: ends.to_vec(),
+            flags: None,
+        });
+        made(|out, fields| unsafe {
+            raw::hv_runs(ends.0.get(), values.0.get(), 0, rows, out, fields)
+        })
+    }
+
+    pub fn of_runs<T: Item>(runs: &Runs<T>) -> Column {
+        Column::runs(&runs.ends, &T::column(&runs.values))
+    }
+}
+
+/// What is timed.
+impl Column {
+    fn command(&self, call: impl FnOnce(*mut Handle, *mut Handle, *mut Fields) -> i32) -> Column {
+        made(|out, fields| call(self.0.get(), out, fields))
+    }
+
+    pub fn encode(&self, session: &Session) -> Column {
+        self.command(|column, out, fields| unsafe { raw::hv_encode(session, column, out, fields) })
+    }
+
+    pub fn decode(&self, session: &Session) -> Column {
+        self.command(|column, out, fields| unsafe { raw::hv_decode(session, column, out, fields) })
+    }
+
+    pub fn slice(&self, session: &Session, start: usize, stop: usize) -> Column {
+        self.command(|column, out, fields| unsafe {
+            raw::hv_slice(session, column, start, stop, out, fields)
+        })
+    }
+
+    pub fn try_clone(&self) -> Column {
+        self.command(|column, out, fields| unsafe { raw::hv_clone(column, out, fields) })
+    }
+
+    pub fn cast(&self, session: &Session, kind: Kind) -> Column {
+        self.command(|column, out, fields| unsafe {
+            raw::hv_cast(session, column, &kind, out, fields)
+        })
+    }
+
+    pub fn take(&self, session: &Session, indices: &Column) -> Column {
+        let indices = indices.0.get();
+        self.command(|column, out, fields| unsafe {
+            raw::hv_take(session, column, indices, out, fields)
+        })
+    }
+
+    pub fn filter(&self, session: &Session, mask: &Column) -> Column {
+        let mask = mask.0.get();
+        self.command(|column, out, fields| unsafe {
+            raw::hv_filter(session, column, mask, out, fields)
+        })
+    }
+
+    pub fn take_from(&self, session: &Session, dictionary: &Column) -> Column {
+        let rows = dictionary.0.get();
+        self.command(|codes, out, fields| unsafe {
+            raw::hv_take_from(session, codes, rows, out, fields)
+        })
+    }
+
+    pub fn less_than(&self, session: &Session, right: RawValue) -> Column {
+        const LESS: u8 = hivevigil::Operator::Less as u8;
+        self.command(|column, out, fields| unsafe {
+            raw::hv_compare_scalar(session, column, LESS, &right, [0].as_ptr(), 0, out, fields)
+        })
+    }
+
+    pub fn fill(&self, session: &Session, value: RawValue) -> Column {
+        self.command(|column, out, fields| unsafe {
+            raw::hv_fill(session, column, &value, [0].as_ptr(), 0, out, fields)
+        })
+    }
+
+    pub fn sum(&self, session: &Session) -> Option<i128> {
+        let mut total = RawTotal::default();
+        done(|fields| unsafe { raw::hv_sum(session, self.0.get(), &mut total, fields) });
+        match total.kind {
+            0 => None,
+            1 => Some(i128::from(total.as_unsigned)),
+            _ => Some(i128::from(total.as_signed)),
+        }
+    }
+
+    pub fn is_constant(&self, session: &Session) -> bool {
+        let mut truth = 0;
+        done(|fields| unsafe { raw::hv_is_constant(session, self.0.get(), &mut truth, fields) });
+        truth != 0
+    }
+
+    pub fn is_sorted(&self, session: &Session) -> bool {
+        let mut truth = 0;
+        done(|fields| unsafe { raw::hv_is_sorted(session, self.0.get(), 0, &mut truth, fields) });
+        truth != 0
+    }
+
+    pub fn extreme(&self, session: &Session, greatest: bool) -> Option<i128> {
+        let mut value = RawValue::default();
+        done(|fields| unsafe {
+            let (text, greatest) = ([0].as_mut_ptr(), u8::from(greatest));
+            raw::hv_extreme(session, self.0.get(), greatest, &mut value, text, 0, fields)
+        });
+        number_of(value)
+    }
+
+    pub fn at(&self, row: usize) -> Option<i128> {
+        let mut value = RawValue::default();
+        done(|fields| unsafe {
+            raw::hv_at(self.0.get(), row, &mut value, [0].as_mut_ptr(), 0, fields)
+        });
+        number_of(value)
+    }
+}
+
+#[inline]
+fn number_of(value: RawValue) -> Option<i128> {
+    match value.kind {
+        0 => None,
+        1 => Some(i128::from(value.as_unsigned)),
+        _ => Some(i128::from(value.as_signed)),
+    }
+}
+
+/// A number as C passes it.
+pub fn passed(item: i128, signed: bool) -> RawValue {
+    let (kind, as_unsigned, as_signed) = if signed {
+        (2, 0, item as i64)
+    } else {
+        (1, item as u64, 0)
+    };
+    RawValue {
+        as_unsigned,
+        as_signed,
+        kind,
+        truth: 0,
+    }
+}
+
+/// What is read back to compare what both sides answer.
+impl Column {
+    pub fn len(&self) -> usize {
+        unsafe { raw::hv_length(self.0.get()) }
+    }
+
+    pub fn form(&self) -> Form {
+        match unsafe { raw::hv_form(self.0.get()) } {
+            0 => Form::Flat,
+            1 => Form::Constant,
+            2 => Form::Lists,
+            _ => Form::Runs,
+        }
+    }
+
+    fn flags(&self) -> Option<Bits> {
+        let mut bits = Bits::filled(false, self.len());
+        let (words, len) = (bits.words.as_mut_ptr(), bits.words.len());
+        done(|fields| unsafe { raw::hv_read_validity(self.0.get(), words, len, fields) });
+        Some(bits)
+    }
+
+    pub fn read_flat<T: Item>(&self) -> Flat<T> {
+        let flat = self.decode(&Session::initial());
+        Flat {
+            items: T::read(&flat),
+            flags: flat.flags(),
+        }
+    }
+
+    /// The runs of a run column whose first row is the first of its runs.
+    pub fn read_runs<T: Item>(&self) -> Runs<T> {
+        let ends = made(|out, fields| unsafe { raw::hv_ends(self.0.get(), out, fields) });
+        let values = made(|out, fields| unsafe { raw::hv_values(self.0.get(), out, fields) });
+        let ends = u32::read(&ends.cast(&Session::initial(), Kind::U32));
+        Runs {
+            ends,
+            values: values.read_flat(),
+        }
+    }
+
+    pub fn read_truths(&self) -> Truths {
+        let flat = self.decode(&Session::initial());
+        let mut bits = Bits::filled(false, self.len());
+        let (words, len) = (bits.words.as_mut_ptr(), bits.words.len());
+        done(|fields| unsafe { hv_read_bools(flat.0.get(), words, len, fields) });
+        Truths {
+            bits,
+            flags: flat.flags(),
+        }
+    }
+
+    /// Offsets of the rows' bytes, these bytes, and which rows are not null.
+    pub fn read_texts(&self) -> (Vec<i64>, Vec<u8>, Option<Bits>) {
+        let flat = self.decode(&Session::initial());
+        let mut offsets = vec![0; self.len() + 1];
+        let (starts, count) = (offsets.as_mut_ptr(), offsets.len());
+        done(|fields| unsafe { hv_read_large_offsets(flat.0.get(), 0, starts, count, fields) });
+        let mut bytes = vec![0; offsets[self.len()] as usize];
+        let (room, size) = (bytes.as_mut_ptr(), bytes.len());
+        done(|fields| unsafe { hv_read_bytes(flat.0.get(), 0, self.len(), room, size, fields) });
+        (offsets, bytes, flat.flags())
+    }
+}

@@ -1,0 +1,129 @@
+//! Single rows, ranges and copies.
+use super::session;
+use crate::data::Runs;
+use crate::kernels::{look_up, look_up_by_halves, slice, Slice};
+use crate::library::{Column, Item};
+use crate::line::{Bench, Shape};
+use crate::load::{Load, Random};
+use std::ops::Range;
+
+const LOOKS: usize = 1_000_000;
+
+pub fn lines(bench: &mut Bench) {
+    if !["scalar_at", "slice", "clone"]
+        .iter()
+        .any(|call| bench.wants(call))
+    {
+        return;
+    }
+    for nulls in [false, true] {
+        for runs in [1_000, bench.rows / 40, bench.rows] {
+            rows(bench, runs, nulls);
+        }
+        ranges(bench, nulls);
+    }
+}
+
+fn shape(call: &str, nulls: bool, size: String) -> Shape {
+    Shape {
+        call: call.to_string(),
+        kind: "u64",
+        nulls,
+        size,
+    }
+}
+
+fn rows(bench: &mut Bench, runs: usize, nulls: bool) {
+    let load = Load::new(runs * 16, 16, nulls);
+    let runs = load.runs(|number| number);
+    let column = Column::of_runs(&runs);
+    let mut random = Random::new(5);
+    let looks = LOOKS.min(bench.rows);
+    let rows: Vec<usize> = (0..looks)
+        .map(|_| random.below(load.rows() as u64) as usize)
+        .collect();
+    let add = |total: i128, row: Option<i128>| total.wrapping_add(row.unwrap_or(1));
+    let ours = || {
+        rows.iter()
+            .fold(0, |total, row| add(total, column.at(*row)))
+    };
+    let size = format!("{} runs", load.ends.len());
+    type Search = fn(&Runs<u64>, usize) -> Option<u64>;
+    let searches: [(&str, Search); 2] = [
+        ("scalar_at, beside partition_point", look_up),
+        ("scalar_at, beside halves", look_up_by_halves),
+    ];
+    for (call, search) in searches {
+        let rust = || {
+            rows.iter().fold(0, |total, row| {
+                add(total, search(&runs, *row).map(i128::from))
+            })
+        };
+        let units = (rows.len(), "row");
+        bench.line(
+            shape(call, nulls, size.clone()),
+            units,
+            ours,
+            rust,
+            |ours, rust| ours == rust,
+        );
+    }
+}
+
+fn ranges(bench: &mut Bench, nulls: bool) {
+    const TIMES: usize = 1000;
+    let load = Load::new(bench.rows * 4, 16, nulls);
+    let (session, runs) = (session(), load.runs(|number| number));
+    let column = Column::of_runs(&runs);
+    let (rows, one) = (load.rows(), load.ends[load.ends.len() / 2] as usize);
+    let ranges = [
+        ("half", rows / 4..rows / 4 * 3, 1),
+        ("100 rows", one..one + 100, TIMES),
+        ("1 run", one..one + 1, TIMES),
+    ];
+    for (size, range, times) in ranges {
+        let ours = || {
+            let cut = || column.slice(&session, range.start, range.end);
+            (1..times).for_each(|_| _ = cut());
+            cut()
+        };
+        let rust = || {
+            (1..times).for_each(|_| _ = crate::kernels::black_box(slice(&runs, range.clone())));
+            slice(&runs, range.clone())
+        };
+        let same = |ours: &Column, rust: &Slice<u64>| same_slice(ours, rust, range.clone());
+        bench.line(
+            shape("slice", nulls, size.to_string()),
+            (times, "call"),
+            ours,
+            rust,
+            same,
+        );
+    }
+    let size = format!("{} runs", load.ends.len());
+    let (ours, rust) = (|| column.try_clone(), || runs.clone());
+    bench.line(
+        shape("clone", nulls, size),
+        (load.ends.len(), "run"),
+        ours,
+        rust,
+        super::same_runs,
+    );
+}
+
+/// Does the library's column have the rows of this range?
+pub fn same_slice<T: Item>(column: &Column, slice: &Slice<T>, range: Range<usize>) -> bool {
+    let found = column.read_flat::<T>();
+    let row = |at: usize| {
+        found
+            .flags
+            .as_ref()
+            .is_none_or(|flags| flags.get(at))
+            .then(|| found.items[at])
+    };
+    let wanted = |at: usize| match slice {
+        Slice::Constant(value) => *value,
+        Slice::Runs(runs, offset) => look_up(runs, at + offset),
+    };
+    found.items.len() == range.len() && (0..range.len()).all(|at| row(at) == wanted(at))
+}

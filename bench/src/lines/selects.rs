@@ -1,0 +1,102 @@
+//! Rows by indices, and rows by a mask.
+use super::{same_runs, session, shape, Number};
+use crate::bits::Bits;
+use crate::data::{Flat, Runs, Truths};
+use crate::kernels::{filter_joined, take, Kept};
+use crate::library::{Column, Item};
+use crate::line::Bench;
+use crate::load::{Load, Random};
+
+/// The names of takes, how many rows there are for each index, and whether indices are in order.
+pub const TAKES: [(&str, usize, bool); 4] = [
+    ("take, a quarter at random", 4, false),
+    ("take, a quarter in order", 4, true),
+    ("take, a fortieth at random", 40, false),
+    ("take, a fortieth in order", 40, true),
+];
+/// The names of filters, and of how many rows one is kept.
+pub const FILTERS: [(&str, u64); 3] = [
+    ("filter, half", 2),
+    ("filter, a tenth", 10),
+    ("filter, a thousandth", 1000),
+];
+
+pub fn indices(rows: usize, every: usize, ordered: bool) -> Vec<u64> {
+    let mut random = Random::new(11);
+    let mut indices: Vec<u64> = (0..rows / every)
+        .map(|_| random.below(rows as u64))
+        .collect();
+    if ordered {
+        indices.sort_unstable();
+    }
+    indices
+}
+
+pub fn index_column(indices: &[u64]) -> Column {
+    u64::column(&Flat {
+        items: indices.to_vec(),
+        flags: None,
+    })
+}
+
+pub fn mask(rows: usize, every: u64) -> Bits {
+    let mut random = Random::new(23 + every);
+    Bits::from_fn(rows, |_| random.below(every) == 0)
+}
+
+pub fn mask_column(mask: &Bits) -> Column {
+    Column::truths(&Truths {
+        bits: mask.clone(),
+        flags: None,
+    })
+}
+
+pub fn lines<T: Number>(bench: &mut Bench, load: &Load) {
+    let runs = load.runs(T::of);
+    let column = Column::of_runs(&runs);
+    takes(bench, load, &column, &runs);
+    filters(bench, load, &column, &runs);
+}
+
+fn takes<T: Number>(bench: &mut Bench, load: &Load, column: &Column, runs: &Runs<T>) {
+    for (name, every, ordered) in TAKES
+        .into_iter()
+        .filter(|take| bench.wants(take.0))
+        .collect::<Vec<_>>()
+    {
+        let (session, indices) = (session(), indices(load.rows(), every, ordered));
+        let ours = index_column(&indices);
+        bench.line(
+            shape(load, name, T::NAME),
+            (indices.len(), "index"),
+            || column.take(&session, &ours),
+            || take(&runs.ends, &runs.values, &indices),
+            |ours, rust| ours.read_flat::<T>().same_rows(rust),
+        );
+    }
+}
+
+fn filters<T: Number>(bench: &mut Bench, load: &Load, column: &Column, runs: &Runs<T>) {
+    for (name, every) in FILTERS
+        .into_iter()
+        .filter(|filter| bench.wants(filter.0))
+        .collect::<Vec<_>>()
+    {
+        let (session, mask) = (session(), mask(load.rows(), every));
+        let ours = mask_column(&mask);
+        bench.line(
+            shape(load, name, T::NAME),
+            (load.rows(), "row"),
+            || column.filter(&session, &ours),
+            || filter_joined(&runs.ends, &runs.values, &mask),
+            same_kept,
+        );
+    }
+}
+
+pub fn same_kept<T: Item>(column: &Column, kept: &Kept<Runs<T>, Flat<T>>) -> bool {
+    match kept {
+        Kept::Runs(runs) => same_runs(column, runs),
+        Kept::Flat(flat) => column.read_flat::<T>().same_rows(flat),
+    }
+}

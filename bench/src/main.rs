@@ -1,0 +1,91 @@
+//! Times the calls of libhivevigil.a beside plain Rust kernels that do the same work, in turns in one process, by the
+//! thread's processor time, and compares what both answer. The tables go to the output, each line as it is measured to
+//! the error output. The status is 1 where an answer differs.
+mod bits;
+mod clock;
+mod data;
+mod kernels;
+mod library;
+mod line;
+mod lines;
+mod load;
+mod memory;
+#[allow(dead_code, clippy::all)]
+#[path = "../../rust/src/raw.rs"]
+mod raw;
+mod report;
+
+pub(crate) use hivevigil::{Fields, Kind, Session};
+use line::Bench;
+use std::process::ExitCode;
+
+const USAGE: &str = "bench [--rows N] [--turns N] [--only NAME,NAME] [--cold] [--growth] [--smoke]";
+
+/// What is asked for on the command line.
+struct Asked {
+    bench: Bench,
+    cold: bool,
+    growth: bool,
+    smoke: bool,
+}
+
+fn asked() -> Option<Asked> {
+    let bench = Bench {
+        rows: 4_000_000,
+        turns: 7,
+        only: vec![],
+        lines: vec![],
+        differ: vec![],
+    };
+    let mut asked = Asked {
+        bench,
+        cold: false,
+        growth: false,
+        smoke: false,
+    };
+    let mut words = std::env::args().skip(1);
+    while let Some(word) = words.next() {
+        match word.as_str() {
+            "--rows" => asked.bench.rows = words.next()?.parse().ok()?,
+            "--turns" => {
+                asked.bench.turns = words.next()?.parse().ok().filter(|turns| *turns > 0)?
+            }
+            "--only" => asked.bench.only = words.next()?.split(',').map(String::from).collect(),
+            "--cold" => asked.cold = true,
+            "--growth" => asked.growth = true,
+            "--smoke" => asked.smoke = true,
+            _ => return None,
+        }
+    }
+    Some(asked)
+}
+
+fn main() -> ExitCode {
+    let Some(mut asked) = asked() else {
+        eprintln!("{USAGE}");
+        return ExitCode::from(2);
+    };
+    if asked.cold {
+        clock::map_anew();
+    } else {
+        clock::keep_memory();
+    }
+    let bench = &mut asked.bench;
+    if asked.smoke {
+        (bench.rows, bench.turns) = (5_000, 1);
+        lines::all(bench);
+    } else if asked.growth {
+        print!("{}", lines::growth(bench));
+    } else {
+        lines::all(bench);
+        print!("{}", report::tables(bench));
+    }
+    for shape in &bench.differ {
+        println!("DIFFERS: {shape:?}");
+    }
+    if bench.differ.is_empty() {
+        println!("{} lines agree", bench.lines.len());
+        return ExitCode::SUCCESS;
+    }
+    ExitCode::FAILURE
+}
