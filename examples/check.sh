@@ -183,6 +183,32 @@ else
     skip "dask_chunks/chunks.py" "Dask for Python"
 fi
 
+# SQLite: the extension linked with its test, under the sanitizers, and as SQLite loads it
+sqlite_parts="examples/sqlite/functions.c examples/sqlite/runs_table.c $(echo examples/engines/*.c)"
+with_sqlite() {
+    $cc $c_flags -Iexamples/c -DSQLITE_CORE $2 "examples/sqlite/$1.c" $sqlite_parts lib/libhivevigil.a -lsqlite3 \
+        -o "$work/program" && timeout 200 "$work/program"
+}
+sqlite_loaded() {
+    sh examples/sqlite/build.sh &&
+        $cc $c_flags -Iexamples/c -DLOADED_ALONE examples/sqlite/test.c -lsqlite3 -o "$work/program" &&
+        timeout 200 "$work/program" lib/hivevigil_sqlite.so
+}
+if echo '#include <sqlite3ext.h>' | $cc -E - >/dev/null 2>&1; then
+    run "sqlite/test.c$arrow_how" with_sqlite test "$arrow_flags"
+    run "sqlite/memory.c" with_sqlite memory "-O2 $wraps"
+    run "sqlite, the extension as it is loaded" sqlite_loaded
+    if "$python" -c 'import sqlite3; sqlite3.connect(":memory:").enable_load_extension(True)' 2>/dev/null; then
+        run "sqlite/figures.py" timeout 200 "$python" examples/sqlite/figures.py --rows 20000
+    elif /usr/bin/python3 -c 'import sqlite3; sqlite3.connect(":memory:").enable_load_extension(True)' 2>/dev/null; then
+        run "sqlite/figures.py" timeout 200 /usr/bin/python3 examples/sqlite/figures.py --rows 20000
+    else
+        skip "sqlite/figures.py" "Python whose sqlite3 loads extensions"
+    fi
+else
+    skip "sqlite" "sqlite3ext.h (libsqlite3-dev)"
+fi
+
 # what is installed and packed, used in empty folders
 package() { run "$1" timeout 120 sh examples/packages.sh "$2" "$work/dist"; }
 run "dist.sh" sh dist.sh "$work/dist"

@@ -1,0 +1,345 @@
+/* An extension for SQLite: columns in runs, kept as blobs.
+ *
+ *     SELECT hv_column(level) FROM readings                     aggregate: the rows in their order, as one blob
+ *     SELECT hv_concat(levels) FROM packed                      aggregate: the rows of all blobs, one after the other
+ *     hv_rows(c)  hv_count(c)  hv_sum(c)  hv_min(c)  hv_max(c)  hv_at(c, row)
+ *     hv_filter(c, '>', 5)  hv_slice(c, start, stop)            a blob of some of the rows
+ *     SELECT start, stop, value FROM hv_runs(c)                 a row for each run
+ *
+ * A column holds integers, texts or blobs of one kind, and NULL. A refusal is an SQL error in a sentence. */
+#include <sqlite3ext.h>
+SQLITE_EXTENSION_INIT1
+#include "hivevigil_errors.h"
+#include "sqlite_column.h"
+#include <stdint.h>
+#include <stdlib.h>
+
+const char *type_in_words(int type) {
+    switch (type) {
+    case SQLITE_INTEGER: return "an integer";
+    case SQLITE_FLOAT: return "a real number";
+    case SQLITE_TEXT: return "a text";
+    case SQLITE_BLOB: return "a blob";
+    default: return "NULL";
+    }
+}
+
+static const char *kind_in_words(uint8_t kind) {
+    return kind == HV_TEXT || kind == HV_UTF8 ? "texts" : kind == HV_BYTES || kind == HV_BINARY ? "blobs" : "integers";
+}
+
+static const char too_long[] = "a column of 2^63 rows or more";
+
+char *refusal(const char *function, int32_t answer, const hv_error *error) {
+    char text[HV_ERROR_TEXT];
+    const char *why = hv_error_text(answer, error, text);
+    if (answer == HV_OUT_OF_MEMORY) return NULL;
+    if (answer == HV_BAD_METADATA) why = "the blob is no column";
+    if (answer == HV_WINDOW_OVERFLOW) why = too_long;
+    return sqlite3_mprintf("%s: %s", function, why);
+}
+
+bool column_of(const char *function, sqlite3_value *value, hv_column *out, char **reason) {
+    hv_error error = {0, 0, 0};
+    const int type = sqlite3_value_type(value);
+    *reason = NULL;
+    if (type != SQLITE_BLOB) {
+        *reason = sqlite3_mprintf("%s: a column is a blob, and this is %s", function, type_in_words(type));
+        return false;
+    }
+    const void *bytes = sqlite3_value_blob(value); /* before its size, which it may change; null for no bytes */
+    const size_t size = (size_t)sqlite3_value_bytes(value);
+    const int32_t answer = column_bytes_read(bytes ? bytes : "", size, out, &error);
+    if (answer) {
+        *reason = refusal(function, answer, &error);
+    } else if (hv_length(out) > INT64_MAX) {
+        hv_free(out);
+        *reason = sqlite3_mprintf("%s: %s", function, too_long);
+        return false;
+    }
+    return !answer;
+}
+
+/* Ends the call with this sentence, or for want of memory where there is none. */
+static void fail(sqlite3_context *context, char *reason) {
+    if (reason) sqlite3_result_error(context, reason, -1);
+    else sqlite3_result_error_nomem(context);
+    sqlite3_free(reason);
+}
+
+static void refuse(sqlite3_context *context, const char *function, int32_t answer, const hv_error *error) {
+    fail(context, refusal(function, answer, error));
+}
+
+static void answer_column(sqlite3_context *context, const char *function, hv_column *column) {
+    hv_error error = {0, 0, 0};
+    uint8_t *bytes = NULL;
+    size_t size = 0;
+    const int32_t answer = column_bytes_write(column, &bytes, &size, &error);
+    if (answer) refuse(context, function, answer, &error);
+    else sqlite3_result_blob64(context, bytes, size, free);
+}
+
+static void answer_list(sqlite3_context *context, const char *function, const run_list *list) {
+    hv_error error = {0, 0, 0};
+    hv_column column = HV_EMPTY;
+    const int32_t answer = run_list_column(list, &column, &error);
+    if (list->rows > INT64_MAX) refuse(context, function, HV_WINDOW_OVERFLOW, &error);
+    else if (answer == HV_TYPE_MISMATCH) fail(context, sqlite3_mprintf("%s: a text is not UTF-8", function));
+    else if (answer) refuse(context, function, answer, &error);
+    else answer_column(context, function, &column);
+    hv_free(&column);
+}
+
+/* The SQL value as one of a list; false for a real number. */
+static bool run_value_of(sqlite3_value *from, run_value *value) {
+    const run_value null = {HV_NULL, 0, NULL, 0};
+    *value = null;
+    switch (sqlite3_value_type(from)) {
+    case SQLITE_NULL: return true;
+    case SQLITE_INTEGER:
+        value->kind = HV_SIGNED;
+        value->number = sqlite3_value_int64(from);
+        return true;
+    case SQLITE_TEXT:
+        value->kind = HV_TEXT;
+        value->bytes = sqlite3_value_text(from);
+        break;
+    case SQLITE_BLOB:
+        value->kind = HV_BYTES;
+        value->bytes = sqlite3_value_blob(from);
+        break;
+    default: return false;
+    }
+    value->len = (size_t)sqlite3_value_bytes(from);
+    return true;
+}
+
+/* hv_column and hv_concat: the rows so far stand in SQLite's memory for the aggregate, which begins as zeros. */
+
+static void column_step(sqlite3_context *context, int count, sqlite3_value **values) {
+    run_list *list = sqlite3_aggregate_context(context, sizeof *list);
+    const hv_error none = {0, 0, 0};
+    run_value value;
+    (void)count;
+    if (!list) {
+        sqlite3_result_error_nomem(context);
+        return;
+    }
+    const bool fits = run_value_of(values[0], &value);
+    const int32_t answer = fits ? run_list_add(list, 1, &value) : HV_TYPE_MISMATCH;
+    if (answer == HV_TYPE_MISMATCH)
+        fail(context, sqlite3_mprintf("hv_column: row %llu is %s, and a column holds %s",
+                                      (unsigned long long)list->rows, type_in_words(sqlite3_value_type(values[0])),
+                                      list->kind == HV_NULL ? "integers, texts or blobs" : kind_in_words(list->kind)));
+    else if (answer) refuse(context, "hv_column", answer, &none);
+}
+
+static void concat_step(sqlite3_context *context, int count, sqlite3_value **values) {
+    run_list *list = sqlite3_aggregate_context(context, sizeof *list);
+    hv_error error = {0, 0, 0};
+    hv_column column = HV_EMPTY;
+    char *reason = NULL;
+    (void)count;
+    if (!list) {
+        sqlite3_result_error_nomem(context);
+        return;
+    }
+    if (sqlite3_value_type(values[0]) == SQLITE_NULL) return;
+    if (!column_of("hv_concat", values[0], &column, &reason)) {
+        fail(context, reason);
+        return;
+    }
+    const int32_t answer = run_list_add_column(list, &column, &error);
+    if (answer == HV_TYPE_MISMATCH)
+        fail(context, sqlite3_mprintf("hv_concat: a column of %s after columns of %s",
+                                      kind_in_words(hv_kind_of(&column).number), kind_in_words(list->kind)));
+    else if (answer) refuse(context, "hv_concat", answer, &error);
+    hv_free(&column);
+}
+
+/* It is called where a statement ends early too, to give the memory back. */
+static void finish(sqlite3_context *context) {
+    run_list nothing = RUN_LIST_EMPTY, *list = sqlite3_aggregate_context(context, 0);
+    answer_list(context, sqlite3_user_data(context), list ? list : &nothing);
+    run_list_free(list ? list : &nothing);
+}
+
+void answer_value(sqlite3_context *context, const run_value *value) {
+    const char *bytes = value->len ? (const char *)value->bytes : "";
+    switch (value->kind) {
+    case HV_SIGNED: sqlite3_result_int64(context, value->number); break;
+    case HV_TEXT: sqlite3_result_text64(context, bytes, value->len, SQLITE_TRANSIENT, SQLITE_UTF8); break;
+    case HV_BYTES: sqlite3_result_blob64(context, bytes, value->len, SQLITE_TRANSIENT); break;
+    default: sqlite3_result_null(context);
+    }
+}
+
+/* Questions to one column. A NULL in place of a column is answered NULL. */
+
+/* What a question is asked with. */
+typedef struct question {
+    sqlite3_context *context;
+    hv_column *column;
+    sqlite3_value **values;
+    hv_session session;
+    hv_error error;
+} question;
+
+/* A refusal in words, after which the call has answered. */
+static int32_t say(question *asked, char *sentence) {
+    fail(asked->context, sentence);
+    return HV_OK;
+}
+
+static int32_t ask_rows(question *asked) {
+    sqlite3_result_int64(asked->context, (sqlite3_int64)hv_length(asked->column));
+    return HV_OK;
+}
+
+static int32_t ask_count(question *asked) {
+    run_list list = RUN_LIST_EMPTY;
+    const int32_t answer = run_list_add_column(&list, asked->column, &asked->error);
+    if (!answer) sqlite3_result_int64(asked->context, (sqlite3_int64)run_list_valid_rows(&list));
+    run_list_free(&list);
+    return answer;
+}
+
+static int32_t ask_sum(question *asked) {
+    hv_total total;
+    if (hv_kind_of(asked->column).number != HV_I64)
+        return say(asked, sqlite3_mprintf("hv_sum: integers are added, and this is a column of %s",
+                                          kind_in_words(hv_kind_of(asked->column).number)));
+    const int32_t answer = hv_sum(&asked->session, asked->column, &total, &asked->error);
+    if (answer) return answer;
+    if (total.kind == 0) return say(asked, sqlite3_mprintf("hv_sum: integer overflow"));
+    if (!total.empty) sqlite3_result_int64(asked->context, total.as_signed);
+    return HV_OK;
+}
+
+/* A row of the library's, whose text is asked for again with room for it. */
+typedef int32_t look(question *asked, hv_value *value, uint8_t *text, size_t len);
+
+static int32_t answer_look(question *asked, look *at) {
+    uint8_t few[64], *text = few;
+    hv_value found;
+    int32_t answer = at(asked, &found, few, sizeof few);
+    if (answer == HV_COLUMN_LENGTH) {
+        const size_t len = (size_t)asked->error.first;
+        text = malloc(len);
+        answer = text ? at(asked, &found, text, len) : HV_OUT_OF_MEMORY;
+    }
+    if (!answer) {
+        const run_value value = {found.kind, found.as_signed, text, (size_t)found.as_unsigned};
+        answer_value(asked->context, &value);
+    }
+    if (text != few) free(text);
+    return answer;
+}
+
+static int32_t look_least(question *asked, hv_value *value, uint8_t *text, size_t len) {
+    return hv_extreme(&asked->session, asked->column, 0, value, text, len, &asked->error);
+}
+
+static int32_t look_greatest(question *asked, hv_value *value, uint8_t *text, size_t len) {
+    return hv_extreme(&asked->session, asked->column, 1, value, text, len, &asked->error);
+}
+
+static int32_t look_row(question *asked, hv_value *value, uint8_t *text, size_t len) {
+    const size_t row = (size_t)sqlite3_value_int64(asked->values[1]);
+    return hv_at(asked->column, row, value, text, len, &asked->error);
+}
+
+static int32_t ask_min(question *asked) { return answer_look(asked, look_least); }
+static int32_t ask_max(question *asked) { return answer_look(asked, look_greatest); }
+
+/* Argument `at` as a number of rows; false, and an error, where it is no integer. */
+static bool is_row(question *asked, const char *name, int at, sqlite3_int64 *row) {
+    const int type = sqlite3_value_numeric_type(asked->values[at]);
+    *row = sqlite3_value_int64(asked->values[at]);
+    if (type == SQLITE_INTEGER) return true;
+    say(asked, sqlite3_mprintf("%s: a row is numbered by an integer, and this is %s", name, type_in_words(type)));
+    return false;
+}
+
+/* NULL for a row that is not there, as of an array in SQL */
+static int32_t ask_at(question *asked) {
+    sqlite3_int64 row;
+    if (sqlite3_value_type(asked->values[1]) == SQLITE_NULL || !is_row(asked, "hv_at", 1, &row)) return HV_OK;
+    if (row < 0 || (uint64_t)row >= hv_length(asked->column)) return HV_OK;
+    return answer_look(asked, look_row);
+}
+
+static int32_t ask_slice(question *asked) {
+    sqlite3_int64 start, stop;
+    hv_column part = HV_EMPTY;
+    if (!is_row(asked, "hv_slice", 1, &start) || !is_row(asked, "hv_slice", 2, &stop)) return HV_OK;
+    if (start < 0 || stop < 0)
+        return say(asked, sqlite3_mprintf("hv_slice: rows %lld to %lld are not among %lld rows", start, stop,
+                                          (sqlite3_int64)hv_length(asked->column)));
+    const int32_t answer = hv_slice(&asked->session, asked->column, (size_t)start, (size_t)stop, &part, &asked->error);
+    if (!answer) answer_column(asked->context, "hv_slice", &part);
+    hv_free(&part);
+    return answer;
+}
+
+static int32_t ask_filter(question *asked) {
+    const uint8_t operator_ = operator_number((const char *)sqlite3_value_text(asked->values[1]));
+    run_list list = RUN_LIST_EMPTY, kept = RUN_LIST_EMPTY;
+    run_value value;
+    if (operator_ == NO_OPERATOR) return say(asked, sqlite3_mprintf("hv_filter: an operator is one of = <> > >= < <="));
+    int32_t answer = run_list_add_column(&list, asked->column, &asked->error);
+    if (!answer && !run_value_of(asked->values[2], &value)) answer = HV_TYPE_MISMATCH;
+    if (!answer) answer = run_list_filter(&list, operator_, &value, &kept, &asked->error);
+    if (!answer) answer_list(asked->context, "hv_filter", &kept);
+    if (answer == HV_TYPE_MISMATCH)
+        answer =
+            say(asked, sqlite3_mprintf("hv_filter: a column of %s is not compared with %s", kind_in_words(list.kind),
+                                       type_in_words(sqlite3_value_type(asked->values[2]))));
+    run_list_free(&list);
+    run_list_free(&kept);
+    return answer;
+}
+
+typedef struct function {
+    const char *name;
+    int arguments;
+    int32_t (*ask)(question *asked);
+} function;
+
+static const function functions[] = {
+    {"hv_rows", 1, ask_rows}, {"hv_count", 1, ask_count}, {"hv_sum", 1, ask_sum},     {"hv_min", 1, ask_min},
+    {"hv_max", 1, ask_max},   {"hv_at", 2, ask_at},       {"hv_slice", 3, ask_slice}, {"hv_filter", 3, ask_filter},
+};
+
+static void ask(sqlite3_context *context, int count, sqlite3_value **values) {
+    const function *called = sqlite3_user_data(context);
+    hv_column column = HV_EMPTY;
+    char *reason = NULL;
+    (void)count;
+    if (sqlite3_value_type(values[0]) == SQLITE_NULL) return;
+    if (!column_of(called->name, values[0], &column, &reason)) {
+        fail(context, reason);
+        return;
+    }
+    question asked = {.context = context, .column = &column, .values = values};
+    hv_session_initial(&asked.session);
+    const int32_t answer = called->ask(&asked);
+    if (answer) refuse(context, called->name, answer, &asked.error);
+    hv_free(&column);
+}
+
+int sqlite3_hivevigilsqlite_init(sqlite3 *db, char **error, const sqlite3_api_routines *api);
+
+int sqlite3_hivevigilsqlite_init(sqlite3 *db, char **error, const sqlite3_api_routines *api) {
+    const int flags = SQLITE_UTF8 | SQLITE_DETERMINISTIC | SQLITE_INNOCUOUS;
+    (void)error;
+    (void)api;
+    SQLITE_EXTENSION_INIT2(api);
+    int answer = sqlite3_create_function(db, "hv_column", 1, flags, "hv_column", NULL, column_step, finish);
+    if (!answer) answer = sqlite3_create_function(db, "hv_concat", 1, flags, "hv_concat", NULL, concat_step, finish);
+    for (size_t i = 0; !answer && i < sizeof functions / sizeof *functions; i++)
+        answer = sqlite3_create_function(db, functions[i].name, functions[i].arguments, flags, (void *)&functions[i],
+                                         ask, NULL, NULL);
+    return answer ? answer : register_runs_table(db);
+}

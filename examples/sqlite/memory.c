@@ -1,0 +1,72 @@
+/* Each request for memory of the extension and of the library refused in turn: the statement answers "out of memory",
+ * or what it answers otherwise, and no block is lost. SQLite's own memory is another library's. Linked as test.c, with
+ * -Wl,--wrap=malloc,--wrap=calloc,--wrap=realloc,--wrap=free */
+#include "../c/refusing_malloc.h"
+#include "check.h"
+#include <sqlite3.h>
+
+int sqlite3_hivevigilsqlite_init(sqlite3 *db, char **error, const void *api);
+
+static sqlite3 *db;
+static char answer[4096];
+
+static const char *ask(const char *sql) {
+    sqlite3_stmt *statement = NULL;
+    const char *text = NULL;
+    CHECK(sqlite3_prepare_v2(db, sql, -1, &statement, NULL) == SQLITE_OK);
+    const int step = sqlite3_step(statement);
+    if (step == SQLITE_ROW) text = (const char *)sqlite3_column_text(statement, 0);
+    if (step == SQLITE_ROW || step == SQLITE_DONE) snprintf(answer, sizeof answer, "%s", text ? text : "NULL");
+    else snprintf(answer, sizeof answer, "error: %s", sqlite3_errmsg(db));
+    sqlite3_finalize(statement);
+    return answer;
+}
+
+/* How many requests were refused, one in each turn, until none is left. */
+static long refuse_each(const char *sql) {
+    char wanted[sizeof answer];
+    long turn = 0, before = blocks;
+    strcpy(wanted, ask(sql));
+    CHECK(strncmp(wanted, "error", 5) != 0);
+    for (bool some = true; some; turn++) {
+        const long so_far = refused;
+        requests = 0, refuse_at = turn;
+        ask(sql);
+        refuse_at = -1;
+        some = refused > so_far;
+        if (strcmp(answer, wanted) != 0) check_text(answer, "error: out of memory", sql, __FILE__, __LINE__);
+        if (blocks != before) printf("%s: %ld blocks lost\n", sql, blocks - before);
+        CHECK(blocks == before);
+    }
+    return turn - 1;
+}
+
+int main(void) {
+    static const char *const statements[] = {
+        "SELECT length(hv_column(v)) FROM t",
+        "SELECT length(hv_column('a text of number ' || v)) FROM t",
+        "SELECT length(hv_concat(c)) FROM p",
+        "SELECT length(hv_concat(hv_slice(w, 1, 20))) FROM p",
+        "SELECT hv_rows(c) + hv_count(c) + hv_sum(c) + hv_at(c, 3) FROM p",
+        "SELECT hv_min(w) || hv_max(w) || hv_at(w, 3) FROM p",
+        "SELECT length(hv_filter(c, '>', 3)) FROM p",
+        "SELECT length(hv_filter(w, '<', 'a text of number 4')) FROM p",
+        "SELECT length(hv_slice(c, 3, 20)) FROM p",
+        "SELECT length(hv_slice(c, 3, 4)) FROM p",
+        "SELECT sum(stop * length(value)) FROM p, hv_runs(w)",
+    };
+    long all = 0;
+    CHECK(sqlite3_open(":memory:", &db) == SQLITE_OK);
+    CHECK(sqlite3_hivevigilsqlite_init(db, NULL, NULL) == SQLITE_OK);
+    ask("CREATE TABLE t(v)");
+    ask("WITH RECURSIVE n(i) AS (SELECT 0 UNION ALL SELECT i + 1 FROM n WHERE i < 99) INSERT INTO t SELECT CASE WHEN i "
+        "% 7 "
+        "THEN i / 3 END FROM n");
+    ask("CREATE TABLE p AS SELECT hv_column(v) AS c, hv_column('a text of number ' || v || ' and more, so that it is "
+        "longer "
+        "than any room that there is at first') AS w FROM t");
+    for (size_t i = 0; i < COUNT(statements); i++) all += refuse_each(statements[i]);
+    CHECK(sqlite3_close(db) == SQLITE_OK);
+    printf("%zu statements, %ld requests refused in turn\n", COUNT(statements), all);
+    return 0;
+}

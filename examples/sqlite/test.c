@@ -1,0 +1,250 @@
+/* The extension beside SQLite's own answers over rows: by hand, over random tables, over broken blobs. Linked with the
+ * extension and with SQLite, and run under the sanitizers too; `test LIBRARY` runs it over the extension as it is
+ * loaded. */
+#include "check.h"
+#include <sqlite3.h>
+
+#ifndef LOADED_ALONE
+int sqlite3_hivevigilsqlite_init(sqlite3 *db, char **error, const void *api);
+#endif
+
+static sqlite3 *db;
+static char answer[1 << 20];
+
+/* The rows of a query, with | between columns and a space between rows, or "error: " and why. */
+static const char *ask(const char *sql) {
+    sqlite3_stmt *statement = NULL;
+    size_t used = 0;
+    answer[0] = 0;
+    int step = sqlite3_prepare_v2(db, sql, -1, &statement, NULL);
+    while (!step || step == SQLITE_ROW) {
+        step = sqlite3_step(statement);
+        for (int at = 0; step == SQLITE_ROW && at < sqlite3_column_count(statement); at++) {
+            const unsigned char *text = sqlite3_column_text(statement, at);
+            used += (size_t)snprintf(answer + used, sizeof answer - used, "%s%s",
+                                     at     ? "|"
+                                     : used ? " "
+                                            : "",
+                                     text ? (const char *)text : "NULL");
+        }
+        if (step == SQLITE_DONE) break;
+    }
+    if (step != SQLITE_DONE) snprintf(answer, sizeof answer, "error: %s", sqlite3_errmsg(db));
+    sqlite3_finalize(statement);
+    return answer;
+}
+
+#define CHECK_SQL(sql, wanted) check_text(ask(sql), (wanted), sql, __FILE__, __LINE__)
+
+static void check_rows(void) {
+    ask("CREATE TABLE t(v)");
+    ask("INSERT INTO t VALUES (4), (4), (4), (NULL), (NULL), (9), (-1), (-1)");
+    ask("CREATE TABLE p AS SELECT hv_column(v) AS c FROM t");
+    CHECK_SQL("SELECT hv_rows(c), hv_count(c), hv_sum(c), hv_min(c), hv_max(c) FROM p", "8|6|19|-1|9");
+    CHECK_SQL("SELECT hv_at(c, 0), hv_at(c, 4), hv_at(c, 5), hv_at(c, 8), hv_at(c, -1), hv_at(c, NULL) FROM p",
+              "4|NULL|9|NULL|NULL|NULL");
+    CHECK_SQL("SELECT start, stop, value FROM p, hv_runs(c)", "0|3|4 3|5|NULL 5|6|9 6|8|-1");
+    CHECK_SQL("SELECT start, stop, value FROM p, hv_runs(hv_filter(c, '>', 0))", "0|3|4 3|4|9");
+    CHECK_SQL("SELECT start, stop, value FROM p, hv_runs(hv_slice(c, 2, 6))", "0|1|4 1|3|NULL 3|4|9");
+    CHECK_SQL("SELECT start, stop, value FROM hv_runs((SELECT hv_concat(c) FROM (SELECT c FROM p UNION ALL SELECT NULL "
+              "UNION ALL SELECT hv_slice(c, 6, 7) FROM p)))",
+              "0|3|4 3|5|NULL 5|6|9 6|9|-1");
+    CHECK_SQL("SELECT hv_rows(hv_filter(c, '=', NULL)), hv_rows(hv_slice(c, 3, 3)) FROM p", "0|0");
+    CHECK_SQL("SELECT hv_sum(NULL), hv_rows(NULL), hv_at(NULL, 1), hv_filter(NULL, '=', 1), hv_slice(NULL, 0, 1)",
+              "NULL|NULL|NULL|NULL|NULL");
+    CHECK_SQL("SELECT count(*) FROM hv_runs(NULL)", "0");
+    CHECK_SQL("SELECT hv_rows(c), hv_sum(c), hv_min(c) FROM (SELECT hv_column(v) AS c FROM t WHERE 0)", "0|NULL|NULL");
+    CHECK_SQL("SELECT hv_rows(c), hv_count(c), hv_sum(c), hv_max(c) FROM (SELECT hv_column(NULL) AS c FROM t)",
+              "8|0|NULL|NULL");
+    CHECK_SQL("SELECT sum((stop - start) * value) FROM p, hv_runs(c) WHERE value > 0", "21");
+}
+
+static void check_texts(void) {
+    ask("CREATE TABLE w(v)");
+    ask("INSERT INTO w VALUES ('Oslo'), ('Oslo'), (NULL), (''), ('Zürich, where a text is longer than sixty-four "
+        "bytes by some bytes'), ('a')");
+    ask("CREATE TABLE q AS SELECT hv_column(v) AS c FROM w");
+    CHECK_SQL("SELECT hv_rows(c), hv_count(c), hv_min(c), hv_at(c, 0), hv_at(c, 2), hv_at(c, 3) FROM q",
+              "6|5||Oslo|NULL|");
+    CHECK_SQL("SELECT hv_at(c, 4) = (SELECT v FROM w WHERE rowid = 5), hv_max(c) FROM q", "1|a");
+    CHECK_SQL("SELECT start, stop, value FROM q, hv_runs(hv_filter(c, '<', 'P'))", "0|2|Oslo 2|3|");
+    CHECK_SQL("SELECT typeof(hv_at(hv_column(x'0102'), 0)), hex(hv_at(hv_column(x'0102'), 0)), "
+              "hex(hv_at(hv_column(x''), 0)), hex(hv_max(hv_column(x'ff00')))",
+              "blob|0102||FF00");
+}
+
+/* The message of 4 4 4 null null 9 -1 -1, written by hand after docs/column.proto. */
+static void check_bytes(void) {
+    CHECK_SQL("SELECT hex(c) FROM p", "0801100818022008400048015204030201025A2F" /* runs of 8 rows, lengths 3 2 1 2 */
+                                      "080110081801200428043201"
+                                      "0D" /* their values, null by bits 1101 */
+                                      "3A20"
+                                      "0400000000000000"
+                                      "0000000000000000"
+                                      "0900000000000000"
+                                      "FFFFFFFFFFFFFFFF");
+    CHECK_SQL("SELECT hv_sum(x'0801100818012002280132003A00')", "error: hv_sum: the blob is no column");
+    /* flat, two rows, without null */
+    CHECK_SQL("SELECT hv_sum(x'080110081801200228013A10010000000000000002000000000000"
+              "00')",
+              "3");
+    /* 2^62 rows in one run */
+    CHECK_SQL("SELECT hv_rows(c), hv_at(c, 4611686018427387903), hv_max(hv_filter(c, '=', 1)) FROM (SELECT "
+              "x'0801100818022080808080808080804040004804520980808080808080804"
+              "05A14080110081801200128013A08"
+              "0100000000000000' AS c)",
+              "4611686018427387904|1|1");
+}
+
+static void check_refusals(void) {
+    CHECK_SQL("SELECT hv_sum(x'00')", "error: hv_sum: the blob is no column");
+    CHECK_SQL("SELECT hv_sum(x'')", "error: hv_sum: the blob is no column");
+    CHECK_SQL("SELECT hv_sum(5)", "error: hv_sum: a column is a blob, and this is an integer");
+    CHECK_SQL("SELECT * FROM hv_runs('x')", "error: hv_runs: a column is a blob, and this is a text");
+    CHECK_SQL("SELECT * FROM hv_runs(x'01')", "error: hv_runs: the blob is no column");
+    CHECK_SQL("SELECT * FROM hv_runs", "error: hv_runs: a column is asked for, hv_runs(column)");
+    CHECK_SQL("SELECT hv_concat(1)", "error: hv_concat: a column is a blob, and this is an integer");
+    CHECK_SQL("SELECT hv_concat(c) FROM (SELECT c FROM p UNION ALL SELECT c FROM q)",
+              "error: hv_concat: a column of texts after columns of integers");
+    CHECK_SQL("SELECT hv_column(v) FROM (SELECT 1 AS v UNION ALL SELECT 'x')",
+              "error: hv_column: row 1 is a text, and a column holds integers");
+    CHECK_SQL("SELECT hv_column(1.5)",
+              "error: hv_column: row 0 is a real number, and a column holds integers, texts or blobs");
+    CHECK_SQL("SELECT hv_column(CAST(x'C328' AS TEXT))", "error: hv_column: a text is not UTF-8");
+    CHECK_SQL("SELECT hv_sum(c) FROM q", "error: hv_sum: integers are added, and this is a column of texts");
+    CHECK_SQL("SELECT hv_sum(hv_column(v)) FROM (SELECT 9223372036854775807 AS v UNION ALL SELECT 1)",
+              "error: hv_sum: integer overflow");
+    CHECK_SQL("SELECT hv_slice(c, 2, 12) FROM p", "error: hv_slice: rows 2 to 12 are not among 8 rows");
+    CHECK_SQL("SELECT hv_slice(c, -2, 1) FROM p", "error: hv_slice: rows -2 to 1 are not among 8 rows");
+    CHECK_SQL("SELECT hv_slice(c, 3, 2) FROM p", "error: hv_slice: rows 3 to 2 are not among 8 rows");
+    CHECK_SQL("SELECT hv_at(c, 'x') FROM p", "error: hv_at: a row is numbered by an integer, and this is a text");
+    CHECK_SQL("SELECT hv_filter(c, '~', 2) FROM p", "error: hv_filter: an operator is one of = <> > >= < <=");
+    CHECK_SQL("SELECT hv_filter(c, NULL, 2) FROM p", "error: hv_filter: an operator is one of = <> > >= < <=");
+    CHECK_SQL("SELECT hv_filter(c, '=', 'a') FROM p",
+              "error: hv_filter: a column of integers is not compared with a text");
+    CHECK_SQL("SELECT hv_filter(c, '=', 0.5) FROM p",
+              "error: hv_filter: a column of integers is not compared with a real number");
+    CHECK_SQL("SELECT hv_column(v) OVER (ORDER BY rowid) FROM t",
+              "error: hv_column() may not be used as a window function");
+    CHECK_SQL("SELECT hv_concat(c) OVER () FROM p", "error: hv_concat() may not be used as a window function");
+}
+
+/* ---- Random tables ---- */
+
+static uint64_t state = 88172645463325252;
+
+static uint64_t below(uint64_t limit) {
+    state ^= state << 13;
+    state ^= state >> 7;
+    state ^= state << 17;
+    return (state * 2685821657736338717u >> 16) % limit;
+}
+
+/* A table of up to 120 rows in stretches; numbers, texts or blobs. */
+static void make_table(void) {
+    static const char *const kinds[] = {"%lld", "'%llx'", "x'%02llx'"};
+    const char *kind = kinds[below(3)];
+    char sql[8192] = "INSERT INTO r VALUES ";
+    size_t used = strlen(sql), stretches = below(30);
+    ask("DELETE FROM r");
+    for (size_t stretch = 0; stretch < stretches; stretch++) {
+        char value[32] = "NULL";
+        if (below(4)) snprintf(value, sizeof value, kind, (long long)below(5) + (kind == kinds[0] ? -2 : 16));
+        for (size_t left = 1 + below(4); left; left--)
+            used += (size_t)snprintf(sql + used, sizeof sql - used, "(%s),", value);
+    }
+    if (!stretches) return;
+    sql[used - 1] = 0;
+    CHECK_SQL(sql, "");
+}
+
+static void same(const char *runs, const char *rows) {
+    static char wanted[sizeof answer];
+    strcpy(wanted, ask(rows));
+    check_text(ask(runs), wanted, runs, __FILE__, __LINE__);
+}
+
+static void check_table(void) {
+    const int rows = atoi(ask("SELECT count(*) FROM r")), first = (int)below((uint64_t)rows + 1);
+    const int second = first + (int)below((uint64_t)(rows - first) + 1);
+    char range[128];
+    snprintf(range, sizeof range, "UPDATE k SET first = %d, stop = %d", first, second);
+    ask(range);
+    static const char *const operators[] = {"=", "<>", "<", "<=", ">", ">="};
+    same("SELECT hv_rows(c), hv_count(c), hv_min(c), hv_max(c) FROM (SELECT hv_column(v) AS c FROM r)",
+         "SELECT count(*), count(v), min(v), max(v) FROM r");
+    if (atoi(ask("SELECT count(*) FROM r WHERE typeof(v) IN ('text', 'blob')")) == 0)
+        same("SELECT hv_sum(hv_column(v)) FROM r", "SELECT sum(v) FROM r");
+    same("SELECT hv_at((SELECT hv_column(v) FROM r), first) FROM k",
+         "SELECT max(v) FROM (SELECT v FROM r LIMIT 1 OFFSET (SELECT first FROM k))");
+    same("SELECT hex(hv_slice((SELECT hv_column(v) FROM r), first, stop)) FROM k",
+         "SELECT hex(hv_column(v)) FROM "
+         "(SELECT v FROM r LIMIT (SELECT stop - first FROM k) OFFSET (SELECT first FROM k))");
+    same("SELECT hex(hv_concat(c)) FROM (SELECT hv_column(v) AS c FROM r GROUP BY (rowid - 1) / 7 ORDER BY rowid)",
+         "SELECT hex(hv_column(v)) FROM r");
+    same("SELECT start, stop, value FROM hv_runs((SELECT hv_column(v) FROM r))",
+         "WITH x AS (SELECT rowid - 1 AS n, v, rowid = 1 OR v IS NOT lag(v) OVER (ORDER BY rowid) AS s FROM r), "
+         "y AS (SELECT n, v, sum(s) OVER (ORDER BY n) AS g FROM x) "
+         "SELECT min(n), max(n) + 1, v FROM y GROUP BY g ORDER BY g");
+    for (size_t i = 0; i < COUNT(operators) && rows; i++) {
+        char left[512], right[512];
+        const char *value = "(SELECT ifnull(v, (SELECT max(v) FROM r)) FROM r LIMIT 1 OFFSET %d)";
+        char chosen[128];
+        snprintf(chosen, sizeof chosen, value, first % rows);
+        snprintf(left, sizeof left, "SELECT hex(hv_filter(hv_column(v), '%s', %s)) FROM r", operators[i], chosen);
+        snprintf(right, sizeof right, "SELECT hex(hv_column(v)) FROM r WHERE v %s %s", operators[i], chosen);
+        same(left, right);
+    }
+}
+
+/* Blobs with a byte changed, left out or added: an answer or an error, and no fault. */
+static size_t check_broken(size_t count) {
+    size_t refused = 0;
+    ask("CREATE TABLE b AS SELECT c FROM p UNION ALL SELECT c FROM q UNION ALL SELECT hv_column(NULL)");
+    for (size_t i = 0; i < count; i++) {
+        char sql[512];
+        snprintf(sql, sizeof sql,
+                 "WITH x AS (SELECT CAST(substr(c, 1, k) || unhex_byte(%d) || substr(c, k + 2 - %d) AS BLOB) AS c FROM "
+                 "(SELECT c, %d %% "
+                 "length(c) AS k FROM b LIMIT 1 OFFSET %d)) SELECT hv_rows(c), hv_count(c), hv_min(c), "
+                 "length(hv_slice(c, 0, 1)) FROM x",
+                 (int)below(256), (int)below(3) - 1, (int)below(1000), (int)below(3));
+        refused += strncmp(ask(sql), "error: ", 7) == 0;
+        if (strncmp(answer, "error: ", 7) == 0) CHECK(strstr(answer, "hv_") != NULL);
+    }
+    return refused;
+}
+
+/* the blob of one byte */
+static void unhex_byte(sqlite3_context *context, int count, sqlite3_value **values) {
+    const unsigned char byte = (unsigned char)sqlite3_value_int(values[0]);
+    (void)count;
+    sqlite3_result_blob(context, &byte, 1, SQLITE_TRANSIENT);
+}
+
+int main(int count, char **words) {
+    const size_t tables = 400, broken = 4000;
+    CHECK(sqlite3_open(":memory:", &db) == SQLITE_OK);
+    if (count > 1) {
+        sqlite3_db_config(db, SQLITE_DBCONFIG_ENABLE_LOAD_EXTENSION, 1, NULL);
+        CHECK(sqlite3_load_extension(db, words[1], NULL, NULL) == SQLITE_OK);
+    } else {
+#ifndef LOADED_ALONE
+        CHECK(sqlite3_hivevigilsqlite_init(db, NULL, NULL) == SQLITE_OK);
+#endif
+    }
+    sqlite3_create_function(db, "unhex_byte", 1, SQLITE_UTF8, NULL, unhex_byte, NULL, NULL);
+    check_rows();
+    check_texts();
+    check_bytes();
+    check_refusals();
+    ask("CREATE TABLE r(v)");
+    ask("CREATE TABLE k AS SELECT 0 AS first, 0 AS stop");
+    for (size_t table = 0; table < tables; table++) make_table(), check_table();
+    const size_t refused = check_broken(broken);
+    CHECK(refused > broken / 2 && refused < broken);
+    CHECK(sqlite3_close(db) == SQLITE_OK);
+    printf("%zu random tables as rows and as runs, %zu broken blobs of which %zu were refused\n", tables, broken,
+           refused);
+    return 0;
+}
