@@ -209,6 +209,14 @@ else
     skip "sqlite" "sqlite3ext.h (libsqlite3-dev)"
 fi
 
+# PostgreSQL: a server of its own, which does not run as root
+if has pg_config && has make && [ -e "$(pg_config --includedir-server)/postgres.h" ] &&
+    [ -x "$(pg_config --bindir)/postgres" ] && { [ "$(id -u)" != 0 ] || has runuser; }; then
+    run "postgres/test.sql" timeout 400 sh examples/postgres/test.sh
+else
+    skip "postgres/test.sql" "PostgreSQL with its headers (and runuser, as root)"
+fi
+
 # what is installed and packed, used in empty folders
 package() { run "$1" timeout 120 sh examples/packages.sh "$2" "$work/dist"; }
 run "dist.sh" sh dist.sh "$work/dist"

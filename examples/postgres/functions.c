@@ -1,0 +1,266 @@
+/* The type hvcolumn, and questions to one column. */
+#include "pg_column.h"
+
+#include "hivevigil_errors.h"
+#include "mb/pg_wchar.h"
+#include "utils/builtins.h"
+#include "utils/memutils.h"
+#include <stdlib.h>
+
+PG_MODULE_MAGIC;
+
+static int error_code(int32_t answer) {
+    switch (answer) {
+    case HV_OUT_OF_MEMORY: return ERRCODE_OUT_OF_MEMORY;
+    case HV_BAD_METADATA: return ERRCODE_DATA_CORRUPTED;
+    case HV_WINDOW_OVERFLOW: return ERRCODE_PROGRAM_LIMIT_EXCEEDED;
+    case HV_BAD_RANGE: return ERRCODE_ARRAY_SUBSCRIPT_ERROR;
+    case HV_TYPE_MISMATCH: return ERRCODE_DATATYPE_MISMATCH;
+    default: return ERRCODE_FEATURE_NOT_SUPPORTED;
+    }
+}
+
+void hv_raise(const char *function, int32_t answer, const hv_error *error) {
+    char text[HV_ERROR_TEXT];
+    if (!answer) return;
+    const char *why = hv_error_text(answer, error, text);
+    if (answer == HV_BAD_METADATA) why = "the bytes are no column";
+    if (answer == HV_WINDOW_OVERFLOW) why = "a column of 2^63 rows or more";
+    if (answer == HV_TYPE_MISMATCH) why = "numbers, texts and bytes do not go together";
+    ereport(ERROR, (errcode(error_code(answer)), errmsg("%s: %s", function, why)));
+}
+
+void hv_column_of(const char *function, bytea *bytes, hv_column *out) {
+    hv_error error = {0, 0, 0};
+    int32_t answer = column_bytes_read((const uint8_t *)VARDATA_ANY(bytes), VARSIZE_ANY_EXHDR(bytes), out, &error);
+    if (!answer && hv_length(out) > PG_INT64_MAX) {
+        hv_free(out);
+        answer = HV_WINDOW_OVERFLOW;
+    }
+    hv_raise(function, answer, &error);
+}
+
+bytea *hv_bytes_of_column(const char *function, hv_column *column) {
+    hv_error error = {0, 0, 0};
+    uint8_t *bytes = NULL;
+    size_t size = 0;
+    bytea *made = NULL;
+    int32_t answer = column_bytes_write(column, &bytes, &size, &error);
+    const bool fits = size <= MaxAllocSize - VARHDRSZ;
+    hv_free(column);
+    if (!answer && fits) made = palloc_extended(size + VARHDRSZ, MCXT_ALLOC_NO_OOM);
+    if (made) {
+        SET_VARSIZE(made, size + VARHDRSZ);
+        memcpy(VARDATA(made), bytes, size);
+    }
+    free(bytes);
+    if (!answer && !fits)
+        ereport(ERROR, (errcode(ERRCODE_PROGRAM_LIMIT_EXCEEDED), errmsg("%s: a column of more than 1 GB", function)));
+    hv_raise(function, !answer && !made ? HV_OUT_OF_MEMORY : answer, &error);
+    return made;
+}
+
+bytea *hv_bytes_of_list(const char *function, const run_list *list) {
+    hv_error error = {0, 0, 0};
+    hv_column column = HV_EMPTY;
+    const int32_t answer = list->rows > PG_INT64_MAX ? HV_WINDOW_OVERFLOW : run_list_column(list, &column, &error);
+    hv_raise(function, answer, &error);
+    return hv_bytes_of_column(function, &column);
+}
+
+text *hv_text_of(const char *function, const uint8_t *bytes, size_t len) {
+    if (GetDatabaseEncoding() != PG_UTF8 || memchr(bytes, 0, len))
+        ereport(ERROR, (errcode(ERRCODE_CHARACTER_NOT_IN_REPERTOIRE),
+                        errmsg("%s: a text of the column is none of this database", function)));
+    return cstring_to_text_with_len((const char *)bytes, (int)len);
+}
+
+run_value hv_value_of_text(const char *function, text *value) {
+    const run_value found = {HV_TEXT, 0, (const uint8_t *)VARDATA_ANY(value), VARSIZE_ANY_EXHDR(value)};
+    if (GetDatabaseEncoding() != PG_UTF8)
+        ereport(ERROR, (errcode(ERRCODE_FEATURE_NOT_SUPPORTED),
+                        errmsg("%s: columns of texts are for databases in UTF8", function)));
+    return found;
+}
+
+/* ---- The type: its bytes are looked at wherever they come in ---- */
+
+static bytea *checked(bytea *bytes) {
+    hv_column column = HV_EMPTY;
+    hv_column_of("hvcolumn", bytes, &column);
+    hv_free(&column);
+    return bytes;
+}
+
+HV_FUNCTION(pg_hvcolumn_in) {
+    PG_RETURN_BYTEA_P(checked(DatumGetByteaPP(DirectFunctionCall1(byteain, PG_GETARG_DATUM(0)))));
+}
+
+HV_FUNCTION(pg_hvcolumn_out) { return DirectFunctionCall1(byteaout, PG_GETARG_DATUM(0)); }
+
+HV_FUNCTION(pg_hvcolumn_receive) {
+    PG_RETURN_BYTEA_P(checked(DatumGetByteaPP(DirectFunctionCall1(bytearecv, PG_GETARG_DATUM(0)))));
+}
+
+HV_FUNCTION(pg_hvcolumn_send) { return DirectFunctionCall1(byteasend, PG_GETARG_DATUM(0)); }
+
+HV_FUNCTION(pg_hvcolumn_of_bytes) { PG_RETURN_BYTEA_P(checked(PG_GETARG_BYTEA_P(0))); }
+
+/* ---- Questions ---- */
+
+HV_FUNCTION(pg_hv_rows) {
+    hv_column column = HV_EMPTY;
+    hv_column_of("hv_rows", PG_GETARG_BYTEA_PP(0), &column);
+    const size_t rows = hv_length(&column);
+    hv_free(&column);
+    PG_RETURN_INT64((int64)rows);
+}
+
+HV_FUNCTION(pg_hv_count) {
+    hv_error error = {0, 0, 0};
+    hv_column column = HV_EMPTY;
+    run_list list = RUN_LIST_EMPTY;
+    hv_column_of("hv_count", PG_GETARG_BYTEA_PP(0), &column);
+    const int32_t answer = run_list_add_column(&list, &column, &error);
+    const uint64_t rows = run_list_valid_rows(&list);
+    run_list_free(&list);
+    hv_free(&column);
+    hv_raise("hv_count", answer, &error);
+    PG_RETURN_INT64((int64)rows);
+}
+
+HV_FUNCTION(pg_hv_sum) {
+    hv_error error = {0, 0, 0};
+    hv_column column = HV_EMPTY;
+    hv_session session;
+    hv_total total;
+    hv_session_initial(&session);
+    hv_column_of("hv_sum", PG_GETARG_BYTEA_PP(0), &column);
+    const int32_t answer = hv_sum(&session, &column, &total, &error);
+    hv_free(&column);
+    if (answer == HV_UNSUPPORTED)
+        ereport(ERROR, (errcode(ERRCODE_DATATYPE_MISMATCH), errmsg("hv_sum: numbers alone are added")));
+    hv_raise("hv_sum", answer, &error);
+    if (total.kind == 0)
+        ereport(ERROR, (errcode(ERRCODE_NUMERIC_VALUE_OUT_OF_RANGE), errmsg("hv_sum: bigint out of range")));
+    if (total.empty) PG_RETURN_NULL();
+    PG_RETURN_INT64(total.as_signed);
+}
+
+/* Which row is looked at. */
+typedef enum place { LEAST, GREATEST, ROW } place;
+
+/* A row as the library shows it: a text of more than `few` has its bytes in memory of PostgreSQL's. */
+typedef struct shown {
+    hv_value value;
+    const uint8_t *bytes;
+    uint8_t few[256];
+} shown;
+
+static int32_t look(hv_column *column, place at, size_t row, hv_value *value, uint8_t *text, size_t len,
+                    hv_error *error) {
+    hv_session session;
+    hv_session_initial(&session);
+    if (at == ROW) return hv_at(column, row, value, text, len, error);
+    return hv_extreme(&session, column, at == GREATEST, value, text, len, error);
+}
+
+/* The row, null where it is not there. */
+static void show(const char *function, FunctionCallInfo fcinfo, place at, shown *found) {
+    const int64 row = at == ROW ? PG_GETARG_INT64(1) : 0;
+    hv_error error = {0, 0, 0};
+    hv_column column = HV_EMPTY;
+    hv_column_of(function, PG_GETARG_BYTEA_PP(0), &column);
+    found->value.kind = HV_NULL;
+    found->bytes = found->few;
+    int32_t answer = row < 0 ? HV_OUT_OF_BOUNDS
+                             : look(&column, at, (size_t)row, &found->value, found->few, sizeof found->few, &error);
+    if (answer == HV_COLUMN_LENGTH) {
+        const size_t len = error.first;
+        uint8_t *bytes = palloc_extended(len, MCXT_ALLOC_NO_OOM | MCXT_ALLOC_HUGE);
+        answer = bytes ? look(&column, at, (size_t)row, &found->value, bytes, len, &error) : HV_OUT_OF_MEMORY;
+        found->bytes = bytes;
+    }
+    hv_free(&column);
+    if (answer == HV_OUT_OF_BOUNDS) found->value.kind = HV_NULL;
+    else hv_raise(function, answer, &error);
+}
+
+static Datum number(const char *function, FunctionCallInfo fcinfo, place at) {
+    shown found;
+    show(function, fcinfo, at, &found);
+    if (found.value.kind == HV_NULL) PG_RETURN_NULL();
+    if (found.value.kind != HV_SIGNED)
+        ereport(ERROR, (errcode(ERRCODE_DATATYPE_MISMATCH), errmsg("%s: this is no column of numbers", function)));
+    PG_RETURN_INT64(found.value.as_signed);
+}
+
+static Datum words(const char *function, FunctionCallInfo fcinfo, place at) {
+    shown found;
+    show(function, fcinfo, at, &found);
+    if (found.value.kind == HV_NULL) PG_RETURN_NULL();
+    if (found.value.kind != HV_TEXT)
+        ereport(ERROR, (errcode(ERRCODE_DATATYPE_MISMATCH), errmsg("%s: this is no column of texts", function)));
+    PG_RETURN_TEXT_P(hv_text_of(function, found.bytes, found.value.as_unsigned));
+}
+
+HV_FUNCTION(pg_hv_min) { return number("hv_min", fcinfo, LEAST); }
+HV_FUNCTION(pg_hv_max) { return number("hv_max", fcinfo, GREATEST); }
+HV_FUNCTION(pg_hv_at) { return number("hv_at", fcinfo, ROW); }
+HV_FUNCTION(pg_hv_min_text) { return words("hv_min_text", fcinfo, LEAST); }
+HV_FUNCTION(pg_hv_max_text) { return words("hv_max_text", fcinfo, GREATEST); }
+HV_FUNCTION(pg_hv_at_text) { return words("hv_at_text", fcinfo, ROW); }
+
+/* ---- Columns of some of the rows ---- */
+
+HV_FUNCTION(pg_hv_slice) {
+    const int64 start = PG_GETARG_INT64(1), stop = PG_GETARG_INT64(2);
+    hv_error error = {0, 0, 0};
+    hv_column column = HV_EMPTY, part = HV_EMPTY;
+    hv_session session;
+    hv_session_initial(&session);
+    if (start < 0 || stop < 0)
+        ereport(ERROR, (errcode(ERRCODE_ARRAY_SUBSCRIPT_ERROR), errmsg("hv_slice: rows are numbered from 0")));
+    hv_column_of("hv_slice", PG_GETARG_BYTEA_PP(0), &column);
+    const int32_t answer = hv_slice(&session, &column, (size_t)start, (size_t)stop, &part, &error);
+    hv_free(&column);
+    hv_raise("hv_slice", answer, &error);
+    PG_RETURN_BYTEA_P(hv_bytes_of_column("hv_slice", &part));
+}
+
+/* The rows of which `row operator value` holds. */
+static Datum filtered(FunctionCallInfo fcinfo, const run_value *value) {
+    const uint8_t operator_ = PG_ARGISNULL(1) ? NO_OPERATOR : operator_number(text_to_cstring(PG_GETARG_TEXT_PP(1)));
+    hv_error error = {0, 0, 0};
+    hv_column column = HV_EMPTY, left = HV_EMPTY;
+    run_list list = RUN_LIST_EMPTY, kept = RUN_LIST_EMPTY;
+    if (operator_ == NO_OPERATOR)
+        ereport(ERROR,
+                (errcode(ERRCODE_INVALID_PARAMETER_VALUE), errmsg("hv_filter: an operator is one of = <> > >= < <=")));
+    hv_column_of("hv_filter", PG_GETARG_BYTEA_PP(0), &column);
+    int32_t answer = run_list_add_column(&list, &column, &error);
+    if (!answer) answer = run_list_filter(&list, operator_, value, &kept, &error);
+    if (!answer) answer = run_list_column(&kept, &left, &error);
+    hv_free(&column);
+    run_list_free(&list);
+    run_list_free(&kept);
+    hv_raise("hv_filter", answer, &error);
+    PG_RETURN_BYTEA_P(hv_bytes_of_column("hv_filter", &left));
+}
+
+HV_FUNCTION(pg_hv_filter_numbers) {
+    run_value value = {HV_NULL, 0, NULL, 0};
+    if (PG_ARGISNULL(0)) PG_RETURN_NULL();
+    if (!PG_ARGISNULL(2)) {
+        value.kind = HV_SIGNED;
+        value.number = PG_GETARG_INT64(2);
+    }
+    return filtered(fcinfo, &value);
+}
+
+HV_FUNCTION(pg_hv_filter_texts) {
+    run_value value = {HV_NULL, 0, NULL, 0};
+    if (PG_ARGISNULL(0)) PG_RETURN_NULL();
+    if (!PG_ARGISNULL(2)) value = hv_value_of_text("hv_filter", PG_GETARG_TEXT_PP(2));
+    return filtered(fcinfo, &value);
+}

@@ -1,0 +1,83 @@
+-- A column in runs, of bigint or of text, with null.
+\echo Use "CREATE EXTENSION hivevigil" to load this file. \quit
+
+CREATE TYPE hvcolumn;
+CREATE FUNCTION hvcolumn_in(cstring) RETURNS hvcolumn
+    AS 'MODULE_PATHNAME', 'pg_hvcolumn_in' LANGUAGE C IMMUTABLE STRICT PARALLEL SAFE;
+CREATE FUNCTION hvcolumn_out(hvcolumn) RETURNS cstring
+    AS 'MODULE_PATHNAME', 'pg_hvcolumn_out' LANGUAGE C IMMUTABLE STRICT PARALLEL SAFE;
+CREATE FUNCTION hvcolumn_receive(internal) RETURNS hvcolumn
+    AS 'MODULE_PATHNAME', 'pg_hvcolumn_receive' LANGUAGE C IMMUTABLE STRICT PARALLEL SAFE;
+CREATE FUNCTION hvcolumn_send(hvcolumn) RETURNS bytea
+    AS 'MODULE_PATHNAME', 'pg_hvcolumn_send' LANGUAGE C IMMUTABLE STRICT PARALLEL SAFE;
+CREATE TYPE hvcolumn (
+    INPUT = hvcolumn_in, OUTPUT = hvcolumn_out, RECEIVE = hvcolumn_receive, SEND = hvcolumn_send,
+    INTERNALLENGTH = VARIABLE, STORAGE = extended
+);
+
+-- bytes that are a column, and the bytes of a column
+CREATE FUNCTION hvcolumn(bytea) RETURNS hvcolumn
+    AS 'MODULE_PATHNAME', 'pg_hvcolumn_of_bytes' LANGUAGE C IMMUTABLE STRICT PARALLEL SAFE;
+CREATE CAST (bytea AS hvcolumn) WITH FUNCTION hvcolumn(bytea);
+CREATE CAST (hvcolumn AS bytea) WITHOUT FUNCTION;
+
+CREATE FUNCTION hv_rows(hvcolumn) RETURNS bigint
+    AS 'MODULE_PATHNAME', 'pg_hv_rows' LANGUAGE C IMMUTABLE STRICT PARALLEL SAFE;
+CREATE FUNCTION hv_count(hvcolumn) RETURNS bigint
+    AS 'MODULE_PATHNAME', 'pg_hv_count' LANGUAGE C IMMUTABLE STRICT PARALLEL SAFE;
+CREATE FUNCTION hv_sum(hvcolumn) RETURNS bigint
+    AS 'MODULE_PATHNAME', 'pg_hv_sum' LANGUAGE C IMMUTABLE STRICT PARALLEL SAFE;
+CREATE FUNCTION hv_min(hvcolumn) RETURNS bigint
+    AS 'MODULE_PATHNAME', 'pg_hv_min' LANGUAGE C IMMUTABLE STRICT PARALLEL SAFE;
+CREATE FUNCTION hv_max(hvcolumn) RETURNS bigint
+    AS 'MODULE_PATHNAME', 'pg_hv_max' LANGUAGE C IMMUTABLE STRICT PARALLEL SAFE;
+CREATE FUNCTION hv_at(hvcolumn, bigint) RETURNS bigint
+    AS 'MODULE_PATHNAME', 'pg_hv_at' LANGUAGE C IMMUTABLE STRICT PARALLEL SAFE;
+-- the same of columns of texts
+CREATE FUNCTION hv_min_text(hvcolumn) RETURNS text
+    AS 'MODULE_PATHNAME', 'pg_hv_min_text' LANGUAGE C IMMUTABLE STRICT PARALLEL SAFE;
+CREATE FUNCTION hv_max_text(hvcolumn) RETURNS text
+    AS 'MODULE_PATHNAME', 'pg_hv_max_text' LANGUAGE C IMMUTABLE STRICT PARALLEL SAFE;
+CREATE FUNCTION hv_at_text(hvcolumn, bigint) RETURNS text
+    AS 'MODULE_PATHNAME', 'pg_hv_at_text' LANGUAGE C IMMUTABLE STRICT PARALLEL SAFE;
+
+CREATE FUNCTION hv_slice(hvcolumn, start bigint, stop bigint) RETURNS hvcolumn
+    AS 'MODULE_PATHNAME', 'pg_hv_slice' LANGUAGE C IMMUTABLE STRICT PARALLEL SAFE;
+CREATE FUNCTION hv_filter(hvcolumn, operator text, value bigint) RETURNS hvcolumn
+    AS 'MODULE_PATHNAME', 'pg_hv_filter_numbers' LANGUAGE C IMMUTABLE PARALLEL SAFE;
+CREATE FUNCTION hv_filter(hvcolumn, operator text, value text) RETURNS hvcolumn
+    AS 'MODULE_PATHNAME', 'pg_hv_filter_texts' LANGUAGE C IMMUTABLE PARALLEL SAFE;
+CREATE FUNCTION hv_runs(hvcolumn, OUT start bigint, OUT stop bigint, OUT value bigint) RETURNS SETOF record
+    AS 'MODULE_PATHNAME', 'pg_hv_runs_numbers' LANGUAGE C IMMUTABLE STRICT PARALLEL SAFE ROWS 1000;
+CREATE FUNCTION hv_text_runs(hvcolumn, OUT start bigint, OUT stop bigint, OUT value text) RETURNS SETOF record
+    AS 'MODULE_PATHNAME', 'pg_hv_runs_texts' LANGUAGE C IMMUTABLE STRICT PARALLEL SAFE ROWS 1000;
+
+-- Aggregates. Each worker of a parallel plan joins its part, and the parts are joined as they come: the rows of such a
+-- column stand in no order that is promised. hv_column(value ORDER BY ..) is made by one process, in that order.
+CREATE FUNCTION hv_step(internal, bigint) RETURNS internal
+    AS 'MODULE_PATHNAME', 'pg_hv_step_number' LANGUAGE C IMMUTABLE PARALLEL SAFE;
+CREATE FUNCTION hv_step(internal, text) RETURNS internal
+    AS 'MODULE_PATHNAME', 'pg_hv_step_text' LANGUAGE C IMMUTABLE PARALLEL SAFE;
+CREATE FUNCTION hv_step(internal, hvcolumn) RETURNS internal
+    AS 'MODULE_PATHNAME', 'pg_hv_step_column' LANGUAGE C IMMUTABLE PARALLEL SAFE;
+CREATE FUNCTION hv_final(internal) RETURNS hvcolumn
+    AS 'MODULE_PATHNAME', 'pg_hv_final' LANGUAGE C IMMUTABLE PARALLEL SAFE;
+CREATE FUNCTION hv_combine(internal, internal) RETURNS internal
+    AS 'MODULE_PATHNAME', 'pg_hv_combine' LANGUAGE C IMMUTABLE PARALLEL SAFE;
+CREATE FUNCTION hv_serial(internal) RETURNS bytea
+    AS 'MODULE_PATHNAME', 'pg_hv_serial' LANGUAGE C IMMUTABLE STRICT PARALLEL SAFE;
+CREATE FUNCTION hv_deserial(bytea, internal) RETURNS internal
+    AS 'MODULE_PATHNAME', 'pg_hv_deserial' LANGUAGE C IMMUTABLE STRICT PARALLEL SAFE;
+
+CREATE AGGREGATE hv_column(bigint) (
+    SFUNC = hv_step, STYPE = internal, FINALFUNC = hv_final,
+    COMBINEFUNC = hv_combine, SERIALFUNC = hv_serial, DESERIALFUNC = hv_deserial, PARALLEL = SAFE
+);
+CREATE AGGREGATE hv_column(text) (
+    SFUNC = hv_step, STYPE = internal, FINALFUNC = hv_final,
+    COMBINEFUNC = hv_combine, SERIALFUNC = hv_serial, DESERIALFUNC = hv_deserial, PARALLEL = SAFE
+);
+CREATE AGGREGATE hv_concat(hvcolumn) (
+    SFUNC = hv_step, STYPE = internal, FINALFUNC = hv_final,
+    COMBINEFUNC = hv_combine, SERIALFUNC = hv_serial, DESERIALFUNC = hv_deserial, PARALLEL = SAFE
+);

@@ -1,0 +1,39 @@
+/* What the parts of the extension share.
+ *
+ * PostgreSQL leaves a function by a long jump where it raises an error. So no function raises one, nor asks PostgreSQL
+ * for memory that may be refused by one, while it holds memory of malloc's or a column of the library's: what is held
+ * is freed first. What outlives a call (the rows of an aggregate) is freed with the memory context that it belongs to.
+ */
+#ifndef HIVEVIGIL_PG_COLUMN_H
+#define HIVEVIGIL_PG_COLUMN_H
+#include "postgres.h"
+
+#include "column_bytes.h"
+#include "fmgr.h"
+#include "run_filter.h"
+
+/* A function that SQL calls; its arguments are the macros' `fcinfo`. */
+#define HV_FUNCTION(name)                                                                                              \
+    PG_FUNCTION_INFO_V1(name);                                                                                         \
+    Datum name(PG_FUNCTION_ARGS)
+
+/* Raises this refusal, in a sentence after the function's name; returns where it is none. */
+void hv_raise(const char *function, int32_t answer, const hv_error *error);
+
+/* The column of an argument, or the error that it is none. */
+void hv_column_of(const char *function, bytea *bytes, hv_column *out);
+
+/* What a column shows, freed with the memory context. */
+run_list *hv_list_in(MemoryContext context);
+
+/* The rows of a list as bytes of PostgreSQL's, and the column, which is freed; or the error. */
+bytea *hv_bytes_of_list(const char *function, const run_list *list);
+bytea *hv_bytes_of_column(const char *function, hv_column *column);
+
+/* The bytes of a text as PostgreSQL's, or the error that it cannot be one. */
+text *hv_text_of(const char *function, const uint8_t *bytes, size_t len);
+
+/* A text of PostgreSQL's, which has to be UTF-8, as a value of a list. */
+run_value hv_value_of_text(const char *function, text *value);
+
+#endif

@@ -1,0 +1,217 @@
+-- The same questions over rows and over runs. A difference ends the script with its query.
+\set VERBOSITY terse
+\if :{?count} \else \set count 60000 \endif
+CREATE EXTENSION hivevigil;
+SELECT setseed(0.25) \g /dev/null
+
+-- do both queries answer the same?
+CREATE FUNCTION same(runs text, plain text) RETURNS void LANGUAGE plpgsql AS $$
+DECLARE found text; wanted text;
+BEGIN
+    EXECUTE format('SELECT string_agg(x::text, '' '') FROM (%s) AS x', runs) INTO found;
+    EXECUTE format('SELECT string_agg(x::text, '' '') FROM (%s) AS x', plain) INTO wanted;
+    IF found IS DISTINCT FROM wanted THEN RAISE EXCEPTION E'%\nanswers %\nand should %', runs, found, wanted; END IF;
+END $$;
+-- is the query refused with this sentence?
+CREATE FUNCTION refused(query text, sentence text) RETURNS void LANGUAGE plpgsql AS $$
+BEGIN
+    BEGIN
+        EXECUTE query;
+    EXCEPTION WHEN OTHERS OR query_canceled THEN
+        IF SQLERRM <> sentence THEN RAISE EXCEPTION E'%\nis refused by: %', query, SQLERRM; END IF;
+        RETURN;
+    END;
+    RAISE EXCEPTION '% is not refused', query;
+END $$;
+
+-- ---- By hand ----
+CREATE TABLE t(n serial, v bigint);
+INSERT INTO t(v) VALUES (4), (4), (4), (NULL), (NULL), (9), (-1), (-1);
+CREATE TABLE p AS SELECT hv_column(v ORDER BY n) AS c FROM t;
+CREATE TABLE w(n serial, v text);
+INSERT INTO w(v) VALUES ('Oslo'), ('Oslo'), (NULL), (''), ('Zürich, ' || repeat('a longer text ', 40)), ('a');
+CREATE TABLE q AS SELECT hv_column(v ORDER BY n) AS c FROM w;
+SELECT same('SELECT hv_rows(c), hv_count(c), hv_sum(c), hv_min(c), hv_max(c) FROM p', 'SELECT 8, 6, 19, -1, 9'),
+    same('SELECT hv_at(c, 0), hv_at(c, 4), hv_at(c, 5), hv_at(c, 8), hv_at(c, -1) FROM p',
+         'SELECT 4, NULL, 9, NULL, NULL'),
+    same('SELECT r.* FROM p, hv_runs(c) r', 'VALUES (0, 3, 4), (3, 5, NULL), (5, 6, 9), (6, 8, -1)'),
+    same('SELECT r.* FROM p, hv_runs(hv_filter(c, ''>'', 0)) r', 'VALUES (0, 3, 4), (3, 4, 9)'),
+    same('SELECT r.* FROM p, hv_runs(hv_slice(c, 2, 6)) r', 'VALUES (0, 1, 4), (1, 3, NULL), (3, 4, 9)'),
+    same('SELECT hv_rows(hv_filter(c, ''='', NULL::bigint)), hv_filter(NULL, ''='', 1), hv_sum(NULL) FROM p',
+         'SELECT 0, NULL, NULL'),
+    same('SELECT hv_rows(hv_column(v)), hv_sum(hv_column(v)) FROM t WHERE false', 'SELECT 0, NULL'),
+    same('SELECT hv_rows(hv_concat(c)), hv_sum(hv_concat(c)) FROM (SELECT c FROM p UNION ALL SELECT NULL UNION ALL
+          SELECT hv_slice(c, 6, 7) FROM p) x', 'SELECT 9, 18'),
+    same('SELECT c::text::hvcolumn::bytea = c::bytea, c::bytea::hvcolumn::text = c::text FROM p', 'SELECT true, true'),
+    same('SELECT hv_sum(hv_column(v) OVER (ORDER BY n)) FROM t', 'SELECT sum(v) OVER (ORDER BY n) FROM t'),
+    same('SELECT hv_rows(c), hv_count(c), hv_min_text(c), hv_max_text(c), hv_at_text(c, 1), hv_at_text(c, 2) FROM q',
+         'SELECT 6, 5, '''', ''a'', ''Oslo'', NULL'),
+    same('SELECT hv_at_text(c, 4) FROM q', 'SELECT v FROM w WHERE n = 5'),
+    same('SELECT r.* FROM q, hv_text_runs(hv_filter(c, ''<'', ''P'')) r', 'VALUES (0, 2, ''Oslo''), (2, 3, '''')'),
+-- a run of 2^62 rows, in 46 bytes
+    same($$SELECT hv_rows(c), hv_at(c, 4611686018427387903), hv_rows(hv_filter(c, '=', 1)) FROM
+          (SELECT ('\x08011008180220' || '808080808080808040' || '400048045209' || '808080808080808040' ||
+                   '5A14080110081801200128013A080100000000000000')::hvcolumn AS c) x$$,
+         'SELECT 4611686018427387904, 1, 4611686018427387904')
+\g /dev/null
+
+-- ---- Refusals ----
+SELECT refused($$SELECT '\x00'::hvcolumn$$, 'hvcolumn: the bytes are no column'),
+    refused($$SELECT 'x'::hvcolumn$$, 'hvcolumn: the bytes are no column'),
+    refused($$SELECT '\x0801'::bytea::hvcolumn$$, 'hvcolumn: the bytes are no column'),
+    refused('SELECT hv_slice(c, 2, 12) FROM p', 'hv_slice: rows 2 to 12 are not among 8 rows'),
+    refused('SELECT hv_slice(c, -2, 1) FROM p', 'hv_slice: rows are numbered from 0'),
+    refused('SELECT hv_slice(c, 3, 2) FROM p', 'hv_slice: rows 3 to 2 are not among 8 rows'),
+    refused('SELECT hv_filter(c, ''~'', 2) FROM p', 'hv_filter: an operator is one of = <> > >= < <='),
+    refused('SELECT hv_filter(c, NULL, 2) FROM p', 'hv_filter: an operator is one of = <> > >= < <='),
+    refused('SELECT hv_filter(c, ''='', ''a''::text) FROM p', 'hv_filter: numbers, texts and bytes do not go together'),
+    refused('SELECT hv_sum(c) FROM q', 'hv_sum: numbers alone are added'),
+    refused('SELECT hv_min(c) FROM q', 'hv_min: this is no column of numbers'),
+    refused('SELECT hv_at_text(c, 0) FROM p', 'hv_at_text: this is no column of texts'),
+    refused('SELECT r.* FROM q, hv_runs(c) r', 'hv_runs: this is no column of numbers'),
+    refused('SELECT r.* FROM p, hv_text_runs(c) r', 'hv_text_runs: this is no column of texts'),
+    refused('SELECT hv_concat(c) FROM (SELECT c FROM p UNION ALL SELECT c FROM q) x',
+            'hv_concat: numbers, texts and bytes do not go together'),
+    refused('SELECT hv_sum(hv_column(v)) FROM (VALUES (9223372036854775807), (1)) x(v)', 'hv_sum: bigint out of range')
+\g /dev/null
+
+-- ---- Random tables, in stretches ----
+CREATE TABLE r(n serial, v bigint, s text);
+CREATE PROCEDURE check_table() LANGUAGE plpgsql AS $$
+DECLARE op text; value bigint; rows int; a int; b int;
+BEGIN
+    TRUNCATE r RESTART IDENTITY;
+    INSERT INTO r(v, s) SELECT x, 'text ' || x FROM (
+        SELECT CASE WHEN random() < 0.8 THEN floor(5 * random()) - 2 END AS x, g
+        FROM generate_series(1, (30 * random())::int) g) stretch, generate_series(1, 1 + (g * 7919) % 4);
+    SELECT count(*) FROM r INTO rows;
+    a := floor((rows + 1) * random());
+    b := a + floor((rows - a + 1) * random());
+    PERFORM same('SELECT hv_rows(c), hv_count(c), hv_sum(c), hv_min(c), hv_max(c)
+                  FROM (SELECT hv_column(v) AS c FROM r) x',
+                 'SELECT count(*), count(v), sum(v), min(v), max(v) FROM r');
+    PERFORM same('SELECT hv_min_text(c), hv_max_text(c) FROM (SELECT hv_column(s) AS c FROM r) x',
+                 'SELECT min(s COLLATE "C"), max(s COLLATE "C") FROM r');
+    PERFORM same(format('SELECT hv_at(hv_column(v ORDER BY n), %1$s), hv_at_text(hv_column(s ORDER BY n), %1$s)
+                         FROM r', a),
+                 format('SELECT max(v), max(s) FROM r WHERE n = %s + 1', a));
+    PERFORM same(format('SELECT hv_slice(hv_column(s ORDER BY n), %s, %s)::text FROM r', a, b),
+                 format('SELECT hv_column(s ORDER BY n)::text FROM r WHERE n > %s AND n <= %s', a, b));
+    PERFORM same('SELECT hv_concat(c ORDER BY g)::text
+                  FROM (SELECT n / 7 AS g, hv_column(v ORDER BY n) AS c FROM r GROUP BY g) x',
+                 'SELECT hv_column(v ORDER BY n)::text FROM r');
+    PERFORM same('SELECT u.* FROM (SELECT hv_column(v ORDER BY n) AS c FROM r) x, hv_runs(c) u',
+        'SELECT min(n) - 1, max(n), v FROM (SELECT n, v, sum(s) OVER (ORDER BY n) AS g FROM (SELECT n, v, (n = 1 OR
+         v IS DISTINCT FROM lag(v) OVER (ORDER BY n))::int AS s FROM r) y) z GROUP BY g, v ORDER BY g');
+    FOREACH op IN ARRAY ARRAY['=', '<>', '<', '<=', '>', '>='] LOOP
+        value := floor(5 * random()) - 2;
+        PERFORM same(format('SELECT hv_filter(hv_column(v ORDER BY n), %L, %s)::text FROM r', op, value),
+                     format('SELECT hv_column(v ORDER BY n)::text FROM r WHERE v %s %s', op, value));
+        PERFORM same(format('SELECT hv_filter(hv_column(s ORDER BY n), %L, %L)::text FROM r', op, 'text ' || value),
+                     format('SELECT hv_column(s ORDER BY n)::text FROM r WHERE s COLLATE "C" %s %L', op,
+                            'text ' || value));
+    END LOOP;
+END $$;
+DO $$ BEGIN FOR i IN 1 .. 150 LOOP CALL check_table(); END LOOP; END $$;
+
+-- ---- Bytes with one changed: a column that answers, or a refusal ----
+DO $$
+DECLARE whole bytea; broken bytea; c hvcolumn; taken int := 0;
+BEGIN
+    FOR i IN 1 .. 5000 LOOP
+        IF i % 2 = 0 THEN SELECT p.c::bytea FROM p INTO whole; ELSE SELECT q.c::bytea FROM q INTO whole; END IF;
+        broken := set_byte(whole, (i * 31) % length(whole), floor(256 * random())::int);
+        BEGIN
+            c := broken::hvcolumn;
+            PERFORM hv_rows(c), hv_count(c), hv_slice(c, 0, least(hv_rows(c), 3));
+            taken := taken + 1;
+        EXCEPTION WHEN data_corrupted OR feature_not_supported THEN NULL;
+        END;
+    END LOOP;
+    IF taken < 100 OR taken > 4900 THEN RAISE EXCEPTION '% of 5000 broken columns are taken', taken; END IF;
+END $$;
+
+-- ---- Binary copies go through receive and send ----
+CREATE TABLE copied(c hvcolumn);
+\set file :folder '/columns'
+COPY p TO :'file' (FORMAT binary);
+COPY copied FROM :'file' (FORMAT binary);
+SELECT same('SELECT c::text FROM copied', 'SELECT c::text FROM p') \g /dev/null
+
+-- ---- Parallel plans: parts of workers are joined, and answer as the serial plan ----
+CREATE TABLE big AS SELECT i AS n, CASE WHEN i % 97 <> 0 THEN (i / 30)::bigint END AS v, 'state ' || i / 1000 % 3 AS s
+    FROM generate_series(0, 199999) i;
+CREATE TABLE parted(n int, v bigint, s text) PARTITION BY RANGE (n);
+CREATE TABLE parted_low PARTITION OF parted FOR VALUES FROM (0) TO (90000);
+CREATE TABLE parted_high PARTITION OF parted FOR VALUES FROM (90000) TO (200000);
+INSERT INTO parted SELECT * FROM big;
+ANALYZE big, parted;
+CREATE FUNCTION plan_of(query text) RETURNS text LANGUAGE plpgsql AS $$
+DECLARE line text; all_lines text := '';
+BEGIN
+    FOR line IN EXECUTE 'EXPLAIN (ANALYZE, COSTS off, TIMING off, SUMMARY off) ' || query LOOP
+        all_lines := all_lines || line || E'\n';
+    END LOOP;
+    RETURN all_lines;
+END $$;
+SET parallel_setup_cost = 0;
+SET parallel_tuple_cost = 0;
+SET min_parallel_table_scan_size = 0;
+SET max_parallel_workers_per_gather = 4;
+DO $$
+DECLARE plan text := plan_of('SELECT hv_column(v) FROM big');
+BEGIN
+    IF plan !~ 'Finalize Aggregate.*Gather.*Workers Launched: [1-9].*Partial Aggregate' THEN
+        RAISE EXCEPTION 'no parallel plan: %', plan;
+    END IF;
+    FOR i IN 1 .. 5 LOOP
+        PERFORM same('SELECT hv_rows(c), hv_count(c), hv_sum(c), hv_min(c), hv_max(c)
+                      FROM (SELECT hv_column(v) AS c FROM big) x',
+                     'SELECT count(*), count(v), sum(v), min(v), max(v) FROM big');
+        PERFORM same('SELECT u.value, sum(stop - start)
+                      FROM (SELECT hv_column(s) AS c FROM parted) x, hv_text_runs(c) u GROUP BY 1 ORDER BY 1',
+                     'SELECT s, count(*) FROM big GROUP BY s ORDER BY s');
+        PERFORM same('SELECT md5(hv_column(v ORDER BY n)::text) FROM parted',
+                     'SELECT md5(hv_column(v ORDER BY n)::text) FROM big');
+    END LOOP;
+END $$;
+SET enable_partitionwise_aggregate = on;
+SELECT same('SELECT hv_sum(c), hv_rows(c) FROM (SELECT hv_column(v) AS c FROM parted) x',
+            'SELECT sum(v), count(*) FROM big')
+\g /dev/null
+
+-- ---- A statement that is cancelled, and memory after calls that fail ----
+SET statement_timeout = 100;
+SELECT refused('SELECT hv_column(i) FROM generate_series(1, 1000000000::bigint) i',
+               'canceling statement due to statement timeout') \g /dev/null
+RESET statement_timeout;
+-- a new process of the server, whose memory has no room that was freed before
+\connect
+CREATE FUNCTION resident_pages() RETURNS int LANGUAGE sql AS
+    $$ SELECT split_part(pg_read_file('/proc/self/statm'), ' ', 2)::int $$;
+CREATE PROCEDURE fail_often(times int) LANGUAGE plpgsql AS $$
+DECLARE c hvcolumn; d hvcolumn;
+BEGIN
+    SELECT p.c, q.c FROM p, q INTO c, d;
+    FOR i IN 1 .. times LOOP
+        BEGIN
+            CASE i % 6
+            WHEN 0 THEN PERFORM hv_slice(c, 2, 12);
+            WHEN 1 THEN PERFORM hv_filter(d, '=', 5);
+            WHEN 2 THEN PERFORM hv_concat(x) FROM (VALUES (d), (c)) v(x);
+            WHEN 3 THEN PERFORM hv_sum(d);
+            WHEN 4 THEN PERFORM hv_column(1 / (3 - g)) FROM generate_series(1, 3) g;
+            ELSE PERFORM r.* FROM hv_runs(d) r;
+            END CASE;
+            RAISE EXCEPTION 'call % was not refused', i;
+        EXCEPTION WHEN array_subscript_error OR datatype_mismatch OR division_by_zero THEN NULL;
+        END;
+    END LOOP;
+END $$;
+CALL fail_often(5000);
+SELECT resident_pages() AS before \gset
+CALL fail_often(:count);
+SELECT resident_pages() AS after \gset
+SELECT CASE WHEN :after - :before > 100 THEN 1 / 0 END \g /dev/null
+SELECT format('PostgreSQL %s: random tables as rows and as runs, parallel plans, and %s calls that fail take %s KiB',
+    current_setting('server_version'), :count, (:after - :before) * 4);
