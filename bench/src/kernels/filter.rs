@@ -42,9 +42,13 @@ fn kept_runs(ends: &[u32], mask: &Bits) -> (Vec<u32>, Bits) {
 }
 
 fn bits_at(bits: &Bits, keeps: &Bits, count: usize) -> Bits {
-    let mut kept = Vec::with_capacity(count);
-    keeps.for_each_one(|at| kept.push(bits.get(at)));
-    Bits::from_fn(count, |at| kept[at])
+    let mut kept = Bits::filled(false, count);
+    let mut at = 0;
+    keeps.for_each_one(|run| {
+        kept.words[at / 64] |= u64::from(bits.get(run)) << (at % 64);
+        at += 1;
+    });
+    kept
 }
 
 /// The runs as they fall: neighbours may show the same.

@@ -17,7 +17,7 @@ pub use encode::{encode, encode_by_words};
 pub use filter::{filter, filter_joined, filter_truths, Kept};
 pub use look::{look_up, look_up_by_halves, slice, Slice};
 pub use map::{cast, fill, take_from};
-pub use take::{take, take_truths};
+pub use take::{take, take_by_fours, take_truths};
 
 /// Marks calls that are timed: they stay calls, as those of the library are.
 pub use std::hint::black_box;

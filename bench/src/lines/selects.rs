@@ -2,17 +2,19 @@
 use super::{same_runs, session, shape, Number};
 use crate::bits::Bits;
 use crate::data::{Flat, Runs, Truths};
-use crate::kernels::{filter_joined, take, Kept};
+use crate::kernels::{filter_joined, take, take_by_fours, Kept};
 use crate::library::{Column, Item};
 use crate::line::Bench;
 use crate::load::{Load, Random};
 
+/// Rows for each index of a take of few.
+const FEW: usize = 40;
 /// The names of takes, how many rows there are for each index, and whether indices are in order.
 pub const TAKES: [(&str, usize, bool); 4] = [
     ("take, a quarter at random", 4, false),
     ("take, a quarter in order", 4, true),
-    ("take, a fortieth at random", 40, false),
-    ("take, a fortieth in order", 40, true),
+    ("take, a fortieth at random", FEW, false),
+    ("take, a fortieth in order", FEW, true),
 ];
 /// The names of filters, and of how many rows one is kept.
 pub const FILTERS: [(&str, u64); 3] = [
@@ -59,29 +61,30 @@ pub fn lines<T: Number>(bench: &mut Bench, load: &Load) {
 }
 
 fn takes<T: Number>(bench: &mut Bench, load: &Load, column: &Column, runs: &Runs<T>) {
-    for (name, every, ordered) in TAKES
-        .into_iter()
-        .filter(|take| bench.wants(take.0))
-        .collect::<Vec<_>>()
-    {
+    for (name, every, ordered) in TAKES {
+        if !bench.wants(name) {
+            continue;
+        }
         let (session, indices) = (session(), indices(load.rows(), every, ordered));
-        let ours = index_column(&indices);
-        bench.line(
-            shape(load, name, T::NAME),
-            (indices.len(), "index"),
-            || column.take(&session, &ours),
-            || take(&runs.ends, &runs.values, &indices),
-            |ours, rust| ours.read_flat::<T>().same_rows(rust),
-        );
+        let (places, units) = (index_column(&indices), (indices.len(), "index"));
+        let ours = || column.take(&session, &places);
+        let same = |ours: &Column, rust: &Flat<T>| ours.read_flat::<T>().same_rows(rust);
+        let rust = || take(&runs.ends, &runs.values, &indices);
+        bench.line(shape(load, name, T::NAME), units, ours, rust, same);
+        if every == FEW && !ordered {
+            let (name, rust) = (format!("{name}, beside fours"), || {
+                take_by_fours(&runs.ends, &runs.values, &indices)
+            });
+            bench.line(shape(load, &name, T::NAME), units, ours, rust, same);
+        }
     }
 }
 
 fn filters<T: Number>(bench: &mut Bench, load: &Load, column: &Column, runs: &Runs<T>) {
-    for (name, every) in FILTERS
-        .into_iter()
-        .filter(|filter| bench.wants(filter.0))
-        .collect::<Vec<_>>()
-    {
+    for (name, every) in FILTERS {
+        if !bench.wants(name) {
+            continue;
+        }
         let (session, mask) = (session(), mask(load.rows(), every));
         let ours = mask_column(&mask);
         bench.line(
