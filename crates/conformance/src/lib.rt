@@ -45,6 +45,8 @@ mod reports;
 #[cfg(test)]
 mod scripts;
 #[cfg(test)]
+mod shared;
+#[cfg(test)]
 mod shown;
 #[cfg(test)]
 mod slots;

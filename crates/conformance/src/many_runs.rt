@@ -20,7 +20,10 @@ fn many_runs(alloc: Global) -> VortexResult<ArrayRef<Global>> {
         ends.push(number + 1)?;
     }
     let ends = PrimitiveArray::try_new(PrimitiveValues::from_vec(ends), Validity::NonNullable)?;
-    let values = PrimitiveArray::try_new(PrimitiveValues::from_vec(numbers), Validity::NonNullable)?;
+    let values = PrimitiveArray::try_new(
+        PrimitiveValues::from_vec(numbers),
+        Validity::NonNullable,
+    )?;
     let values = ArrayRef::Primitive(values);
     run_column(ends, values, 0, MANY as usize, &mut context(alloc))
 }
