@@ -276,8 +276,8 @@ impl<A: Allocator + Copy> ArrayRef<A> {
         }
     }
 
-    /// The rows from `start` to `stop - 1`, in a flat form and in memory of their own: of runs only the
-    /// values of the runs of these rows are looked at. Refused as `OutOfMemory` alone.
+    /// The rows from `start` to `stop - 1`, in a flat form: of runs only the values of the runs of these rows are
+    /// looked at, and of a flat form the buffers are shared where they can be. Refused as `OutOfMemory` alone.
     #[cycle(rows_between)]
     pub fn rows_between(&self, alloc: A, start: usize, stop: usize) -> VortexResult<Canonical<A>>
         requires ordered { start ≤ stop }

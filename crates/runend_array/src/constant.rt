@@ -74,7 +74,7 @@ impl<A: Allocator> ConstantArray<A> {
 }
 
 impl<A: Allocator + Copy> ConstantArray<A> {
-    /// An equal column, in memory of its own. Refused as `OutOfMemory` alone.
+    /// An equal column. Refused as `OutOfMemory` alone.
     pub(crate) fn clone_in(&self, alloc: A) -> VortexResult<ConstantArray<A>>
         ensures only { IsOkUnless result VortexError.OutOfMemory }
         ensures form { IfOk result (λ array. array ≡ self.now) }

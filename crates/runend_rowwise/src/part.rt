@@ -10,8 +10,8 @@ use runend_array::{ArrayRef, ExecutionCtx};
 use std::alloc::Allocator;
 use std::ops::Range;
 
-/// The rows from `range.start` to `range.end - 1`, in memory of their own: of a constant as a
-/// constant, and of any other column flat.
+/// The rows from `range.start` to `range.end - 1`: of a constant as a constant, and of any other
+/// column flat, with buffers that are shared where they can be.
 ///
 /// Refused as `BadRange`, with both bounds and the number of rows, where the range begins after its
 /// end or ends after the last row, before any memory is taken; else as `OutOfMemory` alone.

@@ -108,7 +108,7 @@ fn filter_bits<A: Allocator + Copy>(
     ArrayRef::of_runs(alloc, kept)
 }
 
-// The same column, in memory of its own.
+// The same column, whose buffers are shared.
 fn unchanged<A: Allocator + Copy>(
     array: &RunEndArray<A>,
     ctx: &mut ExecutionCtx<A>,

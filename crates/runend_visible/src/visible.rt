@@ -22,7 +22,7 @@ pub fn visible_offset<A: Allocator + Copy>(array: &RunEndArray<A>) -> usize
     if array.is_empty() { 0 } else { array.offset() }
 }
 
-/// The ends of the visible runs, of the same type, in memory of their own. Each of these runs shows a row.
+/// The ends of the visible runs, of the same type, shared where those are. Each of these runs shows a row.
 /// Refused as `OutOfMemory` alone.
 pub fn ends_of_visible<A: Allocator + Copy>(
     array: &RunEndArray<A>,
@@ -41,7 +41,7 @@ pub fn ends_of_visible<A: Allocator + Copy>(
     array.ends_between(alloc, runs.start, runs.end)
 }
 
-/// The values of the visible runs, one for each, as a flat column in memory of its own. Refused as
+/// The values of the visible runs, one for each, as a flat column, shared where flat ones are. Refused as
 /// `OutOfMemory` alone.
 pub fn visible_values<A: Allocator + Copy>(
     array: &RunEndArray<A>,

@@ -11,12 +11,13 @@ pub use column_ops::ColumnOps;
 pub use column_order::FlatOrder;
 pub use runend_aggregate::{SignedSum, SumAnswer, SumValue, UnsignedSum};
 pub use runend_array::{
-    ArrayRef, BitBuffer, BitBufferMut, BoolArray, Canonical, ConstantArray, CountedEnds, DType,
-    DecimalArray, DecimalDType, ElementDType, ExecutionCtx, FlatColumn, Kernel, ListViewArray,
-    Mask, NativePType, Nullability, PType, PrimitiveArray, PrimitiveValues, RowValidity, RunEnd,
-    RunEndArray, RunEndArrayExt, RunEndArraySlotsExt, RunEndSlots, Scalar, ScalarValue, ScalarView,
-    SetIndices, Thresholds, TrimmedEnds, UnsignedPType, Validity, VarBinKind, VarBinViewArray,
-    View, VortexError, VortexResult, VortexSession, ops, trimmed_ends_iter,
+    ArrayRef, BitBuffer, BitBufferMut, BoolArray, Buffer, Canonical, ConstantArray, CountedEnds,
+    DType, DecimalArray, DecimalDType, ElementDType, ExecutionCtx, FlatColumn, Kernel,
+    ListViewArray, Mask, NativePType, Nullability, PType, PrimitiveArray, PrimitiveValues,
+    RowValidity, RunEnd, RunEndArray, RunEndArrayExt, RunEndArraySlotsExt, RunEndSlots, Scalar,
+    ScalarValue, ScalarView, SetIndices, Thresholds, TrimmedEnds, UnsignedPType, Validity,
+    VarBinKind, VarBinViewArray, View, VortexError, VortexResult, VortexSession, ops,
+    trimmed_ends_iter,
 };
 pub use runend_column::{
     RunEndData, RunEndDataParts, RunEndProbe, decompress_bool, deserialize, serialize, validity,
