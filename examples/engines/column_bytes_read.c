@@ -83,7 +83,7 @@ static int32_t take_validity(source *from, uint64_t rows, nulls *found) {
 }
 
 static int32_t read_numbers(source *from, uint64_t rows, const nulls *null, hv_column *out, hv_error *error) {
-    const source numbers = take_field(from, FIELD_NUMBERS);
+    const source numbers = take_field(from, FIELD_ITEMS);
     if (from->bad || numbers.left % 8 || numbers.left / 8 != rows) return HV_BAD_METADATA;
     int64_t *items = malloc(numbers.left + 8); /* aligned, and not null */
     if (!items) return HV_OUT_OF_MEMORY;
@@ -158,7 +158,9 @@ static int32_t read_ends(source lengths, uint64_t type, hv_column *out, hv_error
     return answer;
 }
 
-static int32_t read_runs(source *from, const head *found, hv_column *out, hv_error *error) {
+static int32_t read_form(source *from, const head *found, int levels, hv_column *out, hv_error *error);
+
+static int32_t read_runs(source *from, const head *found, int levels, hv_column *out, hv_error *error) {
     const uint64_t offset = take_number(from, FIELD_OFFSET), ends_type = take_number(from, FIELD_ENDS_TYPE) - TYPE_BASE;
     const source lengths = take_field(from, FIELD_RUN_LENGTHS);
     source values_part = take_field(from, FIELD_VALUES);
@@ -166,22 +168,26 @@ static int32_t read_runs(source *from, const head *found, hv_column *out, hv_err
     const head of_values = take_head(&values_part);
     hv_column ends = HV_EMPTY, values = HV_EMPTY;
     if (values_part.bad || of_values.type != found->type) return HV_BAD_METADATA;
-    if (of_values.form != COLUMN_FLAT) return HV_UNSUPPORTED;
     int32_t answer = read_ends(lengths, ends_type, &ends, error);
-    if (!answer) answer = read_flat(&values_part, &of_values, &values, error);
+    if (!answer) answer = read_form(&values_part, &of_values, levels, &values, error);
     if (!answer) answer = hv_runs(&ends, &values, (size_t)offset, (size_t)found->rows, out, error);
     hv_free(&ends);
     hv_free(&values);
     return answer;
 }
 
+/* A column with at most so many levels of runs. */
+static int32_t read_form(source *from, const head *found, int levels, hv_column *out, hv_error *error) {
+    if (found->form == COLUMN_FLAT) return read_flat(from, found, out, error);
+    if (found->form != COLUMN_RUNS || !levels) return HV_BAD_METADATA;
+    return read_runs(from, found, levels - 1, out, error);
+}
+
 int32_t column_bytes_read(const uint8_t *bytes, size_t size, hv_column *out, hv_error *error) {
     source from = {bytes, size, false};
     const head found = take_head(&from);
-    int32_t answer = HV_UNSUPPORTED;
     if (from.bad) return HV_BAD_METADATA;
-    if (found.form == COLUMN_FLAT) answer = read_flat(&from, &found, out, error);
-    if (found.form == COLUMN_RUNS) answer = read_runs(&from, &found, out, error);
+    const int32_t answer = read_form(&from, &found, RUN_LEVELS, out, error);
     /* what the makers refuse is no column: ends that do not rise, texts that are not UTF-8, a window past the runs */
     return !answer || answer == HV_OUT_OF_MEMORY || answer == HV_UNSUPPORTED ? answer : HV_BAD_METADATA;
 }

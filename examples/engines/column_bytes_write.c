@@ -102,7 +102,7 @@ static void put_numbers(sink *to, const run_list *list) {
         for (size_t at = 0; at < 8; at++) bytes[at] = (uint8_t)(number >> 8 * at);
         put_bytes(&numbers, bytes, sizeof bytes);
     }
-    put_sink(to, FIELD_NUMBERS, &numbers);
+    put_sink(to, FIELD_ITEMS, &numbers);
 }
 
 static void put_texts(sink *to, const run_list *list) {

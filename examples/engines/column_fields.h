@@ -1,4 +1,5 @@
-/* Fields of a column's message, by the numbers of docs/column.proto. */
+/* Fields of a column's message, by the numbers of docs/column.proto. Texts and bytes have none there in version 1:
+ * types 11 and 12 with fields 12 and 13 are of these files alone, and every other reader of version 1 refuses them. */
 #ifndef HIVEVIGIL_COLUMN_FIELDS_H
 #define HIVEVIGIL_COLUMN_FIELDS_H
 
@@ -9,7 +10,7 @@ enum {
     FIELD_ROWS = 4,
     FIELD_VALIDITY = 5,
     FIELD_VALIDITY_BITS = 6,
-    FIELD_NUMBERS = 7,
+    FIELD_ITEMS = 7,
     FIELD_OFFSET = 8,
     FIELD_ENDS_TYPE = 9,
     FIELD_RUN_LENGTHS = 10,
@@ -17,7 +18,7 @@ enum {
     FIELD_TEXT_LENGTHS = 12,
     FIELD_TEXT_BYTES = 13
 };
-enum { COLUMN_VERSION = 1 };
+enum { COLUMN_VERSION = 1, RUN_LEVELS = 16 };
 enum { COLUMN_FLAT = 1, COLUMN_RUNS = 2 };
 enum { NEVER_NULL = 1, NONE_NULL = 2, ALL_NULL = 3, BY_BITS = 4 };
 

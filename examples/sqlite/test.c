@@ -88,6 +88,12 @@ static void check_bytes(void) {
     CHECK_SQL("SELECT hv_sum(x'080110081801200228013A10010000000000000002000000000000"
               "00')",
               "3");
+    /* runs of 3 and 1 rows, whose values are one run of two rows that have 7 */
+    CHECK_SQL("SELECT start, stop, value, hv_sum(c) FROM (SELECT x'080110081802200440004801520203015A25"
+              "08011008180220024000480152010"
+              "25A1408011008180120012801"
+              "3A080700000000000000' AS c), hv_runs(c)",
+              "0|4|7|28");
     /* 2^62 rows in one run */
     CHECK_SQL("SELECT hv_rows(c), hv_at(c, 4611686018427387903), hv_max(hv_filter(c, '=', 1)) FROM (SELECT "
               "x'0801100818022080808080808080804040004804520980808080808080804"
