@@ -5,7 +5,8 @@
 #     sh bench/run.sh --only sum,cast      the lines whose names begin so
 #     sh bench/run.sh --growth             a thousand to ten million runs
 #     sh bench/run.sh --smoke              every line over few rows, in seconds: do both sides answer the same?
-# --rows N and --turns N change the size (4000000, 7); --cold maps each large block anew. CORE=3 runs on core 3 alone.
+# --rows N, --turns N and --rounds N change the size (4000000, 7, 1: of rounds the middle one of each line counts);
+# --cold maps each large block anew. CORE=3 in the environment runs on core 3 alone.
 # Needs cargo. The status is 1 where an answer differs, whatever was taken.
 set -eu
 top=$(cd "$(dirname "$0")/.." && pwd)

@@ -4,7 +4,7 @@ use crate::kernels::black_box;
 use crate::memory::most_held;
 
 /// What a line is of.
-#[derive(Clone, Debug)]
+#[derive(Clone, Debug, PartialEq, Eq)]
 pub struct Shape {
     pub call: String,
     /// The type of the rows.
@@ -77,6 +77,22 @@ impl Bench {
         line.tell();
         self.lines.push(line);
     }
+}
+
+/// Of lines that were measured in several rounds the one whose ratio is in the middle.
+pub fn middle_rounds(lines: &[Line]) -> Vec<Line> {
+    let mut rounds: Vec<Vec<Line>> = Vec::new();
+    for line in lines {
+        match rounds.iter_mut().find(|round| round[0].shape == line.shape) {
+            Some(round) => round.push(line.clone()),
+            None => rounds.push(vec![line.clone()]),
+        }
+    }
+    let middle = |mut round: Vec<Line>| {
+        round.sort_by(|left, right| left.ratio().total_cmp(&right.ratio()));
+        round.swap_remove(round.len() / 2)
+    };
+    rounds.into_iter().map(middle).collect()
 }
 
 /// The middle turn of each.

@@ -19,11 +19,13 @@ pub(crate) use hivevigil::{Fields, Kind, Session};
 use line::Bench;
 use std::process::ExitCode;
 
-const USAGE: &str = "bench [--rows N] [--turns N] [--only NAME,NAME] [--cold] [--growth] [--smoke]";
+const USAGE: &str =
+    "bench [--rows N] [--turns N] [--rounds N] [--only NAME,NAME] [--cold] [--growth] [--smoke]";
 
 /// What is asked for on the command line.
 struct Asked {
     bench: Bench,
+    rounds: usize,
     cold: bool,
     growth: bool,
     smoke: bool,
@@ -39,6 +41,7 @@ fn asked() -> Option<Asked> {
     };
     let mut asked = Asked {
         bench,
+        rounds: 1,
         cold: false,
         growth: false,
         smoke: false,
@@ -50,6 +53,7 @@ fn asked() -> Option<Asked> {
             "--turns" => {
                 asked.bench.turns = words.next()?.parse().ok().filter(|turns| *turns > 0)?
             }
+            "--rounds" => asked.rounds = words.next()?.parse().ok()?,
             "--only" => asked.bench.only = words.next()?.split(',').map(String::from).collect(),
             "--cold" => asked.cold = true,
             "--growth" => asked.growth = true,
@@ -77,7 +81,8 @@ fn main() -> ExitCode {
     } else if asked.growth {
         print!("{}", lines::growth(bench));
     } else {
-        lines::all(bench);
+        (0..asked.rounds).for_each(|_| lines::all(bench));
+        bench.lines = line::middle_rounds(&bench.lines);
         print!("{}", report::tables(bench));
     }
     for shape in &bench.differ {
