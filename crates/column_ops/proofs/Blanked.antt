@@ -57,20 +57,6 @@ AreWritten-filled blank value rows filled same = record {
   nullability = refl;
 }
 
--- one item more, where its flag is true
-pub items_or-item : {B : Type 0} (items : List B) (bits : List Bool) (instead item : B) (k : ℕ) (b : Bool) → b ≡ true → slice_get bits k ≡ Some b → slice_get items k ≡ Some item
-    → map (λ row. unwrap_or row instead) (take (k + 1) (optionals items bits)) ≡ map (λ row. unwrap_or row instead) (take k (optionals items bits)) ++ item ∷ []
-items_or-item items bits instead item k b set flag here =
-    let row = optionals-at items bits k item true here (flag ∙ ap Some set) in
-    ap (map (λ row. unwrap_or row instead)) (take_more (optionals items bits) k (Some item) row) ∙ map_push (λ row. unwrap_or row instead) (take k (optionals items bits)) (Some item)
-
--- one item more, where its flag is false
-pub items_or-blank : {B : Type 0} (items : List B) (bits : List Bool) (instead : B) (k : ℕ) (b : Bool) → b ≡ false → slice_get bits k ≡ Some b → k < length items
-    → map (λ row. unwrap_or row instead) (take (k + 1) (optionals items bits)) ≡ map (λ row. unwrap_or row instead) (take k (optionals items bits)) ++ instead ∷ []
-items_or-blank items bits instead k b unset flag within =
-    let row = null-at items bits k within (flag ∙ ap Some unset) in
-    ap (map (λ row. unwrap_or row instead)) (take_more (optionals items bits) k None row) ∙ map_push (λ row. unwrap_or row instead) (take k (optionals items bits)) None
-
 -- there are as many
 pub length-items_or : {B : Type 0} (items : List B) (bits : List Bool) (instead : B) → length bits ≡ length items → length (items_or items bits instead) ≡ length items
 length-items_or items bits instead long = length-map (optionals items bits) (λ row. unwrap_or row instead) ∙ length-optionals items bits long

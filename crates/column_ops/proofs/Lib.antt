@@ -13,3 +13,6 @@ pub mod Columns
 pub mod CastRows
 pub mod CastViews
 pub mod CodeRows
+pub mod BitItems
+pub mod Lowest
+pub mod NoFaults

@@ -1,6 +1,6 @@
 -- Lemmas on rows that bits select: they are the rows at the places of the true bits.
 use Rattle.std.proofs.Common.{◌≡◌, ◌∙◌, ℕ, zero, suc, ◌+◌, ◌-◌, ◌<◌, ◌≤◌, List, [], ◌∷◌, ◌++◌, Bool, true, false, cond, Option, Some, None, length, map, get_or, drop, replicate, arith, ap, sym, subst, refl, add-one}
-use Rattle.std.specs.Prelude.{count_by, filter, slice_index_or, All, is_some, unwrap_or}
+use Rattle.std.specs.Prelude.{count_by, filter, slice_get, slice_index_or, All, is_some, unwrap_or}
 use Rattle.std.specs.List.{range_with_len}
 use Rattle.std.proofs.lemmas.List.{get_or-map, length-map, length-replicate}
 use Rattle.std.proofs.lemmas.List.Elements.{All-cons, All-head, All-nil, All-tail}
@@ -17,9 +17,9 @@ use Rattle.column_base.proofs.BitLists.{count_by-true, count_by-false}
 use Rattle.column_core.specs.Optionals.{optionals}
 use Rattle.column_ops.specs.Filter.{filter_rows}
 use Rattle.column_ops.specs.Written.{IsValidityOf}
-use Rattle.column_ops.proofs.Blanked.{optionals-valid}
+use Rattle.column_ops.proofs.Blanked.{items_or, optionals-valid}
 use Rattle.column_ops.proofs.Made.{filter_rows-map}
-use Rattle.column_ops.proofs.TakenRows.{items-of_valid}
+use Rattle.column_ops.proofs.TakenRows.{flags-of_rows, items-of_valid}
 
 -- the places from one on at which a bit is true, in ascending order
 abbrev set_indices_from : ℕ → List Bool → List ℕ
@@ -212,3 +212,30 @@ pub mask-none : {A B : Type 0} (mask : Mask A) (count : ℕ) (rows : List B) →
 mask-none (AllTrue n) count rows same = cc
 mask-none (AllFalse n) count rows same = filter_rows-none n rows
 mask-none (Values bits) count rows same = cc
+
+-- the mark at the place that came
+pub mark-here : (marks : List Bool) (row : ℕ) (mark : Bool) → slice_get marks row ≡ Some mark → Some mark ≡ get_or (map (λ x. Some x) marks) row None
+mark-here [] row mark here = cc
+mark-here (b ∷ marks) zero mark here = sym here
+mark-here (b ∷ marks) (suc row) mark here = mark-here marks row mark here
+
+optionals-selected : {B : Type 0} (bits : List Bool) (items : List B) (marks : List Bool) → length bits ≡ length items → length marks ≡ length items
+    → optionals (filter_rows bits items) (filter_rows bits marks) ≡ filter_rows bits (optionals items marks)
+optionals-selected [] items marks masked marked = refl
+optionals-selected (b ∷ bits) [] marks masked marked = cc
+optionals-selected (b ∷ bits) (x ∷ items) [] masked marked = cc
+optionals-selected (true ∷ bits) (x ∷ items) (true ∷ marks) masked marked = ap (λ rows. Some x ∷ rows) (optionals-selected bits items marks (omega arith) (omega arith))
+optionals-selected (true ∷ bits) (x ∷ items) (false ∷ marks) masked marked = ap (λ rows. None ∷ rows) (optionals-selected bits items marks (omega arith) (omega arith))
+optionals-selected (false ∷ bits) (x ∷ items) (true ∷ marks) masked marked = optionals-selected bits items marks (omega arith) (omega arith)
+optionals-selected (false ∷ bits) (x ∷ items) (false ∷ marks) masked marked = optionals-selected bits items marks (omega arith) (omega arith)
+
+-- items and marks that are selected alike are the selected rows
+pub filter_rows-optionals : {B : Type 0} (blank : B) (bits : List Bool) (items : List B) (marks : List Bool) → length bits ≡ length items → length marks ≡ length items
+    → items_or (filter_rows bits items) (filter_rows bits marks) blank ≡ map (λ row. unwrap_or row blank) (filter_rows bits (optionals items marks))
+filter_rows-optionals blank bits items marks masked marked = ap (map (λ row. unwrap_or row blank)) (optionals-selected bits items marks masked marked)
+
+pub marks-selected : {B : Type 0} (bits : List Bool) (items : List B) (marks : List Bool) → length bits ≡ length items → length marks ≡ length items
+    → filter_rows bits marks ≡ map is_some (filter_rows bits (optionals items marks))
+marks-selected bits items marks masked marked =
+    let long : length (filter_rows bits marks) ≡ length (filter_rows bits items) = length-filter_rows bits marks (masked ∙ sym marked) ∙ sym (length-filter_rows bits items masked) in
+    sym (flags-of_rows (filter_rows bits items) (filter_rows bits marks) long) ∙ ap (map is_some) (optionals-selected bits items marks masked marked)

@@ -12,7 +12,7 @@ use Rattle.column_core.proofs.OptionalRows.{length-optionals}
 use Rattle.column_ops.specs.Nullable.{either_nullable}
 use Rattle.column_ops.specs.Take.{ArePositions, position_numbers, take_rows, taken_row}
 use Rattle.column_ops.specs.Written.{AreWritten, IsValidityOf}
-use Rattle.column_ops.proofs.Blanked.{optionals-valid}
+use Rattle.column_ops.proofs.Blanked.{items_or, optionals-valid}
 use Rattle.column_ops.proofs.Passed.{take_rows-more}
 use Rattle.std.specs.Prelude.{◌↔◌}
 
@@ -147,3 +147,18 @@ pub flags-taken : {B : Type 0} (items : List B) (bits : List Bool) (positions : 
 flags-taken items bits positions marks all_items long within =
     ap (λ rows. map is_some (take_rows rows (position_numbers (optionals positions marks)))) (ap (optionals items) all_items ∙ optionals-valid items)
     ∙ flags-at items (optionals positions marks) within ∙ flags-of_rows positions marks long
+
+item-or_blank : {B : Type 0} (items : List B) (k : ℕ) (blank : B) → get_or items k blank ≡ unwrap_or (get_or (map (λ x. Some x) items) k None) blank
+item-or_blank [] k blank = refl
+item-or_blank (x ∷ items) zero blank = refl
+item-or_blank (x ∷ items) (suc k) blank = item-or_blank items k blank
+
+-- the items at marked positions, with the blank one for null, where no row of the items is null
+pub marked-items : {B : Type 0} (items : List B) (positions : List ℕ) (marks : List Bool) (blank : B)
+    → items_or (map (λ k. get_or items k blank) positions) marks blank ≡ map (λ row. unwrap_or row blank) (take_rows (map (λ x. Some x) items) (position_numbers (optionals positions marks)))
+marked-items items [] marks blank = refl
+marked-items items (k ∷ positions) [] blank = refl
+marked-items items (k ∷ positions) (true ∷ marks) blank =
+    ap (λ x. x ∷ items_or (map (λ j. get_or items j blank) positions) marks blank) (item-or_blank items k blank)
+    ∙ ap (λ xs. unwrap_or (get_or (map (λ x. Some x) items) k None) blank ∷ xs) (marked-items items positions marks blank)
+marked-items items (k ∷ positions) (false ∷ marks) blank = ap (λ xs. blank ∷ xs) (marked-items items positions marks blank)

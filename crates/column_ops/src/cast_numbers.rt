@@ -14,7 +14,7 @@ ghost use Rattle.column_ops.specs.Computed.{IsMade};
 ghost use Rattle.column_ops.specs.Fault.{first_fault};
 ghost use Rattle.column_ops.specs.Written.{AreWritten};
 
-use crate::items_or::items_by_bits;
+use crate::items_or::{items_by_bits, with_item_at_nulls};
 use crate::keep_items::null_row;
 use crate::kept_validity::kept_validity;
 use crate::rows::item_at;
@@ -154,8 +154,26 @@ fn cast_valid<S: NativePType, T: NativePType, A: Allocator>(
     }
 }
 
-// The same where null may stay: 0 is put in place of each null first, and each type has 0.
+// The same where null may stay. What stands under null is cast too, and 0 is put there then. Only where a number does
+// not fit, the rows are looked at one by one: it may be one under null.
 fn cast_nullable<S: NativePType, T: NativePType, A: Allocator + Copy>(
+    alloc: A,
+    items: &[S],
+    bits: &BitBuffer<A>,
+) -> VortexResult<Vec<T, A>>
+    requires { length bits.now ≡ length items.now }
+    ensures refused { IsRefusedBy (first_fault (number_fault (column.Primitive T.PTYPE NonNullable)) (map (λ row. unwrap_or row (pos 0)) (optionals (map S.number items.now) bits.now))) result }
+    ensures cast { IfOk result (λ cast. map T.number cast.items ≡ map (λ row. unwrap_or row (pos 0)) (optionals (map S.number items.now) bits.now)) }
+{
+    match cast_valid::<S, T, A>(alloc, items) {
+        Ok(cast) => Ok(with_item_at_nulls(cast, bits, T::default())),
+        Err(VortexError::OutOfMemory) => Err(VortexError::OutOfMemory),
+        Err(_) => cast_shown::<S, T, A>(alloc, items, bits),
+    }
+}
+
+// The same, with 0 put in place of each null before the cast: each type has 0.
+fn cast_shown<S: NativePType, T: NativePType, A: Allocator + Copy>(
     alloc: A,
     items: &[S],
     bits: &BitBuffer<A>,

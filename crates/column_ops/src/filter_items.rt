@@ -1,5 +1,6 @@
 //! Rows that a mask selects, of any kind of item.
 ghost use Rattle.std.specs.Prelude.{◌≡◌, IfOk, IsOkUnless, is_some, length, map, unwrap_or};
+ghost use Rattle.column_base.specs.declared.dtype.Nullability.TheVariants.{Nullable};
 ghost use Rattle.column_base.specs.Mask.{mask_bits};
 ghost use Rattle.column_base.specs.ValidityForm.{HasLength, flags, nullability_in};
 ghost use Rattle.column_base.specs.Validity.{form_of};
@@ -7,7 +8,7 @@ ghost use Rattle.column_core.specs.Optionals.{optionals};
 ghost use Rattle.column_ops.specs.Filter.{filter_rows};
 ghost use Rattle.column_ops.specs.Written.{AreWritten, IsValidityOf};
 
-use crate::items_or::items_or;
+use crate::items_or::{items_or, with_item_at_nulls};
 use crate::kept_validity::is_all_valid;
 use crate::rows::item_at;
 use column_core::{BitBuffer, BitBufferMut, Mask, Validity, VortexError, VortexResult};
@@ -16,6 +17,74 @@ use std::alloc::Allocator;
 /// The rows at which the mask is true, with the blank item stored under null. Refused as `OutOfMemory`
 /// alone.
 pub(crate) fn filter_items<T: Copy + Drop, A: Allocator + Copy>(
+    alloc: A,
+    items: &[T],
+    validity: &Validity<A>,
+    blank: T,
+    mask: &Mask<A>,
+) -> VortexResult<(Vec<T, A>, Validity<A>)>
+    requires fits { HasLength (form_of validity.now) (length items.now) }
+    requires masked { length (mask_bits mask.now) ≡ length items.now }
+    ensures only { IsOkUnless result VortexError.OutOfMemory }
+    ensures filtered { IfOk result (λ parts. AreWritten blank
+        (filter_rows (mask_bits mask.now) (optionals items.now (flags (form_of validity.now) (length items.now))))
+        (nullability_in (form_of validity.now)) parts.0.items (form_of parts.1)) }
+{
+    if let Mask::Values(bits) = mask {
+        if let Validity::Bits(marks) = validity {
+            return filter_marked(alloc, items, marks, blank, bits);
+        }
+    }
+    filter_parts(alloc, items, validity, blank, mask)
+}
+
+// The same where an item is null that has its mark false: items and marks are selected alike, and the blank item is put
+// at the nulls that are left.
+fn filter_marked<T: Copy + Drop, A: Allocator + Copy>(
+    alloc: A,
+    items: &[T],
+    marks: &BitBuffer<A>,
+    blank: T,
+    bits: &BitBuffer<A>,
+) -> VortexResult<(Vec<T, A>, Validity<A>)>
+    requires marked { length marks.now ≡ length items.now }
+    requires masked { length bits.now ≡ length items.now }
+    ensures only { IsOkUnless result VortexError.OutOfMemory }
+    ensures filtered { IfOk result (λ parts. AreWritten blank
+        (filter_rows bits.now (optionals items.now marks.now)) Nullable parts.0.items (form_of parts.1)) }
+{
+    let flags = selected_marks(alloc, marks, bits)?;
+    match selected_items(alloc, items, bits) {
+        Ok(kept) => {
+            let shown = with_item_at_nulls(kept, &flags, blank);
+            Ok((shown, Validity::from_bits(flags)))
+        }
+        Err(error) => {
+            drop(flags);
+            Err(error)
+        }
+    }
+}
+
+// The marks at which the bits are true.
+fn selected_marks<A: Allocator + Copy>(
+    alloc: A,
+    marks: &BitBuffer<A>,
+    bits: &BitBuffer<A>,
+) -> VortexResult<BitBuffer<A>>
+    requires { length bits.now ≡ length marks.now }
+    ensures only { IsOkUnless result VortexError.OutOfMemory }
+    ensures flags { IfOk result (λ kept. kept ≡ filter_rows bits.now marks.now) }
+{
+    let mut kept = BitBufferMut::with_capacity(alloc, bits.true_count())?;
+    for row in bits.set_indices() {
+        kept.append(marks.value(row))?;
+    }
+    Ok(kept.freeze())
+}
+
+// The same for each form of mask and of validity.
+fn filter_parts<T: Copy + Drop, A: Allocator + Copy>(
     alloc: A,
     items: &[T],
     validity: &Validity<A>,

@@ -4,6 +4,7 @@ ghost use Rattle.column_base.specs.ValidityForm.{HasLength, flags};
 ghost use Rattle.column_base.specs.Validity.{form_of};
 ghost use Rattle.column_core.specs.Optionals.{optionals};
 
+use crate::blanks::put_at_zeros;
 use column_core::{BitBuffer, Validity, VortexError, VortexResult};
 use std::alloc::Allocator;
 
@@ -53,11 +54,20 @@ pub(crate) fn items_by_bits<T: Copy + Drop, A: Allocator + Copy>(
     ensures only { IsOkUnless result VortexError.OutOfMemory }
     ensures items { IfOk result (λ shown. shown.items ≡ map (λ row. unwrap_or row instead) (optionals items.now bits.now)) }
 {
-    let mut shown = Vec::with_capacity(alloc, items.len())?;
-    for row in 0..items.len() {
-        // (the item is read first, so that no branch is needed)
-        let item = items[row];
-        shown.push_reserved(if bits.value(row) { item } else { instead });
-    }
+    let mut shown = Vec::from_slice(alloc, items)?;
+    put_at_zeros(&mut shown, bits.words(), instead);
     Ok(shown)
+}
+
+/// The items where the bits are true, and this one elsewhere, in the memory that they are in.
+pub(crate) fn with_item_at_nulls<T: Copy + Drop, A: Allocator>(
+    mut items: Vec<T, A>,
+    bits: &BitBuffer<A>,
+    instead: T,
+) -> Vec<T, A>
+    requires { length bits.now ≡ length items.items }
+    ensures { result.items ≡ map (λ row. unwrap_or row instead) (optionals items.items bits.now) }
+{
+    put_at_zeros(&mut items, bits.words(), instead);
+    items
 }

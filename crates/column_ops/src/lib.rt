@@ -1,6 +1,7 @@
 //! Operations on flat columns: take, filter, cast and the filling of nulls.
 #![tactic(auto)]
 
+mod blanks;
 mod cast_numbers;
 mod decimals;
 mod fill_items;

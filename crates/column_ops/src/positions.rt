@@ -8,7 +8,7 @@ ghost use Rattle.column_core.specs.Refusal.{IsRefusedBy};
 ghost use Rattle.column_ops.specs.Fault.{first_fault};
 ghost use Rattle.column_ops.specs.Take.{ArePositionsFor, index_fault, take_fault};
 
-use crate::items_or::copies_of;
+use crate::items_or::{copies_of, with_item_at_nulls};
 use crate::kept_validity::kept_validity;
 use column_base::match_each_native;
 use column_core::{BitBuffer, NativePType, PrimitiveArray, Validity, VortexError, VortexResult};
@@ -110,8 +110,27 @@ fn valid_positions<T: NativePType, A: Allocator>(
     Ok(positions)
 }
 
-// The same where an index is null that has its mark false.
-fn marked_positions<T: NativePType, A: Allocator>(
+// The same where an index is null that has its mark false. What stands under null is tested too, and 0 is put there then.
+// Only where one is outside, the marks are looked at one by one: it may be null.
+fn marked_positions<T: NativePType, A: Allocator + Copy>(
+    alloc: A,
+    indices: &[T],
+    marks: &BitBuffer<A>,
+    count: usize,
+) -> VortexResult<Vec<u64, A>>
+    requires fits { length marks.now ≡ length indices.now }
+    ensures refused { IsRefusedBy (take_fault (optionals (map T.number indices.now) marks.now) count) result }
+    ensures same { IfOk result (λ positions. map pos positions.items ≡ map (λ row. unwrap_or row (pos 0)) (optionals (map T.number indices.now) marks.now)) }
+{
+    match valid_positions(alloc, indices, count) {
+        Ok(positions) => Ok(with_item_at_nulls(positions, marks, 0)),
+        Err(VortexError::OutOfMemory) => Err(VortexError::OutOfMemory),
+        Err(_) => shown_positions(alloc, indices, marks, count),
+    }
+}
+
+// The same, one by one.
+fn shown_positions<T: NativePType, A: Allocator>(
     alloc: A,
     indices: &[T],
     marks: &BitBuffer<A>,

@@ -1,5 +1,5 @@
 //! Rows taken by their numbers, of any kind of item.
-ghost use Rattle.std.specs.Prelude.{◌≡◌, ◌<◌, pos, All, IfOk, IfSome, IsOkUnless, IsSome, Some, is_some, length, map, option_map, slice_get, unwrap_or};
+ghost use Rattle.std.specs.Prelude.{◌≡◌, ◌<◌, pos, All, IfOk, IfSome, IsOkUnless, IsSome, Some, is_some, length, map, option_map, slice_get, slice_index_or, unwrap_or};
 ghost use Rattle.column_base.specs.declared.dtype.Nullability.TheVariants.{NonNullable};
 ghost use Rattle.column_base.specs.ValidityForm.{HasLength, flags, nullability_in};
 ghost use Rattle.column_base.specs.Validity.{form_of};
@@ -8,6 +8,7 @@ ghost use Rattle.column_ops.specs.Nullable.{either_nullable};
 ghost use Rattle.column_ops.specs.Take.{ArePositions, position_numbers, take_rows, taken_row};
 ghost use Rattle.column_ops.specs.Written.{AreWritten, IsValidityOf};
 
+use crate::items_or::with_item_at_nulls;
 use crate::kept_validity::{is_all_valid, kept_validity};
 use crate::rows::item_at;
 use column_core::{BitBuffer, BitBufferMut, Nullability, Validity, VortexError, VortexResult};
@@ -91,6 +92,11 @@ fn taken_items<T: Copy + Drop, A: Allocator + Copy>(
     if is_all_valid(validity) && is_all_valid(places) {
         return items_at(alloc, items, positions);
     }
+    if is_all_valid(validity) {
+        if let Validity::Bits(marks) = places {
+            return marked_items(alloc, items, blank, positions, marks);
+        }
+    }
     items_by_rows(alloc, items, validity, blank, positions, places)
 }
 
@@ -109,6 +115,37 @@ fn items_at<T: Copy + Drop, A: Allocator>(
         taken.push_reserved(items[*position as usize]);
     }
     Ok(taken)
+}
+
+// The same where a position is null that has its mark false. What stands under null may be no position.
+fn marked_items<T: Copy + Drop, A: Allocator + Copy>(
+    alloc: A,
+    items: &[T],
+    blank: T,
+    positions: &[u64],
+    marks: &BitBuffer<A>,
+) -> VortexResult<Vec<T, A>>
+    requires { length marks.now ≡ length positions.now }
+    ensures only { IsOkUnless result VortexError.OutOfMemory }
+    ensures items { IfOk result (λ taken. taken.items ≡ map (λ row. unwrap_or row blank)
+        (take_rows (map Some items.now) (position_numbers (optionals positions.now marks.now)))) }
+{
+    let mut taken = Vec::with_capacity(alloc, positions.len())?;
+    for position in positions {
+        taken.push_reserved(item_or(items, *position, blank));
+    }
+    Ok(with_item_at_nulls(taken, marks, blank))
+}
+
+// The item at a position, and the blank one where there is none.
+#[inline(always)]
+fn item_or<T: Copy + Drop>(items: &[T], position: u64, blank: T) -> T
+    ensures { result ≡ slice_index_or items.now position blank }
+{
+    match items.get(position as usize) {
+        Some(item) => *item,
+        None => blank,
+    }
 }
 
 // The same, row by row.

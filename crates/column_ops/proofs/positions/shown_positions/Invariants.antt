@@ -2,7 +2,7 @@ use Rattle.std.proofs.Common.{◌≡◌, ◌≤◌, None, pos, length, map, take
 use Rattle.std.specs.Prelude.{unwrap_or}
 use Rattle.column_core.specs.Optionals.{optionals}
 use Rattle.column_ops.specs.Take.{take_fault}
-use Rattle.column_ops.proofs.positions.marked_positions.Given as goal
+use Rattle.column_ops.proofs.positions.shown_positions.Given as goal
 
 abbrev pub invariant-loop-place : goal.invariant-loop-place
 invariant-loop-place g l =

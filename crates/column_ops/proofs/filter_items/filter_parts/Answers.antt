@@ -5,7 +5,7 @@ use Rattle.column_base.specs.Validity.{form_of}
 use Rattle.column_core.specs.Optionals.{optionals}
 use Rattle.column_ops.specs.Filter.{filter_rows}
 use Rattle.column_ops.proofs.TakenRows.{AreWritten-rows}
-use Rattle.column_ops.proofs.filter_items.filter_items.Goals as goal
+use Rattle.column_ops.proofs.filter_items.filter_parts.Goals as goal
 
 pub returns-in-Ok-clause-filtered : goal.returns-in-Ok-clause-filtered
 returns-in-Ok-clause-filtered g c =
