@@ -26,6 +26,14 @@ pub fn tables(bench: &Bench) -> String {
     for line in bench.lines.iter().filter(|line| !in_grid(line)) {
         single(&mut text, line);
     }
+    let (rows, runs) = (bench.rows, bench.rows / 16);
+    let _ = writeln!(
+        text,
+        "\nMemory that a call takes beside its column. {rows} rows of u64 are {} KiB; in runs of 16 rows, with ends of \
+         32 bits, some {runs} runs of {} KiB.",
+        rows * 8 / 1024,
+        runs * 12 / 1024,
+    );
     text.push_str("\n| Greatest bytes held | Of | Ours | Rust |\n|---|---|---|---|\n");
     for line in bench.lines.iter().filter(|line| shows_memory(line)) {
         memory(&mut text, line);
