@@ -1,0 +1,6 @@
+pub mod RowTests
+pub mod Starts
+pub mod LeastEnds
+pub mod Joined
+pub mod Windows
+pub mod Encodings

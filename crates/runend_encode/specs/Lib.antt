@@ -1,0 +1,3 @@
+pub mod Encoding
+pub mod Starts
+pub mod Windows

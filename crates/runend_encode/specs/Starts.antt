@@ -1,0 +1,17 @@
+-- Where runs start, and what stands there.
+use Rattle.std.specs.Prelude.{ℕ, List, [], ◌∷◌, Option, None, map, slice_index_or}
+use Rattle.column_core.specs.Value.{Value}
+use Rattle.runend_codec.specs.Cover.{IsTightCover}
+
+-- the first row of each run, where the first run starts at this row: each other run starts where the one before it ends
+abbrev pub starts_from : ℕ → List ℕ → List ℕ
+starts_from start [] = []
+starts_from start (end ∷ ends) = start ∷ starts_from end ends
+
+-- the rows at these places
+abbrev pub rows_at : {B : Type 0} → List (Option B) → List ℕ → List (Option B)
+rows_at rows places = map (λ place. slice_index_or rows place None) places
+
+-- runs with these ends, each of the value of its first row, are the tight exact cover of the rows
+abbrev pub AreRunEnds : List (Option Value) → List ℕ → Type 0
+AreRunEnds rows ends = IsTightCover rows ends (rows_at rows (starts_from 0 ends))

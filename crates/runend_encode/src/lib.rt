@@ -1,0 +1,10 @@
+//! The run-end encoding of columns of any kind: of flat columns, and of runs over them.
+#![tactic(auto)]
+
+mod encode;
+mod least;
+mod row_ends;
+mod rows;
+mod run_ends;
+
+pub use encode::{encode_flat, encode_runs};
