@@ -1,6 +1,6 @@
 -- Ends that are moved one after another, in the memory that they are in.
 use Rattle.std.proofs.Common.{◌≡◌, ◌≢◌, ℕ, ◌+◌, ◌-◌, ◌<◌, ◌≤◌, List, [], ◌∷◌, ◌++◌, length, map, min, drop, take, get_or, set, slice_index, refl, sym, ◌∙◌, ap, arith, append-nil, append_assoc, inl, inr}
-use Rattle.std.proofs.lemmas.Bool.{cases_lt}
+use Rattle.std.proofs.lemmas.Bool.{cases_eq, cases_lt}
 use Rattle.std.proofs.lemmas.List.{drop_all, drop_more, ext_get_or, get_or-append_right, get_or-map, get_or-set_other, get_or-set_same, length-map, length-set, length-take-le, map_more, set_at, take_all}
 use Rattle.runend_codec.specs.Window.{last_end, IsWindow}
 use Rattle.runend_codec.proofs.RunAt.{ended_before, ends_past}
@@ -52,6 +52,15 @@ moved-none (end ∷ ends) rows none =
     let same : end ≡ end - rows = omega arith in
     ap (λ (n : ℕ). n ∷ ends) same ∙ ap (λ (ns : List ℕ). (end - rows) ∷ ns) (moved-none ends rows none)
 
+-- an item that is put where it is
+set-here : (items : List ℕ) (k item : ℕ) → slice_index items k ≡ item → set items k item ≡ items
+set-here items k item is =
+    ext_get_or 0 (set items k item) items (length-set items k item)
+    (λ j h. let within : j < length items = omega (arith, h, length-set items k item) in elim (cases_eq j k) [
+      | inl same ↦ rw same (get_or-set_same items k item 0 (omega arith) ∙ sym is)
+      | inr other ↦ get_or-set_other items k j item 0 other
+    ])
+
 -- each run that shows a row ends past the offset
 pub past-offset : (ends : List ℕ) (offset count run : ℕ) → AllHaveRows ends offset count → run < length ends → offset < slice_index ends run
 past-offset ends offset count run shown within =
@@ -94,3 +103,10 @@ windowed-moved ends offset count window shown =
           let place : length (windowed ends offset count) - 1 ≡ length ends - 1 = omega arith in
           rw at (get_or-set_same moved (length ends - 1) count 0 (omega arith) ∙ sym stop ∙ ap (slice_index (windowed ends offset count)) place)
     ])
+
+-- without an offset, ends of which the last is that of the window stay
+pub windowed-same : (ends : List ℕ) (offset count : ℕ) → IsWindow ends offset count → AllHaveRows ends offset count → offset ≡ 0 → last_end ends ≡ count
+    → ends ≡ map (λ end. min (end - offset) count) ends
+windowed-same ends offset count window shown first last =
+    sym (set-here ends (length ends - 1) count last) ∙ ap (λ (ns : List ℕ). set ns (length ends - 1) count) (moved-none ends offset first)
+    ∙ windowed-moved ends offset count window shown

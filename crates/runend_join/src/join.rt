@@ -20,7 +20,7 @@ use column_core::{
     BitBufferMut, NativePType, PrimitiveArray, PrimitiveValues, UnsignedPType, Validity,
     VortexError, VortexResult,
 };
-use runend_codec::validity_with;
+use runend_codec::{last_end_of, validity_with};
 use std::alloc::Allocator;
 
 /// The ends and the values of the runs that show the same rows, `count` of them from position `offset` on, in
@@ -28,9 +28,9 @@ use std::alloc::Allocator;
 /// last one at `count`, and the ends count rows from the first. Ends and values keep their types; the number
 /// under a null is 0. Each run has to show a row, so hidden runs are dropped before.
 ///
-/// Where no neighbours show the same, the values are answered as they are, and the ends in the memory that they are
-/// in, moved where the offset is not 0; ends that have another owner are copied first. Else each run is looked at once
-/// more.
+/// Where no neighbours show the same, the values are answered as they are, and so are the ends where they are counted
+/// from the first row. Other ends are moved in the memory that they are in, or in a copy where that has another owner.
+/// Else each run is looked at once more.
 /// Refused as `OutOfMemory` alone.
 pub fn join_runs<A: Allocator + Copy>(
     alloc: A,
@@ -57,8 +57,8 @@ pub fn join_runs<A: Allocator + Copy>(
     joined
 }
 
-// The ends of runs, each of which shows a row, counted from the first row of the window: in the memory that they are
-// in where these are its only owner, and else in a copy.
+// The ends of runs, each of which shows a row, counted from the first row of the window: as they are where they are
+// counted so, else in the memory that they are in where these are its only owner, and else in a copy.
 fn ends_in_window<A: Allocator + Copy>(
     alloc: A,
     ends: PrimitiveArray<A>,
@@ -72,6 +72,10 @@ fn ends_in_window<A: Allocator + Copy>(
     ensures ends { IfOk result (λ moved. ends_of moved ≡ map (λ end. min (end - offset) count) (ends_of ends)) }
     ensures dtype { IfOk result (λ moved. primitive_dtype moved ≡ primitive_dtype ends) }
 {
+    if offset == 0 && last_end_of(&ends) == count {
+        // They are counted so.
+        return Ok(ends);
+    }
     let (stored, _) = ends.into_parts();
     match_each_unsigned!(stored, items => {
         let items = items.into_vec(alloc)?;
