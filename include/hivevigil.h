@@ -132,10 +132,10 @@ int32_t hv_decimals(const hv_pair *pairs, size_t len, uint8_t precision, int8_t 
 int32_t hv_texts(uint8_t binary, const int32_t *offsets, size_t offsets_len, const uint8_t *bytes, size_t bytes_len, HV_VALIDITY, hv_column *out, hv_error *error);
 int32_t hv_large_texts(uint8_t binary, const int64_t *offsets, size_t offsets_len, const uint8_t *bytes, size_t bytes_len, HV_VALIDITY, hv_column *out, hv_error *error);
 /* The run column of these ends and one value for each, of which `count` rows from row `offset` on are shown. Ends are a flat
- * column of an unsigned type without null, each above the one before. Both are copied. Refused by the first fault of 1 to 7
+ * column of an unsigned type without null, each above the one before. Both are shared. Refused by the first fault of 1 to 7
  * in their order, or as 21. */
 int32_t hv_runs(hv_column *ends, hv_column *values, size_t offset, size_t count, hv_column *out, hv_error *error);
-/* The same column in the same form, in memory of its own but for the bytes of texts, which are shared. */
+/* The same column in the same form. What holds 32 items or more is shared and not copied. */
 int32_t hv_clone(hv_column *column, hv_column *out, hv_error *error);
 
 /* ---- Commands: what they leave goes to `out` ----
@@ -214,12 +214,12 @@ int32_t hv_read_large_offsets(hv_column *column, size_t start, int64_t *offsets,
 int32_t hv_read_bytes(hv_column *column, size_t start, size_t rows, uint8_t *bytes, size_t len, hv_error *error);
 
 /* ---- Run columns ---- (13 of other forms) */
-int32_t hv_ends(hv_column *column, hv_column *out, hv_error *error);    /* the ends, copied: flat, unsigned, no null */
-int32_t hv_values(hv_column *column, hv_column *out, hv_error *error);  /* the values, copied */
+int32_t hv_ends(hv_column *column, hv_column *out, hv_error *error);    /* the ends, shared: flat, unsigned, no null */
+int32_t hv_values(hv_column *column, hv_column *out, hv_error *error);  /* the values, shared */
 /* The metadata record: it goes to the front of `bytes`, and *size says how many they are; 11 (needed, bytes_len) where it
  * has no room there. */
 int32_t hv_serialize(hv_column *column, uint8_t *bytes, size_t bytes_len, size_t *size, hv_error *error);
-/* The run column of `count` rows of this type by its record, over copies of these ends and values; 17 for bytes that are no
+/* The run column of `count` rows of this type by its record, over clones of these ends and values; 17 for bytes that are no
  * record, 18 (number), 12 for ends that are not of the type that it states or values that are not of this one, 19 (stated,
  * found), 23 where kind names no type, or as hv_runs. */
 int32_t hv_deserialize(const hv_kind *kind, size_t count, const uint8_t *bytes, size_t bytes_len, hv_column *ends, hv_column *values, hv_column *out, hv_error *error);

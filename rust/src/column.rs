@@ -205,7 +205,7 @@ impl Column {
         })
     }
 
-    /// The same column in the same form, in memory of its own but for the bytes of texts, which are shared.
+    /// The same column in the same form. What holds 32 items or more is shared and not copied.
     pub fn try_clone(&self) -> Result<Column, Error> {
         Column::made(|out, fields| unsafe { raw::hv_clone(self.handle.get(), out, fields) })
     }
