@@ -1,5 +1,6 @@
 //! Slices and clones of a column of many runs ask for a box alone, and compact copies for what they show.
 use crate::columns::{full_context, run_column};
+use crate::trials::{Trial, refused_in_turn};
 use bumpalo::Bump;
 use std::alloc::{Allocator, Global};
 use std::process::Abort;
@@ -119,5 +120,44 @@ fn a_compact_copy_has_what_is_shown(rt: HostRuntime) -> Result<(), Fail> {
     assert!(rt; own.allocated_bytes() > SHOWN_BYTES);
     assert_half(&rt, &compact);
     drop(compact);
+    Ok(())
+}
+
+// A compact copy of forty runs of two rows each, of which each fifth is null.
+struct CompactOfRuns {}
+
+impl Trial for CompactOfRuns {
+    fn run<A: Allocator + Copy>(alloc: A) -> VortexResult<ArrayRef<A>> {
+        let mut ends = Vec::new(alloc);
+        let mut numbers = Vec::new(alloc);
+        let mut flags = BitBufferMut::with_capacity(alloc, 40)?;
+        for number in 0..40u8 {
+            ends.push(2 * number + 2)?;
+            numbers.push(number)?;
+            flags.append(number % 5 != 0)?;
+        }
+        let ends = PrimitiveArray::try_new(PrimitiveValues::from_vec(ends), Validity::NonNullable)?;
+        let flags = Validity::from_bits(flags.freeze());
+        let values = PrimitiveArray::try_new(PrimitiveValues::from_vec(numbers), flags)?;
+        let values = ArrayRef::Primitive(values);
+        let mut ctx = full_context(alloc);
+        let column = run_column(ends, values, 1, 70, &mut ctx)?;
+        let compact = column.compact(&mut ctx);
+        drop(column);
+        compact
+    }
+
+    fn assert_rows<A: Allocator + Copy>(rt: &impl Abort, rows: &ArrayRef<A>) {
+        assert_eq!(rt; rows.len(), 70);
+        assert!(rt; matches!(rows.scalar_at(0), Ok(ScalarView::Null)));
+        assert!(rt; matches!(rows.scalar_at(1), Ok(ScalarView::Unsigned(1))));
+        assert!(rt; matches!(rows.scalar_at(68), Ok(ScalarView::Unsigned(34))));
+        assert!(rt; matches!(rows.scalar_at(69), Ok(ScalarView::Null)));
+    }
+}
+
+#[test]
+fn a_compact_copy_refused_at_each_request(rt: HostRuntime) -> Result<(), Fail> {
+    refused_in_turn::<CompactOfRuns>(&rt, rt.alloc());
     Ok(())
 }
