@@ -6,3 +6,4 @@ pub mod SetPlaces
 pub mod WholeRows
 pub mod CastRows
 pub mod FilledRows
+pub mod ConstantRows

@@ -3,6 +3,7 @@
 #![tactic(auto)]
 
 mod any_rows;
+mod constant_rows;
 mod decoded;
 mod fill_and_cast;
 mod list_values;

@@ -14,6 +14,7 @@ ghost use Rattle.runend_array.specs.Canonical.{canonical_column};
 ghost use Rattle.runend_array.specs.Column.{OfLeaf, column_dtype, column_rows};
 ghost use Rattle.runend_rowwise.specs.Computed.{IsComputedAs};
 
+use crate::constant_rows::{select_constant, take_constant};
 use crate::list_values::{select_lists, take_lists};
 use column_core::{FlatColumn, Mask, Validity, VortexError, VortexResult};
 use column_ops::ColumnOps;
@@ -70,6 +71,7 @@ pub fn take_values<A: Allocator + Copy>(
             let taken = take_lists(alloc, lists, positions, places)?;
             Ok(Canonical::List(taken))
         }
+        ArrayRef::Constant(constant) => take_constant(alloc, values, constant, positions, places),
         _ => take_flattened(alloc, values, positions, places),
     }
 }
@@ -105,6 +107,7 @@ pub fn select_values<A: Allocator + Copy>(
             let kept = select_lists(alloc, lists, mask)?;
             Ok(Canonical::List(kept))
         }
+        ArrayRef::Constant(constant) => select_constant(alloc, values, constant, mask),
         _ => select_flattened(alloc, values, mask),
     }
 }
@@ -136,8 +139,8 @@ fn canonical_of<A: Allocator + Copy>(alloc: A, values: &ArrayRef<A>) -> VortexRe
     values.rows_between(alloc, 0, values.len())
 }
 
-// The rows of a flat form at these positions, null for null.
-fn take_flat<A: Allocator + Copy>(
+/// The rows of a flat form at these positions, null for null. Refused as `OutOfMemory` alone.
+pub(crate) fn take_flat<A: Allocator + Copy>(
     alloc: A,
     values: &Canonical<A>,
     positions: &[u64],
@@ -163,8 +166,8 @@ fn take_flat<A: Allocator + Copy>(
     }
 }
 
-// The rows of a flat form at which the mask is true.
-fn select_flat<A: Allocator + Copy>(
+/// The rows of a flat form at which the mask is true. Refused as `OutOfMemory` alone.
+pub(crate) fn select_flat<A: Allocator + Copy>(
     alloc: A,
     values: &Canonical<A>,
     mask: &Mask<A>,
