@@ -205,6 +205,12 @@ if echo '#include <sqlite3ext.h>' | $cc -E - >/dev/null 2>&1; then
     else
         skip "sqlite/figures.py" "Python whose sqlite3 loads extensions"
     fi
+    if has protoc && found=$(python_with google.protobuf) &&
+        "$found" -c 'import sqlite3; sqlite3.connect(":memory:").enable_load_extension(True)' 2>/dev/null; then
+        run "engines/proto_test.py" timeout 100 "$found" examples/engines/proto_test.py lib/hivevigil_sqlite.so 300
+    else
+        skip "engines/proto_test.py" "protoc and protobuf for Python"
+    fi
 else
     skip "sqlite" "sqlite3ext.h (libsqlite3-dev)"
 fi

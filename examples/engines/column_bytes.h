@@ -1,6 +1,6 @@
-/* A column as bytes, a message of Protocol Buffers (docs/BYTES.md), by the calls for C alone: columns of signed numbers
+/* A column as bytes, a message of Protocol Buffers (column.proto), by the calls for C alone: columns of signed numbers
  * of 64 bits, texts and bytes, with null. A column of any form is written as runs, the fewest there can be; what is
- * read may be flat or runs. */
+ * read may be flat, or runs whose values are flat or runs, of at most 16 levels. */
 #ifndef HIVEVIGIL_COLUMN_BYTES_H
 #define HIVEVIGIL_COLUMN_BYTES_H
 #include "hivevigil.h"

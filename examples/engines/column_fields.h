@@ -1,5 +1,4 @@
-/* Fields of a column's message, by the numbers of docs/column.proto. Texts and bytes have none there in version 1:
- * types 11 and 12 with fields 12 and 13 are of these files alone, and every other reader of version 1 refuses them. */
+/* Fields of a column's message, by the numbers of column.proto. */
 #ifndef HIVEVIGIL_COLUMN_FIELDS_H
 #define HIVEVIGIL_COLUMN_FIELDS_H
 

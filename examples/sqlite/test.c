@@ -73,7 +73,7 @@ static void check_texts(void) {
               "blob|0102||FF00");
 }
 
-/* The message of 4 4 4 null null 9 -1 -1, written by hand after docs/column.proto. */
+/* The message of 4 4 4 null null 9 -1 -1, written by hand after column.proto. */
 static void check_bytes(void) {
     CHECK_SQL("SELECT hex(c) FROM p", "0801100818022008400048015204030201025A2F" /* runs of 8 rows, lengths 3 2 1 2 */
                                       "080110081801200428043201"
