@@ -1,0 +1,4 @@
+pub mod Leaves
+pub mod Ends
+pub mod Messages
+pub mod Writes

@@ -1,0 +1,4 @@
+pub mod Bytes
+pub mod Stored
+pub mod Read
+pub mod Laws

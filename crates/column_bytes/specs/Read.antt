@@ -1,0 +1,83 @@
+-- What bytes are as messages, with at most so many levels of runs.
+use Rattle.std.specs.Prelude.{◌≡◌, ◌⊎◌, ℕ, ◌≤◌, true, List, length}
+use Rattle.column_base.specs.declared.dtype.PType.{PType}
+use Rattle.column_base.specs.declared.error.VortexError.{VortexError}
+use Rattle.column_base.specs.declared.error.VortexError.TheVariants.{Unsupported, OutOfMemory}
+use Rattle.column_core.specs.Leaf.{OfNumbers, OfTruths}
+use Rattle.column_core.specs.PrimitiveForm.{PrimitiveForm, primitive_dtype}
+use Rattle.column_core.specs.BoolForm.{BoolForm}
+use Rattle.column_fields.specs.Lengths.{lengths_bytes, Rises, AreEndsOf}
+use Rattle.runend_codec.specs.Ends.{IsEndsType, ends_of}
+use Rattle.runend_array.specs.Column.{Column, OfRuns, AreRuns, runs_with, column_dtype, depth}
+use Rattle.column_bytes.specs.Bytes.{kind_number, form_number, column_count, leaf_fields, column_body, column_bytes}
+use Rattle.column_bytes.specs.Stored.{IsStored, AreNumbers, AreTruths}
+
+-- the column has bytes, and no more levels of runs than so many
+pub record IsWritable (levels : ℕ) (c : Column) : Type 0 where
+  pub stored : IsStored c
+  pub shallow : depth c ≤ levels
+
+-- the bytes are those of the column
+pub record IsMessage (levels : ℕ) (bytes : List ℕ) (c : Column) : Type 0 where
+  pub writable : IsWritable levels c
+  pub spelt : bytes ≡ column_bytes c
+
+pub record IsNoMessage (levels : ℕ) (bytes : List ℕ) : Type 0 where
+  pub none : (c : Column) → IsMessage levels bytes c → ⊥
+
+-- the bytes are what the message of the column says behind a header with these numbers
+pub record IsBody (levels kind form rows : ℕ) (bytes : List ℕ) (c : Column) : Type 0 where
+  pub writable : IsWritable levels c
+  pub kind_is : kind_number (column_dtype c) ≡ kind
+  pub form_is : form_number c ≡ form
+  pub rows_is : column_count c ≡ rows
+  pub spelt : bytes ≡ column_body c
+
+pub record IsNoBody (levels kind form rows : ℕ) (bytes : List ℕ) : Type 0 where
+  pub none : (c : Column) → IsBody levels kind form rows bytes c → ⊥
+
+-- the bytes are what the message of so many numbers of a type says behind its header
+pub record AreNumbersOf (t : PType) (rows : ℕ) (bytes : List ℕ) (form : PrimitiveForm) : Type 0 where
+  pub typed : form.ptype ≡ t
+  pub counted : length form.numbers ≡ rows
+  pub stored : AreNumbers form
+  pub spelt : bytes ≡ leaf_fields (OfNumbers form)
+
+pub record AreNoNumbersOf (t : PType) (rows : ℕ) (bytes : List ℕ) : Type 0 where
+  pub none : (form : PrimitiveForm) → AreNumbersOf t rows bytes form → ⊥
+
+-- the same of truth values
+pub record AreTruthsOf (rows : ℕ) (bytes : List ℕ) (form : BoolForm) : Type 0 where
+  pub counted : length form.bits ≡ rows
+  pub stored : AreTruths form
+  pub spelt : bytes ≡ leaf_fields (OfTruths form)
+
+pub record AreNoTruthsOf (rows : ℕ) (bytes : List ℕ) : Type 0 where
+  pub none : (form : BoolForm) → AreTruthsOf rows bytes form → ⊥
+
+-- a flat column of ends of the type, of which these are the run lengths
+pub record IsEndsColumn (t : PType) (lengths : List ℕ) (form : PrimitiveForm) : Type 0 where
+  pub typed : form.ptype ≡ t
+  pub plain : IsEndsType (primitive_dtype form)
+  pub fit : AreEndsOf t (ends_of form)
+  pub rise : Rises true 0 (ends_of form)
+  pub spelt : lengths ≡ lengths_bytes 0 (ends_of form)
+
+pub record HasNoEndsOf (t : PType) (lengths : List ℕ) : Type 0 where
+  pub none : (ends : List ℕ) → AreEndsOf t ends → Rises true 0 ends → lengths ≡ lengths_bytes 0 ends → ⊥
+
+-- the runs over these values, with these run lengths
+pub record AreRunsOf (kind rows offset : ℕ) (t : PType) (lengths : List ℕ) (values c : Column) : Type 0 where
+  pub ends : List ℕ
+  pub is : c ≡ OfRuns t ends values offset rows
+  pub fit : AreEndsOf t ends
+  pub runs : AreRuns (runs_with t ends values offset rows)
+  pub kind_is : kind_number (column_dtype values) ≡ kind
+  pub spelt : lengths ≡ lengths_bytes 0 ends
+
+pub record AreNoRunsOf (kind rows offset : ℕ) (t : PType) (lengths : List ℕ) (values : Column) : Type 0 where
+  pub none : (c : Column) → AreRunsOf kind rows offset t lengths values c → ⊥
+
+-- writing is refused
+abbrev pub IsUnsupportedOrMemory : VortexError → Type 0
+IsUnsupportedOrMemory error = (error ≡ Unsupported) ⊎ (error ≡ OutOfMemory)

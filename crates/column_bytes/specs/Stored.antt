@@ -1,0 +1,33 @@
+-- Which forms have bytes: those that columns have, of the kinds that version 1 writes.
+use Rattle.std.specs.Prelude.{◌^◌, ◌<◌, All, length}
+use Rattle.column_base.specs.Types.{HasNumber}
+use Rattle.column_base.specs.ValidityForm.{HasLength}
+use Rattle.column_core.specs.Leaf.{Leaf, OfNumbers, OfTruths, OfDecimals, OfVarBins}
+use Rattle.column_core.specs.PrimitiveForm.{PrimitiveForm}
+use Rattle.column_core.specs.BoolForm.{BoolForm}
+use Rattle.column_fields.specs.Lengths.{AreEndsOf}
+use Rattle.runend_array.specs.Column.{Column, OfLeaf, OfConstant, OfLists, OfRuns, AreRuns, runs_with}
+
+-- each number is one of the type, and the validity speaks of each row
+pub record AreNumbers (form : PrimitiveForm) : Type 0 where
+  pub fit : All (λ n. HasNumber form.ptype n) form.numbers
+  pub counted : HasLength form.validity (length form.numbers)
+  pub small : length form.numbers < 2 ^ 64
+
+-- the validity speaks of each row
+pub record AreTruths (form : BoolForm) : Type 0 where
+  pub counted : HasLength form.validity (length form.bits)
+  pub small : length form.bits < 2 ^ 64
+
+abbrev pub IsStoredLeaf : Leaf → Type 0
+IsStoredLeaf (OfNumbers form) = AreNumbers form
+IsStoredLeaf (OfTruths form) = AreTruths form
+IsStoredLeaf (OfDecimals form) = ⊥
+IsStoredLeaf (OfVarBins form) = ⊥
+
+-- flat columns of whole numbers and of truth values, and runs over columns that have bytes
+abbrev pub IsStored : Column → Type 0
+IsStored (OfLeaf leaf) = IsStoredLeaf leaf
+IsStored (OfConstant constant) = ⊥
+IsStored (OfLists lists) = ⊥
+IsStored (OfRuns ends_type ends values offset count) = AreEndsOf ends_type ends × AreRuns (runs_with ends_type ends values offset count) × IsStored values

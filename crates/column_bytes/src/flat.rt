@@ -1,0 +1,159 @@
+//! Flat columns of whole numbers and of truth values.
+ghost use Rattle.std.specs.Prelude.{◌≡◌, ◌*◌, ◌↔◌, ◌++◌, IsTrue, ℕ, length, OnOk, IfOk, IfErr, IsErrOf, IsOkUnless};
+ghost use Rattle.column_core.specs.Leaf.{OfNumbers, OfTruths};
+ghost use Rattle.runend_array.specs.Column.{OfLeaf};
+ghost use Rattle.runend_array.specs.Array.{column_of};
+ghost use Rattle.column_fields.specs.Refusal.{IsBadOrMemory};
+ghost use Rattle.column_bytes.specs.Bytes.{column_bytes};
+ghost use Rattle.column_bytes.specs.Stored.{AreNumbers, AreTruths};
+ghost use Rattle.column_bytes.specs.Read.{IsBody, IsNoBody, AreNumbersOf, AreNoNumbersOf, AreTruthsOf, AreNoTruthsOf};
+
+use column_base::{PType, VortexError, VortexResult};
+use column_core::{BoolArray, PrimitiveArray};
+use column_fields::{
+    Header, bytes_for, load_bits, load_values, number_of_type, put_bits, put_bytes_key, put_header,
+    put_validity, put_values, read_flat_fields, size_of_type, type_of_number,
+};
+use runend_array::ArrayRef;
+use std::alloc::Allocator;
+
+/// The number of the type of truth values.
+const TRUTHS: u64 = 9;
+
+/// Writes a flat column of whole numbers at the end. Refused as `OutOfMemory` alone.
+pub(crate) fn put_numbers<A: Allocator, B: Allocator>(
+    out: &mut Vec<u8, B>,
+    array: &PrimitiveArray<A>,
+) -> VortexResult<()>
+    ensures ok { OnOk result (out.new.items ≡ out.old.items ++ column_bytes (OfLeaf (OfNumbers array.now))) }
+    ensures stored { OnOk result (AreNumbers array.now) }
+    ensures only { IsOkUnless result VortexError.OutOfMemory }
+{
+    let rows = array.len();
+    let ptype = array.ptype();
+    // No memory has so many bytes, but no count could tell them.
+    let Some(count) = rows.checked_mul(size_of_type(ptype)) else {
+        return Err(VortexError::OutOfMemory);
+    };
+    let kind = number_of_type(ptype);
+    put_header(
+        out,
+        Header {
+            kind,
+            form: 1,
+            rows: rows as u64,
+        },
+    )?;
+    put_validity(out, array.validity())?;
+    put_bytes_key(out, 7, count)?;
+    put_values(out, array.values())?;
+    Ok(())
+}
+
+/// Writes a flat column of truth values at the end. Refused as `OutOfMemory` alone.
+pub(crate) fn put_truths<A: Allocator, B: Allocator>(
+    out: &mut Vec<u8, B>,
+    array: &BoolArray<A>,
+) -> VortexResult<()>
+    ensures ok { OnOk result (out.new.items ≡ out.old.items ++ column_bytes (OfLeaf (OfTruths array.now))) }
+    ensures stored { OnOk result (AreTruths array.now) }
+    ensures only { IsOkUnless result VortexError.OutOfMemory }
+{
+    let rows = array.len();
+    put_header(
+        out,
+        Header {
+            kind: TRUTHS,
+            form: 1,
+            rows: rows as u64,
+        },
+    )?;
+    put_validity(out, array.validity())?;
+    put_bytes_key(out, 7, bytes_for(rows))?;
+    put_bits(out, array.values())?;
+    Ok(())
+}
+
+/// The flat column that stands behind this header. Refused as `BadMetadata` exactly where none does, else as
+/// `OutOfMemory` alone.
+pub(crate) fn read_leaf<A: Allocator + Copy>(
+    alloc: A,
+    header: Header,
+    bytes: &[u8],
+) -> VortexResult<ArrayRef<A>>
+    ensures found { IfOk result (λ array. IsBody 0 header.kind 1 header.rows bytes.now (column_of array)) }
+    ensures bad { IsErrOf result VortexError.BadMetadata → (levels : ℕ) → IsNoBody levels header.kind 1 header.rows bytes.now }
+    ensures only { IfErr result IsBadOrMemory }
+{
+    let rows = header.rows as usize;
+    if header.kind == TRUTHS {
+        return match read_truths(alloc, rows, bytes) {
+            Ok(truths) => Ok(ArrayRef::Bool(truths)),
+            Err(error) => Err(error),
+        };
+    }
+    let Some(ptype) = type_of_number(header.kind) else {
+        return Err(VortexError::BadMetadata);
+    };
+    match read_numbers(alloc, ptype, rows, bytes) {
+        Ok(numbers) => Ok(ArrayRef::Primitive(numbers)),
+        Err(error) => Err(error),
+    }
+}
+
+fn read_numbers<A: Allocator + Copy>(
+    alloc: A,
+    ptype: PType,
+    rows: usize,
+    bytes: &[u8],
+) -> VortexResult<PrimitiveArray<A>>
+    ensures found { IfOk result (λ array. AreNumbersOf ptype rows bytes.now array) }
+    ensures bad { IsErrOf result VortexError.BadMetadata → AreNoNumbersOf ptype rows bytes.now }
+    ensures only { IfErr result IsBadOrMemory }
+{
+    let (validity, items) = read_flat_fields(alloc, bytes, rows)?;
+    if !is_size(rows, size_of_type(ptype), items.len()) {
+        drop(validity);
+        return Err(VortexError::BadMetadata);
+    }
+    match load_values(alloc, ptype, items, rows) {
+        Ok(values) => Ok(PrimitiveArray::new_unchecked(values, validity)),
+        Err(error) => {
+            drop(validity);
+            Err(error)
+        }
+    }
+}
+
+fn read_truths<A: Allocator + Copy>(
+    alloc: A,
+    rows: usize,
+    bytes: &[u8],
+) -> VortexResult<BoolArray<A>>
+    ensures found { IfOk result (λ array. AreTruthsOf rows bytes.now array) }
+    ensures bad { IsErrOf result VortexError.BadMetadata → AreNoTruthsOf rows bytes.now }
+    ensures only { IfErr result IsBadOrMemory }
+{
+    let (validity, items) = read_flat_fields(alloc, bytes, rows)?;
+    if items.len() != bytes_for(rows) {
+        drop(validity);
+        return Err(VortexError::BadMetadata);
+    }
+    match load_bits(alloc, items, rows) {
+        Ok(bits) => Ok(BoolArray::new_unchecked(bits, validity)),
+        Err(error) => {
+            drop(validity);
+            Err(error)
+        }
+    }
+}
+
+// Are so many rows of that size so many bytes?
+fn is_size(rows: usize, size: usize, count: usize) -> bool
+    ensures { IsTrue result ↔ (count ≡ rows * size) }
+{
+    match rows.checked_mul(size) {
+        Some(product) => product == count,
+        None => false,
+    }
+}

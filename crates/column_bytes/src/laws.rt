@@ -1,0 +1,31 @@
+//! The laws of columns as bytes. `spelling_is_unique` does nothing: its clause is the law.
+ghost use Rattle.std.specs.Prelude.{◌≡◌, IfOk, IfErr};
+ghost use Rattle.runend_array.specs.Array.{column_of};
+ghost use Rattle.column_bytes.specs.Laws.{SpellingIsUnique};
+ghost use Rattle.column_bytes.specs.Read.{IsUnsupportedOrMemory};
+
+use crate::column::{read_column, write_column};
+use column_base::VortexResult;
+use runend_array::ArrayRef;
+use std::alloc::Allocator;
+
+/// Bytes are those of at most one column.
+pub fn spelling_is_unique()
+    ensures { SpellingIsUnique }
+{}
+
+/// Writes a column and reads what was written: it is a column of the same form. Refused as `Unsupported` where
+/// `write_column` is, else as `OutOfMemory` alone.
+pub fn write_then_read<A: Allocator + Copy>(
+    array: &ArrayRef<A>,
+    alloc: A,
+) -> VortexResult<ArrayRef<A>>
+    ensures same { IfOk result (λ read. column_of read ≡ column_of array.now) }
+    ensures only { IfErr result IsUnsupportedOrMemory }
+{
+    let bytes = write_column(array, alloc)?;
+    match read_column(&bytes, alloc) {
+        Ok(read) => Ok(read),
+        Err(error) => Err(error),
+    }
+}

@@ -1,0 +1,9 @@
+//! Columns as bytes: messages of the Protocol Buffers encoding, each column in its one spelling.
+#![tactic(auto)]
+
+mod column;
+mod flat;
+pub mod laws;
+
+pub use column::{read_column, write_column};
+pub use column_base::{VortexError, VortexResult};
