@@ -26,8 +26,8 @@
  *  - what a call writes, and each handle that it is given, overlaps no other argument: to compare a column with itself
  *    lend hv_clone's result;
  *  - input is initialised; what a call only writes may hold any bytes before, but for `out`, which is a handle;
- *  - one call at a time, also where it only reads, on columns that were made one from the other, all on the thread that
- *    made them: they share buffers, which are counted without atomics;
+ *  - one call at a time on each column, also where it only reads. Any thread may make it: columns that were made one
+ *    from the other share buffers, whose owners are counted by atomics, and threads may use them at once (tested);
  *  - malloc, realloc and free are one allocator, aligned to 16 bytes; no call comes from a signal handler, or from the
  *    forked child of a process with threads.
  *
@@ -137,6 +137,9 @@ int32_t hv_large_texts(uint8_t binary, const int64_t *offsets, size_t offsets_le
 int32_t hv_runs(hv_column *ends, hv_column *values, size_t offset, size_t count, hv_column *out, hv_error *error);
 /* The same column in the same form. What holds 32 items or more is shared and not copied. */
 int32_t hv_clone(hv_column *column, hv_column *out, hv_error *error);
+/* The same column in the same form, in buffers that no other column shares but for the bytes of texts. A slice of a few
+ * rows keeps the whole buffers that it is a part of; of its compact copy they may be freed. */
+int32_t hv_compact(hv_column *column, hv_column *out, hv_error *error);
 
 /* ---- Commands: what they leave goes to `out` ----
  * Refused exactly as is said here, with these fields, or as 21. */

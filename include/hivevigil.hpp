@@ -5,7 +5,7 @@
 //     for (const hv::Run &run : runs.runs()) use(run.start, run.stop, run.value);
 //     for (const hv::Value &row : runs) use(row);
 //
-// A column is used by one thread at a time, with all columns that were made one from the other.
+// A column is used by one thread at a time, any thread; those that were made one from the other may be used at once.
 #ifndef HIVEVIGIL_HPP
 #define HIVEVIGIL_HPP
 #include "hivevigil_values.hpp"
@@ -95,6 +95,10 @@ public:
     }
     Column clone() const {
         return made([&](auto *out, auto *error) { return hv_clone(&handle, out, error); });
+    }
+    // A copy that shares no buffer but the bytes of texts: a small slice keeps the whole column's.
+    Column compact() const {
+        return made([&](auto *out, auto *error) { return hv_compact(&handle, out, error); });
     }
 
     // ---- Commands, each of which makes a column ----

@@ -114,6 +114,8 @@ static void check_runs(void) {
     CHECK_ROWS(&out, "7 8 9");
     CHECK(!hv_clone(&runs, &out, &error) && hv_form(&out) == FORM_RUNS && hv_offset(&out) == 1);
     CHECK_ROWS(&out, "7 8 9 9");
+    CHECK(!hv_compact(&runs, &out, &error) && hv_form(&out) == FORM_RUNS && hv_offset(&out) == 1);
+    CHECK_ROWS(&out, "7 8 9 9");
     CHECK(!hv_serialize(&runs, bytes, sizeof bytes, &size, &error) && size == 6 && memcmp(bytes, record, 6) == 0);
     hv_kind kind = {HV_I8, 0, 0, 0};
     CHECK(!hv_deserialize(&kind, 4, record, 6, &a, &b, &out, &error) && hv_offset(&out) == 1);

@@ -258,6 +258,7 @@ static void check_empty_handles(void) {
     NO_COLUMN(hv_runs(&empty, &numbers, 0, 0, &out, &error));
     NO_COLUMN(hv_runs(&numbers, &empty, 0, 0, &out, &error));
     NO_COLUMN(hv_clone(&empty, &out, &error));
+    NO_COLUMN(hv_compact(&empty, &out, &error));
     NO_COLUMN(hv_encode(&session, &empty, &out, &error));
     NO_COLUMN(hv_decode(&session, &empty, &out, &error));
     NO_COLUMN(hv_slice(&session, &empty, 0, 0, &out, &error));

@@ -91,6 +91,8 @@ STEP(make_large_texts, hv_large_texts(0, large_offsets, ROWS + 1, letters, BYTES
 STEP(make_runs, hv_runs(&ends, &values, hv_offset(&part), 50, &out, &error))
 STEP(clone_runs, hv_clone(&runs, &out, &error))
 STEP(clone_texts, hv_clone(&texts, &out, &error))
+STEP(compact_runs, hv_compact(&runs, &out, &error))
+STEP(compact_texts, hv_compact(&texts, &out, &error))
 STEP(encode, hv_encode(&session, &flat, &out, &error))
 STEP(decode, hv_decode(&session, &part, &out, &error))
 STEP(slice_runs, hv_slice(&session, &runs, 10, 70, &out, &error))

@@ -76,6 +76,7 @@ _MAKERS: dict[str, list[Any]] = {
     "hv_large_texts": [c_uint8, POINTER(c_int64), c_size_t, c_char_p, c_size_t, *_VALIDITY],
     "hv_runs": [_HANDLE, _HANDLE, c_size_t, c_size_t],
     "hv_clone": [_HANDLE],
+    "hv_compact": [_HANDLE],
     "hv_encode": _COMMAND,
     "hv_decode": _COMMAND,
     "hv_slice": [*_COMMAND, c_size_t, c_size_t],

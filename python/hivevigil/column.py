@@ -74,6 +74,10 @@ class Column:
         """The same column in the same form, which is freed by itself."""
         return self._made(calls.hv_clone, self)
 
+    def compact(self) -> Column:
+        """A copy in the same form that shares no buffer but the bytes of texts: a small slice keeps a whole column's."""
+        return self._made(calls.hv_compact, self)
+
     def __copy__(self) -> Column:
         return self.copy()
 

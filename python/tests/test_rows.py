@@ -76,7 +76,7 @@ def test_blocks(sample, size):
 
 @given(samples())
 def test_copies_are_columns_of_their_own(sample):
-    copies = [copy.copy(sample.column), copy.deepcopy(sample.column), sample.column.copy()]
+    copies = [copy.copy(sample.column), copy.deepcopy(sample.column), sample.column.copy(), sample.column.compact()]
     copies += [pickle.loads(pickle.dumps(sample.column, protocol)) for protocol in (2, 4, 5)]
     facts = [(one.type, one.form if one.form != "constant" else "runs") for one in copies]
     assert set(facts) == {(sample.column.type, sample.column.form.replace("constant", "runs"))}

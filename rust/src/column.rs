@@ -4,11 +4,14 @@ use crate::{ask, Error, Fields, Kind, Native};
 use std::cell::UnsafeCell;
 use std::ptr;
 
-/// A column. It is neither `Send` nor `Sync`: columns share buffers, which are counted without atomics. Commands run
-/// in the initial session.
+/// A column. It is `Send`: the owners of shared buffers are counted by atomics. It is not `Sync`, since a call that reads
+/// takes the column out of its handle. Commands run in the initial session.
 pub struct Column {
     pub(crate) handle: UnsafeCell<Handle>, // a call that reads takes the column out of the handle and puts it back
 }
+
+// A column is on the heap of the process, bound to no thread.
+unsafe impl Send for Column {}
 
 impl Drop for Column {
     fn drop(&mut self) {
@@ -208,5 +211,11 @@ impl Column {
     /// The same column in the same form. What holds 32 items or more is shared and not copied.
     pub fn try_clone(&self) -> Result<Column, Error> {
         Column::made(|out, fields| unsafe { raw::hv_clone(self.handle.get(), out, fields) })
+    }
+
+    /// The same column in the same form, in buffers that no other column shares but for the bytes of texts. A slice of
+    /// a few rows keeps the whole buffers that it is a part of; of its compact copy they may be freed.
+    pub fn try_compact(&self) -> Result<Column, Error> {
+        Column::made(|out, fields| unsafe { raw::hv_compact(self.handle.get(), out, fields) })
     }
 }

@@ -109,6 +109,7 @@ extern "C" {
         error: *mut Fields,
     ) -> i32;
     pub fn hv_clone(column: *mut Handle, out: *mut Handle, error: *mut Fields) -> i32;
+    pub fn hv_compact(column: *mut Handle, out: *mut Handle, error: *mut Fields) -> i32;
     pub fn hv_encode(
         session: *const Session,
         column: *mut Handle,

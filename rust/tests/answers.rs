@@ -81,6 +81,42 @@ fn runs_answer_as_rows() -> Result<(), Error> {
     Ok(())
 }
 
+/// The sum of each window of a hundred rows, by slices of the column that are made and dropped.
+fn sums_of_windows(column: Column) -> Result<Vec<Option<i128>>, Error> {
+    (0..column.len() - 100)
+        .step_by(37)
+        .map(|start| Ok(column.slice(start..start + 100)?.try_clone()?.sum()?.total))
+        .collect()
+}
+
+#[test]
+fn threads_share_buffers() -> Result<(), Error> {
+    let rows: Vec<i64> = (0..30_000).map(|row| row / 3).collect();
+    let runs = Column::new(&rows)?.encode()?;
+    let due: Vec<Option<i128>> = (0..rows.len() - 100)
+        .step_by(37)
+        .map(|start| {
+            Some(
+                rows[start..start + 100]
+                    .iter()
+                    .map(|row| i128::from(*row))
+                    .sum(),
+            )
+        })
+        .collect();
+    let running = (0..4)
+        .map(|_| {
+            runs.try_clone()
+                .map(|own| std::thread::spawn(move || sums_of_windows(own)))
+        })
+        .collect::<Result<Vec<_>, Error>>()?;
+    drop(runs);
+    for thread in running {
+        assert_eq!(thread.join().unwrap()?, due);
+    }
+    Ok(())
+}
+
 #[test]
 fn parts_of_runs() -> Result<(), Error> {
     let (ends, values) = (Column::new(&[2u16, 3, 5])?, Column::new(&[7i8, 8, 9])?);
@@ -93,6 +129,7 @@ fn parts_of_runs() -> Result<(), Error> {
     let again = Column::deserialize(own.kind(), 4, &own.serialize()?, &ends, &own.values()?)?;
     assert_eq!(rows(&again)?, rows(&own)?);
     assert_eq!(rows(&own.try_clone()?)?, rows(&own)?);
+    assert_eq!(rows(&own.try_compact()?)?, rows(&own)?);
     Ok(())
 }
 

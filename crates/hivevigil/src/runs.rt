@@ -32,6 +32,21 @@ pub(crate) fn boxed_copy(alloc: Global, array: &ArrayRef<Global>) -> VortexResul
     boxed(alloc, copy(alloc, array)?)
 }
 
+/// The same in the same form, in buffers that no other column shares, on the heap. Refused for want of memory alone.
+pub(crate) fn boxed_compact(alloc: Global, array: &ArrayRef<Global>) -> VortexResult<Boxed>
+    ensures same { IfOk result (λ made. IsCopyOf array.now made.value) }
+    ensures only { IsOkUnless result VortexError.OutOfMemory }
+{
+    boxed(alloc, compact(alloc, array)?)
+}
+
+fn compact(alloc: Global, array: &ArrayRef<Global>) -> VortexResult<ArrayRef<Global>>
+    ensures same { IfOk result (λ made. IsCopyOf array.now made) }
+    ensures only { IsOkUnless result VortexError.OutOfMemory }
+{
+    array.compact(&mut plain_context(alloc))
+}
+
 /// The run column of copies of these parts. Refused as `RunEnd::try_new_offset_length` refuses, or for want
 /// of memory.
 pub(crate) fn run_column(

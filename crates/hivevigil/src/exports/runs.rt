@@ -174,6 +174,29 @@ pub extern "C" fn hv_clone(
     answer(outcome, out, error)
 }
 
+/// A copy in the same form, in buffers that no other column shares: those that this one shows a part of may then be
+/// freed. Refused for want of memory alone.
+#[tactic(auto, using(crate::proofs::Extremes::always_empty, crate::proofs::Extremes::always_done, crate::proofs::Extremes::always_short))]
+#[unsafe(no_mangle)]
+pub extern "C" fn hv_compact(
+    alloc: Global,
+    column: &mut Handle,
+    out: &mut Handle,
+    error: &mut ErrorFields,
+) -> i32
+    ensures same { column.new.column ≡ column.old.column }
+    ensures made { result ≡ pos 0 → WhereBoth IsCopyOf column.old.column out.new.column }
+    ensures kept { result ≢ pos 0 → out.new.column ≡ out.old.column }
+    ensures ended { EndsAlways column.old.column result error.new }
+{
+    let Some(array) = column.take(alloc) else {
+        return NO_COLUMN;
+    };
+    let outcome = runs::boxed_compact(alloc, &array);
+    column.put(array);
+    answer(outcome, out, error)
+}
+
 /// The session that has every kernel, and the thresholds that the ported crate sets.
 #[unsafe(no_mangle)]
 pub extern "C" fn hv_session_initial(session: &mut Session)
