@@ -153,6 +153,7 @@ static const step steps[] = {
     NAMED(make_u8), NAMED(make_u16), NAMED(make_u32), NAMED(make_u64), NAMED(make_i8), NAMED(make_i16),
     NAMED(make_i32), NAMED(make_i64), NAMED(make_bools), NAMED(make_decimals), NAMED(make_texts),
     NAMED(make_large_texts), NAMED(make_runs), NAMED(clone_runs), NAMED(clone_texts), NAMED(encode), NAMED(decode),
+    NAMED(compact_runs), NAMED(compact_texts),
     NAMED(slice_runs), NAMED(slice_texts), NAMED(cast), NAMED(take), NAMED(take_texts), NAMED(filter),
     NAMED(filter_texts), NAMED(take_from), NAMED(compare), NAMED(compare_scalar), NAMED(compare_text), NAMED(fill),
     NAMED(fill_text), NAMED(sum), NAMED(is_constant), NAMED(is_sorted), NAMED(extreme), NAMED(extreme_text),
