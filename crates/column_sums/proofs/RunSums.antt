@@ -9,7 +9,7 @@ use Rattle.column_sums.specs.SumRange.{SumRange, is_within}
 use Rattle.column_sums.specs.RowSum.{partial_sums, last_after, sum_from, sum_of_rows, are_null}
 use Rattle.column_sums.specs.RunSum.{rows_of_runs, valid_runs, through_first_leaving, calls_of}
 use Rattle.column_sums.specs.SumState.{SumState}
-use Rattle.column_sums.proofs.Summed.{IsSummed, IsSumOfRuns}
+use Rattle.column_sums.specs.Summed.{IsSummed, IsSumOfRuns}
 use Rattle.column_sums.specs.SumAnswer.{value_in, answer_of}
 use Rattle.column_sums.specs.declared.answer.SumAnswer.{SumAnswer}
 use Rattle.column_sums.proofs.Within.{times-suc, is_within-first, is_within-zero}

@@ -3,3 +3,4 @@ pub mod RowSum
 pub mod RunSum
 pub mod SumState
 pub mod SumAnswer
+pub mod Summed

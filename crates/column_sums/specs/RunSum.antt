@@ -14,7 +14,7 @@
 --   }
 --   SumAnswer { sum: Some(SumValue::Signed(sum.value())), is_empty }
 --
--- under the invariant `IsSummed SignedRange l.initial.sum.calls runs l.run l.sum l.is_empty` (`proofs/Summed.antt`), by
+-- under the invariant `IsSummed SignedRange l.initial.sum.calls runs l.run l.sum l.is_empty` (`specs/Summed.antt`), by
 -- the lemmas of `proofs/RunSums.antt`: `begun` at its start, `null_run` and `valid_run` at a step, `left` at the early
 -- return and `finished` at the end; of either `answered` makes the answer. Each valid run is to be shown by some row.
 use Rattle.std.specs.Prelude.{ℕ, ℤ, pos, ◌+ℤ◌, ◌*ℤ◌, replicate, if◌then◌else◌, Option, Some, None, List, [], ◌∷◌, ◌++◌}

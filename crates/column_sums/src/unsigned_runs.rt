@@ -1,5 +1,6 @@
 //! Sums of runs of unsigned numbers.
-ghost use Rattle.std.specs.Prelude.{◌≡◌, ◌<◌, ◌+◌, ◌≤◌, ◌++◌, ℕ, ℤ, pos, List, Option, Some, length, option_map, slice_get, unsigned_abs, IfSome};
+ghost use Rattle.std.specs.Prelude.{◌≡◌, ◌<◌, ◌+◌, ◌≤◌, ◌++◌, ℕ, ℤ, pos, List, Option, None, Some, length, option_map, slice_get, unsigned_abs, IfSome, false, true};
+ghost use Rattle.column_sums.specs.Summed.{IsSummed, IsSumOfRuns};
 ghost use Rattle.column_sums.specs.SumRange.{UnsignedRange};
 ghost use Rattle.column_sums.specs.RunSum.{calls_of, rows_of_runs, valid_runs};
 ghost use Rattle.column_sums.specs.SumAnswer.{answer_of};
@@ -27,6 +28,17 @@ pub trait UnsignedRuns {
         requires { run < length (runs self.now) }
         ensures counted { option_map (λ shown. shown.1) (slice_get (runs self.now) run) ≡ Some result }
         ensures shown { 0 < result };
+
+    /// The same of a run that is neither the first nor the last. Only those two can be cut by a window, so
+    /// that others may be counted in a simpler way.
+    #[inline(always)]
+    fn inner_row_count(&self, run: usize) -> usize
+        requires inner { (0 < run) × (run + 1 < length (runs self.now)) }
+        ensures counted { option_map (λ shown. shown.1) (slice_get (runs self.now) run) ≡ Some result }
+        ensures shown { 0 < result }
+    {
+        self.row_count(run)
+    }
 }
 
 /// The sum of the rows of the runs, by one call of `add_run` for each run that is not null, up to and
@@ -55,20 +67,73 @@ fn add_runs<R: UnsignedRuns>(runs: &R, sum: &mut UnsignedSum) -> SumAnswer
     ensures few { length sum.new.calls ≤ length sum.old.calls + length (valid_runs (R.runs runs.now)) }
     ensures value { IfSome result.sum (λ value. value ≡ SumValue.Unsigned (unsigned_abs sum.new.value)) }
 {
-    let mut is_empty = true;
-    for run in 0..runs.run_count() {
+    match add_parts(runs, sum) {
+        Some(is_empty) => SumAnswer {
+            sum: Some(SumValue::Unsigned(sum.value())),
+            is_empty,
+        },
+        None => SumAnswer {
+            sum: None,
+            is_empty: false,
+        },
+    }
+}
+
+// The first run, those between, and the last. Answers whether all are null, and nothing where the sum leaves the range.
+#[inline(always)]
+fn add_parts<R: UnsignedRuns>(runs: &R, sum: &mut UnsignedSum) -> Option<bool>
+    requires { sum.old.value ≡ pos 0 }
+    ensures summed { IfSome result (λ is_empty. IsSummed UnsignedRange sum.old.calls (R.runs runs.now) (length (R.runs runs.now)) sum.new is_empty) }
+    ensures left { result ≡ None → IsSumOfRuns UnsignedRange sum.old.calls (R.runs runs.now) None sum.new.calls false }
+{
+    let count = runs.run_count();
+    let first = count.min(1);
+    let last = count.saturating_sub(1).max(first);
+    let start_empty = add_between::<false, R>(runs, 0, first, sum, true)?;
+    let inner_empty = add_between::<true, R>(runs, first, last, sum, start_empty)?;
+    add_between::<false, R>(runs, last, count, sum, inner_empty)
+}
+
+// The runs from one to before another, where `INNER` says that neither the first nor the last of all is among them.
+#[inline(always)]
+fn add_between<const INNER: bool, R: UnsignedRuns>(
+    runs: &R,
+    from: usize,
+    to: usize,
+    sum: &mut UnsignedSum,
+    is_empty: bool,
+) -> Option<bool>
+    requires within { to ≤ length (R.runs runs.now) }
+    requires ordered { from ≤ to }
+    requires inner { INNER ≡ true → from < to → (0 < from) × (to < length (R.runs runs.now)) }
+    ensures summed { IfSome result (λ empty. (before : List (ℤ × ℕ)) → IsSummed UnsignedRange before (R.runs runs.now) from sum.old is_empty
+        → IsSummed UnsignedRange before (R.runs runs.now) to sum.new empty) }
+    ensures left { result ≡ None → (before : List (ℤ × ℕ)) → IsSummed UnsignedRange before (R.runs runs.now) from sum.old is_empty
+        → IsSumOfRuns UnsignedRange before (R.runs runs.now) None sum.new.calls false }
+{
+    let mut empty = is_empty;
+    for run in from..to {
         if let Some(value) = runs.value(run) {
-            is_empty = false;
-            if !sum.add_run(value, runs.row_count(run)) {
-                return SumAnswer {
-                    sum: None,
-                    is_empty,
-                };
+            empty = false;
+            if !sum.add_run(value, rows_of::<INNER, R>(runs, run)) {
+                return None;
             }
         }
     }
-    SumAnswer {
-        sum: Some(SumValue::Unsigned(sum.value())),
-        is_empty,
+    Some(empty)
+}
+
+// How many rows show a run.
+#[inline(always)]
+fn rows_of<const INNER: bool, R: UnsignedRuns>(runs: &R, run: usize) -> usize
+    requires within { run < length (R.runs runs.now) }
+    requires inner { INNER ≡ true → (0 < run) × (run + 1 < length (R.runs runs.now)) }
+    ensures counted { option_map (λ shown. shown.1) (slice_get (R.runs runs.now) run) ≡ Some result }
+    ensures shown { 0 < result }
+{
+    if INNER {
+        runs.inner_row_count(run)
+    } else {
+        runs.row_count(run)
     }
 }

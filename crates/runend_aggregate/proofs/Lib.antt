@@ -7,3 +7,4 @@ pub mod SeenRows
 pub mod StoredValues
 pub mod SumOfRows
 pub mod VisibleFacts
+pub mod InnerRuns

@@ -60,6 +60,12 @@ impl<'a, E: UnsignedPType, N: UnsignedNumbers> UnsignedRuns for UnsignedVisible<
         prove!(run < self.stop - self.first);
         visible::rows_of_run(self.ends, self.first + run, self.offset, self.count)
     }
+
+    #[inline(always)]
+    fn inner_row_count(&self, run: usize) -> usize {
+        prove!(run < self.stop - self.first);
+        visible::rows_between(self.ends, self.first + run)
+    }
 }
 
 // The numbers of values of any form, each looked up as a row.

@@ -1,5 +1,5 @@
 //! Which runs of a column are visible, and what they show.
-ghost use Rattle.std.specs.Prelude.{◌≡◌, ◌-◌, ◌<◌, Some, length, map, min, option_map, pos, slice_get, slice_index};
+ghost use Rattle.std.specs.Prelude.{◌≡◌, ◌-◌, ◌<◌, ◌≤◌, Some, length, map, min, option_map, pos, slice_get, slice_index};
 ghost use Rattle.column_base.specs.Types.{IsUnsigned};
 ghost use Rattle.column_sums.specs.SumAnswer.{number_in};
 ghost use Rattle.runend_codec.specs.Ends.{ends_of};
@@ -57,6 +57,18 @@ pub(crate) fn rows_of_run<E: UnsignedPType>(
     ensures { result ≡ rows_showing (map E.natural ends.now) offset count run }
 {
     rows_through(ends, run, offset, count).saturating_sub(rows_ahead(ends, run, offset, count))
+}
+
+/// How many rows lie between the end of a run and that of the run before it, where the ends increase. So many rows of a
+/// window show a run that is neither the first nor the last visible one.
+#[inline(always)]
+pub(crate) fn rows_between<E: UnsignedPType>(ends: &[E], run: usize) -> usize
+    requires within { run < length ends.now }
+    requires second { 0 < run }
+    requires increasing { slice_index (map E.natural ends.now) (run - 1) ≤ slice_index (map E.natural ends.now) run }
+    ensures { result ≡ slice_index (map E.natural ends.now) run - slice_index (map E.natural ends.now) (run - 1) }
+{
+    (ends[run].to_u64() - ends[run - 1].to_u64()) as usize
 }
 
 /// The number in a row of a column that has no unsigned numbers.
