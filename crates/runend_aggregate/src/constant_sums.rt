@@ -1,5 +1,5 @@
 //! Sums of constant columns: all rows are one run.
-ghost use Rattle.std.specs.Prelude.{◌≡◌, ◌≢◌, ◌++◌, Err, IfOk, option_map, pos};
+ghost use Rattle.std.specs.Prelude.{◌≡◌, ◌≢◌, ◌++◌, ◌<◌, Err, IfOk, Some, length, option_map, pos, slice_get};
 ghost use Rattle.column_core.specs.Refusal.{IsRefusedBy};
 ghost use Rattle.column_core.specs.Value.{Single};
 ghost use Rattle.column_sums.specs.RunSum.{calls_of};
@@ -38,6 +38,15 @@ impl SignedRuns for SignedRun {
     fn row_count(&self, _run: usize) -> usize {
         self.row_count
     }
+
+    // There is no run between two others: any run may be asked for.
+    fn inner_row_count(&self, run: usize) -> usize
+        requires { run < length (one_run self.now.value self.now.row_count) }
+        ensures counted { option_map (λ shown. shown.1) (slice_get (one_run self.now.value self.now.row_count) run) ≡ Some result }
+        ensures shown { 0 < result }
+    {
+        self.row_count(run)
+    }
 }
 
 // The run of all rows of a constant of unsigned numbers. There is none where there is no row.
@@ -60,6 +69,15 @@ impl UnsignedRuns for UnsignedRun {
 
     fn row_count(&self, _run: usize) -> usize {
         self.row_count
+    }
+
+    // There is no run between two others: any run may be asked for.
+    fn inner_row_count(&self, run: usize) -> usize
+        requires { run < length (one_run (option_map pos self.now.value) self.now.row_count) }
+        ensures counted { option_map (λ shown. shown.1) (slice_get (one_run (option_map pos self.now.value) self.now.row_count) run) ≡ Some result }
+        ensures shown { 0 < result }
+    {
+        self.row_count(run)
     }
 }
 
