@@ -35,6 +35,8 @@ mod many_runs;
 #[cfg(test)]
 mod memory;
 #[cfg(test)]
+mod messages;
+#[cfg(test)]
 mod parts;
 #[cfg(test)]
 mod records;
