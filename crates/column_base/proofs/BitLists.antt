@@ -1,10 +1,10 @@
 -- Lemmas on lists of bits.
-use Rattle.std.proofs.Common.{◌≡◌, ◌≢◌, ◌+◌, ◌-◌, ◌<◌, ◌∙◌, ℕ, suc, List, [], ◌∷◌, ◌++◌, Bool, true, false, cond, length, take, drop, set, refl, sym, ap, arith, get_or, add-one, ⊎_elim}
-use Rattle.std.specs.Prelude.{◌↔◌, replicate, count_by, All, Contains}
+use Rattle.std.proofs.Common.{◌≡◌, ◌≢◌, ◌+◌, ◌-◌, ◌<◌, ◌≤◌, ◌∙◌, ℕ, suc, List, [], ◌∷◌, ◌++◌, Bool, true, false, cond, length, take, drop, set, refl, sym, ap, arith, get_or, add-one, ⊎_elim}
+use Rattle.std.specs.Prelude.{◌↔◌, replicate, count_by, slice_range, All, Contains}
 use Rattle.std.proofs.lemmas.Bool.{cases_eq}
-use Rattle.std.proofs.lemmas.List.{set_split, get_or-set_same, get_or-set_other, take_more}
+use Rattle.std.proofs.lemmas.List.{set_split, get_or-set_same, get_or-set_other, take_more, length-drop}
 use Rattle.std.proofs.lemmas.List.Elements.{All-head, All-tail, All-same, All-replicate, Contains-push, Contains-push_cases, Contains-append_left}
-use Rattle.std.proofs.lemmas.List.Sums.{count_by-le-length, count_by_more_no, count_by_more_yes, sum_by-cons}
+use Rattle.std.proofs.lemmas.List.Sums.{count_by-le-length, count_by_more_no, count_by_more_yes, sum_by-cons, sum_by-take-drop}
 
 -- a true bit in front counts
 pub count_by-true : (bits : List Bool) → count_by (λ b. b) (true ∷ bits) ≡ 1 + count_by (λ b. b) bits
@@ -100,3 +100,9 @@ pub count_by-more : (bits : List Bool) (i : ℕ) (bit : Bool) → i < length bit
     → count_by (λ b. b) (take (i + 1) bits) ≡ count_by (λ b. b) (take i bits) + cond bit 1 0
 count_by-more bits i true within here = count_by_more_yes (λ (b : Bool). b) bits i false within here
 count_by-more bits i false within here = omega (arith, count_by_more_no (λ (b : Bool). b) bits i false within here)
+
+-- where the first m bits are of both kinds, so are all
+pub both_from_front : (bits : List Bool) (m : ℕ) → m ≤ length bits → count_by (λ b. b) (slice_range bits 0 m) < m → count_by (λ b. b) bits < length bits
+both_from_front bits m within some =
+    let parts : count_by (λ b. b) (slice_range bits 0 m) + count_by (λ b. b) (drop (m - 0) bits) ≡ count_by (λ b. b) bits = sum_by-take-drop (λ (b : Bool). cond b 1 0) bits (m - 0) in
+    omega (arith, parts, count_by-le-length (λ (b : Bool). b) (drop (m - 0) bits), length-drop (m - 0) bits)

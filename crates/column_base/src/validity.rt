@@ -1,5 +1,5 @@
 //! Which rows are there, and which are null.
-ghost use Rattle.std.specs.Prelude.{◌≡◌, ◌-◌, ◌<◌, ◌≤◌, ◌↔◌, ℕ, true, false, length, slice_range, All, IfOk, IfSome, IsNone, IsOkUnless};
+ghost use Rattle.std.specs.Prelude.{◌≡◌, ◌-◌, ◌<◌, ◌≤◌, ◌↔◌, ℕ, true, false, length, slice_range, All, IfOk, IfSome, IsNone, IsOkUnless, IsTrue, count_by};
 ghost use Rattle.column_base.specs.ValidityForm.{NoneNull, AllNull, HasLength, HasRow, IsNormal, flags, flag_at, length_of, nullability_in};
 ghost use Rattle.column_base.specs.Validity.{form_of};
 
@@ -24,7 +24,8 @@ pub enum Validity<A: Allocator> {
 
 impl<A: Allocator> Validity<A> {
     /// The validity of these bits, with no bits of its own where all are equal: `AllValid` where
-    /// no bit is false, `AllInvalid` where no bit is true and there is one. Takes no memory.
+    /// no bit is false, `AllInvalid` where no bit is true and there is one. Takes no memory. Where the first 64 bits
+    /// are of both kinds, no other is read.
     pub fn from_bits(bits: BitBuffer<A>) -> Self
         ensures flags { flags (form_of result) (length bits) ≡ bits }
         ensures fits { HasLength (form_of result) (length bits) }
@@ -32,6 +33,9 @@ impl<A: Allocator> Validity<A> {
         ensures all_valid { (form_of result ≡ NoneNull) ↔ All (λ bit. bit ≡ true) bits }
         ensures all_null { (form_of result ≡ AllNull) ↔ ((0 < length bits) × All (λ bit. bit ≡ false) bits) }
     {
+        if begins_mixed(&bits) {
+            return Validity::Bits(bits);
+        }
         let valid = bits.true_count();
         if valid == bits.len() {
             Validity::AllValid
@@ -131,4 +135,14 @@ impl<A: Allocator + Copy> Validity<A> {
             Self::Bits(bits) => Ok(Self::from_bits(bits.slice(alloc, range)?)),
         }
     }
+}
+
+// Are bits of both kinds among the first 64? The others need not be counted then.
+fn begins_mixed<A: Allocator>(bits: &BitBuffer<A>) -> bool
+    ensures some { IsTrue result → 0 < count_by (λ bit. bit) bits.now }
+    ensures not_all { IsTrue result → count_by (λ bit. bit) bits.now < length bits.now }
+{
+    let count = bits.len().min(64);
+    let valid = bits.count_range(0, count);
+    0 < valid && valid < count
 }

@@ -45,3 +45,15 @@ returns-else-valid-eq0-clause-flags g c = refl
 
 pub returns-else-valid-eq0-clause-fits : goal.returns-else-valid-eq0-clause-fits
 returns-else-valid-eq0-clause-fits g c = refl
+
+pub returns-then-begins_mixed-clause-normal : goal.returns-then-begins_mixed-clause-normal
+returns-then-begins_mixed-clause-normal g c =
+    (Contains-true c.args.bits (c.begins_mixed.ensures.some c.if-begins_mixed.true), Contains-false c.args.bits (c.begins_mixed.ensures.not_all c.if-begins_mixed.true))
+
+pub returns-then-begins_mixed-clause-all_valid : goal.returns-then-begins_mixed-clause-all_valid
+returns-then-begins_mixed-clause-all_valid g c =
+    (λ (e : _). cc, λ all. absurd (omega (arith, c.begins_mixed.ensures.not_all c.if-begins_mixed.true, count_by-all_true c.args.bits all)))
+
+pub returns-then-begins_mixed-clause-all_null : goal.returns-then-begins_mixed-clause-all_null
+returns-then-begins_mixed-clause-all_null g c =
+    (λ (e : _). cc, λ all. absurd (omega (arith, c.begins_mixed.ensures.some c.if-begins_mixed.true, count_by-all_false c.args.bits all.1)))
