@@ -100,7 +100,7 @@ impl<A: Allocator + Copy> Mask<A> {
         Ok(Mask::from_buffer(bits.freeze()))
     }
 
-    /// The same mask in the same form. Refused for want of memory alone.
+    /// A copy of the mask in its form. Refused for want of memory alone.
     pub fn try_clone(&self, alloc: A) -> VortexResult<Mask<A>>
         ensures same { IfOk result (λ copy. copy ≡ self.now) }
         ensures only { IsOkUnless result VortexError.OutOfMemory }

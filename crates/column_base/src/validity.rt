@@ -86,7 +86,7 @@ impl<A: Allocator> Validity<A> {
 }
 
 impl<A: Allocator + Copy> Validity<A> {
-    /// The same validity in the same form. Refused for want of memory alone.
+    /// A copy of the validity in its form. Refused for want of memory alone.
     pub fn try_clone(&self, alloc: A) -> VortexResult<Validity<A>>
         ensures same { IfOk result (λ copy. form_of copy ≡ form_of self.now) }
         ensures only { IsOkUnless result VortexError.OutOfMemory }
@@ -99,7 +99,7 @@ impl<A: Allocator + Copy> Validity<A> {
         }
     }
 
-    /// The same validity in the same form, with bits that are shared with none. Refused for want of memory alone.
+    /// A copy of the validity in its form, with bits that are shared with none. Refused for want of memory alone.
     pub fn compact(&self, alloc: A) -> VortexResult<Validity<A>>
         ensures same { IfOk result (λ copy. form_of copy ≡ form_of self.now) }
         ensures only { IsOkUnless result VortexError.OutOfMemory }

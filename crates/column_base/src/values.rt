@@ -94,8 +94,8 @@ impl<A: Allocator + Copy> PrimitiveValues<A> {
         T::wrap(items)
     }
 
-    /// The same numbers of the same type: shared with these where these are shared, and else copied. Refused as
-    /// `OutOfMemory` alone.
+    /// A copy of the numbers, of the same type: shared with these where these are shared, and else in memory of its
+    /// own. Refused as `OutOfMemory` alone.
     pub fn try_clone(&self, alloc: A) -> VortexResult<PrimitiveValues<A>>
         ensures only { IsOkUnless result VortexError.OutOfMemory }
         ensures shows { IfOk result (λ values. numbers values ≡ numbers self.now) }

@@ -128,7 +128,7 @@ impl<A: Allocator> BoolArray<A> {
 }
 
 impl<A: Allocator + Copy> BoolArray<A> {
-    /// The same column in the same form. Its buffers are shared with these where these are shared, and else copied.
+    /// A copy of the column in its form. Its buffers are shared with these where these are shared, and else copied.
     /// Refused as `OutOfMemory` alone.
     pub fn try_clone(&self, alloc: A) -> VortexResult<BoolArray<A>>
         ensures only { IsOkUnless result VortexError.OutOfMemory }

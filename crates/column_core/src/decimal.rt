@@ -153,7 +153,7 @@ impl<A: Allocator> DecimalArray<A> {
 }
 
 impl<A: Allocator + Copy> DecimalArray<A> {
-    /// The same column in the same form. Its buffers are shared with these where these are shared, and else copied.
+    /// A copy of the column in its form. Its buffers are shared with these where these are shared, and else copied.
     /// Refused as `OutOfMemory` alone.
     pub fn try_clone(&self, alloc: A) -> VortexResult<DecimalArray<A>>
         ensures only { IsOkUnless result VortexError.OutOfMemory }

@@ -30,7 +30,7 @@ pub enum FlatColumn<A: Allocator> {
 }
 
 impl<A: Allocator> FlatColumn<A> {
-    /// The same column, borrowed.
+    /// The column, borrowed.
     pub fn view(&self) -> FlatView<'_, A>
         ensures { leaf_in result ≡ leaf_of self.now }
     {
@@ -97,7 +97,7 @@ impl<A: Allocator> FlatColumn<A> {
 }
 
 impl<A: Allocator + Copy> FlatColumn<A> {
-    /// The same column in the same form. Its buffers are shared with these where these are shared, and else copied.
+    /// A copy of the column in its form. Its buffers are shared with these where these are shared, and else copied.
     /// Refused as `OutOfMemory` alone.
     pub fn try_clone(&self, alloc: A) -> VortexResult<FlatColumn<A>>
         ensures only { IsOkUnless result VortexError.OutOfMemory }

@@ -139,7 +139,7 @@ impl<A: Allocator> PrimitiveArray<A> {
 }
 
 impl<A: Allocator + Copy> PrimitiveArray<A> {
-    /// The same column in the same form. Its buffers are shared with these where these are shared, and else copied.
+    /// A copy of the column in its form. Its buffers are shared with these where these are shared, and else copied.
     /// Refused as `OutOfMemory` alone.
     pub fn try_clone(&self, alloc: A) -> VortexResult<PrimitiveArray<A>>
         ensures only { IsOkUnless result VortexError.OutOfMemory }

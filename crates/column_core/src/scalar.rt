@@ -158,7 +158,7 @@ impl<A: Allocator> Eq for Scalar<A> {
 }
 
 impl<A: Allocator + Copy> ScalarValue<A> {
-    /// The same value, in memory of its own. Refused as `OutOfMemory` alone.
+    /// A copy of the value, in memory of its own. Refused as `OutOfMemory` alone.
     pub fn try_clone(&self, alloc: A) -> VortexResult<ScalarValue<A>>
         ensures only { IsOkUnless result VortexError.OutOfMemory }
         ensures value { IfOk result (λ v. flat_of v ≡ flat_of self.now) }

@@ -183,8 +183,8 @@ impl<A: Allocator> VarBinViewArray<A> {
 }
 
 impl<A: Allocator + Copy> VarBinViewArray<A> {
-    /// The same column in the same form. Its views and validity are shared with these where these are
-    /// shared, and else copied; the bytes of the buffers are shared. Refused as `OutOfMemory` alone.
+    /// A copy of the column in its form. Its views and validity are shared with these where these are shared, and else
+    /// copied; the bytes of the buffers are shared. Refused as `OutOfMemory` alone.
     pub fn try_clone(&self, alloc: A) -> VortexResult<VarBinViewArray<A>>
         ensures only { IsOkUnless result VortexError.OutOfMemory }
         ensures form { IfOk result (λ array. array ≡ self.now) }
@@ -344,7 +344,7 @@ fn are_texts<A: Allocator>(views: &[View], buffers: &[Bytes<A>], validity: &Vali
     true
 }
 
-// The same buffers, whose bytes are shared.
+// A list of these buffers, whose bytes are shared.
 fn share<A: Allocator + Copy>(alloc: A, buffers: &[Bytes<A>]) -> VortexResult<Vec<Bytes<A>, A>>
     ensures only { IsOkUnless result VortexError.OutOfMemory }
     ensures same { IfOk result (λ owners. owners.items ≡ buffers.now) }

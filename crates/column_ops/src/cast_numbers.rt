@@ -131,7 +131,7 @@ fn cast_all<S: NativePType, T: NativePType, A: Allocator + Copy>(
     }
 }
 
-// The same where no row is null. All numbers are converted, so that no branch is taken for any of them.
+// Numbers of which none is null, in the type `T`. All are converted, so that no branch is taken for any of them.
 fn cast_valid<S: NativePType, T: NativePType, A: Allocator>(
     alloc: A,
     items: &[S],
@@ -154,8 +154,8 @@ fn cast_valid<S: NativePType, T: NativePType, A: Allocator>(
     }
 }
 
-// The same where null may stay. What stands under null is cast too, and 0 is put there then. Only where a number does
-// not fit, the rows are looked at one by one: it may be one under null.
+// The numbers in the type `T` where null may stay, with 0 in place of it. What stands under null is cast too, and 0 is
+// put there then. Only where a number does not fit, the rows are looked at one by one: it may be one under null.
 fn cast_nullable<S: NativePType, T: NativePType, A: Allocator + Copy>(
     alloc: A,
     items: &[S],
@@ -172,7 +172,7 @@ fn cast_nullable<S: NativePType, T: NativePType, A: Allocator + Copy>(
     }
 }
 
-// The same, with 0 put in place of each null before the cast: each type has 0.
+// The numbers in the type `T` where null may stay, with 0 put in place of each null before the cast: each type has 0.
 fn cast_shown<S: NativePType, T: NativePType, A: Allocator + Copy>(
     alloc: A,
     items: &[S],
@@ -188,7 +188,7 @@ fn cast_shown<S: NativePType, T: NativePType, A: Allocator + Copy>(
     cast
 }
 
-// The same, row by row.
+// The numbers in the type `T`, with 0 in place of null where that may stay, row by row.
 fn cast_rows<S: NativePType, T: NativePType, A: Allocator + Copy>(
     alloc: A,
     items: &[S],

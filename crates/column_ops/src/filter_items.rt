@@ -38,8 +38,8 @@ pub(crate) fn filter_items<T: Copy + Drop, A: Allocator + Copy>(
     filter_parts(alloc, items, validity, blank, mask)
 }
 
-// The same where an item is null that has its mark false: items and marks are selected alike, and the blank item is put
-// at the nulls that are left.
+// The selected rows of items that are null where their mark is false: items and marks are selected alike, and the blank
+// item is put at the nulls that are left.
 fn filter_marked<T: Copy + Drop, A: Allocator + Copy>(
     alloc: A,
     items: &[T],
@@ -83,7 +83,7 @@ fn selected_marks<A: Allocator + Copy>(
     Ok(kept.freeze())
 }
 
-// The same for each form of mask and of validity.
+// The selected rows and their validity, for each form of mask and of validity.
 fn filter_parts<T: Copy + Drop, A: Allocator + Copy>(
     alloc: A,
     items: &[T],
@@ -152,7 +152,7 @@ fn selected_items<T: Copy + Drop, A: Allocator + Copy>(
     Ok(kept)
 }
 
-// The same of rows of which some may be null.
+// The items at which the bits are true, of rows of which some may be null, with the blank item in place of null.
 fn selected_rows<T: Copy + Drop, A: Allocator + Copy>(
     alloc: A,
     items: &[T],

@@ -80,7 +80,7 @@ pub(crate) fn kept_validity<A: Allocator + Copy>(
     }
 }
 
-// The same in a type with null.
+// The validity of so many rows in a type with null.
 fn nullable_validity<A: Allocator + Copy>(
     alloc: A,
     validity: &Validity<A>,

@@ -121,7 +121,7 @@ pub trait ColumnOps<A: Allocator + Copy>: Sized {
         ensures refused { IsRefusedBy (first_fault (cast_row_fault dtype) (single_rows (leaf self.now))) result }
         ensures made { IfOk result (λ column. IsMade (leaf_rows (leaf self.now)) dtype (leaf column)) };
 
-    /// The same rows in the type. Refused as `Unsupported` unless both types are of whole numbers, or
+    /// The rows in the type, which may be any. Refused as `Unsupported` unless both types are of whole numbers, or
     /// both of one kind; then, at the first row that is no value of the type, as `NullNotAllowed` for
     /// null and as `CastOutOfRange` for a number; else as `OutOfMemory` alone.
     fn cast(&self, alloc: A, dtype: DType) -> VortexResult<Self>

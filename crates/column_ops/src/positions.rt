@@ -88,7 +88,7 @@ fn position_items<T: NativePType, A: Allocator + Copy>(
     }
 }
 
-// The same where no index is null.
+// The positions of indices of which none is null.
 fn valid_positions<T: NativePType, A: Allocator>(
     alloc: A,
     indices: &[T],
@@ -110,8 +110,8 @@ fn valid_positions<T: NativePType, A: Allocator>(
     Ok(positions)
 }
 
-// The same where an index is null that has its mark false. What stands under null is tested too, and 0 is put there then.
-// Only where one is outside, the marks are looked at one by one: it may be null.
+// The positions, with 0 for null, of indices that are null where their mark is false. What stands under null is tested
+// too, and 0 is put there then. Only where one is outside, the marks are looked at one by one: it may be null.
 fn marked_positions<T: NativePType, A: Allocator + Copy>(
     alloc: A,
     indices: &[T],
@@ -129,7 +129,7 @@ fn marked_positions<T: NativePType, A: Allocator + Copy>(
     }
 }
 
-// The same, one by one.
+// The positions, with 0 for null, where the marks of the indices are looked at one by one.
 fn shown_positions<T: NativePType, A: Allocator>(
     alloc: A,
     indices: &[T],

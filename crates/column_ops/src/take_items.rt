@@ -117,7 +117,8 @@ fn items_at<T: Copy + Drop, A: Allocator>(
     Ok(taken)
 }
 
-// The same where a position is null that has its mark false. What stands under null may be no position.
+// The items at positions that are null where their mark is false, with the blank item at null. What stands under null
+// may be no position.
 fn marked_items<T: Copy + Drop, A: Allocator + Copy>(
     alloc: A,
     items: &[T],
@@ -148,7 +149,7 @@ fn item_or<T: Copy + Drop>(items: &[T], position: u64, blank: T) -> T
     }
 }
 
-// The same, row by row.
+// The items at positions, row by row, with the blank item where the position or the item is null.
 fn items_by_rows<T: Copy + Drop, A: Allocator + Copy>(
     alloc: A,
     items: &[T],

@@ -24,7 +24,7 @@ const NOTHING: View = View {
     size: 0,
 };
 
-// The same buffers, whose bytes are shared.
+// A list of these buffers, whose bytes are shared.
 fn share<A: Allocator + Copy>(alloc: A, buffers: &[Bytes<A>]) -> VortexResult<Vec<Bytes<A>, A>>
     ensures only { IsOkUnless result VortexError.OutOfMemory }
     ensures same { IfOk result (λ owners. owners.items ≡ buffers.now) }
@@ -36,7 +36,7 @@ fn share<A: Allocator + Copy>(alloc: A, buffers: &[Bytes<A>]) -> VortexResult<Ve
     Ok(owners)
 }
 
-// The same buffers, and one more that holds these bytes.
+// A list of these buffers, whose bytes are shared, and one more that holds these bytes.
 fn share_with<A: Allocator + Copy>(
     alloc: A,
     buffers: &[Bytes<A>],

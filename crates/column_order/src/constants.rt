@@ -85,7 +85,7 @@ fn bits_of_numbers<A: Allocator + Copy>(
     match_each_native!(values, items => bits_of_native(alloc, items.as_slice(), validity, operator, right))
 }
 
-// The same for one native type.
+// Of each item of one native type and a number that the type has.
 fn bits_of_native<T: NativePType, A: Allocator + Copy>(
     alloc: A,
     items: &[T],

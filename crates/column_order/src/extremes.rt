@@ -34,7 +34,7 @@ pub fn min_max<'a, A: Allocator + Copy>(
     ends_in(column, range)
 }
 
-// The same, by kind.
+// The least and the greatest of these rows, by kind.
 fn ends_in<'a, A: Allocator + Copy>(
     column: FlatView<'a, A>,
     range: Range<usize>,
@@ -52,7 +52,7 @@ fn ends_in<'a, A: Allocator + Copy>(
     }
 }
 
-// The same of whole numbers, by their native type.
+// The least and the greatest of whole numbers, by their native type.
 fn ends_of_numbers<'a, A: Allocator + Copy>(
     array: &'a PrimitiveArray<A>,
     range: Range<usize>,
@@ -66,7 +66,7 @@ fn ends_of_numbers<'a, A: Allocator + Copy>(
     match_each_native!(array.values(), items => min_max_of(items.as_slice(), validity, range))
 }
 
-// The same of decimals.
+// The least and the greatest of decimals.
 fn ends_of_decimals<'a, A: Allocator + Copy>(
     array: &'a DecimalArray<A>,
     range: Range<usize>,
@@ -79,7 +79,7 @@ fn ends_of_decimals<'a, A: Allocator + Copy>(
     min_max_of(array.values(), array.validity(), range)
 }
 
-// The same of rows that are looked up one by one.
+// The least and the greatest of rows that are looked up one by one.
 fn ends_of_rows<'a, R: FlatRows<A>, A: Allocator + Copy>(
     column: &'a R,
     range: Range<usize>,

@@ -51,7 +51,7 @@ fn item_ends<T: FlatItem, A: Allocator>(
     }
 }
 
-// The same of items of which none is null.
+// The least and the greatest of items of which none is null.
 fn ends_of_valid<T: FlatItem>(items: &[T], start: usize, stop: usize) -> Option<(T, T)>
     requires ordered { start ≤ stop }
     requires in_bounds { stop ≤ length items.now }
@@ -87,8 +87,8 @@ pub(crate) fn first_valid<A: Allocator>(flags: &BitBuffer<A>, start: usize, stop
     stop
 }
 
-// The same of items that are null where their flag is false. In the place of a null the first item that
-// is none is looked at once more, so that each row takes the same steps.
+// The least and the greatest of items that are null where their flag is false. In the place of a null the first item
+// that is none is looked at once more, so that each row takes the same steps.
 fn ends_of_flagged<T: FlatItem, A: Allocator>(
     items: &[T],
     flags: &BitBuffer<A>,

@@ -36,7 +36,7 @@ pub(crate) fn is_constant_of<T: FlatItem, A: Allocator>(
     }
 }
 
-// The same of items of which none is null.
+// Are any two of the rows from `start` to `stop - 1` equal, where none is null?
 fn is_constant_valid<T: FlatItem>(items: &[T], start: usize, stop: usize) -> bool
     requires ordered { start ≤ stop }
     requires in_bounds { stop ≤ length items.now }
@@ -70,7 +70,7 @@ fn are_all<T: FlatItem>(items: &[T], start: usize, stop: usize, given: T) -> boo
     same
 }
 
-// The same as of all rows, of items that are null where their flag is false.
+// Are any two of the rows from `start` to `stop - 1` equal, where a row is null that has its flag false?
 fn is_constant_flagged<T: FlatItem, A: Allocator>(
     items: &[T],
     flags: &BitBuffer<A>,
@@ -113,7 +113,7 @@ pub(crate) fn is_sorted_of<T: FlatItem, A: Allocator>(
     }
 }
 
-// The same of items of which none is null.
+// Are the rows from `start` to `stop - 1` in order, where none is null?
 fn is_sorted_valid<T: FlatItem>(items: &[T], start: usize, stop: usize, strict: bool) -> bool
     requires ordered { start ≤ stop }
     requires in_bounds { stop ≤ length items.now }
@@ -152,7 +152,7 @@ fn are_steps<T: FlatItem>(items: &[T], start: usize, stop: usize, strict: bool) 
     }
 }
 
-// The same in strict order.
+// Is each item from `start` to `stop - 1` below the one behind it?
 fn are_strict_steps<T: FlatItem>(items: &[T], start: usize, stop: usize) -> bool
     requires ordered { start ≤ stop }
     requires in_bounds { stop < length items.now }
@@ -165,7 +165,7 @@ fn are_strict_steps<T: FlatItem>(items: &[T], start: usize, stop: usize) -> bool
     in_order
 }
 
-// The same where equal items may stand side by side.
+// Is no item from `start` to `stop - 1` above the one behind it?
 fn are_level_steps<T: FlatItem>(items: &[T], start: usize, stop: usize) -> bool
     requires ordered { start ≤ stop }
     requires in_bounds { stop < length items.now }
@@ -178,8 +178,8 @@ fn are_level_steps<T: FlatItem>(items: &[T], start: usize, stop: usize) -> bool
     in_order
 }
 
-// The same as of all rows, of items that are null where their flag is false: nulls are first, and where
-// `strict` is asked there is one at most.
+// Are the rows from `start` to `stop - 1` in order, where a row is null that has its flag false? Nulls are first, and
+// where `strict` is asked there is one at most.
 fn is_sorted_flagged<T: FlatItem, A: Allocator>(
     items: &[T],
     flags: &BitBuffer<A>,

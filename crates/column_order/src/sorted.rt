@@ -29,7 +29,7 @@ pub fn is_constant<A: Allocator + Copy>(column: FlatView<'_, A>, range: Range<us
     }
 }
 
-// The same of whole numbers, by their native type.
+// Are any two of these rows of whole numbers equal, by their native type?
 fn are_constant_numbers<A: Allocator + Copy>(array: &PrimitiveArray<A>, range: Range<usize>) -> bool
     requires ordered { range.start ≤ range.end }
     requires in_bounds { range.end ≤ length (leaf_rows (OfNumbers array.now)) }
@@ -39,7 +39,7 @@ fn are_constant_numbers<A: Allocator + Copy>(array: &PrimitiveArray<A>, range: R
     match_each_native!(array.values(), items => is_constant_of(items.as_slice(), validity, range))
 }
 
-// The same of rows that are looked up one by one.
+// Are any two of these rows equal, which are looked up one by one?
 fn are_constant_rows<R: FlatRows<A>, A: Allocator + Copy>(column: &R, range: Range<usize>) -> bool
     requires ordered { range.start ≤ range.end }
     requires in_bounds { range.end ≤ length (leaf_rows (R.leaf column.now)) }
@@ -81,7 +81,7 @@ pub fn is_sorted<A: Allocator + Copy>(
     }
 }
 
-// The same of whole numbers, by their native type.
+// Are these rows of whole numbers in order, by their native type?
 fn are_sorted_numbers<A: Allocator + Copy>(
     array: &PrimitiveArray<A>,
     range: Range<usize>,
@@ -95,7 +95,7 @@ fn are_sorted_numbers<A: Allocator + Copy>(
     match_each_native!(array.values(), items => is_sorted_of(items.as_slice(), validity, range, strict))
 }
 
-// The same of rows that are looked up one by one.
+// Are these rows in order, which are looked up one by one?
 fn are_sorted_rows<R: FlatRows<A>, A: Allocator + Copy>(
     column: &R,
     range: Range<usize>,

@@ -75,7 +75,8 @@ pub fn sum_flat<A: Allocator>(column: &FlatColumn<A>) -> VortexResult<SumAnswer>
     sum_view(column.view())
 }
 
-/// The same of a flat column that is borrowed.
+/// The sum of the rows of a borrowed flat column of whole numbers, added one at a time. Refused as `Unsupported`
+/// exactly for columns of other types. It takes no memory.
 pub fn sum_view<A: Allocator>(column: FlatView<'_, A>) -> VortexResult<SumAnswer>
     ensures refused { IsRefusedBy (sum_fault (leaf_dtype (leaf_in column.entry))) result }
     ensures no_memory { result ≢ Err VortexError.OutOfMemory }

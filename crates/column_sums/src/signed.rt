@@ -73,7 +73,7 @@ fn next_sum(sum: i64, value: i64, len: usize) -> Option<i64>
     }
 }
 
-// The same where no step leaves 64 bits, which takes least time. Else nothing is known.
+// The sum and `len` times the value, where no step leaves 64 bits, which takes least time. Else nothing is known.
 #[inline]
 fn near_sum(sum: i64, value: i64, len: usize) -> Option<i64>
     ensures { IfSome result (λ near. near ≡ sum +ℤ value *ℤ pos len) }
@@ -83,7 +83,8 @@ fn near_sum(sum: i64, value: i64, len: usize) -> Option<i64>
     sum.checked_add(product)
 }
 
-// The same by 128 bits: a product may leave 64 bits where the sum is in the range.
+// The sum and `len` times the value, where that is in the range, by 128 bits: a product may leave 64 bits where the sum
+// is in the range.
 fn far_sum(sum: i64, value: i64, len: usize) -> Option<i64>
     ensures { MatchOption result (is_within SignedRange (sum +ℤ value *ℤ pos len) ≡ false) (λ far. far ≡ sum +ℤ value *ℤ pos len) }
 {

@@ -29,8 +29,8 @@ pub trait SignedRuns {
         ensures counted { option_map (λ shown. shown.1) (slice_get (runs self.now) run) ≡ Some result }
         ensures shown { 0 < result };
 
-    /// The same of a run that is neither the first nor the last. Only those two can be cut by a window, so
-    /// that others may be counted in a simpler way.
+    /// How many rows show a run that is neither the first nor the last: at least one. Only those two can be cut by a
+    /// window, so that others may be counted in a simpler way.
     #[inline(always)]
     fn inner_row_count(&self, run: usize) -> usize
         requires inner { (0 < run) × (run + 1 < length (runs self.now)) }
@@ -58,7 +58,7 @@ pub fn sum_signed_in_runs<R: SignedRuns>(runs: &R, sum: &mut SignedSum) -> SumAn
     answer
 }
 
-// The same, over the sum where it stands.
+// The sum of the rows of the runs, over the accumulator where it stands.
 #[inline(always)]
 fn add_runs<R: SignedRuns>(runs: &R, sum: &mut SignedSum) -> SumAnswer
     requires { sum.old.value ≡ pos 0 }

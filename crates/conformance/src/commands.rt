@@ -148,7 +148,8 @@ const ALL: [Option<i64>; 12] = [
     Some(5),
 ];
 
-// The same of commands that are done on this column. An error leaves all rows.
+// Which command lacked memory, of commands that are done on this column, if answers and rows say so of one or none. An
+// error leaves all rows.
 fn lacking_of<A: Allocator + Copy>(
     column: &mut ArrayRef<A>,
     commands: &[Command<A>],
@@ -165,7 +166,7 @@ fn lacking_of<A: Allocator + Copy>(
     }
 }
 
-// The same of four commands on four runs.
+// Which of the four commands lacked memory on the four runs, if answers and rows say so of one or none.
 fn lacking_in<A: Allocator + Copy>(ctx: &mut ExecutionCtx<A>) -> VortexResult<Option<Lacking>> {
     let mut column = four_runs(ctx)?;
     let lacking = match four_commands(*ctx.allocator()) {

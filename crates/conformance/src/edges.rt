@@ -42,7 +42,8 @@ fn runs_at_first<A: Allocator + Copy>(array: &RunEndArray<A>) -> Option<(usize, 
     Some((array.find_physical_index(0), array.find_slice_end_index(0)))
 }
 
-// The same over one run that ends at 2, from the last position on.
+// The run of row 0, and where the runs before it stop, over one run that ends at 2, in a window from the last position
+// on.
 fn runs_behind_all<A: Allocator + Copy>(alloc: A) -> VortexResult<Option<(usize, usize)>> {
     let (ends, values) = run_parts(alloc, &[2u8], &[7i32])?;
     let (ends, values) = (ArrayRef::Primitive(ends), ArrayRef::Primitive(values));

@@ -78,7 +78,7 @@ fn taken<A: Allocator + Copy>(alloc: A, column: &FlatColumn<A>) -> VortexResult<
     taken
 }
 
-// The same by codes.
+// The rows 2 and 1 by codes.
 fn coded<A: Allocator + Copy>(alloc: A, column: &FlatColumn<A>) -> VortexResult<FlatColumn<A>> {
     let codes = FlatColumn::Primitive(required(alloc, &[2u8, 1])?);
     let coded = column.take_codes(alloc, &codes);

@@ -20,7 +20,7 @@ fn are_appended<A: Allocator + Copy>(
     }
 }
 
-// The same of one false bit.
+// Appends one false bit. Where that is refused, are the bits as many as before?
 fn is_appended<A: Allocator + Copy>(bits: &mut BitBufferMut<A>) -> VortexResult<bool> {
     let before = bits.len();
     match bits.append(false) {

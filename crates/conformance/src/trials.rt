@@ -30,7 +30,8 @@ pub(crate) fn refused_in_turn<T: Trial>(rt: &impl Abort, alloc: Global) {
     assert_ends(rt, first_unmet::<T>(rt, alloc, false));
 }
 
-/// The same of calls.
+/// Makes the calls with the first, second, .. request refused, alone and with all later ones, until none is: they
+/// answer `OutOfMemory` where a request was refused, or else what they have to.
 pub(crate) fn each_refused_in_turn<T: Calls>(rt: &impl Abort, alloc: Global) {
     assert_ends(rt, first_unmet_of::<T>(rt, alloc, true));
     assert_ends(rt, first_unmet_of::<T>(rt, alloc, false));
@@ -51,7 +52,7 @@ fn first_unmet<T: Trial>(rt: &impl Abort, alloc: Global, is_alone: bool) -> u64 
     MANY
 }
 
-// The same of calls.
+// The first request of the calls that does not come, so that it is not refused.
 fn first_unmet_of<T: Calls>(rt: &impl Abort, alloc: Global, is_alone: bool) -> u64 {
     for request in 1..MANY {
         if !meet_refusal::<T>(rt, &refusing(alloc, request, is_alone)) {
@@ -82,7 +83,7 @@ fn meets_refusal<T: Trial>(rt: &impl Abort, heap: &Refusing<Global>) -> bool {
     heap.refused() > 0
 }
 
-// The same of calls.
+// Was a request of the calls refused?
 fn meet_refusal<T: Calls>(rt: &impl Abort, heap: &Refusing<Global>) -> bool {
     match T::are_answered(heap) {
         Ok(are_due) => assert!(rt; are_due, "of {} requests", heap.asked()),

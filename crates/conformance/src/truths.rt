@@ -34,7 +34,7 @@ fn by_ends<A: Allocator + Copy>(ctx: &mut ExecutionCtx<A>) -> VortexResult<Array
     }
 }
 
-// The same of ends from an iterator, which are 0, 3 and 6 in the window.
+// These rows of the runs, by ends from an iterator, which are 0, 3 and 6 in the window.
 fn by_trimmed_ends<A: Allocator + Copy>(ctx: &mut ExecutionCtx<A>) -> VortexResult<ArrayRef<A>> {
     let values = three_bits(*ctx.allocator())?;
     let ends = trimmed_ends_iter(&[2u8, 5, 10], 2, 6);

@@ -35,7 +35,7 @@ fn rows_with_null(alloc: Global) -> VortexResult<PrimitiveArray<Global>> {
     )
 }
 
-// The same rows, in runs.
+// Rows 4, 4, null, null and 9, in runs.
 fn runs_with_null(
     alloc: Global,
     ctx: &mut ExecutionCtx<Global>,
@@ -63,7 +63,7 @@ fn rows_are_encoded_summed_and_sliced(rt: HostRuntime) -> Result<(), Fail> {
     Ok(())
 }
 
-// The same rows with 0 in place of each null.
+// The rows of a run column with 0 in place of each null.
 fn filled_with_zero(
     runs: &RunEndArray<Global>,
     ctx: &mut ExecutionCtx<Global>,

@@ -93,7 +93,7 @@ impl<A: Allocator + Copy> ArrayRef<A> {
         }
     }
 
-    // The same of an array that has none of the other forms.
+    // The flat column, borrowed, of an array that has none of the other forms.
     pub(crate) fn lent_flat(&self) -> FlatView<'_, A>
         requires { IsLeaf (column_of self.now) }
         ensures { column_of self.now ≡ OfLeaf (leaf_in result) }
@@ -198,7 +198,7 @@ impl<A: Allocator + Copy> ArrayRef<A> {
         flat.into_array(*ctx.allocator())
     }
 
-    /// The same rows, as the flat form that they are in. Refused as `OutOfMemory` alone.
+    /// The rows in a flat form, as `canonicalize` writes them, as that form alone. Refused as `OutOfMemory` alone.
     pub fn to_canonical(&self, ctx: &mut ExecutionCtx<A>) -> VortexResult<Canonical<A>>
         ensures only { IsOkUnless result VortexError.OutOfMemory }
         ensures rows { IfOk result (λ flat. column_rows (canonical_column flat) ≡ rows self.now) }

@@ -36,7 +36,7 @@ pub fn array_of<A: Allocator + Copy>(flat: FlatColumn<A>) -> ArrayRef<A>
 }
 
 impl<A: Allocator + Copy> Canonical<A> {
-    /// The same form, as an array. Refused as `OutOfMemory` alone.
+    /// The column as an array, in its form. Refused as `OutOfMemory` alone.
     pub fn into_array(self, alloc: A) -> VortexResult<ArrayRef<A>>
         ensures only { IsOkUnless result VortexError.OutOfMemory }
         ensures form { IfOk result (λ array. column_of array ≡ canonical_column self) }

@@ -86,7 +86,7 @@ impl<A: Allocator + Copy> ConstantArray<A> {
         })
     }
 
-    /// The same scalar, in each of `count` rows. Refused as `OutOfMemory` alone.
+    /// A column of `count` rows, each of them the scalar. Refused as `OutOfMemory` alone.
     pub fn repeated(&self, alloc: A, count: usize) -> VortexResult<ConstantArray<A>>
         ensures only { IsOkUnless result VortexError.OutOfMemory }
         ensures form { IfOk result (λ array. array ≡ repeated self.now count) }

@@ -15,7 +15,7 @@ pub(crate) enum Buffers {
     Compact,
 }
 
-/// The same column in the same form. Refused as `OutOfMemory` alone.
+/// A copy of the column in its form. Refused as `OutOfMemory` alone.
 pub(crate) fn copy_flat<A: Allocator + Copy>(
     alloc: A,
     column: FlatView<'_, A>,
@@ -45,7 +45,7 @@ fn compact_flat<A: Allocator + Copy>(
     }
 }
 
-/// The same bits. Refused as `OutOfMemory` alone.
+/// A copy of the bits. Refused as `OutOfMemory` alone.
 pub(crate) fn copy_bits<A: Allocator + Copy>(
     alloc: A,
     bits: &BitBuffer<A>,

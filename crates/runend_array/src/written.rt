@@ -214,7 +214,7 @@ fn write_bytes<A: Allocator + Copy>(
     }
 }
 
-// The same bytes in each row, as views of one buffer.
+// A column whose rows are all these bytes, as views of one buffer.
 fn write_views<A: Allocator + Copy>(
     alloc: A,
     bytes: &[u8],
@@ -312,7 +312,7 @@ fn no_elements<A: Allocator + Copy>(alloc: A, element: ElementDType) -> VortexRe
     }
 }
 
-// The same, to be shared by lists.
+// A flat column of that type of elements, without rows, to be shared by lists.
 fn shared_elements<A: Allocator + Copy>(
     alloc: A,
     element: ElementDType,

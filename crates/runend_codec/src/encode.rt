@@ -121,7 +121,7 @@ fn encode_items<T: NativePType, A: Allocator + Copy>(
     }
 }
 
-// The same of rows of which none is null. Their flags need no look at a row.
+// The runs of rows of which none is null. Their flags need no look at a row.
 fn encode_valid<T: NativePType, A: Allocator + Copy>(
     alloc: A,
     items: &[T],
@@ -170,7 +170,7 @@ fn valid_runs<T: NativePType, A: Allocator + Copy>(
     Ok((ends, values))
 }
 
-// The same of rows of which any may be null.
+// The runs of rows of which any may be null.
 fn encode_nullable<T: NativePType, A: Allocator + Copy>(
     alloc: A,
     items: &[T],

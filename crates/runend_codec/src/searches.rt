@@ -28,7 +28,7 @@ pub fn first_past<E: UnsignedPType>(ends: &mut CountedEnds<'_, E>, row: usize) -
     ensures same { ends.new.ends ≡ ends.old.ends }
 
     ensures cost { ends.new.tests ≤ ends.old.tests + digits (length ends.old.ends) }
-    // The same without the word `digits`.
+    // How many ends are tested, without the word `digits`.
     ensures bound { (k : ℕ) → length ends.old.ends < 2 ^ k → ends.new.tests ≤ ends.old.tests + k }
 {
     if ends.len() > NEAR_RUNS {
@@ -57,7 +57,7 @@ fn search_by_mask<E: UnsignedPType>(ends: &mut CountedEnds<'_, E>, row: usize) -
     run
 }
 
-// The same search whose next test is guessed. As a call of its own it stays a branch.
+// The search by halves whose next test is guessed. As a call of its own it stays a branch.
 #[inline(never)]
 fn search_by_branch<E: UnsignedPType>(ends: &mut CountedEnds<'_, E>, row: usize) -> usize
     requires { IsStrictlyIncreasing ends.old.ends }

@@ -42,7 +42,7 @@ impl RunEndData {
         RunEndData { offset }
     }
 
-    /// The same as `new`.
+    /// The data of a run column with this offset, as `new` makes it. Nothing is tested.
     pub fn new_unchecked(offset: usize) -> Self
         ensures { result ≡ offset }
     {

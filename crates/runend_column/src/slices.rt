@@ -38,7 +38,7 @@ pub fn slice<A: Allocator + Copy>(
     slice_of_count(array, range, ctx)
 }
 
-// The same, with refusals told by the column's own number of rows.
+// The rows of the range, with refusals told by the column's own number of rows.
 fn slice_of_count<A: Allocator + Copy>(
     array: &RunEndArray<A>,
     range: Range<usize>,

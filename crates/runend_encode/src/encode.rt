@@ -48,9 +48,9 @@ pub fn encode_flat<A: Allocator + Copy>(
     }
 }
 
-/// The same of the rows that runs with these ends and values show, `count` of them from position `offset` on: what is
-/// looked at and held are runs, and not rows. Each run has to show a row, so hidden runs are dropped before. Refused as
-/// `OutOfMemory` alone.
+/// The ends and the values of the runs of the rows that runs with these ends and values show, `count` of them from
+/// position `offset` on, as `encode_flat` makes them: what is looked at and held are runs, and not rows. Each run has
+/// to show a row, so hidden runs are dropped before. Refused as `OutOfMemory` alone.
 pub fn encode_runs<A: Allocator + Copy>(
     alloc: A,
     ends: &PrimitiveArray<A>,
@@ -113,8 +113,8 @@ fn encode_rows<R: FlatRows<A>, A: Allocator + Copy>(
     Ok((ends, values))
 }
 
-// The encoding of the rows that runs over such a column show. Where neighbours have equal values, the runs of the values
-// tell which runs are joined.
+// The encoding of the rows that runs over such a column show. Where neighbours have equal values, the runs of the
+// values tell which runs are joined.
 fn encode_shown<R: FlatRows<A>, A: Allocator + Copy>(
     alloc: A,
     ends: &PrimitiveArray<A>,

@@ -25,7 +25,7 @@ pub(crate) fn row_ends<A: Allocator + Copy>(
     match_each_unsigned!(ends.values(), items => rows_of(alloc, items.as_slice(), runs, offset, count), _ => unreachable!())
 }
 
-// The same over ends as they are stored.
+// The rows before which runs start, and before which the last ends, over ends as they are stored.
 fn rows_of<E: UnsignedPType, A: Allocator>(
     alloc: A,
     ends: &[E],

@@ -53,7 +53,7 @@ pub(crate) fn row_runs<A: Allocator + Copy>(
     runs_in(alloc, array)
 }
 
-// The same of rows that are no lists, by form.
+// The ends and the values of the encoding of rows that are no lists, by form.
 fn runs_in<A: Allocator + Copy>(
     alloc: A,
     array: &ArrayRef<A>,
@@ -91,7 +91,7 @@ fn runs_of_runs<A: Allocator + Copy>(
     made
 }
 
-// The same, of the values of the visible runs.
+// The visible runs of a run column, given their values, joined where neighbours have equal values.
 fn runs_over<A: Allocator + Copy>(
     alloc: A,
     runs: &RunEndArray<A>,

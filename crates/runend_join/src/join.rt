@@ -83,7 +83,7 @@ fn ends_in_window<A: Allocator + Copy>(
     }, _ => unreachable!())
 }
 
-// The same of ends as they are stored.
+// The ends of runs, counted from the first row of the window, of ends as they are stored.
 fn stored_in_window<E: EndsType, A: Allocator + Copy>(
     mut ends: Vec<E, A>,
     offset: usize,
@@ -130,7 +130,7 @@ fn join_parts<A: Allocator + Copy>(
     }, _ => unreachable!())
 }
 
-// The same of ends as they are stored, with values of any type.
+// The joined runs, over ends as they are stored, with values of any type.
 fn join_values<E: UnsignedPType, A: Allocator + Copy>(
     alloc: A,
     ends: &[E],
@@ -150,7 +150,7 @@ fn join_values<E: UnsignedPType, A: Allocator + Copy>(
     match_each_native!(values.values(), items => join_as(alloc, ends, items.as_slice(), validity, offset, count))
 }
 
-// The same of values as they are stored.
+// The joined runs, over ends and values as they are stored.
 fn join_as<E: UnsignedPType, T: NativePType, A: Allocator + Copy>(
     alloc: A,
     ends: &[E],
@@ -212,7 +212,7 @@ fn join_items<E: UnsignedPType, T: NativePType, A: Allocator + Copy>(
     }
 }
 
-// The same of runs of which none is null. Their flags need no look at a run.
+// The runs that are left, where none is null. Their flags need no look at a run.
 fn join_valid<E: UnsignedPType, T: NativePType, A: Allocator + Copy>(
     alloc: A,
     ends: &[E],

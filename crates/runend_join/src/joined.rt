@@ -111,7 +111,7 @@ pub(crate) fn join_nullable<E: UnsignedPType, T: NativePType, A: Allocator + Cop
     }
 }
 
-// The same, where all runs show numbers, or all null.
+// The joined runs, where all show numbers, or all null.
 fn join_alike<E: UnsignedPType, T: NativePType, A: Allocator + Copy>(
     alloc: A,
     ends: &[E],
@@ -136,7 +136,7 @@ fn join_alike<E: UnsignedPType, T: NativePType, A: Allocator + Copy>(
     join_marked(alloc, ends, items, &marks, offset, count)
 }
 
-// The same, where each run has a bit that says whether it shows a number.
+// The joined runs, where each run has a bit that says whether it shows a number.
 fn join_marked<E: UnsignedPType, T: NativePType, A: Allocator + Copy>(
     alloc: A,
     ends: &[E],

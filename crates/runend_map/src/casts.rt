@@ -15,7 +15,7 @@ use runend_array::{ArrayRef, ExecutionCtx, RunEndArray, RunEndArrayExt};
 use runend_visible::{lent_numbers, over_runs, visible_values};
 use std::alloc::Allocator;
 
-/// The same rows in the type: a run column with flat values and ends of the same type. Of whole numbers it is
+/// The rows in the type: a run column with flat values and ends of the same type. Of whole numbers it is
 /// in least form: no run is hidden, neighbours differ (null equal to null), the offset is 0 and the last end
 /// the length. Of other types it has the visible runs. Work is by visible runs, and no hidden run decides.
 ///
@@ -47,7 +47,7 @@ pub fn cast<A: Allocator + Copy>(
     over_runs(array, cast, alloc)
 }
 
-// The same where the values are lent: whole numbers, each of which is visible.
+// The cast of a run column whose values are lent: whole numbers, each of which is visible.
 fn cast_lent<A: Allocator + Copy>(
     array: &RunEndArray<A>,
     numbers: &PrimitiveArray<A>,

@@ -48,7 +48,7 @@ pub fn fill_null<A: Allocator + Copy>(
     over_runs(array, filled, alloc)
 }
 
-// The same where the values are lent: whole numbers, each of which is visible.
+// A run column whose nulls are filled, where the values are lent: whole numbers, each of which is visible.
 fn fill_lent<A: Allocator + Copy>(
     array: &RunEndArray<A>,
     numbers: &PrimitiveArray<A>,

@@ -47,7 +47,11 @@ pub fn map_rows<S: NativePType, T: NativePType, F: Fn(Option<S>) -> Option<T>, A
     answered(column, FlatColumn::Primitive(mapped), ctx)
 }
 
-/// The same of a function that answers truth values.
+/// The truth value that the function answers to each row, in a type with null: of a run column, where scalar functions
+/// are registered, a run column of the visible runs with flat values, else a flat column. The function is called once
+/// for each visible run, or, of other columns, once for each row, and on no other value.
+///
+/// Refused as `TypeMismatch` unless the column has native numbers of the type `S`; else as `OutOfMemory` alone.
 pub fn map_rows_bool<S: NativePType, F: Fn(Option<S>) -> Option<bool>, A: Allocator + Copy>(
     column: &ArrayRef<A>,
     function: &F,

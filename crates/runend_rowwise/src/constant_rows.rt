@@ -1,4 +1,5 @@
-//! The rows of a constant at positions and under a mask. All are the same, so that no more are written than are answered.
+//! The rows of a constant at positions and under a mask. All are the same, so that no more are written than are
+//! answered.
 ghost use Rattle.std.specs.Prelude.{◌≡◌, IfOk, IsOkUnless, length, replicate};
 ghost use Rattle.column_base.specs.Mask.{mask_bits};
 ghost use Rattle.column_base.specs.Types.{nullability_of, with_nullability as dtype_with};

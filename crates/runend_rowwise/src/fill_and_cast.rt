@@ -39,9 +39,9 @@ pub fn fill_rows<A: Allocator + Copy>(
     Ok(array_of(filled))
 }
 
-/// The same rows in the type, flat. Refused as `Unsupported` unless both types are of whole numbers, or both
-/// of one kind that is no list; then, at the first row that is no value of the type, as `NullNotAllowed` for
-/// null and as `CastOutOfRange` for a number; else as `OutOfMemory` alone.
+/// The rows in the type, flat. Refused as `Unsupported` unless both types are of whole numbers, or both of one kind
+/// that is no list; then, at the first row that is no value of the type, as `NullNotAllowed` for null and as
+/// `CastOutOfRange` for a number; else as `OutOfMemory` alone.
 pub fn cast_rows<A: Allocator + Copy>(
     array: &ArrayRef<A>,
     dtype: DType,

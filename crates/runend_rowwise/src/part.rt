@@ -37,7 +37,7 @@ pub fn part_of<A: Allocator + Copy>(
     part_within(column, range, ctx)
 }
 
-// The same of a range that lies within the rows.
+// The rows of a range that is known to lie within them.
 fn part_within<A: Allocator + Copy>(
     column: &ArrayRef<A>,
     range: Range<usize>,

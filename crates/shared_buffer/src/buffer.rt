@@ -139,7 +139,7 @@ impl<T: Drop, A: Allocator + Copy> Buffer<T, A> {
         }
     }
 
-    /// The same items, shared as `shared` shares them.
+    /// The buffer with its items shared as `shared` shares them.
     pub fn into_shared(self) -> Buffer<T, A>
         ensures { result.items ≡ self.items }
     {
@@ -151,7 +151,7 @@ impl<T: Drop, A: Allocator + Copy> Buffer<T, A> {
 }
 
 impl<T: Copy, A: Allocator + Copy> Buffer<T, A> {
-    /// The same items: shared with these where these are shared, and else a copy.
+    /// A copy of the items: shared with these where these are shared, and else in memory of its own.
     pub fn try_clone(&self, alloc: A) -> Result<Buffer<T, A>, AllocError>
         ensures { IfOk result (λ copy. copy.items ≡ self.now.items) }
     {

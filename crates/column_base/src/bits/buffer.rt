@@ -166,7 +166,8 @@ impl<A: Allocator + Copy> BitBuffer<A> {
         Ok(BitBuffer::of_words(part, count))
     }
 
-    /// The same bits: shared with these where these are shared, and else copied. Refused for want of memory alone.
+    /// A copy of the bits: shared with these where these are shared, and else in memory of its own. Refused for want of
+    /// memory alone.
     pub fn try_clone(&self, alloc: A) -> VortexResult<BitBuffer<A>>
         ensures bits { IfOk result (λ copy. copy ≡ self.now) }
         ensures only { IsOkUnless result VortexError.OutOfMemory }

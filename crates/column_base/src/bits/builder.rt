@@ -132,8 +132,8 @@ impl<A: Allocator + Copy> BitBufferMut<A> {
         self.count = count;
     }
 
-    /// The same bits, which change no more, shared as `Buffer::shared` shares their words. Nothing is copied, and want
-    /// of memory refuses nothing.
+    /// The bits as a buffer, in which they change no more, shared as `Buffer::shared` shares their words. Nothing is
+    /// copied, and want of memory refuses nothing.
     pub fn freeze(self) -> BitBuffer<A>
         ensures { result ≡ self }
     {

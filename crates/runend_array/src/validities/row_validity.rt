@@ -111,7 +111,7 @@ impl<A: Allocator + Copy> RowValidity<A> {
         }
     }
 
-    /// The same validity in the same form. Refused as `OutOfMemory` alone.
+    /// A copy of the validity in its form. Refused as `OutOfMemory` alone.
     #[cycle(clone_in)]
     pub(crate) fn clone_in(&self, alloc: A, buffers: Buffers) -> VortexResult<RowValidity<A>>
         ensures only { IsOkUnless result VortexError.OutOfMemory }

@@ -15,7 +15,7 @@ use runend_array::{ArrayRef, ExecutionCtx, Kernel};
 use runend_map::cast_rows;
 use std::alloc::Allocator;
 
-/// The same rows in the type. Where the kernel serves a run column, runs are left; else flat rows. Refused as
+/// The rows in the type. Where the kernel serves a run column, runs are left; else flat rows. Refused as
 /// `Unsupported` unless both types are of whole numbers or of one kind that is no list, and then at the first row
 /// that is no value of the type: as `NullNotAllowed` for null, as `CastOutOfRange` for a number.
 pub fn cast<A: Allocator + Copy>(

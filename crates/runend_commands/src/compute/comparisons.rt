@@ -40,7 +40,8 @@ pub fn compare<A: Allocator + Copy>(
     }
 }
 
-// The same of any column, row by row. A fault is told before a column is written row by row.
+// Whether the operator holds of each row of any column and the row beside it, row by row. A fault is told before a
+// column is written row by row.
 fn truths_row_by_row<A: Allocator + Copy>(
     column: &ArrayRef<A>,
     operator: CompareOperator,
@@ -89,7 +90,7 @@ fn truths_of_rows<A: Allocator + Copy>(
     truths
 }
 
-// The same, where the rows of one column are written.
+// The truth of each row and the one beside it, where the rows of the left column are written.
 fn truths_of_flat<A: Allocator + Copy>(
     left: &FlatColumn<A>,
     operator: CompareOperator,

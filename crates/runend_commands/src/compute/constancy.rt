@@ -42,7 +42,7 @@ pub fn is_constant<A: Allocator + Copy>(
     Ok(constant)
 }
 
-// The same of all rows of a flat column.
+// Whether any two rows of a flat column are equal, null equal to null.
 fn is_flat_constant<A: Allocator + Copy>(flat: FlatView<'_, A>) -> bool
     ensures { IsTrue result ↔ order.IsConstant (single_rows (leaf_in flat.entry)) }
 {

@@ -39,7 +39,7 @@ pub fn compare_scalar<A: Allocator + Copy>(
     }
 }
 
-// The same of a run column, by the kernel, which compares with a constant.
+// Whether the operator holds of each row of a run column and the value, by the kernel, which compares with a constant.
 fn truths_of_runs<A: Allocator + Copy>(
     runs: &RunEndArray<A>,
     operator: CompareOperator,
@@ -59,7 +59,7 @@ fn truths_of_runs<A: Allocator + Copy>(
     truths
 }
 
-// The same of any column, row by row.
+// Whether the operator holds of each row of any column and the value, row by row.
 fn truths_row_by_row<A: Allocator + Copy>(
     column: &ArrayRef<A>,
     operator: CompareOperator,

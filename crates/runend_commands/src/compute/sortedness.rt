@@ -44,7 +44,7 @@ pub fn is_sorted<A: Allocator + Copy>(
     Ok(sorted)
 }
 
-// The same of all rows of a flat column.
+// Whether all rows of a flat column are in order.
 fn is_flat_sorted<A: Allocator + Copy>(flat: FlatView<'_, A>, strict: bool) -> bool
     ensures { IsTrue result ↔ order.IsSorted strict (single_rows (leaf_in flat.entry)) }
 {
