@@ -46,22 +46,6 @@ impl<A: Allocator> Model for Scalar<A> {
     ghost invariant = { λ s. IsScalarOf s.dtype s.value };
 }
 
-// Does the native type have the number?
-fn has_number(ptype: PType, number: i128) -> bool
-    ensures { IsTrue result ↔ HasNumber ptype number }
-{
-    match ptype {
-        PType::U8 => u8::narrow(number).is_some(),
-        PType::U16 => u16::narrow(number).is_some(),
-        PType::U32 => u32::narrow(number).is_some(),
-        PType::U64 => u64::narrow(number).is_some(),
-        PType::I8 => i8::narrow(number).is_some(),
-        PType::I16 => i16::narrow(number).is_some(),
-        PType::I32 => i32::narrow(number).is_some(),
-        PType::I64 => i64::narrow(number).is_some(),
-    }
-}
-
 impl<A: Allocator> ScalarValue<A> {
     /// Is it a value of the type?
     pub fn is_of(&self, dtype: DType) -> bool
@@ -210,5 +194,21 @@ impl<A: Allocator + Copy> Scalar<A> {
             dtype: self.dtype,
             value,
         })
+    }
+}
+
+// Does the native type have the number?
+fn has_number(ptype: PType, number: i128) -> bool
+    ensures { IsTrue result ↔ HasNumber ptype number }
+{
+    match ptype {
+        PType::U8 => u8::narrow(number).is_some(),
+        PType::U16 => u16::narrow(number).is_some(),
+        PType::U32 => u32::narrow(number).is_some(),
+        PType::U64 => u64::narrow(number).is_some(),
+        PType::I8 => i8::narrow(number).is_some(),
+        PType::I16 => i16::narrow(number).is_some(),
+        PType::I32 => i32::narrow(number).is_some(),
+        PType::I64 => i64::narrow(number).is_some(),
     }
 }

@@ -27,82 +27,6 @@ use column_core::{
 };
 use std::alloc::Allocator;
 
-// The numbers at these positions, null for null.
-fn take_numbers<T: NativePType, A: Allocator + Copy>(
-    alloc: A,
-    items: &[T],
-    validity: &Validity<A>,
-    positions: &[u64],
-    places: &Validity<A>,
-) -> VortexResult<PrimitiveArray<A>>
-    requires fits { HasLength (form_of validity.now) (length items.now) }
-    requires counted { HasLength (form_of places.now) (length positions.now) }
-    requires within { ArePositions (optionals positions.now (flags (form_of places.now) (length positions.now))) (length items.now) }
-    ensures only { IsOkUnless result VortexError.OutOfMemory }
-    ensures made { IfOk result (λ array. IsMade
-        (take_rows (primitive_rows (primitive_with T.PTYPE (map T.number items.now) (form_of validity.now)))
-        (position_numbers (optionals positions.now (flags (form_of places.now) (length positions.now)))))
-        (column.Primitive T.PTYPE (either_nullable (nullability_in (form_of validity.now)) (nullability_in (form_of places.now))))
-        (OfNumbers array)) }
-{
-    let (taken, rows) = take_items(alloc, items, validity, T::default(), positions, places)?;
-    Ok(PrimitiveArray::new_unchecked(T::wrap(taken), rows))
-}
-
-// The numbers at which the mask is true.
-fn filter_numbers<T: NativePType, A: Allocator + Copy>(
-    alloc: A,
-    items: &[T],
-    validity: &Validity<A>,
-    mask: &Mask<A>,
-) -> VortexResult<PrimitiveArray<A>>
-    requires fits { HasLength (form_of validity.now) (length items.now) }
-    requires masked { length (mask_bits mask.now) ≡ length items.now }
-    ensures only { IsOkUnless result VortexError.OutOfMemory }
-    ensures made { IfOk result (λ array. IsMade
-        (filter_rows (mask_bits mask.now) (primitive_rows (primitive_with T.PTYPE (map T.number items.now) (form_of validity.now))))
-        (column.Primitive T.PTYPE (nullability_in (form_of validity.now)))
-        (OfNumbers array)) }
-{
-    let (kept, rows) = filter_items(alloc, items, validity, T::default(), mask)?;
-    Ok(PrimitiveArray::new_unchecked(T::wrap(kept), rows))
-}
-
-// The numbers, with this one in place of each null.
-fn fill_numbers<T: NativePType, A: Allocator + Copy>(
-    alloc: A,
-    items: &[T],
-    validity: &Validity<A>,
-    number: i128,
-) -> VortexResult<PrimitiveArray<A>>
-    requires fits { HasLength (form_of validity.now) (length items.now) }
-    requires has { HasNumber T.PTYPE number }
-    ensures only { IsOkUnless result VortexError.OutOfMemory }
-    ensures made { IfOk result (λ array. IsMade
-        (fill_rows (primitive_rows (primitive_with T.PTYPE (map T.number items.now) (form_of validity.now))) (Number number))
-        (column.Primitive T.PTYPE NonNullable) (OfNumbers array)) }
-{
-    let Some(value) = T::narrow(number) else {
-        unreachable!()
-    };
-    let (filled, rows) = fill_items(alloc, items, validity, T::default(), value)?;
-    Ok(PrimitiveArray::new_unchecked(T::wrap(filled), rows))
-}
-
-// The numbers of the column, with this one in place of each null.
-fn fill_values<A: Allocator + Copy>(
-    alloc: A,
-    array: &PrimitiveArray<A>,
-    number: i128,
-) -> VortexResult<PrimitiveArray<A>>
-    requires { HasNumber array.now.ptype number }
-    ensures only { IsOkUnless result VortexError.OutOfMemory }
-    ensures made { IfOk result (λ filled. IsMade (fill_rows (primitive_rows array.now) (Number number)) (column.Primitive array.now.ptype NonNullable) (OfNumbers filled)) }
-{
-    let validity = array.validity();
-    match_each_native!(array.values(), items => fill_numbers(alloc, items.as_slice(), validity, number))
-}
-
 impl<A: Allocator + Copy> ColumnOps<A> for PrimitiveArray<A> {
     ghost leaf = { λ array. OfNumbers array };
 
@@ -149,4 +73,80 @@ impl<A: Allocator + Copy> ColumnOps<A> for PrimitiveArray<A> {
         };
         cast_values(alloc, self, ptype, nullability)
     }
+}
+
+// The numbers at these positions, null for null.
+fn take_numbers<T: NativePType, A: Allocator + Copy>(
+    alloc: A,
+    items: &[T],
+    validity: &Validity<A>,
+    positions: &[u64],
+    places: &Validity<A>,
+) -> VortexResult<PrimitiveArray<A>>
+    requires fits { HasLength (form_of validity.now) (length items.now) }
+    requires counted { HasLength (form_of places.now) (length positions.now) }
+    requires within { ArePositions (optionals positions.now (flags (form_of places.now) (length positions.now))) (length items.now) }
+    ensures only { IsOkUnless result VortexError.OutOfMemory }
+    ensures made { IfOk result (λ array. IsMade
+        (take_rows (primitive_rows (primitive_with T.PTYPE (map T.number items.now) (form_of validity.now)))
+        (position_numbers (optionals positions.now (flags (form_of places.now) (length positions.now)))))
+        (column.Primitive T.PTYPE (either_nullable (nullability_in (form_of validity.now)) (nullability_in (form_of places.now))))
+        (OfNumbers array)) }
+{
+    let (taken, rows) = take_items(alloc, items, validity, T::default(), positions, places)?;
+    Ok(PrimitiveArray::new_unchecked(T::wrap(taken), rows))
+}
+
+// The numbers at which the mask is true.
+fn filter_numbers<T: NativePType, A: Allocator + Copy>(
+    alloc: A,
+    items: &[T],
+    validity: &Validity<A>,
+    mask: &Mask<A>,
+) -> VortexResult<PrimitiveArray<A>>
+    requires fits { HasLength (form_of validity.now) (length items.now) }
+    requires masked { length (mask_bits mask.now) ≡ length items.now }
+    ensures only { IsOkUnless result VortexError.OutOfMemory }
+    ensures made { IfOk result (λ array. IsMade
+        (filter_rows (mask_bits mask.now) (primitive_rows (primitive_with T.PTYPE (map T.number items.now) (form_of validity.now))))
+        (column.Primitive T.PTYPE (nullability_in (form_of validity.now)))
+        (OfNumbers array)) }
+{
+    let (kept, rows) = filter_items(alloc, items, validity, T::default(), mask)?;
+    Ok(PrimitiveArray::new_unchecked(T::wrap(kept), rows))
+}
+
+// The numbers of the column, with this one in place of each null.
+fn fill_values<A: Allocator + Copy>(
+    alloc: A,
+    array: &PrimitiveArray<A>,
+    number: i128,
+) -> VortexResult<PrimitiveArray<A>>
+    requires { HasNumber array.now.ptype number }
+    ensures only { IsOkUnless result VortexError.OutOfMemory }
+    ensures made { IfOk result (λ filled. IsMade (fill_rows (primitive_rows array.now) (Number number)) (column.Primitive array.now.ptype NonNullable) (OfNumbers filled)) }
+{
+    let validity = array.validity();
+    match_each_native!(array.values(), items => fill_numbers(alloc, items.as_slice(), validity, number))
+}
+
+// The numbers, with this one in place of each null.
+fn fill_numbers<T: NativePType, A: Allocator + Copy>(
+    alloc: A,
+    items: &[T],
+    validity: &Validity<A>,
+    number: i128,
+) -> VortexResult<PrimitiveArray<A>>
+    requires fits { HasLength (form_of validity.now) (length items.now) }
+    requires has { HasNumber T.PTYPE number }
+    ensures only { IsOkUnless result VortexError.OutOfMemory }
+    ensures made { IfOk result (λ array. IsMade
+        (fill_rows (primitive_rows (primitive_with T.PTYPE (map T.number items.now) (form_of validity.now))) (Number number))
+        (column.Primitive T.PTYPE NonNullable) (OfNumbers array)) }
+{
+    let Some(value) = T::narrow(number) else {
+        unreachable!()
+    };
+    let (filled, rows) = fill_items(alloc, items, validity, T::default(), value)?;
+    Ok(PrimitiveArray::new_unchecked(T::wrap(filled), rows))
 }

@@ -16,51 +16,6 @@ use column_core::{
 };
 use std::alloc::Allocator;
 
-// The bits as items.
-fn items_of<A: Allocator + Copy>(alloc: A, bits: &BitBuffer<A>) -> VortexResult<Vec<bool, A>>
-    ensures only { IsOkUnless result VortexError.OutOfMemory }
-    ensures same { IfOk result (λ items. items.items ≡ bits.now) }
-{
-    let mut items = Vec::with_capacity(alloc, bits.len())?;
-    for row in 0..bits.len() {
-        items.push(bits.value(row))?;
-    }
-    Ok(items)
-}
-
-// The items as bits.
-fn bits_of<A: Allocator + Copy>(alloc: A, items: &[bool]) -> VortexResult<BitBuffer<A>>
-    ensures only { IsOkUnless result VortexError.OutOfMemory }
-    ensures same { IfOk result (λ bits. bits ≡ items.now) }
-{
-    let mut bits = BitBufferMut::with_capacity(alloc, items.len())?;
-    for item in items {
-        bits.append(*item)?;
-    }
-    Ok(bits.freeze())
-}
-
-// The column of these items and this validity.
-fn array_of<A: Allocator + Copy>(
-    alloc: A,
-    items: Vec<bool, A>,
-    validity: Validity<A>,
-) -> VortexResult<BoolArray<A>>
-    requires { HasLength (form_of validity) (length items.items) }
-    ensures only { IsOkUnless result VortexError.OutOfMemory }
-    ensures same { IfOk result (λ array. array ≡ bool_with items.items (form_of validity)) }
-{
-    let bits = bits_of(alloc, items.as_slice());
-    drop(items);
-    match bits {
-        Ok(bits) => Ok(BoolArray::new_unchecked(bits, validity)),
-        Err(error) => {
-            drop(validity);
-            Err(error)
-        }
-    }
-}
-
 impl<A: Allocator + Copy> ColumnOps<A> for BoolArray<A> {
     ghost leaf = { λ array. OfTruths array };
 
@@ -119,4 +74,49 @@ impl<A: Allocator + Copy> ColumnOps<A> for BoolArray<A> {
         let (kept, rows) = kept?;
         array_of(alloc, kept, rows)
     }
+}
+
+// The bits as items.
+fn items_of<A: Allocator + Copy>(alloc: A, bits: &BitBuffer<A>) -> VortexResult<Vec<bool, A>>
+    ensures only { IsOkUnless result VortexError.OutOfMemory }
+    ensures same { IfOk result (λ items. items.items ≡ bits.now) }
+{
+    let mut items = Vec::with_capacity(alloc, bits.len())?;
+    for row in 0..bits.len() {
+        items.push(bits.value(row))?;
+    }
+    Ok(items)
+}
+
+// The column of these items and this validity.
+fn array_of<A: Allocator + Copy>(
+    alloc: A,
+    items: Vec<bool, A>,
+    validity: Validity<A>,
+) -> VortexResult<BoolArray<A>>
+    requires { HasLength (form_of validity) (length items.items) }
+    ensures only { IsOkUnless result VortexError.OutOfMemory }
+    ensures same { IfOk result (λ array. array ≡ bool_with items.items (form_of validity)) }
+{
+    let bits = bits_of(alloc, items.as_slice());
+    drop(items);
+    match bits {
+        Ok(bits) => Ok(BoolArray::new_unchecked(bits, validity)),
+        Err(error) => {
+            drop(validity);
+            Err(error)
+        }
+    }
+}
+
+// The items as bits.
+fn bits_of<A: Allocator + Copy>(alloc: A, items: &[bool]) -> VortexResult<BitBuffer<A>>
+    ensures only { IsOkUnless result VortexError.OutOfMemory }
+    ensures same { IfOk result (λ bits. bits ≡ items.now) }
+{
+    let mut bits = BitBufferMut::with_capacity(alloc, items.len())?;
+    for item in items {
+        bits.append(*item)?;
+    }
+    Ok(bits.freeze())
 }

@@ -24,55 +24,6 @@ const NOTHING: View = View {
     size: 0,
 };
 
-// A list of these buffers, whose bytes are shared.
-fn share<A: Allocator + Copy>(alloc: A, buffers: &[Bytes<A>]) -> VortexResult<Vec<Bytes<A>, A>>
-    ensures only { IsOkUnless result VortexError.OutOfMemory }
-    ensures same { IfOk result (λ owners. owners.items ≡ buffers.now) }
-{
-    let mut owners = Vec::with_capacity(alloc, buffers.len())?;
-    for buffer in buffers {
-        owners.push(buffer.clone()?)?;
-    }
-    Ok(owners)
-}
-
-// A list of these buffers, whose bytes are shared, and one more that holds these bytes.
-fn share_with<A: Allocator + Copy>(
-    alloc: A,
-    buffers: &[Bytes<A>],
-    bytes: &[u8],
-) -> VortexResult<Vec<Bytes<A>, A>>
-    ensures only { IsOkUnless result VortexError.OutOfMemory }
-    ensures more { IfOk result (λ owners. owners.items ≡ buffers.now ++ bytes.now ∷ []) }
-{
-    let mut owners = share(alloc, buffers)?;
-    owners.push(Bytes::copy_from_slice(alloc, bytes)?)?;
-    Ok(owners)
-}
-
-// The texts or bytes of the column, with these bytes in place of each null, in one more buffer.
-fn fill_bytes<A: Allocator + Copy>(
-    alloc: A,
-    array: &VarBinViewArray<A>,
-    bytes: &[u8],
-) -> VortexResult<VarBinViewArray<A>>
-    requires { IsOfKind array.now.kind bytes.now }
-    ensures only { IsOkUnless result VortexError.OutOfMemory }
-    ensures made { IfOk result (λ filled. IsMade (fill_rows (varbin_rows array.now) (varbin_value array.now.kind bytes.now))
-        (kind_dtype array.now.kind NonNullable) (OfVarBins filled)) }
-{
-    let shared = array.buffers();
-    let whole = View {
-        buffer: shared.len(),
-        start: 0,
-        size: bytes.len(),
-    };
-    let buffers = share_with(alloc, shared, bytes)?;
-    let own = array.validity();
-    let (filled, rows) = fill_items(alloc, array.views(), own, NOTHING, whole)?;
-    Ok(VarBinViewArray::new_unchecked(filled, buffers, array.kind(), rows))
-}
-
 impl<A: Allocator + Copy> ColumnOps<A> for VarBinViewArray<A> {
     ghost leaf = { λ array. OfVarBins array };
 
@@ -128,4 +79,53 @@ impl<A: Allocator + Copy> ColumnOps<A> for VarBinViewArray<A> {
         let buffers = share(alloc, self.buffers())?;
         Ok(VarBinViewArray::new_unchecked(views, buffers, self.kind(), rows))
     }
+}
+
+// A list of these buffers, whose bytes are shared.
+fn share<A: Allocator + Copy>(alloc: A, buffers: &[Bytes<A>]) -> VortexResult<Vec<Bytes<A>, A>>
+    ensures only { IsOkUnless result VortexError.OutOfMemory }
+    ensures same { IfOk result (λ owners. owners.items ≡ buffers.now) }
+{
+    let mut owners = Vec::with_capacity(alloc, buffers.len())?;
+    for buffer in buffers {
+        owners.push(buffer.clone()?)?;
+    }
+    Ok(owners)
+}
+
+// The texts or bytes of the column, with these bytes in place of each null, in one more buffer.
+fn fill_bytes<A: Allocator + Copy>(
+    alloc: A,
+    array: &VarBinViewArray<A>,
+    bytes: &[u8],
+) -> VortexResult<VarBinViewArray<A>>
+    requires { IsOfKind array.now.kind bytes.now }
+    ensures only { IsOkUnless result VortexError.OutOfMemory }
+    ensures made { IfOk result (λ filled. IsMade (fill_rows (varbin_rows array.now) (varbin_value array.now.kind bytes.now))
+        (kind_dtype array.now.kind NonNullable) (OfVarBins filled)) }
+{
+    let shared = array.buffers();
+    let whole = View {
+        buffer: shared.len(),
+        start: 0,
+        size: bytes.len(),
+    };
+    let buffers = share_with(alloc, shared, bytes)?;
+    let own = array.validity();
+    let (filled, rows) = fill_items(alloc, array.views(), own, NOTHING, whole)?;
+    Ok(VarBinViewArray::new_unchecked(filled, buffers, array.kind(), rows))
+}
+
+// A list of these buffers, whose bytes are shared, and one more that holds these bytes.
+fn share_with<A: Allocator + Copy>(
+    alloc: A,
+    buffers: &[Bytes<A>],
+    bytes: &[u8],
+) -> VortexResult<Vec<Bytes<A>, A>>
+    ensures only { IsOkUnless result VortexError.OutOfMemory }
+    ensures more { IfOk result (λ owners. owners.items ≡ buffers.now ++ bytes.now ∷ []) }
+{
+    let mut owners = share(alloc, buffers)?;
+    owners.push(Bytes::copy_from_slice(alloc, bytes)?)?;
+    Ok(owners)
 }

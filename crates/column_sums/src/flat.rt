@@ -19,6 +19,41 @@ use crate::unsigned_runs::{UnsignedRuns, sum_unsigned_in_runs};
 use column_core::{FlatColumn, FlatView, PrimitiveArray, VortexError, VortexResult};
 use std::alloc::Allocator;
 
+/// The sum of the rows of a flat column of whole numbers, added one at a time. Refused as
+/// `Unsupported` exactly for columns of other types. It takes no memory.
+pub fn sum_flat<A: Allocator>(column: &FlatColumn<A>) -> VortexResult<SumAnswer>
+    ensures refused { IsRefusedBy (sum_fault (leaf_dtype (leaf_of column.now))) result }
+    ensures no_memory { result ≢ Err VortexError.OutOfMemory }
+    ensures answer { IfOk result (IsSumAnswer (leaf_dtype (leaf_of column.now)) (single_rows (leaf_of column.now))) }
+{
+    sum_view(column.view())
+}
+
+/// The sum of the rows of a borrowed flat column of whole numbers, added one at a time. Refused as `Unsupported`
+/// exactly for columns of other types. It takes no memory.
+pub fn sum_view<A: Allocator>(column: FlatView<'_, A>) -> VortexResult<SumAnswer>
+    ensures refused { IsRefusedBy (sum_fault (leaf_dtype (leaf_in column.entry))) result }
+    ensures no_memory { result ≢ Err VortexError.OutOfMemory }
+    ensures answer { IfOk result (IsSumAnswer (leaf_dtype (leaf_in column.entry)) (single_rows (leaf_in column.entry))) }
+{
+    match column {
+        FlatView::Primitive(array) => Ok(sum_numbers(array)),
+        FlatView::Bool(_) | FlatView::Decimal(_) | FlatView::VarBinView(_) => {
+            Err(VortexError::Unsupported)
+        }
+    }
+}
+
+fn sum_numbers<A: Allocator>(array: &PrimitiveArray<A>) -> SumAnswer
+    ensures { result ≡ answer_of (sum_range array.now.ptype) (optional_numbers array.now) }
+{
+    if array.ptype().is_unsigned_int() {
+        sum_unsigned_in_runs(&UnsignedRows { array }, &mut UnsignedSum::new())
+    } else {
+        sum_signed_in_runs(&SignedRows { array }, &mut SignedSum::new())
+    }
+}
+
 // The rows of a column of signed numbers, as runs of one row each.
 #[derive(Drop)]
 struct SignedRows<'a, A: Allocator> {
@@ -62,40 +97,5 @@ impl<'a, A: Allocator> UnsignedRuns for UnsignedRows<'a, A> {
 
     fn row_count(&self, _run: usize) -> usize {
         1
-    }
-}
-
-/// The sum of the rows of a flat column of whole numbers, added one at a time. Refused as
-/// `Unsupported` exactly for columns of other types. It takes no memory.
-pub fn sum_flat<A: Allocator>(column: &FlatColumn<A>) -> VortexResult<SumAnswer>
-    ensures refused { IsRefusedBy (sum_fault (leaf_dtype (leaf_of column.now))) result }
-    ensures no_memory { result ≢ Err VortexError.OutOfMemory }
-    ensures answer { IfOk result (IsSumAnswer (leaf_dtype (leaf_of column.now)) (single_rows (leaf_of column.now))) }
-{
-    sum_view(column.view())
-}
-
-/// The sum of the rows of a borrowed flat column of whole numbers, added one at a time. Refused as `Unsupported`
-/// exactly for columns of other types. It takes no memory.
-pub fn sum_view<A: Allocator>(column: FlatView<'_, A>) -> VortexResult<SumAnswer>
-    ensures refused { IsRefusedBy (sum_fault (leaf_dtype (leaf_in column.entry))) result }
-    ensures no_memory { result ≢ Err VortexError.OutOfMemory }
-    ensures answer { IfOk result (IsSumAnswer (leaf_dtype (leaf_in column.entry)) (single_rows (leaf_in column.entry))) }
-{
-    match column {
-        FlatView::Primitive(array) => Ok(sum_numbers(array)),
-        FlatView::Bool(_) | FlatView::Decimal(_) | FlatView::VarBinView(_) => {
-            Err(VortexError::Unsupported)
-        }
-    }
-}
-
-fn sum_numbers<A: Allocator>(array: &PrimitiveArray<A>) -> SumAnswer
-    ensures { result ≡ answer_of (sum_range array.now.ptype) (optional_numbers array.now) }
-{
-    if array.ptype().is_unsigned_int() {
-        sum_unsigned_in_runs(&UnsignedRows { array }, &mut UnsignedSum::new())
-    } else {
-        sum_signed_in_runs(&SignedRows { array }, &mut SignedSum::new())
     }
 }

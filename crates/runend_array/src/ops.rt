@@ -13,76 +13,6 @@ pub use runend_codec::first_past;
 use runend_codec::{ended_before, first_past_of};
 use std::alloc::Allocator;
 
-/// The run of a row, over a column of strictly increasing ends: the first run that ends past it, or
-/// the number of runs where none does.
-pub(crate) fn run_of<A: Allocator + Copy>(ends: &ArrayRef<A>, row: usize) -> usize
-    requires plain { IsPlainEnds (column_of ends.now) }
-    requires increasing { IsStrictlyIncreasing (end_numbers (column_of ends.now)) }
-    ensures place { result ≡ run_at (end_numbers (column_of ends.now)) row }
-    ensures count { result ≡ count_by (λ e. nat_le e row) (end_numbers (column_of ends.now)) }
-{
-    match ends {
-        ArrayRef::Primitive(plain) => first_past_of(plain, row),
-        _ => unreachable!(),
-    }
-}
-
-// One of the ends as they are stored.
-fn end_among<A: Allocator>(ends: &PrimitiveValues<A>, run: usize) -> usize
-    requires unsigned { IsUnsigned (ptype_of ends.now) }
-    requires within { run < length (map unsigned_abs (numbers ends.now)) }
-    ensures { result ≡ slice_index (map unsigned_abs (numbers ends.now)) run }
-{
-    match ends {
-        PrimitiveValues::U8(items) => items[run] as usize,
-        PrimitiveValues::U16(items) => items[run] as usize,
-        PrimitiveValues::U32(items) => items[run] as usize,
-        PrimitiveValues::U64(items) => items[run] as usize,
-        _ => unreachable!(),
-    }
-}
-
-/// The end of a run, over a column of ends.
-pub(crate) fn end_of_run<A: Allocator + Copy>(ends: &ArrayRef<A>, run: usize) -> usize
-    requires plain { IsPlainEnds (column_of ends.now) }
-    requires within { run < length (end_numbers (column_of ends.now)) }
-    ensures { result ≡ slice_index (end_numbers (column_of ends.now)) run }
-{
-    match ends {
-        ArrayRef::Primitive(plain) => end_among(plain.values(), run),
-        _ => unreachable!(),
-    }
-}
-
-// How many runs there are, over a column of ends.
-#[tactic(auto, using(runend_codec::proofs::Ends::length_ends_of))]
-fn run_count<A: Allocator + Copy>(ends: &ArrayRef<A>) -> usize
-    requires plain { IsPlainEnds (column_of ends.now) }
-    ensures { result ≡ length (end_numbers (column_of ends.now)) }
-{
-    match ends {
-        ArrayRef::Primitive(plain) => plain.len(),
-        _ => unreachable!(),
-    }
-}
-
-/// The run of a row, over a column of strictly increasing ends: run by run from `run` on, which is not
-/// past it. Some run ends past the row.
-pub(crate) fn run_from<A: Allocator + Copy>(ends: &ArrayRef<A>, run: usize, row: usize) -> usize
-    requires plain { IsPlainEnds (column_of ends.now) }
-    requires increasing { IsStrictlyIncreasing (end_numbers (column_of ends.now)) }
-    requires before { run ≤ run_at (end_numbers (column_of ends.now)) row }
-    requires within { run_at (end_numbers (column_of ends.now)) row < length (end_numbers (column_of ends.now)) }
-    ensures { result ≡ run_at (end_numbers (column_of ends.now)) row }
-{
-    for found in run..run_count(ends) {
-        if row < end_of_run(ends, found) {
-            return found;
-        }
-    }
-    unreachable!()
-}
-
 /// The run of a row, over a column of ends: the number of ends at or below it, but the last run where
 /// that is past it. The ends are flat, unsigned, strictly increasing, and at least one.
 #[tactic(auto, using(runend_codec::proofs::Ends::length_ends_of))]
@@ -112,6 +42,76 @@ pub fn find_slice_end_index<A: Allocator + Copy>(ends: &ArrayRef<A>, index: usiz
         ArrayRef::Primitive(plain) => ended_before(plain, index)
             .saturating_add(1)
             .min(plain.len()),
+        _ => unreachable!(),
+    }
+}
+
+/// The run of a row, over a column of strictly increasing ends: the first run that ends past it, or
+/// the number of runs where none does.
+pub(crate) fn run_of<A: Allocator + Copy>(ends: &ArrayRef<A>, row: usize) -> usize
+    requires plain { IsPlainEnds (column_of ends.now) }
+    requires increasing { IsStrictlyIncreasing (end_numbers (column_of ends.now)) }
+    ensures place { result ≡ run_at (end_numbers (column_of ends.now)) row }
+    ensures count { result ≡ count_by (λ e. nat_le e row) (end_numbers (column_of ends.now)) }
+{
+    match ends {
+        ArrayRef::Primitive(plain) => first_past_of(plain, row),
+        _ => unreachable!(),
+    }
+}
+
+/// The run of a row, over a column of strictly increasing ends: run by run from `run` on, which is not
+/// past it. Some run ends past the row.
+pub(crate) fn run_from<A: Allocator + Copy>(ends: &ArrayRef<A>, run: usize, row: usize) -> usize
+    requires plain { IsPlainEnds (column_of ends.now) }
+    requires increasing { IsStrictlyIncreasing (end_numbers (column_of ends.now)) }
+    requires before { run ≤ run_at (end_numbers (column_of ends.now)) row }
+    requires within { run_at (end_numbers (column_of ends.now)) row < length (end_numbers (column_of ends.now)) }
+    ensures { result ≡ run_at (end_numbers (column_of ends.now)) row }
+{
+    for found in run..run_count(ends) {
+        if row < end_of_run(ends, found) {
+            return found;
+        }
+    }
+    unreachable!()
+}
+
+// How many runs there are, over a column of ends.
+#[tactic(auto, using(runend_codec::proofs::Ends::length_ends_of))]
+fn run_count<A: Allocator + Copy>(ends: &ArrayRef<A>) -> usize
+    requires plain { IsPlainEnds (column_of ends.now) }
+    ensures { result ≡ length (end_numbers (column_of ends.now)) }
+{
+    match ends {
+        ArrayRef::Primitive(plain) => plain.len(),
+        _ => unreachable!(),
+    }
+}
+
+/// The end of a run, over a column of ends.
+pub(crate) fn end_of_run<A: Allocator + Copy>(ends: &ArrayRef<A>, run: usize) -> usize
+    requires plain { IsPlainEnds (column_of ends.now) }
+    requires within { run < length (end_numbers (column_of ends.now)) }
+    ensures { result ≡ slice_index (end_numbers (column_of ends.now)) run }
+{
+    match ends {
+        ArrayRef::Primitive(plain) => end_among(plain.values(), run),
+        _ => unreachable!(),
+    }
+}
+
+// One of the ends as they are stored.
+fn end_among<A: Allocator>(ends: &PrimitiveValues<A>, run: usize) -> usize
+    requires unsigned { IsUnsigned (ptype_of ends.now) }
+    requires within { run < length (map unsigned_abs (numbers ends.now)) }
+    ensures { result ≡ slice_index (map unsigned_abs (numbers ends.now)) run }
+{
+    match ends {
+        PrimitiveValues::U8(items) => items[run] as usize,
+        PrimitiveValues::U16(items) => items[run] as usize,
+        PrimitiveValues::U32(items) => items[run] as usize,
+        PrimitiveValues::U64(items) => items[run] as usize,
         _ => unreachable!(),
     }
 }

@@ -17,6 +17,88 @@ use column_core::{
 };
 use std::alloc::Allocator;
 
+/// The ends and the values of the runs, both flat. Refused as `OutOfMemory` alone.
+pub fn encode_plain<A: Allocator + Copy>(
+    alloc: A,
+    array: &PrimitiveArray<A>,
+) -> VortexResult<(PrimitiveArray<A>, PrimitiveArray<A>)>
+    ensures only { IsOkUnless result VortexError.OutOfMemory }
+    ensures encoding { IfOk result (λ parts. IsFlatEncoding array.now parts.0 parts.1) }
+{
+    let validity = array.validity();
+    match_each_native!(array.values(), items => encode_as(alloc, items.as_slice(), validity))
+}
+
+/// Does the validity say of at least one row that all are null?
+pub fn is_all_null<A: Allocator>(array: &PrimitiveArray<A>) -> bool
+    ensures { IsTrue result ↔ IsAllInvalid array.now }
+{
+    match array.validity() {
+        Validity::AllInvalid => !array.is_empty(),
+        _ => false,
+    }
+}
+
+/// The validity of rows with these flags, of a type with that nullability.
+pub fn validity_with<A: Allocator>(nullability: Nullability, bits: BitBuffer<A>) -> Validity<A>
+    requires { nullability ≡ NonNullable → All (λ flag. flag ≡ true) bits }
+    ensures flags { flags (form_of result) (length bits) ≡ bits }
+    ensures fits { HasLength (form_of result) (length bits) }
+    ensures normal { IsNormal (form_of result) }
+    ensures nullability { nullability_in (form_of result) ≡ nullability }
+    ensures some { HasRowIfAllNull (form_of result) (length bits) }
+{
+    match nullability {
+        Nullability::NonNullable => Validity::NonNullable,
+        Nullability::Nullable => Validity::from_bits(bits),
+    }
+}
+
+fn encode_as<T: NativePType, A: Allocator + Copy>(
+    alloc: A,
+    items: &[T],
+    validity: &Validity<A>,
+) -> VortexResult<(PrimitiveArray<A>, PrimitiveArray<A>)>
+    requires { HasLength (form_of validity.now) (length items.now) }
+    ensures only { IsOkUnless result VortexError.OutOfMemory }
+    ensures encoding { IfOk result (λ parts. IsFlatEncoding
+        (primitive_with T.PTYPE (map T.number items.now) (form_of validity.now)) parts.0 parts.1) }
+{
+    let Encoder {
+        ends,
+        values,
+        flags,
+    } = encode_items(alloc, items, validity)?;
+    let ends = narrowed(alloc, ends.as_slice())?;
+    let validity = validity_with(validity.nullability(), flags.freeze());
+    Ok((
+        PrimitiveArray::new_unchecked(ends, Validity::NonNullable),
+        PrimitiveArray::new_unchecked(T::wrap(values), validity),
+    ))
+}
+
+// The runs of the rows.
+fn encode_items<T: NativePType, A: Allocator + Copy>(
+    alloc: A,
+    items: &[T],
+    validity: &Validity<A>,
+) -> VortexResult<Encoder<T, A>>
+    requires { HasLength (form_of validity.now) (length items.now) }
+    ensures only { IsOkUnless result VortexError.OutOfMemory }
+    ensures cover { IfOk result (λ runs. IsTightCover (optionals (map T.number items.now) (flags (form_of validity.now) (length items.now)))
+        runs.ends.items (optionals (map T.number runs.values.items) runs.flags)) }
+    ensures paired { IfOk result (λ runs. length runs.flags ≡ length runs.values.items) }
+    ensures zeroed { IfOk result (λ runs. AreZeroAtNulls (map T.number runs.values.items) runs.flags) }
+    ensures never { form_of validity.now ≡ NeverNull → IfOk result (λ runs. All (λ flag. flag ≡ true) runs.flags) }
+{
+    match validity {
+        Validity::NonNullable => encode_valid(alloc, items),
+        Validity::AllValid => encode_valid(alloc, items),
+        Validity::AllInvalid => encode_nullable(alloc, items, validity),
+        Validity::Bits(_) => encode_nullable(alloc, items, validity),
+    }
+}
+
 /// The runs that are closed, in order.
 #[derive(Drop)]
 struct Encoder<T: Drop, A: Allocator> {
@@ -59,65 +141,6 @@ impl<T: NativePType, A: Allocator + Copy> Encoder<T, A> {
         self.flags.append(shown.is_some())?;
         self.values.push(shown.unwrap_or_default())?;
         Ok(())
-    }
-}
-
-/// The validity of rows with these flags, of a type with that nullability.
-pub fn validity_with<A: Allocator>(nullability: Nullability, bits: BitBuffer<A>) -> Validity<A>
-    requires { nullability ≡ NonNullable → All (λ flag. flag ≡ true) bits }
-    ensures flags { flags (form_of result) (length bits) ≡ bits }
-    ensures fits { HasLength (form_of result) (length bits) }
-    ensures normal { IsNormal (form_of result) }
-    ensures nullability { nullability_in (form_of result) ≡ nullability }
-    ensures some { HasRowIfAllNull (form_of result) (length bits) }
-{
-    match nullability {
-        Nullability::NonNullable => Validity::NonNullable,
-        Nullability::Nullable => Validity::from_bits(bits),
-    }
-}
-
-/// The ends and the values of the runs, both flat. Refused as `OutOfMemory` alone.
-pub fn encode_plain<A: Allocator + Copy>(
-    alloc: A,
-    array: &PrimitiveArray<A>,
-) -> VortexResult<(PrimitiveArray<A>, PrimitiveArray<A>)>
-    ensures only { IsOkUnless result VortexError.OutOfMemory }
-    ensures encoding { IfOk result (λ parts. IsFlatEncoding array.now parts.0 parts.1) }
-{
-    let validity = array.validity();
-    match_each_native!(array.values(), items => encode_as(alloc, items.as_slice(), validity))
-}
-
-/// Does the validity say of at least one row that all are null?
-pub fn is_all_null<A: Allocator>(array: &PrimitiveArray<A>) -> bool
-    ensures { IsTrue result ↔ IsAllInvalid array.now }
-{
-    match array.validity() {
-        Validity::AllInvalid => !array.is_empty(),
-        _ => false,
-    }
-}
-
-// The runs of the rows.
-fn encode_items<T: NativePType, A: Allocator + Copy>(
-    alloc: A,
-    items: &[T],
-    validity: &Validity<A>,
-) -> VortexResult<Encoder<T, A>>
-    requires { HasLength (form_of validity.now) (length items.now) }
-    ensures only { IsOkUnless result VortexError.OutOfMemory }
-    ensures cover { IfOk result (λ runs. IsTightCover (optionals (map T.number items.now) (flags (form_of validity.now) (length items.now)))
-        runs.ends.items (optionals (map T.number runs.values.items) runs.flags)) }
-    ensures paired { IfOk result (λ runs. length runs.flags ≡ length runs.values.items) }
-    ensures zeroed { IfOk result (λ runs. AreZeroAtNulls (map T.number runs.values.items) runs.flags) }
-    ensures never { form_of validity.now ≡ NeverNull → IfOk result (λ runs. All (λ flag. flag ≡ true) runs.flags) }
-{
-    match validity {
-        Validity::NonNullable => encode_valid(alloc, items),
-        Validity::AllValid => encode_valid(alloc, items),
-        Validity::AllInvalid => encode_nullable(alloc, items, validity),
-        Validity::Bits(_) => encode_nullable(alloc, items, validity),
     }
 }
 
@@ -198,27 +221,4 @@ fn encode_nullable<T: NativePType, A: Allocator + Copy>(
     }
     runs.close(open, count as u64)?;
     Ok(runs)
-}
-
-fn encode_as<T: NativePType, A: Allocator + Copy>(
-    alloc: A,
-    items: &[T],
-    validity: &Validity<A>,
-) -> VortexResult<(PrimitiveArray<A>, PrimitiveArray<A>)>
-    requires { HasLength (form_of validity.now) (length items.now) }
-    ensures only { IsOkUnless result VortexError.OutOfMemory }
-    ensures encoding { IfOk result (λ parts. IsFlatEncoding
-        (primitive_with T.PTYPE (map T.number items.now) (form_of validity.now)) parts.0 parts.1) }
-{
-    let Encoder {
-        ends,
-        values,
-        flags,
-    } = encode_items(alloc, items, validity)?;
-    let ends = narrowed(alloc, ends.as_slice())?;
-    let validity = validity_with(validity.nullability(), flags.freeze());
-    Ok((
-        PrimitiveArray::new_unchecked(ends, Validity::NonNullable),
-        PrimitiveArray::new_unchecked(T::wrap(values), validity),
-    ))
 }

@@ -26,24 +26,6 @@ pub(crate) struct JoinedRuns<E: Drop, T: Drop, A: Allocator> {
     pub(crate) flags: BitBufferMut<A>,
 }
 
-// So many rows, as an end.
-fn end_of<E: UnsignedPType>(rows: u64) -> E
-    requires { HasNumber E.PTYPE (pos rows) }
-    ensures { E.number result ≡ pos rows }
-{
-    E::narrow(i128::from(rows)).unwrap()
-}
-
-// Where a run ends in the window of `count` rows from position `offset` on.
-fn end_in_window<E: UnsignedPType>(ends: &[E], run: usize, offset: usize, count: usize) -> E
-    requires within { run < length ends.now }
-    requires fits { All (λ end. HasNumber E.PTYPE (E.number end)) ends.now }
-    ensures { E.number result ≡ pos (min (slice_index (map unsigned_abs (map E.number ends.now)) run - offset) count) }
-{
-    let rows = ends[run].to_u64().saturating_sub(offset as u64);
-    end_of(rows.min(count as u64))
-}
-
 /// The ends and the numbers of the joined runs, where none is null.
 pub(crate) fn valid_runs<E: UnsignedPType, T: NativePType, A: Allocator + Copy>(
     alloc: A,
@@ -241,6 +223,24 @@ fn put_flag<A: Allocator + Copy>(flags: &mut BitBufferMut<A>, place: usize, flag
     if !flag {
         flags.fill_range(place, place + 1, false);
     }
+}
+
+// Where a run ends in the window of `count` rows from position `offset` on.
+fn end_in_window<E: UnsignedPType>(ends: &[E], run: usize, offset: usize, count: usize) -> E
+    requires within { run < length ends.now }
+    requires fits { All (λ end. HasNumber E.PTYPE (E.number end)) ends.now }
+    ensures { E.number result ≡ pos (min (slice_index (map unsigned_abs (map E.number ends.now)) run - offset) count) }
+{
+    let rows = ends[run].to_u64().saturating_sub(offset as u64);
+    end_of(rows.min(count as u64))
+}
+
+// So many rows, as an end.
+fn end_of<E: UnsignedPType>(rows: u64) -> E
+    requires { HasNumber E.PTYPE (pos rows) }
+    ensures { E.number result ≡ pos rows }
+{
+    E::narrow(i128::from(rows)).unwrap()
 }
 
 // So many stored numbers are compared with those before them until the answer is looked at: a loop without a branch

@@ -12,15 +12,20 @@ pub(crate) struct FieldValue {
     pub(crate) value: Option<u64>,
 }
 
-/// The bytes after the first `count`.
-fn skip(bytes: &[u8], count: u64) -> Option<&[u8]>
-    ensures found { IfSome result (λ rest. (count ≤ length bytes.now) × (rest.now ≡ drop count bytes.now)) }
-    ensures none { IfNone result (length bytes.now < count) }
+/// The field at the front, and the bytes after it.
+#[tactic(auto, using(crate::proofs::Payloads::no_key, crate::proofs::Payloads::no_large_key, crate::proofs::Payloads::no_zero_number, crate::proofs::Payloads::no_other_known, crate::proofs::Payloads::no_payload, crate::proofs::Payloads::found_field))]
+pub(crate) fn read_field(bytes: &[u8]) -> Option<(FieldValue, &[u8])>
+    ensures found { IfSome result (λ r. BeginsWithField bytes.now r.0.number r.0.value r.1.now) }
+    ensures none { IfNone result (BeginsWithNone SpellsField bytes.now) }
 {
-    if (bytes.len() as u64) < count {
+    let (key, rest) = read_varint(bytes)?;
+    let number = key / 8;
+    let wire = key % 8;
+    if key > u64::from(u32::MAX) || number == 0 || (number <= 3 && wire != 0) {
         return None;
     }
-    Some(&bytes[count as usize..])
+    let (value, rest) = read_payload(rest, wire)?;
+    Some((FieldValue { number, value }, rest))
 }
 
 /// The value that the payload at the front carries, and the bytes after it.
@@ -52,18 +57,13 @@ fn read_payload(bytes: &[u8], wire: u64) -> Option<(Option<u64>, &[u8])>
     }
 }
 
-/// The field at the front, and the bytes after it.
-#[tactic(auto, using(crate::proofs::Payloads::no_key, crate::proofs::Payloads::no_large_key, crate::proofs::Payloads::no_zero_number, crate::proofs::Payloads::no_other_known, crate::proofs::Payloads::no_payload, crate::proofs::Payloads::found_field))]
-pub(crate) fn read_field(bytes: &[u8]) -> Option<(FieldValue, &[u8])>
-    ensures found { IfSome result (λ r. BeginsWithField bytes.now r.0.number r.0.value r.1.now) }
-    ensures none { IfNone result (BeginsWithNone SpellsField bytes.now) }
+/// The bytes after the first `count`.
+fn skip(bytes: &[u8], count: u64) -> Option<&[u8]>
+    ensures found { IfSome result (λ rest. (count ≤ length bytes.now) × (rest.now ≡ drop count bytes.now)) }
+    ensures none { IfNone result (length bytes.now < count) }
 {
-    let (key, rest) = read_varint(bytes)?;
-    let number = key / 8;
-    let wire = key % 8;
-    if key > u64::from(u32::MAX) || number == 0 || (number <= 3 && wire != 0) {
+    if (bytes.len() as u64) < count {
         return None;
     }
-    let (value, rest) = read_payload(rest, wire)?;
-    Some((FieldValue { number, value }, rest))
+    Some(&bytes[count as usize..])
 }

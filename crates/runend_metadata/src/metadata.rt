@@ -22,49 +22,6 @@ pub struct RunEndMetadata {
     pub offset: u64,
 }
 
-/// The last values of the fields so far.
-#[derive(Clone, Copy)]
-struct Numbers {
-    ends_type: u64,
-    runs: u64,
-    offset: u64,
-}
-
-/// The value of the field if it has that number, else the value before.
-fn latest(before: u64, number: u64, field: FieldValue) -> u64
-    ensures { result ≡ (if field.number == number then unwrap_or field.value 0 else before) }
-{
-    if field.number == number {
-        field.value.unwrap_or(0)
-    } else {
-        before
-    }
-}
-
-/// The last values of the fields that the bytes spell.
-#[tactic(auto, using(crate::proofs::Records::started, crate::proofs::Records::field_shorter, crate::proofs::Records::one_more_field, crate::proofs::Records::all_read, crate::proofs::Records::stuck))]
-fn read_numbers(bytes: &[u8]) -> Option<Numbers>
-    ensures found { IfSome result (λ n. SpellsNumbers bytes.now n.ends_type n.runs n.offset) }
-    ensures none { IfNone result (IsNoRecord bytes.now) }
-{
-    let mut rest = bytes;
-    let mut ends_type = 0;
-    let mut runs = 0;
-    let mut offset = 0;
-    while !rest.is_empty() {
-        let (field, after) = read_field(rest)?;
-        ends_type = latest(ends_type, 1, field);
-        runs = latest(runs, 2, field);
-        offset = latest(offset, 3, field);
-        rest = after;
-    }
-    Some(Numbers {
-        ends_type,
-        runs,
-        offset,
-    })
-}
-
 impl RunEndMetadata {
     ghost use Rattle.runend_metadata.specs.EndsType.{ends_type_number, IsEndsTypeNumber};
     ghost use Rattle.runend_metadata.specs.Fields.{IsRecord, Means, StatesUnknownEndsType};
@@ -143,6 +100,49 @@ impl RunEndMetadata {
         push_field(&mut out, 2, self.num_runs);
         push_field(&mut out, 3, self.offset);
         Ok(out)
+    }
+}
+
+/// The last values of the fields so far.
+#[derive(Clone, Copy)]
+struct Numbers {
+    ends_type: u64,
+    runs: u64,
+    offset: u64,
+}
+
+/// The last values of the fields that the bytes spell.
+#[tactic(auto, using(crate::proofs::Records::started, crate::proofs::Records::field_shorter, crate::proofs::Records::one_more_field, crate::proofs::Records::all_read, crate::proofs::Records::stuck))]
+fn read_numbers(bytes: &[u8]) -> Option<Numbers>
+    ensures found { IfSome result (λ n. SpellsNumbers bytes.now n.ends_type n.runs n.offset) }
+    ensures none { IfNone result (IsNoRecord bytes.now) }
+{
+    let mut rest = bytes;
+    let mut ends_type = 0;
+    let mut runs = 0;
+    let mut offset = 0;
+    while !rest.is_empty() {
+        let (field, after) = read_field(rest)?;
+        ends_type = latest(ends_type, 1, field);
+        runs = latest(runs, 2, field);
+        offset = latest(offset, 3, field);
+        rest = after;
+    }
+    Some(Numbers {
+        ends_type,
+        runs,
+        offset,
+    })
+}
+
+/// The value of the field if it has that number, else the value before.
+fn latest(before: u64, number: u64, field: FieldValue) -> u64
+    ensures { result ≡ (if field.number == number then unwrap_or field.value 0 else before) }
+{
+    if field.number == number {
+        field.value.unwrap_or(0)
+    } else {
+        before
     }
 }
 

@@ -8,25 +8,6 @@ use std::alloc::Allocator;
 /// Where the bits of a tenth byte begin, of which 64 bits hold one.
 const LAST_SHIFT: u32 = 63;
 
-/// The first byte, and the bytes after it.
-fn first_byte(bytes: &[u8]) -> Option<(u8, &[u8])>
-    ensures found { IfSome result (λ r. bytes.now ≡ r.0 ∷ r.1.now) }
-    ensures none { IfNone result (bytes.now ≡ []) }
-{
-    let (first, rest) = bytes.split_first()?;
-    Some((*first, rest))
-}
-
-/// The number with further bits above those that it has.
-#[tactic(auto, using(crate::proofs::Reading::shifted_whole))]
-fn with_bits(value: u64, bits: u8, shift: u32) -> u64
-    requires in_range { shift < 64 }
-    requires fits { value + bits * 2 ^ shift < 2 ^ 64 }
-    ensures { result ≡ value + bits * 2 ^ shift }
-{
-    value + (u64::from(bits) << shift)
-}
-
 /// The varint at the front, and the bytes after it.
 pub fn read_varint(bytes: &[u8]) -> Option<(u64, &[u8])>
     ensures found { IfSome result (λ r. Begins IsVarint bytes.now r.0 r.1.now) }
@@ -49,6 +30,25 @@ pub fn read_varint(bytes: &[u8]) -> Option<(u64, &[u8])>
         return None;
     }
     Some((with_bits(value, last, LAST_SHIFT), after))
+}
+
+/// The first byte, and the bytes after it.
+fn first_byte(bytes: &[u8]) -> Option<(u8, &[u8])>
+    ensures found { IfSome result (λ r. bytes.now ≡ r.0 ∷ r.1.now) }
+    ensures none { IfNone result (bytes.now ≡ []) }
+{
+    let (first, rest) = bytes.split_first()?;
+    Some((*first, rest))
+}
+
+/// The number with further bits above those that it has.
+#[tactic(auto, using(crate::proofs::Reading::shifted_whole))]
+fn with_bits(value: u64, bits: u8, shift: u32) -> u64
+    requires in_range { shift < 64 }
+    requires fits { value + bits * 2 ^ shift < 2 ^ 64 }
+    ensures { result ≡ value + bits * 2 ^ shift }
+{
+    value + (u64::from(bits) << shift)
 }
 
 /// The shortest varint at the front, and the bytes after it. A varint with more bytes than its number needs is none.

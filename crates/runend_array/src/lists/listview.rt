@@ -68,123 +68,6 @@ impl<A: Allocator> Model for ListViewArray<A> {
     ghost size_decreases = { λ a h. Prim.search (deep_le-list_parts, h) };
 }
 
-// The type of elements that lie in a flat column of this type.
-fn element_of(dtype: DType) -> ElementDType
-    ensures { result ≡ element_type_of dtype }
-{
-    match dtype {
-        DType::Bool(nullability) => ElementDType::Bool(nullability),
-        DType::Primitive(ptype, nullability) => ElementDType::Primitive(ptype, nullability),
-        DType::Decimal(decimal, nullability) => ElementDType::Decimal(decimal, nullability),
-        DType::Utf8(nullability) => ElementDType::Utf8(nullability),
-        DType::Binary(nullability) => ElementDType::Binary(nullability),
-        DType::List(element, _) => element,
-    }
-}
-
-// Are offsets, sizes and validity of the types that a column of lists has?
-fn are_list_types<A: Allocator + Copy>(
-    offsets: &ArrayRef<A>,
-    sizes: &ArrayRef<A>,
-    validity: &RowValidity<A>,
-) -> bool
-    ensures { IsTrue result ↔ AreListTypes offsets.now sizes.now validity.now }
-{
-    is_index(offsets) && is_index(sizes) && validity.is_plain()
-}
-
-// Does the list of `size` elements from `offset` on lie within `count` elements?
-fn is_within(offset: u64, size: u64, count: usize) -> bool
-    ensures { IsTrue result ↔ (offset + size ≤ count) }
-{
-    let count = count as u64;
-    offset <= count && size <= count - offset
-}
-
-// The first valid row that does not lie within the elements. A step is a stretch of rows in which
-// offset, size and validity stay the same, so rows in runs take as many steps as there are runs.
-fn first_outside<A: Allocator + Copy>(
-    elements: &FlatColumn<A>,
-    offsets: &ArrayRef<A>,
-    sizes: &ArrayRef<A>,
-    validity: &RowValidity<A>,
-) -> Option<usize>
-    requires types { AreListTypes offsets.now sizes.now validity.now }
-    requires sized { index_count (index_of (column_of sizes.now)) ≡ index_count (index_of (column_of offsets.now)) }
-    requires flagged { HasRows (validity_of validity.now) (index_count (index_of (column_of offsets.now))) }
-    ensures { MatchOption result
-        (AreLists (lists_of elements.now offsets.now sizes.now validity.now))
-        (λ row. IsFirstOutside (lists_of elements.now offsets.now sizes.now validity.now) row) }
-{
-    let rows = index_len(offsets);
-    let count = elements.len();
-    let mut flag_run = 0;
-    let mut offset_run = 0;
-    let mut size_run = 0;
-    let mut row = 0;
-    while row < rows {
-        let flag = validity.valid_from(&mut flag_run, row, rows);
-        let offset = index_from(offsets, &mut offset_run, row);
-        let size = index_from(sizes, &mut size_run, row);
-        if flag.value && !is_within(offset.value, size.value, count) {
-            return Some(row);
-        }
-        row = flag.stop.min(offset.stop).min(size.stop);
-    }
-    None
-}
-
-// Do parts of the right types make a column of lists? Else the first fault.
-fn validate_lists<A: Allocator + Copy>(
-    elements: &FlatColumn<A>,
-    offsets: &ArrayRef<A>,
-    sizes: &ArrayRef<A>,
-    validity: &RowValidity<A>,
-) -> VortexResult<()>
-    requires { AreListTypes offsets.now sizes.now validity.now }
-    ensures { MatchResult result
-        (λ _. AreLists (lists_of elements.now offsets.now sizes.now validity.now))
-        (λ error. ListsFault (lists_of elements.now offsets.now sizes.now validity.now) error) }
-{
-    let rows = index_len(offsets);
-    let sized = index_len(sizes);
-    if sized != rows {
-        return Err(VortexError::ColumnLength {
-            left: rows,
-            right: sized,
-        });
-    }
-    if let Some(flagged) = validity.len() {
-        if flagged != rows {
-            return Err(VortexError::ColumnLength {
-                left: rows,
-                right: flagged,
-            });
-        }
-    }
-    match first_outside(elements, offsets, sizes, validity) {
-        Some(row) => Err(out_of_bounds(row, elements.len())),
-        None => Ok(()),
-    }
-}
-
-// Do the parts make a column of lists? Else the first fault.
-fn validate_list_parts<A: Allocator + Copy>(
-    elements: &FlatColumn<A>,
-    offsets: &ArrayRef<A>,
-    sizes: &ArrayRef<A>,
-    validity: &RowValidity<A>,
-) -> VortexResult<()>
-    ensures { MatchResult result
-        (λ _. AreListParts elements.now offsets.now sizes.now validity.now)
-        (λ error. ListPartsFault elements.now offsets.now sizes.now validity.now error) }
-{
-    if !are_list_types(offsets, sizes, validity) {
-        return Err(VortexError::TypeMismatch);
-    }
-    validate_lists(elements, offsets, sizes, validity)
-}
-
 impl<A: Allocator + Copy> ListViewArray<A> {
     /// The lists of these parts. Refused by the first fault: `TypeMismatch` unless offsets and sizes
     /// are u64 without null, flat or in runs over flat values, and runs of the validity are over flat
@@ -466,5 +349,122 @@ impl<A: Allocator + Copy> ListViewArray<A> {
             sizes,
             validity,
         })
+    }
+}
+
+// Do the parts make a column of lists? Else the first fault.
+fn validate_list_parts<A: Allocator + Copy>(
+    elements: &FlatColumn<A>,
+    offsets: &ArrayRef<A>,
+    sizes: &ArrayRef<A>,
+    validity: &RowValidity<A>,
+) -> VortexResult<()>
+    ensures { MatchResult result
+        (λ _. AreListParts elements.now offsets.now sizes.now validity.now)
+        (λ error. ListPartsFault elements.now offsets.now sizes.now validity.now error) }
+{
+    if !are_list_types(offsets, sizes, validity) {
+        return Err(VortexError::TypeMismatch);
+    }
+    validate_lists(elements, offsets, sizes, validity)
+}
+
+// Are offsets, sizes and validity of the types that a column of lists has?
+fn are_list_types<A: Allocator + Copy>(
+    offsets: &ArrayRef<A>,
+    sizes: &ArrayRef<A>,
+    validity: &RowValidity<A>,
+) -> bool
+    ensures { IsTrue result ↔ AreListTypes offsets.now sizes.now validity.now }
+{
+    is_index(offsets) && is_index(sizes) && validity.is_plain()
+}
+
+// Do parts of the right types make a column of lists? Else the first fault.
+fn validate_lists<A: Allocator + Copy>(
+    elements: &FlatColumn<A>,
+    offsets: &ArrayRef<A>,
+    sizes: &ArrayRef<A>,
+    validity: &RowValidity<A>,
+) -> VortexResult<()>
+    requires { AreListTypes offsets.now sizes.now validity.now }
+    ensures { MatchResult result
+        (λ _. AreLists (lists_of elements.now offsets.now sizes.now validity.now))
+        (λ error. ListsFault (lists_of elements.now offsets.now sizes.now validity.now) error) }
+{
+    let rows = index_len(offsets);
+    let sized = index_len(sizes);
+    if sized != rows {
+        return Err(VortexError::ColumnLength {
+            left: rows,
+            right: sized,
+        });
+    }
+    if let Some(flagged) = validity.len() {
+        if flagged != rows {
+            return Err(VortexError::ColumnLength {
+                left: rows,
+                right: flagged,
+            });
+        }
+    }
+    match first_outside(elements, offsets, sizes, validity) {
+        Some(row) => Err(out_of_bounds(row, elements.len())),
+        None => Ok(()),
+    }
+}
+
+// The first valid row that does not lie within the elements. A step is a stretch of rows in which
+// offset, size and validity stay the same, so rows in runs take as many steps as there are runs.
+fn first_outside<A: Allocator + Copy>(
+    elements: &FlatColumn<A>,
+    offsets: &ArrayRef<A>,
+    sizes: &ArrayRef<A>,
+    validity: &RowValidity<A>,
+) -> Option<usize>
+    requires types { AreListTypes offsets.now sizes.now validity.now }
+    requires sized { index_count (index_of (column_of sizes.now)) ≡ index_count (index_of (column_of offsets.now)) }
+    requires flagged { HasRows (validity_of validity.now) (index_count (index_of (column_of offsets.now))) }
+    ensures { MatchOption result
+        (AreLists (lists_of elements.now offsets.now sizes.now validity.now))
+        (λ row. IsFirstOutside (lists_of elements.now offsets.now sizes.now validity.now) row) }
+{
+    let rows = index_len(offsets);
+    let count = elements.len();
+    let mut flag_run = 0;
+    let mut offset_run = 0;
+    let mut size_run = 0;
+    let mut row = 0;
+    while row < rows {
+        let flag = validity.valid_from(&mut flag_run, row, rows);
+        let offset = index_from(offsets, &mut offset_run, row);
+        let size = index_from(sizes, &mut size_run, row);
+        if flag.value && !is_within(offset.value, size.value, count) {
+            return Some(row);
+        }
+        row = flag.stop.min(offset.stop).min(size.stop);
+    }
+    None
+}
+
+// Does the list of `size` elements from `offset` on lie within `count` elements?
+fn is_within(offset: u64, size: u64, count: usize) -> bool
+    ensures { IsTrue result ↔ (offset + size ≤ count) }
+{
+    let count = count as u64;
+    offset <= count && size <= count - offset
+}
+
+// The type of elements that lie in a flat column of this type.
+fn element_of(dtype: DType) -> ElementDType
+    ensures { result ≡ element_type_of dtype }
+{
+    match dtype {
+        DType::Bool(nullability) => ElementDType::Bool(nullability),
+        DType::Primitive(ptype, nullability) => ElementDType::Primitive(ptype, nullability),
+        DType::Decimal(decimal, nullability) => ElementDType::Decimal(decimal, nullability),
+        DType::Utf8(nullability) => ElementDType::Utf8(nullability),
+        DType::Binary(nullability) => ElementDType::Binary(nullability),
+        DType::List(element, _) => element,
     }
 }

@@ -17,24 +17,24 @@ use column_core::{
 };
 use std::alloc::Allocator;
 
-// The number at the position of a place, and 0 where that is null.
-fn number_at<A: Allocator + Copy>(
+/// The numbers of an index at the positions, 0 for null, flat. Refused as `OutOfMemory` alone.
+pub(crate) fn index_taken<A: Allocator + Copy>(
+    alloc: A,
     index: &ArrayRef<A>,
     positions: &[u64],
     places: &Validity<A>,
-    place: usize,
-) -> u64
+) -> VortexResult<ArrayRef<A>>
     requires index { IsIndex (column_of index.now) }
     requires fits { HasLength (form_of places.now) (length positions.now) }
     requires within { ArePlacesOf (index_count (index_of (column_of index.now))) positions.now (form_of places.now) }
-    requires there { place < length positions.now }
-    ensures { result ≡ number_taken (index_of (column_of index.now)) positions.now (form_of places.now) place }
+    ensures only { IsOkUnless result VortexError.OutOfMemory }
+    ensures index { IfOk result (λ part. IsIndex (column_of part)) }
+    ensures form { IfOk result (λ part. index_of (column_of part) ≡ PlainIndex (map (number_taken (index_of (column_of index.now)) positions.now (form_of places.now)) (range_with_len 0 (length positions.now)))) }
 {
-    if places.is_valid(place) {
-        index_at(index, positions[place] as usize)
-    } else {
-        0
-    }
+    let numbers = numbers_at(alloc, index, positions, places)?;
+    let values = PrimitiveValues::from_vec(numbers);
+    let flat = PrimitiveArray::new_unchecked(values, Validity::NonNullable);
+    Ok(ArrayRef::Primitive(flat))
 }
 
 // The numbers of an index at the positions.
@@ -57,80 +57,23 @@ fn numbers_at<A: Allocator + Copy>(
     Ok(numbers)
 }
 
-/// The numbers of an index at the positions, 0 for null, flat. Refused as `OutOfMemory` alone.
-pub(crate) fn index_taken<A: Allocator + Copy>(
-    alloc: A,
+// The number at the position of a place, and 0 where that is null.
+fn number_at<A: Allocator + Copy>(
     index: &ArrayRef<A>,
     positions: &[u64],
     places: &Validity<A>,
-) -> VortexResult<ArrayRef<A>>
+    place: usize,
+) -> u64
     requires index { IsIndex (column_of index.now) }
     requires fits { HasLength (form_of places.now) (length positions.now) }
     requires within { ArePlacesOf (index_count (index_of (column_of index.now))) positions.now (form_of places.now) }
-    ensures only { IsOkUnless result VortexError.OutOfMemory }
-    ensures index { IfOk result (λ part. IsIndex (column_of part)) }
-    ensures form { IfOk result (λ part. index_of (column_of part) ≡ PlainIndex (map (number_taken (index_of (column_of index.now)) positions.now (form_of places.now)) (range_with_len 0 (length positions.now)))) }
-{
-    let numbers = numbers_at(alloc, index, positions, places)?;
-    let values = PrimitiveValues::from_vec(numbers);
-    let flat = PrimitiveArray::new_unchecked(values, Validity::NonNullable);
-    Ok(ArrayRef::Primitive(flat))
-}
-
-// Is the row at the position of a place valid? Not where that is null.
-fn flag_at_place<A: Allocator + Copy>(
-    validity: &RowValidity<A>,
-    count: usize,
-    positions: &[u64],
-    places: &Validity<A>,
-    place: usize,
-) -> bool
-    requires plain { IsRowValidity validity.now }
-    requires counted { HasRows (validity_of validity.now) count }
-    requires fits { HasLength (form_of places.now) (length positions.now) }
-    requires within { ArePlacesOf count positions.now (form_of places.now) }
     requires there { place < length positions.now }
-    ensures { result ≡ flag_taken (validity_of validity.now) positions.now (form_of places.now) place }
+    ensures { result ≡ number_taken (index_of (column_of index.now)) positions.now (form_of places.now) place }
 {
     if places.is_valid(place) {
-        validity.is_valid(positions[place] as usize, count)
+        index_at(index, positions[place] as usize)
     } else {
-        false
-    }
-}
-
-// Whether each row at the positions is valid, of `count` rows.
-fn flags_at<A: Allocator + Copy>(
-    alloc: A,
-    validity: &RowValidity<A>,
-    count: usize,
-    positions: &[u64],
-    places: &Validity<A>,
-) -> VortexResult<BitBuffer<A>>
-    requires plain { IsRowValidity validity.now }
-    requires counted { HasRows (validity_of validity.now) count }
-    requires fits { HasLength (form_of places.now) (length positions.now) }
-    requires within { ArePlacesOf count positions.now (form_of places.now) }
-    ensures only { IsOkUnless result VortexError.OutOfMemory }
-    ensures flags { IfOk result (λ bits. bits ≡ map (flag_taken (validity_of validity.now) positions.now (form_of places.now)) (range_with_len 0 (length positions.now))) }
-{
-    let mut bits = BitBufferMut::with_capacity(alloc, positions.len())?;
-    for place in 0..positions.len() {
-        bits.append(flag_at_place(validity, count, positions, places, place))?;
-    }
-    Ok(bits.freeze())
-}
-
-// With null where the rows or the positions have null.
-fn nullability_at<A: Allocator + Copy>(
-    validity: &RowValidity<A>,
-    places: &Validity<A>,
-) -> Nullability
-    ensures { result ≡ nullability_taken (row_nullability (validity_of validity.now)) (nullability_in (form_of places.now)) }
-{
-    match validity.nullability() {
-        Nullability::NonNullable => places.nullability(),
-        Nullability::Nullable => Nullability::Nullable,
+        0
     }
 }
 
@@ -157,5 +100,62 @@ pub(crate) fn validity_taken<A: Allocator + Copy>(
             let flags = flags_at(alloc, validity, count, positions, places)?;
             Ok(told_by_rows(Validity::from_bits(flags)))
         }
+    }
+}
+
+// With null where the rows or the positions have null.
+fn nullability_at<A: Allocator + Copy>(
+    validity: &RowValidity<A>,
+    places: &Validity<A>,
+) -> Nullability
+    ensures { result ≡ nullability_taken (row_nullability (validity_of validity.now)) (nullability_in (form_of places.now)) }
+{
+    match validity.nullability() {
+        Nullability::NonNullable => places.nullability(),
+        Nullability::Nullable => Nullability::Nullable,
+    }
+}
+
+// Whether each row at the positions is valid, of `count` rows.
+fn flags_at<A: Allocator + Copy>(
+    alloc: A,
+    validity: &RowValidity<A>,
+    count: usize,
+    positions: &[u64],
+    places: &Validity<A>,
+) -> VortexResult<BitBuffer<A>>
+    requires plain { IsRowValidity validity.now }
+    requires counted { HasRows (validity_of validity.now) count }
+    requires fits { HasLength (form_of places.now) (length positions.now) }
+    requires within { ArePlacesOf count positions.now (form_of places.now) }
+    ensures only { IsOkUnless result VortexError.OutOfMemory }
+    ensures flags { IfOk result (λ bits. bits ≡ map (flag_taken (validity_of validity.now) positions.now (form_of places.now)) (range_with_len 0 (length positions.now))) }
+{
+    let mut bits = BitBufferMut::with_capacity(alloc, positions.len())?;
+    for place in 0..positions.len() {
+        bits.append(flag_at_place(validity, count, positions, places, place))?;
+    }
+    Ok(bits.freeze())
+}
+
+// Is the row at the position of a place valid? Not where that is null.
+fn flag_at_place<A: Allocator + Copy>(
+    validity: &RowValidity<A>,
+    count: usize,
+    positions: &[u64],
+    places: &Validity<A>,
+    place: usize,
+) -> bool
+    requires plain { IsRowValidity validity.now }
+    requires counted { HasRows (validity_of validity.now) count }
+    requires fits { HasLength (form_of places.now) (length positions.now) }
+    requires within { ArePlacesOf count positions.now (form_of places.now) }
+    requires there { place < length positions.now }
+    ensures { result ≡ flag_taken (validity_of validity.now) positions.now (form_of places.now) place }
+{
+    if places.is_valid(place) {
+        validity.is_valid(positions[place] as usize, count)
+    } else {
+        false
     }
 }
