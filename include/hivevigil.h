@@ -11,12 +11,8 @@
  * OWNERSHIP. A handle, hv_column, owns its column. A call that is lent columns leaves them as they are; what it makes is a
  * column of its own. What C passes (numbers, bits, bytes) is copied, and is C's own again when the call returns.
  *
- * WHAT IS BEHIND IT. The contracts in crates/hivevigil/src, each proved, say what a call leaves and answers with 0, that
- * a refused one leaves every column as it was, and that columns that are lent stay. Number and fields of each refusal are
- * part of the contract of every call.
- * All of it rests on what a caller owes (next), and on the malloc, realloc and free that are linked. Not proved: that this
- * header fits the library (C has no proof; the names are compared, and the layouts used by tests), and that all memory is
- * freed (tested).
+ * WHAT IS BEHIND IT. What a call leaves, what it answers, and the number and fields by which it is refused are proved
+ * of the library, where callers do what they owe (next); docs/PROVED.md says it call by call, and what is tested alone.
  *
  * WHAT A CALLER OWES:
  *  - a handle starts as HV_EMPTY, is written by this library alone, and hv_free empties it; a copy of the struct is no
