@@ -106,7 +106,8 @@ moved_extremes sum ns low high extremes = record {
       (λ n h. let from = h.0 in let to = h.1 in (omega (arith, ints), omega (arith, ints))) ns extremes.between);
 }
 
--- the sums on the way of joined rows are those of the first part, and those of the second moved by the total of the first
+-- the sums on the way of joined rows are those of the first part, and those of the second moved by the total of the
+-- first
 sums_of_joined : (rows rows' : List (Option ℤ)) → sums_alone (rows ++ rows') ≡ sums_alone rows ++ map (λ n. total rows +ℤ n) (sums_alone rows')
 sums_of_joined rows rows' =
     let zero : total rows ≡ total rows +ℤ pos 0 = omega (arith, ints) in

@@ -11,7 +11,8 @@ use Rattle.column_order.specs.Steps.{is_step_of}
 abbrev pub AreNull : List (Option Value) → Type 0
 AreNull rows = All (λ row. row ≡ None) rows
 
--- the row furthest to one side of two parts is that of the second where it is past that of the first, and else that of the first; a part of nulls alone changes nothing
+-- the row furthest to one side of two parts is that of the second where it is past that of the first, and else that of
+-- the first; a part of nulls alone changes nothing
 pub record FurthestOfJoined (side : Ordering) (rows rows' : List (Option Value)) : Type 0 where
   pub second : (row row' : Option Value) → IsFurthest side rows row → IsFurthest side rows' row' → row_cmp row' row ≡ side → IsFurthest side (rows ++ rows') row'
   pub first : (row row' : Option Value) → IsFurthest side rows row → IsFurthest side rows' row' → row_cmp row' row ≢ side → IsFurthest side (rows ++ rows') row

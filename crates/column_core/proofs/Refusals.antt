@@ -18,7 +18,7 @@ refused_by true Fault error (Err other) decides refused only = let e = refused.1
 refused_by false Fault error (Ok value) decides refused only = refl
 refused_by false Fault error (Err other) decides refused only = inl (only (λ fault. false≢true (decides.1 fault)))
 
--- the same of a bad range
+-- refused as a bad range exactly where the range is one, else for want of memory alone
 pub refused_by_range : {T : Type 0} (start stop count : ℕ) (result : Result T VortexError)
     → (IsErrOf result (BadRange start stop count) ↔ IsBadRange start stop count) → (¬ IsBadRange start stop count → IsOkUnless result OutOfMemory)
     → IsRefusedBy (range_fault start stop count) result

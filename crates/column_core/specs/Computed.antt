@@ -12,7 +12,8 @@ use Rattle.column_core.specs.Leaf.{Leaf, OfNumbers, OfTruths, OfDecimals, OfVarB
 abbrev pub HasRowIfAllNull : ValidityForm → ℕ → Type 0
 HasRowIfAllNull form count = form ≡ AllNull → 0 < count
 
--- items as a call computes them: the blank one is stored under null, bits stand only for rows of both kinds, and no rows are not all null
+-- items as a call computes them: the blank one is stored under null, bits stand only for rows of both kinds, and no
+-- rows are not all null
 pub record AreComputed {B : Type 0} (blank : B) (items : List B) (validity : ValidityForm) : Type 0 where
   pub blanked : AreBlankAtNulls blank items (flags validity (length items))
   pub normal : IsNormal validity

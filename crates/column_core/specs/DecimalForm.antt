@@ -7,7 +7,8 @@ use Rattle.column_base.specs.ValidityForm.{ValidityForm, flags, nullability_in}
 use Rattle.column_core.specs.Value.{FlatValue, DecimalNumber}
 use Rattle.column_core.specs.Optionals.{optionals, AreBlankAtNulls}
 
--- the form: precision and scale, the whole numbers of the decimals as they are stored, also under null, and which rows are valid
+-- the form: precision and scale, the whole numbers of the decimals as they are stored, also under null, and which rows
+-- are valid
 pub record DecimalForm : Type 0 where
   pub decimal : DecimalDType
   pub numbers : List ℤ

@@ -26,7 +26,8 @@ pub record IsListIn (e : ElementDType) (elements : Leaf) (start size : ℕ) : Ty
   pub within : start + size ≤ length (leaf_rows elements)
   pub element : element_of (leaf_dtype elements) ≡ e
 
--- the view is of the type: unsigned numbers are seen as Unsigned, signed ones as Signed, and a list has elements of its type and lies within them
+-- the view is of the type: unsigned numbers are seen as Unsigned, signed ones as Signed, and a list has elements of its
+-- type and lies within them
 abbrev pub IsViewOf : {A : Type 0} → DType → ScalarView A → Type 0
 IsViewOf t view.Null = MayBeNull (nullability_of t)
 IsViewOf (column.Bool n) (view.Bool b) = Unit {0}

@@ -14,7 +14,7 @@ take_next [] k x here = cc
 take_next (y ∷ xs) zero x here = cc
 take_next (y ∷ xs) (suc k) x here = ap (λ ys. y ∷ ys) (take_next xs k x here)
 
--- the same where the next place is counted by a sum
+-- one item more of a list, where the next place is counted by a sum
 pub take_more : {B : Type 0} (xs : List B) (k : ℕ) (x : B) → slice_get xs k ≡ Some x → take (k + 1) xs ≡ take k xs ++ x ∷ []
 take_more xs k x here = rw add-one (take_next xs k x here)
 

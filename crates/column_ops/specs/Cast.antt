@@ -37,7 +37,7 @@ abbrev pub null_fault : Nullability → Option VortexError
 null_fault NonNullable = Some NullNotAllowed
 null_fault Nullable = None
 
--- the same of an optional item, of any kind
+-- an optional item, of any kind, that is null where rows may not be null
 abbrev pub null_row_fault : {B : Type 0} → Nullability → Option B → Option VortexError
 null_row_fault nullability None = null_fault nullability
 null_row_fault nullability (Some x) = None

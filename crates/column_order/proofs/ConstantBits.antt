@@ -305,7 +305,7 @@ stored-of_array operator leaf right array bits form count some made told flagged
     subst IsStoredComparison (sym made)
     (IsStored-bits bits form count long normal rows (stored_values-blank operator (single_rows leaf) right bits (flags form (length bits)) some told flagged))
 
--- the same of a comparison with null
+-- the rows of a comparison with null are null each
 pub rows-of_nulls : (operator : CompareOperator) (leaf : Leaf) (right : Option Value) (array : BoolForm) (form : ValidityForm) (count : ℕ) → is_none right ≡ true
     → array ≡ bool_with (replicate count false) form → flags form count ≡ replicate count false → count ≡ length (leaf_rows leaf)
     → map row_of (bool_rows array) ≡ compare_with operator (single_rows leaf) right

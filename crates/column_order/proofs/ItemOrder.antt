@@ -148,7 +148,8 @@ step-null true right some = let seen = some refl in rw seen.1 refl
 step-null false None some = refl
 step-null false (Some seen) some = refl
 
--- rows that begin with nulls are sorted where those behind them are, and where strict order is asked there is one null at most
+-- rows that begin with nulls are sorted where those behind them are, and where strict order is asked there is one null
+-- at most
 pub sorted-behind : (strict : Bool) (rows : List (Option Value)) (start from stop : ℕ) → start ≤ from → from ≤ stop → stop ≤ length rows
     → ((k : ℕ) → start ≤ k → k < from → slice_get rows k ≡ Some None) → (strict ≡ true → from ≤ start + 1)
     → (from < stop → (seen : Value) × (slice_get rows from ≡ Some (Some seen)))

@@ -13,7 +13,8 @@ pub record IsSummed (range : SumRange) (before : List (ℤ × ℕ)) (runs : List
   pub calls : sum.calls ++ through_first_leaving range sum.value (valid_runs (drop run runs)) ≡ before ++ calls_of range runs
   pub empty : (is_empty && are_null (rows_of_runs (drop run runs))) ≡ are_null (rows_of_runs runs)
 
--- the runs were summed: their rows have this sum, or null, these calls were made, and it is said whether no row is valid
+-- the runs were summed: their rows have this sum, or null, these calls were made, and it is said whether no row is
+-- valid
 pub record IsSumOfRuns (range : SumRange) (before : List (ℤ × ℕ)) (runs : List (Option ℤ × ℕ)) (sum : Option ℤ) (calls : List (ℤ × ℕ)) (is_empty : Bool) : Type 0 where
   pub value : sum ≡ sum_of_rows range (rows_of_runs runs)
   pub made : calls ≡ before ++ calls_of range runs

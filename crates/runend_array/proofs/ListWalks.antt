@@ -17,7 +17,8 @@ use Rattle.column_base.specs.ValidityForm.{NeverNull, NoneNull, AllNull, ByBits}
 use Rattle.runend_array.specs.Lists.{ByRows, ByRuns, Index, IsFlagRunUpTo, IsRunUpTo, IsWithinElements, Lists, PlainIndex, RowValidityForm, RunIndex, flag_stop, index_at, index_count, index_stop, row_flag_at, run_stop}
 use Rattle.runend_array.proofs.ListSlice.{slice_get-made_from}
 
--- the rows from `start` on that the runs before `run` show, of `count` at most, where `shown` tells what a run shows: the row behind them is in no run before
+-- the rows from `start` on that the runs before `run` show, of `count` at most, where `shown` tells what a run shows:
+-- the row behind them is in no run before
 pub record Walked {X : Type 0} (shown : ℕ → X) (ends : List ℕ) (offset start count run : ℕ) (rows : List X) : Type 0 where
   pub short : length rows ≤ count
   pub next : length rows < count → run ≤ run_at ends (offset + (start + length rows))
@@ -170,7 +171,8 @@ row_flag_at-stays (ByRows (ByBits bits)) rows i k from below =
 row_flag_at-stays (ByRuns ends_type ends bits offset count) rows i k from below =
     ap (λ (n : ℕ). slice_index_or bits n false) (run_at-stays ends offset count i k from below)
 
--- where the valid rows before one lie within the elements, and so does that one if it is valid, so do those before the nearest end of its three stretches
+-- where the valid rows before one lie within the elements, and so does that one if it is valid, so do those before the
+-- nearest end of its three stretches
 pub within-stretch : (lists : Lists) (rows i : ℕ) → ((k : ℕ) → k < i → IsTrue (row_flag_at lists.validity k) → IsWithinElements lists k)
     → (IsTrue (row_flag_at lists.validity i) → IsWithinElements lists i) → (k : ℕ) → k < min (min (flag_stop lists.validity rows i) (index_stop lists.offsets i)) (index_stop lists.sizes i)
     → IsTrue (row_flag_at lists.validity k) → IsWithinElements lists k

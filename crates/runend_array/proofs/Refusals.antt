@@ -19,7 +19,7 @@ value_is_no_refusal {T} value e is = subst (λ (x : Result T VortexError). IfErr
 pub within_is_no_refusal : {T : Type 0} (value : T) (e : VortexError) (index count : ℕ) → index < count → (IsErrOf (Ok value) e → count ≤ index) × (count ≤ index → IsErrOf (Ok value) e)
 within_is_no_refusal value e index count within = ((λ is. absurd (value_is_no_refusal value e is)), (λ past. absurd (omega (arith, past, within))))
 
--- the same, where the rows are those of a flat column
+-- of an index within the rows of a flat column a value is given, and no refusal
 pub within_is_no_refusal-flat : {T : Type 0} (value : T) (e : VortexError) (index count : ℕ) (items : List (Option FlatValue)) → count ≡ length items → index < count
     → (IsErrOf (Ok value) e → length (map (option_map Single) items) ≤ index) × (length (map (option_map Single) items) ≤ index → IsErrOf (Ok value) e)
 within_is_no_refusal-flat value e index count items is within =

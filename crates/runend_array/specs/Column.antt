@@ -17,7 +17,7 @@ pub record Constant : Type 0 where
   pub value : Option FlatValue
   pub count : ℕ
 
--- the same value, in so many rows
+-- the value of a constant, in so many rows
 abbrev pub repeated : Constant → ℕ → Constant
 repeated constant count = record { dtype = constant.dtype; value = constant.value; count = count }
 

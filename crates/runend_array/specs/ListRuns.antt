@@ -9,7 +9,8 @@ pub record IsValidityInRuns (ends_type : PType) (ends : List ℕ) (values : RowV
   pub kept : IsNone (rows_told values) → rows ≡ values
   pub runs : ¬ IsNone (rows_told values) → rows ≡ ByRuns ends_type ends (row_flags_of values values_count) offset count
 
--- lists over the same elements, with offsets, sizes and, where it is stored, validity in runs over flat values, of the same ends and window
+-- lists over the same elements, with offsets, sizes and, where it is stored, validity in runs over flat values, of the
+-- same ends and window
 pub record AreListsInRuns (ends_type : PType) (ends : List ℕ) (values : Lists) (offset count : ℕ) (lists : Lists) : Type 0 where
   pub elements : lists.elements ≡ values.elements
   pub offsets : lists.offsets ≡ RunIndex ends_type ends (index_numbers values.offsets) offset count

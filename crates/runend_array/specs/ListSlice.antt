@@ -9,7 +9,8 @@ abbrev pub IsNormalByRows : RowValidityForm → Type 0
 IsNormalByRows (ByRows form) = IsNormal form
 IsNormalByRows (ByRuns ends_type ends bits offset count) = ⊥
 
--- the validity of a range of rows: as it stands where its form serves any number of rows, else told row by row with no bits to spare
+-- the validity of a range of rows: as it stands where its form serves any number of rows, else told row by row with no
+-- bits to spare
 pub record IsValidityInRange (whole : RowValidityForm) (start stop : ℕ) (part : RowValidityForm) : Type 0 where
   pub kept : IsNone (rows_told whole) → part ≡ whole
   pub normal : IsNormalByRows part
@@ -17,7 +18,8 @@ pub record IsValidityInRange (whole : RowValidityForm) (start stop : ℕ) (part 
   pub flags : (i : ℕ) → i < stop - start → row_flag_at part i ≡ row_flag_at whole (start + i)
   pub nullability : row_nullability part ≡ row_nullability whole
 
--- lists over the same elements, with flat offsets and sizes of these rows, as they are stored, and the validity of these rows
+-- lists over the same elements, with flat offsets and sizes of these rows, as they are stored, and the validity of
+-- these rows
 pub record AreListsInRange (whole : Lists) (start stop : ℕ) (part : Lists) : Type 0 where
   pub elements : part.elements ≡ whole.elements
   pub offsets : part.offsets ≡ PlainIndex (slice_range (index_numbers whole.offsets) start stop)

@@ -40,7 +40,8 @@ pub record IsValidityAt (whole : RowValidityForm) (positions : List ℕ) (places
   pub flags : (place : ℕ) → place < length positions → row_flag_at part place ≡ flag_taken whole positions places place
   pub nullability : row_nullability part ≡ nullability_taken (row_nullability whole) (nullability_in places)
 
--- lists over the same elements, with the offsets and sizes at these positions, as they are stored, and the validity of these rows
+-- lists over the same elements, with the offsets and sizes at these positions, as they are stored, and the validity of
+-- these rows
 pub record AreListsAt (whole : Lists) (positions : List ℕ) (places : ValidityForm) (part : Lists) : Type 0 where
   pub elements : part.elements ≡ whole.elements
   pub offsets : part.offsets ≡ PlainIndex (map (number_taken whole.offsets positions places) (range_with_len 0 (length positions)))

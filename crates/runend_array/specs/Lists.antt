@@ -11,7 +11,8 @@ use Rattle.column_core.specs.Value.{Value, Items, element_of}
 use Rattle.column_core.specs.Leaf.{Leaf, leaf_rows, leaf_dtype}
 use Rattle.runend_codec.specs.Window.{run_at}
 
--- numbers that are stored one by one, or as runs over flat numbers: the type of the ends, the ends, the numbers, the offset and the number of rows
+-- numbers that are stored one by one, or as runs over flat numbers: the type of the ends, the ends, the numbers, the
+-- offset and the number of rows
 pub data Index : Type 0 where
   PlainIndex : List ℕ → Index
   RunIndex : PType → List ℕ → List ℕ → ℕ → ℕ → Index
@@ -59,7 +60,8 @@ abbrev pub IsFlagRunUpTo : RowValidityForm → ℕ → ℕ → Type 0
 IsFlagRunUpTo (ByRows form) run i = ⊤
 IsFlagRunUpTo (ByRuns ends_type ends bits offset count) run i = run ≤ run_at ends (offset + i)
 
--- where the stretch of a row ends, of so many rows: that row alone where there is a bit for each row, the rest of its run in runs, and else all rows from it on
+-- where the stretch of a row ends, of so many rows: that row alone where there is a bit for each row, the rest of its
+-- run in runs, and else all rows from it on
 abbrev pub flag_stop : RowValidityForm → ℕ → ℕ → ℕ
 flag_stop (ByRows NeverNull) rows i = rows
 flag_stop (ByRows NoneNull) rows i = rows
@@ -81,7 +83,8 @@ abbrev pub row_nullability : RowValidityForm → Nullability
 row_nullability (ByRows form) = nullability_in form
 row_nullability (ByRuns ends_type ends bits offset count) = Nullable
 
--- the form of a column of lists: the elements of all lists, and for each row the first of its elements, how many they are, and whether it is valid
+-- the form of a column of lists: the elements of all lists, and for each row the first of its elements, how many they
+-- are, and whether it is valid
 pub record Lists : Type 0 where
   pub elements : Leaf
   pub offsets : Index
@@ -112,7 +115,8 @@ list_dtype lists = column.List (element_of (leaf_dtype lists.elements)) (row_nul
 abbrev pub IsWithinElements : Lists → ℕ → Type 0
 IsWithinElements lists i = index_at lists.offsets i + index_at lists.sizes i ≤ length (leaf_rows lists.elements)
 
--- a column of lists: a size and a flag for each offset, and the elements of each valid row lie within those that there are
+-- a column of lists: a size and a flag for each offset, and the elements of each valid row lie within those that there
+-- are
 pub record AreLists (lists : Lists) : Type 0 where
   pub sized : index_count lists.sizes ≡ list_count lists
   pub flagged : HasRows lists.validity (list_count lists)

@@ -1,4 +1,5 @@
--- The rows that a decoder has so far: it goes over the runs, and appends copies of each run's value up to where the run reaches in the window.
+-- The rows that a decoder has so far: it goes over the runs, and appends copies of each run's value up to where the run
+-- reaches in the window.
 use Rattle.std.proofs.Common.{◌≡◌, ℕ, zero, suc, ◌+◌, ◌-◌, ◌<◌, ◌≤◌, List, [], ◌∷◌, ◌++◌, Some, length, min, replicate, slice_index, map, refl, sym, ◌∙◌, ap, arith, add-one, inl, inr, length-append}
 use Rattle.std.proofs.lemmas.Bool.{cases_lt}
 use Rattle.std.proofs.lemmas.List.{length-map, length-replicate}

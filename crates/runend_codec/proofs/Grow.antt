@@ -1,4 +1,5 @@
--- Tiles that grow at their end, as an encoder makes them that walks the rows with one run open. What it has made at the end is a tight cover.
+-- Tiles that grow at their end, as an encoder makes them that walks the rows with one run open. What it has made at the
+-- end is a tight cover.
 use Rattle.std.proofs.Common.{◌≡◌, ◌≢◌, ℕ, zero, suc, ◌+◌, ◌^◌, ◌<◌, ◌≤◌, List, [], ◌∷◌, ◌++◌, Some, length, slice_index, refl, sym, subst, ◌∙◌, ap, arith, add-one, zero-add, inl, inr, length-append}
 use Rattle.std.proofs.lemmas.Bool.{cases_lt}
 use Rattle.std.specs.List.{slice_get, AllAdjacentBelow}

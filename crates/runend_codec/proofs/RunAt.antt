@@ -1,4 +1,5 @@
--- Which run a position is in: `run_at` step by step along the ends, against the fact told by index, and against a count.
+-- Which run a position is in: `run_at` step by step along the ends, against the fact told by index, and against a
+-- count.
 use Rattle.std.proofs.Common.{◌≡◌, ◌↔◌, ℕ, suc, ◌+◌, ◌-◌, ◌<◌, ◌≤◌, List, [], ◌∷◌, length, slice_index, count_by, cond, nat_lt, nat_le, refl, sym, subst, ◌∙◌, arith, add-one, inl, inr}
 use Rattle.std.proofs.lemmas.Bool.{cases_lt, lt-ltb, le-ltb, ltb-true, ltb-false, le-leb, lt-leb}
 use Rattle.std.proofs.lemmas.Bool.Decides.{nat_tests}

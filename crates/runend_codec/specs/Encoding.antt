@@ -40,7 +40,7 @@ pub record IsDecodedLeaf (ends : List ℕ) (values : Leaf) (offset count : ℕ) 
   pub dtype : leaf_dtype array ≡ leaf_dtype values
   pub computed : IsComputedLeaf array
 
--- the same of whole numbers
+-- the flat column of whole numbers of the rows that runs with these ends and values show
 pub record IsDecodedFlat (ends : List ℕ) (values : PrimitiveForm) (offset count : ℕ) (array : PrimitiveForm) : Type 0 where
   pub rows : number_rows array ≡ run_rows ends (number_rows values) offset count
   pub dtype : primitive_dtype array ≡ primitive_dtype values

@@ -1,4 +1,5 @@
--- What the typed decoders are given, ends from any iterator and values under a mask, and what they answer. A run may be empty.
+-- What the typed decoders are given, ends from any iterator and values under a mask, and what they answer. A run may be
+-- empty.
 use Rattle.std.specs.Prelude.{◌≡◌, ℕ, ◌<◌, ℤ, List, Bool, Option, length, map, option_map, slice_get}
 use Rattle.std.specs.Iterator.{AlwaysYields}
 use Rattle.std.specs.List.Sorted.{IsNonDecreasing}
@@ -10,8 +11,8 @@ use Rattle.column_core.specs.Value.{Value, Truth, Number, Single}
 use Rattle.column_core.specs.Optionals.{optionals}
 use Rattle.runend_codec.specs.Window.{run_at, last_end}
 
--- the iterator gives these ends and no more: one for each run, none below the one before it, and the last behind the last of
--- `count` rows; so there is no run only where there is no row
+-- the iterator gives these ends and no more: one for each run, none below the one before it, and the last behind the
+-- last of `count` rows; so there is no run only where there is no row
 pub record AreRunEnds {S : Type 0} (gives : S → Option ℕ → S → Type 0) (run_ends : S) (runs count : ℕ) (ends : List ℕ) : Type 0 where
   pub yields : AlwaysYields gives (λ end. end) run_ends ends
   pub paired : length ends ≡ runs

@@ -7,7 +7,7 @@ use Rattle.std.specs.List.Sorted.{IsStrictlyIncreasing}
 abbrev pub run_at : List ℕ → ℕ → ℕ
 run_at ends position = position_or_len (λ e. nat_lt position e) ends
 
--- the same run, told by index: it ends past the position, and each run before it does not
+-- the run of a position, told by index: it ends past the position, and each run before it does not
 pub record IsRunAt (ends : List ℕ) (position run : ℕ) : Type 0 where
   pub within : run < length ends
   pub past : position < slice_index ends run

@@ -24,7 +24,8 @@ SlotsFault m dtype ends values error = ⊥
 abbrev pub StatedFault : RunEndMetadata → DType → ℕ → Column → Column → VortexError → Type 0
 StatedFault m dtype count ends values error = SlotsFault m dtype ends values error ⊎ (AreStatedSlots m dtype ends values × PartsFault ends values m.offset count error)
 
--- the first fault of bytes, ends and values: the bytes are no record, or state an unknown type of ends, or else a fault under their record
+-- the first fault of bytes, ends and values: the bytes are no record, or state an unknown type of ends, or else a fault
+-- under their record
 abbrev pub RecordFault : List ℕ → DType → ℕ → Column → Column → VortexError → Type 0
 RecordFault bytes dtype count ends values BadMetadata = ¬ IsRecord bytes
 RecordFault bytes dtype count ends values (EndsTypeNumber number) = StatesUnknownEndsType bytes number

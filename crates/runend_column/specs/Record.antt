@@ -4,7 +4,8 @@ use Rattle.runend_metadata.specs.EndsType.{ends_type_number}
 use Rattle.runend_metadata.specs.declared.metadata.RunEndMetadata.{RunEndMetadata}
 use Rattle.runend_array.specs.Column.{Column, Runs, IsPlainEnds, end_numbers, end_ptype}
 
--- the number of the type of the ends, the number of runs, and the offset; the ends of a run column are of a type that has a number
+-- the number of the type of the ends, the number of runs, and the offset; the ends of a run column are of a type that
+-- has a number
 abbrev pub record_of : Runs → RunEndMetadata
 record_of r = record { ends_ptype = unwrap_or (ends_type_number r.ends_type) (pos 0); num_runs = length r.ends; offset = r.offset }
 

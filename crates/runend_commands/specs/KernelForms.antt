@@ -1,4 +1,5 @@
--- What kernels, registered or not, add to the steps of a run: the forms that they leave, and answers that want no memory.
+-- What kernels, registered or not, add to the steps of a run: the forms that they leave, and answers that want no
+-- memory.
 use Rattle.std.specs.Prelude.{◌≡◌, ◌≢◌, ◌⊎◌, List, true}
 use Rattle.column_base.specs.declared.dtype.DType.{DType}
 use Rattle.column_base.specs.declared.error.VortexError.TheVariants.{OutOfMemory}
@@ -40,7 +41,8 @@ HasConstantKernel session kernel (OfConstant constant) = is_registered_in sessio
 HasConstantKernel session kernel (OfLists lists) = ⊥
 HasConstantKernel session kernel (OfRuns ends_type ends values offset count) = ⊥
 
--- a column whose rows an aggregate reads where they are, so that it takes no memory: runs or a constant whose kernel is registered, or a flat column, whatever is registered
+-- a column whose rows an aggregate reads where they are, so that it takes no memory: runs or a constant whose kernel is
+-- registered, or a flat column, whatever is registered
 abbrev pub IsReadInPlace : SessionForm → Kernel → Column → Type 0
 IsReadInPlace session kernel before = HasKernel session kernel before ⊎ HasConstantKernel session kernel before ⊎ IsLeaf before
 
@@ -56,7 +58,8 @@ pub record ByKernel (session : SessionForm) (kernel : Kernel) (before : Column) 
   pub served : HasKernel session kernel before → OnRuns before Served
   pub otherwise : ¬ HasKernel session kernel before → Otherwise
 
--- the kernel leaves runs, of whole numbers in least form and of another type over the visible runs; where it does not serve the column, the rows are flat
+-- the kernel leaves runs, of whole numbers in least form and of another type over the visible runs; where it does not
+-- serve the column, the rows are flat
 abbrev pub KeepsRuns : SessionForm → Kernel → DType → Column → Column → Type 0
 KeepsRuns session kernel dtype before after = ByKernel session kernel before (λ runs. IsRunForm dtype runs after) (IsFlat after)
 

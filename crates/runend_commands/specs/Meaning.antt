@@ -97,7 +97,8 @@ IsTightColumn rows (OfLists lists) = ⊥
 IsTightColumn rows (OfRuns ends_type ends values offset count) =
     IsTightCover rows ends (column_rows values) × (offset ≡ 0) × (count ≡ length rows) × AreNarrowEnds ends_type ends rows
 
--- what a command promises of the form that it leaves, whichever kernels there are: one that only answers leaves the array as it is
+-- what a command promises of the form that it leaves, whichever kernels there are: one that only answers leaves the
+-- array as it is
 abbrev pub LeavesForm : {A : Type 0} → ArrayRef A → Command A → ArrayRef A → Type 0
 LeavesForm before Encode after = IsTightColumn (column_rows (column_of before)) (column_of after)
 LeavesForm before Decode after = IsFlat (column_of after)

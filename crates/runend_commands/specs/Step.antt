@@ -18,7 +18,8 @@ pub record IsDone {A : Type 0} (before : ArrayRef A) (command : Command A) (answ
   pub answered : IsAnswer (plain before) command answer
   pub form : LeavesForm before command after
 
--- one command: memory was refused, or the command is refused as its definition says, and either way the array is the one before, form included; or it is done
+-- one command: memory was refused, or the command is refused as its definition says, and either way the array is the
+-- one before, form included; or it is done
 pub data IsStep {A : Type 0} (before : ArrayRef A) (command : Command A) (answer : Answer A) (after : ArrayRef A) : Type 0 where
   IsShort : answer ≡ Refused OutOfMemory → after ≡ before → IsStep before command answer after
   IsRefused : (error : VortexError) → refusal (plain before) command ≡ Some error → answer ≡ Refused error → after ≡ before → IsStep before command answer after

@@ -11,7 +11,8 @@ use Rattle.runend_codec.specs.Cover.{IsTightCover}
 use Rattle.runend_codec.specs.Ends.{ends_of}
 use Rattle.runend_codec.specs.Window.{last_end}
 
--- the values of runs with these ends: with these ends they are the only tight exact cover of the rows, of the same type, as a call computes them
+-- the values of runs with these ends: with these ends they are the only tight exact cover of the rows, of the same
+-- type, as a call computes them
 pub record AreRunValues (rows : List (Option Value)) (dtype : DType) (ends : List ℕ) (values : Leaf) : Type 0 where
   pub cover : IsTightCover rows ends (single_rows values)
   pub typed : leaf_dtype values ≡ dtype

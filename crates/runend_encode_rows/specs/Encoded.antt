@@ -8,7 +8,8 @@ use Rattle.runend_codec.specs.Window.{last_end}
 use Rattle.runend_array.specs.Column.{Column, OfLeaf, OfConstant, OfLists, OfRuns, Runs, column_dtype, column_rows}
 use Rattle.runend_array.specs.Encoding.{IsComputedFlat}
 
--- a run column that is the encoding of rows of a type: their only tight exact cover, from the first row to the last, with ends of the least unsigned type and flat values
+-- a run column that is the encoding of rows of a type: their only tight exact cover, from the first row to the last,
+-- with ends of the least unsigned type and flat values
 pub record IsEncodedRows (rows : List (Option Value)) (wanted : DType) (runs : Runs) : Type 0 where
   pub cover : IsTightCover rows runs.ends (column_rows runs.values)
   pub offset : runs.offset ≡ 0

@@ -1,4 +1,5 @@
--- Runs joined one after another: the rows that the first runs reach are those of the runs made so far, the last of which is open.
+-- Runs joined one after another: the rows that the first runs reach are those of the runs made so far, the last of
+-- which is open.
 use Rattle.std.proofs.Common.{◌≡◌, ◌≢◌, ℕ, zero, suc, ◌+◌, ◌-◌, ◌<◌, ◌≤◌, List, [], ◌∷◌, ◌++◌, Some, length, map, min, slice_index, refl, sym, subst, ◌∙◌, ap, arith, add-one, inl, inr}
 use Rattle.std.proofs.lemmas.Bool.{cases_lt}
 use Rattle.std.proofs.lemmas.List.{get_or-map, length-map}
@@ -155,7 +156,8 @@ last-windowed (end ∷ ends) offset count window =
       | inr none ↦ omega arith
     ]
 
--- runs that show a row each, of which each differs from the next, are a tight cover once their ends are counted from the first row
+-- runs that show a row each, of which each differs from the next, are a tight cover once their ends are counted from
+-- the first row
 pub tight-windowed : {A : Type 0} (rows : List A) (ends : List ℕ) (values : List A) (offset count : ℕ) → Covers rows ends values offset count → AllHaveRows ends offset count
     → AllAdjacentBelow (λ x y. x ≢ y) values (length values) → IsTightCover rows (windowed ends offset count) values
 tight-windowed rows ends values offset count cover shown differ =

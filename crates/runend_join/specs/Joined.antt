@@ -12,7 +12,8 @@ use Rattle.runend_codec.specs.Window.{run_rows}
 abbrev pub AllHaveRows : List ℕ → ℕ → ℕ → Type 0
 AllHaveRows ends offset count = (run : ℕ) → run < length ends → HasRow ends offset count run
 
--- the tight exact cover of the rows that runs show, with ends and values of the same types, the values as a call computes them
+-- the tight exact cover of the rows that runs show, with ends and values of the same types, the values as a call
+-- computes them
 pub record AreJoined (ends values : PrimitiveForm) (offset count : ℕ) (joined_ends joined_values : PrimitiveForm) : Type 0 where
   pub cover : IsTightCover (run_rows (ends_of ends) (number_rows values) offset count) (ends_of joined_ends) (number_rows joined_values)
   pub ends_dtype : primitive_dtype joined_ends ≡ primitive_dtype ends

@@ -3,7 +3,8 @@ use Rattle.std.specs.Prelude.{◌≡◌, ◌<◌, None}
 use Rattle.runend_array.specs.Column.{Column, OfLeaf, OfConstant, OfLists, OfRuns, column_rows}
 use Rattle.runend_array.specs.Encoding.{IsComputedFlat, IsDecodedForm}
 
--- compared with a constant: a constant null exactly where there is a row and all answers are null, else flat; compared with any other column: flat; flat as a call computes it
+-- compared with a constant: a constant null exactly where there is a row and all answers are null, else flat; compared
+-- with any other column: flat; flat as a call computes it
 abbrev pub IsComparisonForm : Column → Column → Type 0
 IsComparisonForm (OfLeaf leaf) truths = IsComputedFlat truths
 IsComparisonForm (OfConstant constant) truths = IsDecodedForm (column_rows truths) truths

@@ -49,7 +49,7 @@ module _ (values filled : Leaf) (scalar : ScalarForm) (none : fill_fault (leaf_d
   pub flat_computed : IsComputedLeaf filled
   flat_computed = made_by.2.computed
 
-  -- the same of rows that are written one by one
+  -- the type and the rows, filled, of rows that are written one by one
   pub flat_dtype : (dtype : DType) → leaf_dtype values ≡ dtype → leaf_dtype filled ≡ fill_dtype dtype
   flat_dtype dtype same = made_by.2.dtype ∙ ap fill_dtype same
 

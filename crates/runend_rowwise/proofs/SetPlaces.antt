@@ -101,7 +101,7 @@ within-places bits places is =
     let all : length bits - 0 ≡ length bits = omega arith in
     rw is (rw all at (within-from bits (length bits) 0 (omega arith)))
 
--- the same places, as positions of which none is null
+-- places, as positions of which none is null
 numbers-positions : (places : List ℕ) → position_numbers (optionals places (replicate (length places) true)) ≡ optionals (map (λ (n : ℕ). pos n) places) (replicate (length places) true)
 numbers-positions [] = refl
 numbers-positions (place ∷ places) = ap (λ (xs : List (Option ℤ)). Some (pos place) ∷ xs) (numbers-positions places)

@@ -15,14 +15,15 @@ pub record AreLeastRuns (wanted : PType) (part : Runs) : Type 0 where
   pub ends_type : part.ends_type ≡ wanted
   pub values : IsComputedFlat part.values
 
--- the same of a column, which only a run column is
+-- a column in least form: it is a run column
 abbrev pub IsLeastForm : PType → Column → Type 0
 IsLeastForm wanted (OfLeaf leaf) = ⊥
 IsLeastForm wanted (OfConstant constant) = ⊥
 IsLeastForm wanted (OfLists lists) = ⊥
 IsLeastForm wanted (OfRuns ends_type ends values offset count) = AreLeastRuns wanted (runs_with ends_type ends values offset count)
 
--- what a kernel makes of the values of runs, by their type: whole numbers in least form, and other values over the visible runs
+-- what a kernel makes of the values of runs, by their type: whole numbers in least form, and other values over the
+-- visible runs
 abbrev pub IsRunForm : DType → Runs → Column → Type 0
 IsRunForm (column.Primitive t n) whole part = IsLeastForm whole.ends_type part
 IsRunForm (column.Bool n) whole part = IsOverVisibleRuns whole part

@@ -26,7 +26,7 @@ pub record HasVisibleRuns (whole part : Runs) : Type 0 where
   pub count : part.count ≡ whole.count
   pub values : IsComputedFlat part.values
 
--- the same of a column, which only a run column has
+-- a column that has the visible runs of a run column: it is a run column
 abbrev pub IsOverVisibleRuns : Runs → Column → Type 0
 IsOverVisibleRuns whole (OfLeaf leaf) = ⊥
 IsOverVisibleRuns whole (OfConstant constant) = ⊥
