@@ -16,7 +16,7 @@ slice_get-replicate n i b h =
     let at = slice_get-get_or (replicate n b) i b within in
     rw (get_or-replicate n i b b h) at at
 
--- each of the copies in a list of them is the bit that is copied
+-- the same, where the place is one of the list
 pub copy_at : (n i : ℕ) (b : Bool) → i < length (replicate n b) → slice_get (replicate n b) i ≡ Some b
 copy_at n i b h = slice_get-replicate n i b (subst (λ (k : ℕ). i < k) (length-replicate n b) h)
 

@@ -88,7 +88,8 @@ impl<A: Allocator + Copy> Mask<A> {
     pub fn from_indices(alloc: A, len: usize, indices: &[usize]) -> VortexResult<Mask<A>>
         requires ascending { IsStrictlyIncreasing indices.now }
         requires in_bounds { All (λ index. index < len) indices.now }
-        ensures selected { IfOk result (λ mask. (i : ℕ) → i < len → ((slice_get (mask_bits mask) i ≡ Some true) ↔ Contains indices.now i)) }
+        ensures selected { IfOk result (λ mask. (i : ℕ) → i < len → ((slice_get (mask_bits mask) i ≡ Some true) ↔
+            Contains indices.now i)) }
         ensures len { IfOk result (λ mask. length (mask_bits mask) ≡ len) }
         ensures normal { IfOk result (λ mask. IsNormalMask mask) }
         ensures only { IsOkUnless result VortexError.OutOfMemory }

@@ -119,11 +119,13 @@ impl<A: Allocator + Copy> Validity<A> {
         requires ordered { range.start ≤ range.end }
         requires in_bounds { IfSome (length_of (form_of self.now)) (λ count. range.end ≤ count) }
         ensures flags { IfOk result (λ part. (count : ℕ) → HasLength (form_of self.now) count → range.end ≤ count →
-            flags (form_of part) (range.end - range.start) ≡ slice_range (flags (form_of self.now) count) range.start range.end) }
+            flags (form_of part) (range.end - range.start) ≡
+            slice_range (flags (form_of self.now) count) range.start range.end) }
         ensures fits { IfOk result (λ part. HasLength (form_of part) (range.end - range.start)) }
         ensures normal { IfOk result (λ part. IsNormal (form_of part)) }
         ensures empty { IfOk result (λ part. form_of part ≡ AllNull → range.start < range.end) }
-        ensures without_bits { IfOk result (λ part. IsNone (length_of (form_of self.now)) → range.start < range.end → form_of part ≡ form_of self.now) }
+        ensures without_bits { IfOk result (λ part. IsNone (length_of (form_of self.now)) → range.start < range.end →
+            form_of part ≡ form_of self.now) }
         ensures nullability { IfOk result (λ part. nullability_in (form_of part) ≡ nullability_in (form_of self.now)) }
         ensures only { IsOkUnless result VortexError.OutOfMemory }
     {

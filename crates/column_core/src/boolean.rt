@@ -157,7 +157,8 @@ impl<A: Allocator + Copy> BoolArray<A> {
     pub fn slice(&self, alloc: A, range: Range<usize>) -> VortexResult<BoolArray<A>>
         ensures refused { let count = length (bool_rows self.now) in
             IsErrOf result (VortexError.BadRange range.start range.end count) ↔ IsBadRange range.start range.end count }
-        ensures only { ¬ IsBadRange range.start range.end (length (bool_rows self.now)) → IsOkUnless result VortexError.OutOfMemory }
+        ensures only { ¬ IsBadRange range.start range.end (length (bool_rows self.now)) →
+            IsOkUnless result VortexError.OutOfMemory }
         ensures refusal { IsRefusedBy (range_fault range.start range.end (length (bool_rows self.now))) result }
         ensures rows { IfOk result (λ part. bool_rows part ≡ slice_range (bool_rows self.now) range.start range.end) }
         ensures dtype { IfOk result (λ part. bool_dtype part ≡ bool_dtype self.now) }

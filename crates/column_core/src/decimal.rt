@@ -190,9 +190,11 @@ impl<A: Allocator + Copy> DecimalArray<A> {
     pub fn slice(&self, alloc: A, range: Range<usize>) -> VortexResult<DecimalArray<A>>
         ensures refused { let count = length (decimal_rows self.now) in
             IsErrOf result (VortexError.BadRange range.start range.end count) ↔ IsBadRange range.start range.end count }
-        ensures only { ¬ IsBadRange range.start range.end (length (decimal_rows self.now)) → IsOkUnless result VortexError.OutOfMemory }
+        ensures only { ¬ IsBadRange range.start range.end (length (decimal_rows self.now)) →
+            IsOkUnless result VortexError.OutOfMemory }
         ensures refusal { IsRefusedBy (range_fault range.start range.end (length (decimal_rows self.now))) result }
-        ensures rows { IfOk result (λ part. decimal_rows part ≡ slice_range (decimal_rows self.now) range.start range.end) }
+        ensures rows { IfOk result (λ part. decimal_rows part ≡
+            slice_range (decimal_rows self.now) range.start range.end) }
         ensures dtype { IfOk result (λ part. decimal_dtype_of part ≡ decimal_dtype_of self.now) }
         ensures stored { IfOk result (λ part. part.numbers ≡ slice_range self.now.numbers range.start range.end) }
         ensures normal { IfOk result (λ part. IsNormal part.validity) }
@@ -220,7 +222,8 @@ impl<A: Allocator + Copy> DecimalArray<A> {
 fn decimal_view<A: Allocator>(numbers: &[i128], index: usize) -> ScalarView<'_, A>
     requires { index < length numbers.now }
     ensures row { option_map (λ n. Some (Single (DecimalNumber n))) (slice_get numbers.now index) ≡ Some (sees result) }
-    ensures of_type { (decimal : DecimalDType) (nullability : Nullability) → IsViewOf (column.Decimal decimal nullability) result }
+    ensures of_type { (decimal : DecimalDType) (nullability : Nullability) →
+        IsViewOf (column.Decimal decimal nullability) result }
 {
     ScalarView::Decimal(numbers[index])
 }

@@ -131,9 +131,12 @@ impl<A: Allocator + Copy> FlatColumn<A> {
     pub fn slice(&self, alloc: A, range: Range<usize>) -> VortexResult<FlatColumn<A>>
         ensures refused { let count = length (leaf_rows (leaf_of self.now)) in
             IsErrOf result (VortexError.BadRange range.start range.end count) ↔ IsBadRange range.start range.end count }
-        ensures only { ¬ IsBadRange range.start range.end (length (leaf_rows (leaf_of self.now))) → IsOkUnless result VortexError.OutOfMemory }
-        ensures refusal { IsRefusedBy (range_fault range.start range.end (length (leaf_rows (leaf_of self.now)))) result }
-        ensures rows { IfOk result (λ part. leaf_rows (leaf_of part) ≡ slice_range (leaf_rows (leaf_of self.now)) range.start range.end) }
+        ensures only { ¬ IsBadRange range.start range.end (length (leaf_rows (leaf_of self.now))) →
+            IsOkUnless result VortexError.OutOfMemory }
+        ensures refusal { IsRefusedBy (range_fault range.start range.end (length (leaf_rows (leaf_of self.now))))
+            result }
+        ensures rows { IfOk result (λ part. leaf_rows (leaf_of part) ≡
+            slice_range (leaf_rows (leaf_of self.now)) range.start range.end) }
         ensures dtype { IfOk result (λ part. leaf_dtype (leaf_of part) ≡ leaf_dtype (leaf_of self.now)) }
         ensures normal { IfOk result (λ part. IsNormal (leaf_validity (leaf_of part))) }
         ensures empty { IfOk result (λ part. leaf_validity (leaf_of part) ≡ AllNull → range.start < range.end) }

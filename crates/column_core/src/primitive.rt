@@ -168,9 +168,11 @@ impl<A: Allocator + Copy> PrimitiveArray<A> {
     pub fn slice(&self, alloc: A, range: Range<usize>) -> VortexResult<PrimitiveArray<A>>
         ensures refused { let count = length (primitive_rows self.now) in
             IsErrOf result (VortexError.BadRange range.start range.end count) ↔ IsBadRange range.start range.end count }
-        ensures only { ¬ IsBadRange range.start range.end (length (primitive_rows self.now)) → IsOkUnless result VortexError.OutOfMemory }
+        ensures only { ¬ IsBadRange range.start range.end (length (primitive_rows self.now)) →
+            IsOkUnless result VortexError.OutOfMemory }
         ensures refusal { IsRefusedBy (range_fault range.start range.end (length (primitive_rows self.now))) result }
-        ensures rows { IfOk result (λ part. primitive_rows part ≡ slice_range (primitive_rows self.now) range.start range.end) }
+        ensures rows { IfOk result (λ part. primitive_rows part ≡
+            slice_range (primitive_rows self.now) range.start range.end) }
         ensures dtype { IfOk result (λ part. primitive_dtype part ≡ primitive_dtype self.now) }
         ensures stored { IfOk result (λ part. part.numbers ≡ slice_range self.now.numbers range.start range.end) }
         ensures normal { IfOk result (λ part. IsNormal part.validity) }
@@ -193,8 +195,10 @@ impl<A: Allocator + Copy> PrimitiveArray<A> {
 // The number at `index`, seen as its type is.
 fn number_view<A: Allocator>(values: &PrimitiveValues<A>, index: usize) -> ScalarView<'_, A>
     requires { index < length (numbers values.now) }
-    ensures row { option_map (λ n. Some (Single (Number n))) (slice_get (numbers values.now) index) ≡ Some (sees result) }
-    ensures of_type { (nullability : Nullability) → IsViewOf (column.Primitive (ptype_of values.now) nullability) result }
+    ensures row { option_map (λ n. Some (Single (Number n))) (slice_get (numbers values.now) index) ≡
+        Some (sees result) }
+    ensures of_type { (nullability : Nullability) →
+        IsViewOf (column.Primitive (ptype_of values.now) nullability) result }
 {
     match values {
         PrimitiveValues::U8(items) => ScalarView::Unsigned(u64::from(items[index])),

@@ -73,7 +73,8 @@ impl<A: Allocator> Scalar<A> {
     pub fn try_new(dtype: DType, value: Option<ScalarValue<A>>) -> VortexResult<Self>
         ensures ok { IfOk result (λ scalar. scalar ≡ record { dtype = dtype; value = option_map flat_of value }) }
         ensures accepts { IsOk result ↔ IsScalarOf dtype value }
-        ensures null { IsErrOf result VortexError.NullNotAllowed ↔ (IsNone value × (nullability_of dtype ≡ NonNullable)) }
+        ensures null { IsErrOf result VortexError.NullNotAllowed ↔
+            (IsNone value × (nullability_of dtype ≡ NonNullable)) }
         ensures mismatch { IsErrOf result VortexError.TypeMismatch ↔ (IsSome value × (¬ IsScalarOf dtype value)) }
     {
         match &value {

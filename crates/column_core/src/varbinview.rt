@@ -69,7 +69,8 @@ impl<A: Allocator + Copy> VarBinViewArray<A> {
     ) -> VortexResult<Self>
         ensures ok { IfOk result (λ array. array ≡ varbin_with kind views.items buffers.items (form_of validity)) }
         ensures accepts { IsOk result ↔ AreVarBins (varbin_with kind views.items buffers.items (form_of validity)) }
-        ensures refused { IfErr result (λ error. VarBinFault (varbin_with kind views.items buffers.items (form_of validity)) error) }
+        ensures refused { IfErr result (λ error. VarBinFault (varbin_with kind views.items buffers.items
+            (form_of validity)) error) }
     {
         if let Some(fault) = first_fault(&views, &buffers, kind, &validity) {
             return Err(fault);
@@ -224,9 +225,11 @@ impl<A: Allocator + Copy> VarBinViewArray<A> {
     pub fn slice(&self, alloc: A, range: Range<usize>) -> VortexResult<VarBinViewArray<A>>
         ensures refused { let count = length (varbin_rows self.now) in
             IsErrOf result (VortexError.BadRange range.start range.end count) ↔ IsBadRange range.start range.end count }
-        ensures only { ¬ IsBadRange range.start range.end (length (varbin_rows self.now)) → IsOkUnless result VortexError.OutOfMemory }
+        ensures only { ¬ IsBadRange range.start range.end (length (varbin_rows self.now)) →
+            IsOkUnless result VortexError.OutOfMemory }
         ensures refusal { IsRefusedBy (range_fault range.start range.end (length (varbin_rows self.now))) result }
-        ensures rows { IfOk result (λ part. varbin_rows part ≡ slice_range (varbin_rows self.now) range.start range.end) }
+        ensures rows { IfOk result (λ part. varbin_rows part ≡
+            slice_range (varbin_rows self.now) range.start range.end) }
         ensures dtype { IfOk result (λ part. varbin_dtype part ≡ varbin_dtype self.now) }
         ensures stored { IfOk result (λ part. part.views ≡ slice_range self.now.views range.start range.end) }
         ensures shared { IfOk result (λ part. part.buffers ≡ self.now.buffers) }
@@ -260,7 +263,8 @@ fn first_fault<A: Allocator>(
     kind: VarBinKind,
     validity: &Validity<A>,
 ) -> Option<VortexError>
-    ensures fault { IfSome result (λ error. VarBinFault (varbin_with kind views.now buffers.now (form_of validity.now)) error) }
+    ensures fault { IfSome result (λ error. VarBinFault (varbin_with kind views.now buffers.now
+        (form_of validity.now)) error) }
     ensures none { IsNone result ↔ AreVarBins (varbin_with kind views.now buffers.now (form_of validity.now)) }
 {
     if let Some(count) = validity.len() {
@@ -311,7 +315,8 @@ fn first_outside<A: Allocator>(
     validity: &Validity<A>,
 ) -> Option<usize>
     requires { HasLength (form_of validity.now) (length views.now) }
-    ensures found { IfSome result (λ row. IsFirstOutside (varbin_with Utf8 views.now buffers.now (form_of validity.now)) row) }
+    ensures found { IfSome result (λ row. IsFirstOutside (varbin_with Utf8 views.now buffers.now
+        (form_of validity.now)) row) }
     ensures none { IfNone result (AreWithin (varbin_with Utf8 views.now buffers.now (form_of validity.now))) }
 {
     for row in 0..views.len() {
@@ -334,7 +339,8 @@ fn are_texts<A: Allocator>(views: &[View], buffers: &[Bytes<A>], validity: &Vali
     requires counted { HasLength (form_of validity.now) (length views.now) }
     requires within { AreWithin (varbin_with Utf8 views.now buffers.now (form_of validity.now)) }
     ensures all { OnTrue result (AreOfKind (varbin_with Utf8 views.now buffers.now (form_of validity.now))) }
-    ensures some { OnFalse result ((row : ℕ) × IsNoText (varbin_with Utf8 views.now buffers.now (form_of validity.now)) row) }
+    ensures some { OnFalse result ((row : ℕ) × IsNoText (varbin_with Utf8 views.now buffers.now
+        (form_of validity.now)) row) }
 {
     for row in 0..views.len() {
         if validity.is_valid(row) && !is_text(cut(buffers, views[row])) {

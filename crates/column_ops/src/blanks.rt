@@ -7,8 +7,10 @@ ghost use Rattle.std.specs.Int.{bit_at};
 pub(crate) fn put_at_zeros<T: Copy + Drop>(items: &mut [T], words: &[u64], item: T)
     requires { length items.old ≤ length words.now * 64 }
     ensures len { length items.new ≡ length items.old }
-    ensures put { (k : ℕ) → k < length items.old → bit_at (slice_index words.now (k / 64)) (k % 64) ≡ 0 → slice_index_or items.new k item ≡ item }
-    ensures kept { (k : ℕ) → k < length items.old → bit_at (slice_index words.now (k / 64)) (k % 64) ≡ 1 → slice_index_or items.new k item ≡ slice_index_or items.old k item }
+    ensures put { (k : ℕ) → k < length items.old → bit_at (slice_index words.now (k / 64)) (k % 64) ≡ 0 →
+        slice_index_or items.new k item ≡ item }
+    ensures kept { (k : ℕ) → k < length items.old → bit_at (slice_index words.now (k / 64)) (k % 64) ≡ 1 →
+        slice_index_or items.new k item ≡ slice_index_or items.old k item }
 {
     for index in 0..items.len().div_ceil(64) {
         put_at_ones(items, index * 64, !words[index], item);
@@ -21,7 +23,8 @@ fn put_at_ones<T: Copy + Drop>(items: &mut [T], start: usize, ones: u64, item: T
     requires { start ≤ length items.old }
     ensures len { length items.new ≡ length items.old }
     ensures put { (j : ℕ) → j < 64 → bit_at ones j ≡ 1 → slice_index_or items.new (start + j) item ≡ item }
-    ensures kept { (j : ℕ) → j < 64 → bit_at ones j ≡ 0 → slice_index_or items.new (start + j) item ≡ slice_index_or items.old (start + j) item }
+    ensures kept { (j : ℕ) → j < 64 → bit_at ones j ≡ 0 → slice_index_or items.new (start + j) item ≡
+        slice_index_or items.old (start + j) item }
     ensures before { (k : ℕ) → k < start → slice_index_or items.new k item ≡ slice_index_or items.old k item }
     ensures behind { (k : ℕ) → start + 64 ≤ k → slice_index_or items.new k item ≡ slice_index_or items.old k item }
 {

@@ -33,8 +33,10 @@ pub(crate) fn cast_values<A: Allocator + Copy>(
     ptype: PType,
     nullability: Nullability,
 ) -> VortexResult<PrimitiveArray<A>>
-    ensures refused { IsRefusedBy (first_fault (cast_row_fault (column.Primitive ptype nullability)) (single_rows (OfNumbers array.now))) result }
-    ensures made { IfOk result (λ cast. IsMade (primitive_rows array.now) (column.Primitive ptype nullability) (OfNumbers cast)) }
+    ensures refused { IsRefusedBy (first_fault (cast_row_fault (column.Primitive ptype nullability))
+        (single_rows (OfNumbers array.now))) result }
+    ensures made { IfOk result (λ cast. IsMade (primitive_rows array.now) (column.Primitive ptype nullability)
+        (OfNumbers cast)) }
 {
     let validity = array.validity();
     match_each_native!(array.values(), items => cast_native(alloc, items.as_slice(), validity, ptype, nullability))
@@ -55,7 +57,8 @@ fn cast_number<S: NativePType, T: NativePType>(item: S) -> VortexResult<T>
 // The number as one of the type `T`, or 0 where the type does not have it, and whether it has it.
 #[inline(always)]
 fn cast_or_zero<S: NativePType, T: NativePType>(item: S) -> (T, bool)
-    ensures fault { number_fault (column.Primitive T.PTYPE NonNullable) (S.number item) ≡ cond result.1 None (Some VortexError.CastOutOfRange) }
+    ensures fault { number_fault (column.Primitive T.PTYPE NonNullable) (S.number item) ≡
+        cond result.1 None (Some VortexError.CastOutOfRange) }
     ensures same { result.1 ≡ true → T.number result.0 ≡ S.number item }
 {
     match T::narrow(item.widen()) {
@@ -69,7 +72,8 @@ fn cast_row<S: NativePType, T: NativePType>(
     row: Option<S>,
     nullability: Nullability,
 ) -> VortexResult<Option<T>>
-    ensures refused { IsRefusedBy (cast_row_fault (column.Primitive T.PTYPE nullability) (option_map Single (option_map Number (option_map S.number row)))) result }
+    ensures refused { IsRefusedBy (cast_row_fault (column.Primitive T.PTYPE nullability)
+        (option_map Single (option_map Number (option_map S.number row)))) result }
     ensures no_memory { result ≢ Err VortexError.OutOfMemory }
     ensures same { IfOk result (λ cast. option_map T.number cast ≡ option_map S.number row) }
     ensures valid { IfOk result (λ cast. nullability ≡ NonNullable → IsSome cast) }
@@ -136,7 +140,8 @@ fn cast_valid<S: NativePType, T: NativePType, A: Allocator>(
     alloc: A,
     items: &[S],
 ) -> VortexResult<Vec<T, A>>
-    ensures refused { IsRefusedBy (first_fault (number_fault (column.Primitive T.PTYPE NonNullable)) (map S.number items.now)) result }
+    ensures refused { IsRefusedBy (first_fault (number_fault (column.Primitive T.PTYPE NonNullable))
+        (map S.number items.now)) result }
     ensures cast { IfOk result (λ cast. map T.number cast.items ≡ map S.number items.now) }
 {
     let mut cast = Vec::with_capacity(alloc, items.len())?;
@@ -162,8 +167,10 @@ fn cast_nullable<S: NativePType, T: NativePType, A: Allocator + Copy>(
     bits: &BitBuffer<A>,
 ) -> VortexResult<Vec<T, A>>
     requires { length bits.now ≡ length items.now }
-    ensures refused { IsRefusedBy (first_fault (number_fault (column.Primitive T.PTYPE NonNullable)) (map (λ row. unwrap_or row (pos 0)) (optionals (map S.number items.now) bits.now))) result }
-    ensures cast { IfOk result (λ cast. map T.number cast.items ≡ map (λ row. unwrap_or row (pos 0)) (optionals (map S.number items.now) bits.now)) }
+    ensures refused { IsRefusedBy (first_fault (number_fault (column.Primitive T.PTYPE NonNullable)) (map (λ row.
+        unwrap_or row (pos 0)) (optionals (map S.number items.now) bits.now))) result }
+    ensures cast { IfOk result (λ cast. map T.number cast.items ≡
+        map (λ row. unwrap_or row (pos 0)) (optionals (map S.number items.now) bits.now)) }
 {
     match cast_valid::<S, T, A>(alloc, items) {
         Ok(cast) => Ok(with_item_at_nulls(cast, bits, T::default())),
@@ -179,8 +186,10 @@ fn cast_shown<S: NativePType, T: NativePType, A: Allocator + Copy>(
     bits: &BitBuffer<A>,
 ) -> VortexResult<Vec<T, A>>
     requires { length bits.now ≡ length items.now }
-    ensures refused { IsRefusedBy (first_fault (number_fault (column.Primitive T.PTYPE NonNullable)) (map (λ row. unwrap_or row (pos 0)) (optionals (map S.number items.now) bits.now))) result }
-    ensures cast { IfOk result (λ cast. map T.number cast.items ≡ map (λ row. unwrap_or row (pos 0)) (optionals (map S.number items.now) bits.now)) }
+    ensures refused { IsRefusedBy (first_fault (number_fault (column.Primitive T.PTYPE NonNullable)) (map (λ row.
+        unwrap_or row (pos 0)) (optionals (map S.number items.now) bits.now))) result }
+    ensures cast { IfOk result (λ cast. map T.number cast.items ≡
+        map (λ row. unwrap_or row (pos 0)) (optionals (map S.number items.now) bits.now)) }
 {
     let shown = items_by_bits(alloc, items, bits, S::default())?;
     let cast = cast_valid::<S, T, A>(alloc, &shown);

@@ -184,9 +184,11 @@ fn selected_validity<T: Copy + Drop, A: Allocator + Copy>(
     requires masked { length (mask_bits mask.now) ≡ length items.now }
     ensures only { IsOkUnless result VortexError.OutOfMemory }
     ensures flags { IfOk result (λ rows. IsValidityOf
-        (map is_some (filter_rows (mask_bits mask.now) (optionals items.now (flags (form_of validity.now) (length items.now)))))
+        (map is_some (filter_rows (mask_bits mask.now) (optionals items.now (flags (form_of validity.now)
+        (length items.now)))))
         (nullability_in (form_of validity.now))
-        (length (filter_rows (mask_bits mask.now) (optionals items.now (flags (form_of validity.now) (length items.now)))))
+        (length (filter_rows (mask_bits mask.now) (optionals items.now (flags (form_of validity.now)
+        (length items.now)))))
         (form_of rows)) }
 {
     match validity {

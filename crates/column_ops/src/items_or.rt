@@ -17,7 +17,8 @@ pub(crate) fn items_or<T: Copy + Drop, A: Allocator + Copy>(
 ) -> VortexResult<Vec<T, A>>
     requires { HasLength (form_of validity.now) (length items.now) }
     ensures only { IsOkUnless result VortexError.OutOfMemory }
-    ensures items { IfOk result (λ shown. shown.items ≡ map (λ row. unwrap_or row instead) (optionals items.now (flags (form_of validity.now) (length items.now)))) }
+    ensures items { IfOk result (λ shown. shown.items ≡
+        map (λ row. unwrap_or row instead) (optionals items.now (flags (form_of validity.now) (length items.now)))) }
 {
     match validity {
         Validity::NonNullable => Ok(Vec::from_slice(alloc, items)?),
@@ -52,7 +53,8 @@ pub(crate) fn items_by_bits<T: Copy + Drop, A: Allocator + Copy>(
 ) -> VortexResult<Vec<T, A>>
     requires { length bits.now ≡ length items.now }
     ensures only { IsOkUnless result VortexError.OutOfMemory }
-    ensures items { IfOk result (λ shown. shown.items ≡ map (λ row. unwrap_or row instead) (optionals items.now bits.now)) }
+    ensures items { IfOk result (λ shown. shown.items ≡
+        map (λ row. unwrap_or row instead) (optionals items.now bits.now)) }
 {
     let mut shown = Vec::from_slice(alloc, items)?;
     put_at_zeros(&mut shown, bits.words(), instead);

@@ -38,7 +38,8 @@ pub(crate) fn keep_items<T: Copy + Drop, A: Allocator + Copy>(
     nullability: Nullability,
 ) -> VortexResult<(Vec<T, A>, Validity<A>)>
     requires { HasLength (form_of validity.now) (length items.now) }
-    ensures refused { IsRefusedBy (first_fault (null_row_fault nullability) (optionals items.now (flags (form_of validity.now) (length items.now)))) result }
+    ensures refused { IsRefusedBy (first_fault (null_row_fault nullability) (optionals items.now
+        (flags (form_of validity.now) (length items.now)))) result }
     ensures kept { IfOk result (λ parts. AreWritten blank
         (optionals items.now (flags (form_of validity.now) (length items.now)))
         nullability parts.0.items (form_of parts.1)) }

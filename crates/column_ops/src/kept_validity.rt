@@ -32,9 +32,11 @@ pub(crate) fn check_nulls<T: Copy + Drop, A: Allocator>(
     nullability: Nullability,
 ) -> VortexResult<()>
     requires { HasLength (form_of validity.now) (length items.now) }
-    ensures refused { IsRefusedBy (first_fault (null_row_fault nullability) (optionals items.now (flags (form_of validity.now) (length items.now)))) result }
+    ensures refused { IsRefusedBy (first_fault (null_row_fault nullability) (optionals items.now
+        (flags (form_of validity.now) (length items.now)))) result }
     ensures no_memory { result ≢ Err VortexError.OutOfMemory }
-    ensures valid { IfOk result (λ _. nullability ≡ NonNullable → flags (form_of validity.now) (length items.now) ≡ replicate (length items.now) true) }
+    ensures valid { IfOk result (λ _. nullability ≡ NonNullable → flags (form_of validity.now) (length items.now) ≡
+        replicate (length items.now) true) }
 {
     match nullability {
         Nullability::Nullable => Ok(()),
@@ -72,7 +74,8 @@ pub(crate) fn kept_validity<A: Allocator + Copy>(
     requires fits { HasLength (form_of validity.now) count }
     requires valid { nullability ≡ NonNullable → flags (form_of validity.now) count ≡ replicate count true }
     ensures only { IsOkUnless result VortexError.OutOfMemory }
-    ensures kept { IfOk result (λ kept. IsValidityOf (flags (form_of validity.now) count) nullability count (form_of kept)) }
+    ensures kept { IfOk result (λ kept. IsValidityOf (flags (form_of validity.now) count) nullability count
+        (form_of kept)) }
 {
     match nullability {
         Nullability::NonNullable => Ok(Validity::NonNullable),
@@ -88,7 +91,8 @@ fn nullable_validity<A: Allocator + Copy>(
 ) -> VortexResult<Validity<A>>
     requires { HasLength (form_of validity.now) count }
     ensures only { IsOkUnless result VortexError.OutOfMemory }
-    ensures kept { IfOk result (λ kept. IsValidityOf (flags (form_of validity.now) count) Nullable count (form_of kept)) }
+    ensures kept { IfOk result (λ kept. IsValidityOf (flags (form_of validity.now) count) Nullable count
+        (form_of kept)) }
 {
     match validity {
         Validity::NonNullable => Ok(Validity::AllValid),

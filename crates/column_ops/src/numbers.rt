@@ -85,12 +85,14 @@ fn take_numbers<T: NativePType, A: Allocator + Copy>(
 ) -> VortexResult<PrimitiveArray<A>>
     requires fits { HasLength (form_of validity.now) (length items.now) }
     requires counted { HasLength (form_of places.now) (length positions.now) }
-    requires within { ArePositions (optionals positions.now (flags (form_of places.now) (length positions.now))) (length items.now) }
+    requires within { ArePositions (optionals positions.now (flags (form_of places.now) (length positions.now)))
+        (length items.now) }
     ensures only { IsOkUnless result VortexError.OutOfMemory }
     ensures made { IfOk result (λ array. IsMade
         (take_rows (primitive_rows (primitive_with T.PTYPE (map T.number items.now) (form_of validity.now)))
         (position_numbers (optionals positions.now (flags (form_of places.now) (length positions.now)))))
-        (column.Primitive T.PTYPE (either_nullable (nullability_in (form_of validity.now)) (nullability_in (form_of places.now))))
+        (column.Primitive T.PTYPE (either_nullable (nullability_in (form_of validity.now))
+        (nullability_in (form_of places.now))))
         (OfNumbers array)) }
 {
     let (taken, rows) = take_items(alloc, items, validity, T::default(), positions, places)?;
@@ -108,7 +110,8 @@ fn filter_numbers<T: NativePType, A: Allocator + Copy>(
     requires masked { length (mask_bits mask.now) ≡ length items.now }
     ensures only { IsOkUnless result VortexError.OutOfMemory }
     ensures made { IfOk result (λ array. IsMade
-        (filter_rows (mask_bits mask.now) (primitive_rows (primitive_with T.PTYPE (map T.number items.now) (form_of validity.now))))
+        (filter_rows (mask_bits mask.now) (primitive_rows (primitive_with T.PTYPE (map T.number items.now)
+        (form_of validity.now))))
         (column.Primitive T.PTYPE (nullability_in (form_of validity.now)))
         (OfNumbers array)) }
 {
@@ -124,7 +127,8 @@ fn fill_values<A: Allocator + Copy>(
 ) -> VortexResult<PrimitiveArray<A>>
     requires { HasNumber array.now.ptype number }
     ensures only { IsOkUnless result VortexError.OutOfMemory }
-    ensures made { IfOk result (λ filled. IsMade (fill_rows (primitive_rows array.now) (Number number)) (column.Primitive array.now.ptype NonNullable) (OfNumbers filled)) }
+    ensures made { IfOk result (λ filled. IsMade (fill_rows (primitive_rows array.now) (Number number))
+        (column.Primitive array.now.ptype NonNullable) (OfNumbers filled)) }
 {
     let validity = array.validity();
     match_each_native!(array.values(), items => fill_numbers(alloc, items.as_slice(), validity, number))
@@ -141,7 +145,8 @@ fn fill_numbers<T: NativePType, A: Allocator + Copy>(
     requires has { HasNumber T.PTYPE number }
     ensures only { IsOkUnless result VortexError.OutOfMemory }
     ensures made { IfOk result (λ array. IsMade
-        (fill_rows (primitive_rows (primitive_with T.PTYPE (map T.number items.now) (form_of validity.now))) (Number number))
+        (fill_rows (primitive_rows (primitive_with T.PTYPE (map T.number items.now) (form_of validity.now)))
+        (Number number))
         (column.Primitive T.PTYPE NonNullable) (OfNumbers array)) }
 {
     let Some(value) = T::narrow(number) else {

@@ -48,18 +48,22 @@ pub trait ColumnOps<A: Allocator + Copy>: Sized {
     /// alone.
     fn take_at(&self, alloc: A, positions: &[u64], validity: &Validity<A>) -> VortexResult<Self>
         requires counted { HasLength (form_of validity.now) (length positions.now) }
-        requires within { ArePositions (optionals positions.now (flags (form_of validity.now) (length positions.now))) (length (leaf_rows (leaf self.now))) }
+        requires within { ArePositions (optionals positions.now (flags (form_of validity.now) (length positions.now)))
+            (length (leaf_rows (leaf self.now))) }
         ensures only { IsOkUnless result VortexError.OutOfMemory }
         ensures made { IfOk result (λ column. IsMade
-            (take_rows (leaf_rows (leaf self.now)) (position_numbers (optionals positions.now (flags (form_of validity.now) (length positions.now)))))
-            (dtype_with (leaf_dtype (leaf self.now)) (either_nullable (nullability_of (leaf_dtype (leaf self.now))) (nullability_in (form_of validity.now))))
+            (take_rows (leaf_rows (leaf self.now)) (position_numbers (optionals positions.now
+            (flags (form_of validity.now) (length positions.now)))))
+            (dtype_with (leaf_dtype (leaf self.now)) (either_nullable (nullability_of (leaf_dtype (leaf self.now)))
+            (nullability_in (form_of validity.now))))
             (leaf column)) };
 
     /// The rows at the indices, null for null. The type has null where the column's or the indices' has.
     /// Refused as `OutOfBounds`, with the index and the number of rows, at the first valid index that is
     /// negative or not below that number; else as `OutOfMemory` alone.
     fn take(&self, alloc: A, indices: &PrimitiveArray<A>) -> VortexResult<Self>
-        ensures refused { IsRefusedBy (take_fault (optional_numbers indices.now) (length (leaf_rows (leaf self.now)))) result }
+        ensures refused { IsRefusedBy (take_fault (optional_numbers indices.now) (length (leaf_rows (leaf self.now))))
+            result }
         ensures made { IfOk result (λ column. IsMade
             (take_rows (leaf_rows (leaf self.now)) (optional_numbers indices.now))
             (take_dtype (leaf_dtype (leaf self.now)) (primitive_dtype indices.now))
@@ -74,7 +78,8 @@ pub trait ColumnOps<A: Allocator + Copy>: Sized {
     /// `OutOfBounds`, with the code and the number of rows, at the first code that is no null and is
     /// negative or not below that number; else as `OutOfMemory` alone.
     fn take_codes(&self, alloc: A, codes: &FlatColumn<A>) -> VortexResult<Self>
-        ensures refused { IsRefusedBy (code_fault (plain_leaf (leaf_of codes.now)) (length (leaf_rows (leaf self.now)))) result }
+        ensures refused { IsRefusedBy (code_fault (plain_leaf (leaf_of codes.now)) (length (leaf_rows (leaf self.now))))
+            result }
         ensures made { IfOk result (λ column. IsMade
             (code_rows (leaf_rows (leaf self.now)) (single_rows (leaf_of codes.now)))
             (take_dtype (leaf_dtype (leaf self.now)) (leaf_dtype (leaf_of codes.now)))
@@ -90,16 +95,20 @@ pub trait ColumnOps<A: Allocator + Copy>: Sized {
     /// the number of rows, where they differ, and that before any memory is taken; else as
     /// `OutOfMemory` alone.
     fn filter(&self, alloc: A, mask: &Mask<A>) -> VortexResult<Self>
-        ensures refused { IsRefusedBy (filter_fault (length (mask_bits mask.now)) (length (leaf_rows (leaf self.now)))) result }
-        ensures first { (error : VortexError) → filter_fault (length (mask_bits mask.now)) (length (leaf_rows (leaf self.now))) ≡ Some error → IsErrOf result error }
-        ensures made { IfOk result (λ column. IsMade (filter_rows (mask_bits mask.now) (leaf_rows (leaf self.now))) (leaf_dtype (leaf self.now)) (leaf column)) };
+        ensures refused { IsRefusedBy (filter_fault (length (mask_bits mask.now)) (length (leaf_rows (leaf self.now))))
+            result }
+        ensures first { (error : VortexError) → filter_fault (length (mask_bits mask.now))
+            (length (leaf_rows (leaf self.now))) ≡ Some error → IsErrOf result error }
+        ensures made { IfOk result (λ column. IsMade (filter_rows (mask_bits mask.now) (leaf_rows (leaf self.now)))
+            (leaf_dtype (leaf self.now)) (leaf column)) };
 
     /// The rows with the value in place of each null, of the column's kind and without null. Refused as
     /// `OutOfMemory` alone.
     fn fill_with(&self, alloc: A, value: &ScalarValue<A>) -> VortexResult<Self>
         requires { IsOwnedOf (leaf_dtype (leaf self.now)) value.now }
         ensures only { IsOkUnless result VortexError.OutOfMemory }
-        ensures made { IfOk result (λ column. IsMade (fill_rows (leaf_rows (leaf self.now)) (flat_of value.now)) (fill_dtype (leaf_dtype (leaf self.now))) (leaf column)) };
+        ensures made { IfOk result (λ column. IsMade (fill_rows (leaf_rows (leaf self.now)) (flat_of value.now))
+            (fill_dtype (leaf_dtype (leaf self.now))) (leaf column)) };
 
     /// The rows with the scalar's value in place of each null, of the column's kind and without null.
     /// Refused as `TypeMismatch` for a scalar of another kind; then as `NullFill` for null; else as
@@ -107,7 +116,8 @@ pub trait ColumnOps<A: Allocator + Copy>: Sized {
     fn fill_null(&self, alloc: A, scalar: &Scalar<A>) -> VortexResult<Self>
         ensures refused { IsRefusedBy (fill_fault (leaf_dtype (leaf self.now)) scalar.now) result }
         ensures made { IfOk result (λ column. IfSome scalar.now.value (λ value.
-            IsMade (fill_rows (leaf_rows (leaf self.now)) value) (fill_dtype (leaf_dtype (leaf self.now))) (leaf column))) }
+            IsMade (fill_rows (leaf_rows (leaf self.now)) value) (fill_dtype (leaf_dtype (leaf self.now)))
+            (leaf column))) }
     {
         let value = fill_value(self.column_dtype(), scalar)?;
         self.fill_with(alloc, value)

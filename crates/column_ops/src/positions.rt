@@ -23,7 +23,8 @@ pub fn positions_of<A: Allocator + Copy>(
     count: usize,
 ) -> VortexResult<(Vec<u64, A>, Validity<A>)>
     ensures refused { IsRefusedBy (take_fault (optional_numbers indices.now) count) result }
-    ensures positions { IfOk result (λ parts. ArePositionsFor (optional_numbers indices.now) (nullability_in indices.now.validity) count parts.0.items (form_of parts.1)) }
+    ensures positions { IfOk result (λ parts. ArePositionsFor (optional_numbers indices.now)
+        (nullability_in indices.now.validity) count parts.0.items (form_of parts.1)) }
 {
     let validity = indices.validity();
     match_each_native!(indices.values(), items => native_positions(alloc, items.as_slice(), validity, count))
@@ -54,8 +55,10 @@ fn native_positions<T: NativePType, A: Allocator + Copy>(
     count: usize,
 ) -> VortexResult<(Vec<u64, A>, Validity<A>)>
     requires fits { HasLength (form_of validity.now) (length indices.now) }
-    ensures refused { IsRefusedBy (take_fault (optional_numbers (primitive_with T.PTYPE (map T.number indices.now) (form_of validity.now))) count) result }
-    ensures positions { IfOk result (λ parts. ArePositionsFor (optional_numbers (primitive_with T.PTYPE (map T.number indices.now) (form_of validity.now)))
+    ensures refused { IsRefusedBy (take_fault (optional_numbers (primitive_with T.PTYPE (map T.number indices.now)
+        (form_of validity.now))) count) result }
+    ensures positions { IfOk result (λ parts. ArePositionsFor (optional_numbers (primitive_with T.PTYPE
+        (map T.number indices.now) (form_of validity.now)))
         (nullability_in (form_of validity.now)) count parts.0.items (form_of parts.1)) }
 {
     let positions = position_items(alloc, indices, validity, count)?;
@@ -76,7 +79,8 @@ fn position_items<T: NativePType, A: Allocator + Copy>(
     count: usize,
 ) -> VortexResult<Vec<u64, A>>
     requires fits { HasLength (form_of validity.now) (length indices.now) }
-    ensures refused { IsRefusedBy (take_fault (optional_numbers (primitive_with T.PTYPE (map T.number indices.now) (form_of validity.now))) count) result }
+    ensures refused { IsRefusedBy (take_fault (optional_numbers (primitive_with T.PTYPE (map T.number indices.now)
+        (form_of validity.now))) count) result }
     ensures same { IfOk result (λ positions. map pos positions.items ≡ map (λ row. unwrap_or row (pos 0))
         (optional_numbers (primitive_with T.PTYPE (map T.number indices.now) (form_of validity.now)))) }
 {
@@ -94,7 +98,8 @@ fn valid_positions<T: NativePType, A: Allocator>(
     indices: &[T],
     count: usize,
 ) -> VortexResult<Vec<u64, A>>
-    ensures refused { IsRefusedBy (first_fault (λ index. index_fault count (Some index)) (map T.number indices.now)) result }
+    ensures refused { IsRefusedBy (first_fault (λ index. index_fault count (Some index))
+        (map T.number indices.now)) result }
     ensures same { IfOk result (λ positions. map pos positions.items ≡ map T.number indices.now) }
 {
     let mut positions = Vec::with_capacity(alloc, indices.len())?;
@@ -120,7 +125,8 @@ fn marked_positions<T: NativePType, A: Allocator + Copy>(
 ) -> VortexResult<Vec<u64, A>>
     requires fits { length marks.now ≡ length indices.now }
     ensures refused { IsRefusedBy (take_fault (optionals (map T.number indices.now) marks.now) count) result }
-    ensures same { IfOk result (λ positions. map pos positions.items ≡ map (λ row. unwrap_or row (pos 0)) (optionals (map T.number indices.now) marks.now)) }
+    ensures same { IfOk result (λ positions. map pos positions.items ≡
+        map (λ row. unwrap_or row (pos 0)) (optionals (map T.number indices.now) marks.now)) }
 {
     match valid_positions(alloc, indices, count) {
         Ok(positions) => Ok(with_item_at_nulls(positions, marks, 0)),
@@ -138,7 +144,8 @@ fn shown_positions<T: NativePType, A: Allocator>(
 ) -> VortexResult<Vec<u64, A>>
     requires fits { length marks.now ≡ length indices.now }
     ensures refused { IsRefusedBy (take_fault (optionals (map T.number indices.now) marks.now) count) result }
-    ensures same { IfOk result (λ positions. map pos positions.items ≡ map (λ row. unwrap_or row (pos 0)) (optionals (map T.number indices.now) marks.now)) }
+    ensures same { IfOk result (λ positions. map pos positions.items ≡
+        map (λ row. unwrap_or row (pos 0)) (optionals (map T.number indices.now) marks.now)) }
 {
     let mut positions = Vec::with_capacity(alloc, indices.len())?;
     for place in 0..indices.len() {
@@ -157,7 +164,8 @@ fn shown_positions<T: NativePType, A: Allocator>(
 #[inline(always)]
 fn position_if<T: NativePType>(is_valid: bool, index: T, count: usize) -> VortexResult<u64>
     ensures refused { IsRefusedBy (index_fault count (if is_valid then Some (T.number index) else None)) result }
-    ensures same { IfOk result (λ position. pos position ≡ unwrap_or (if is_valid then Some (T.number index) else None) (pos 0)) }
+    ensures same { IfOk result (λ position. pos position ≡
+        unwrap_or (if is_valid then Some (T.number index) else None) (pos 0)) }
 {
     if is_valid {
         checked_index(index.widen(), count)

@@ -26,7 +26,8 @@ pub(crate) fn take_items<T: Copy + Drop, A: Allocator + Copy>(
 ) -> VortexResult<(Vec<T, A>, Validity<A>)>
     requires fits { HasLength (form_of validity.now) (length items.now) }
     requires counted { HasLength (form_of places.now) (length positions.now) }
-    requires within { ArePositions (optionals positions.now (flags (form_of places.now) (length positions.now))) (length items.now) }
+    requires within { ArePositions (optionals positions.now (flags (form_of places.now) (length positions.now)))
+        (length items.now) }
     ensures only { IsOkUnless result VortexError.OutOfMemory }
     ensures taken { IfOk result (λ parts. AreWritten blank
         (take_rows (optionals items.now (flags (form_of validity.now) (length items.now)))
@@ -63,7 +64,8 @@ fn taken_at<T: Copy + Drop, A: Allocator>(
 ) -> Option<T>
     requires within { IfSome position (λ k. k < length items.now) }
     requires fits { HasLength (form_of validity.now) (length items.now) }
-    ensures row { result ≡ taken_row (optionals items.now (flags (form_of validity.now) (length items.now))) (option_map (λ k. pos k) position) }
+    ensures row { result ≡ taken_row (optionals items.now (flags (form_of validity.now) (length items.now)))
+        (option_map (λ k. pos k) position) }
     ensures valid { nullability_in (form_of validity.now) ≡ NonNullable → IsSome position → IsSome result }
 {
     match position {
@@ -83,7 +85,8 @@ fn taken_items<T: Copy + Drop, A: Allocator + Copy>(
 ) -> VortexResult<Vec<T, A>>
     requires fits { HasLength (form_of validity.now) (length items.now) }
     requires counted { HasLength (form_of places.now) (length positions.now) }
-    requires within { ArePositions (optionals positions.now (flags (form_of places.now) (length positions.now))) (length items.now) }
+    requires within { ArePositions (optionals positions.now (flags (form_of places.now) (length positions.now)))
+        (length items.now) }
     ensures only { IsOkUnless result VortexError.OutOfMemory }
     ensures items { IfOk result (λ taken. taken.items ≡ map (λ row. unwrap_or row blank)
         (take_rows (optionals items.now (flags (form_of validity.now) (length items.now)))
@@ -108,7 +111,8 @@ fn items_at<T: Copy + Drop, A: Allocator>(
 ) -> VortexResult<Vec<T, A>>
     requires { All (λ position. position < length items.now) positions.now }
     ensures only { IsOkUnless result VortexError.OutOfMemory }
-    ensures items { IfOk result (λ taken. map Some taken.items ≡ map (λ position. slice_get items.now position) positions.now) }
+    ensures items { IfOk result (λ taken. map Some taken.items ≡
+        map (λ position. slice_get items.now position) positions.now) }
 {
     let mut taken = Vec::with_capacity(alloc, positions.len())?;
     for position in positions {
@@ -160,7 +164,8 @@ fn items_by_rows<T: Copy + Drop, A: Allocator + Copy>(
 ) -> VortexResult<Vec<T, A>>
     requires fits { HasLength (form_of validity.now) (length items.now) }
     requires counted { HasLength (form_of places.now) (length positions.now) }
-    requires within { ArePositions (optionals positions.now (flags (form_of places.now) (length positions.now))) (length items.now) }
+    requires within { ArePositions (optionals positions.now (flags (form_of places.now) (length positions.now)))
+        (length items.now) }
     ensures only { IsOkUnless result VortexError.OutOfMemory }
     ensures items { IfOk result (λ taken. taken.items ≡ map (λ row. unwrap_or row blank)
         (take_rows (optionals items.now (flags (form_of validity.now) (length items.now)))
@@ -185,8 +190,10 @@ fn taken_validity<T: Copy + Drop, A: Allocator + Copy>(
 ) -> VortexResult<Validity<A>>
     requires fits { HasLength (form_of validity.now) (length items.now) }
     requires counted { HasLength (form_of places.now) (length positions.now) }
-    requires within { ArePositions (optionals positions.now (flags (form_of places.now) (length positions.now))) (length items.now) }
-    requires wanted { nullability ≡ either_nullable (nullability_in (form_of validity.now)) (nullability_in (form_of places.now)) }
+    requires within { ArePositions (optionals positions.now (flags (form_of places.now) (length positions.now)))
+        (length items.now) }
+    requires wanted { nullability ≡ either_nullable (nullability_in (form_of validity.now))
+        (nullability_in (form_of places.now)) }
     ensures only { IsOkUnless result VortexError.OutOfMemory }
     ensures flags { IfOk result (λ rows. IsValidityOf (map is_some
         (take_rows (optionals items.now (flags (form_of validity.now) (length items.now)))
@@ -210,7 +217,8 @@ fn taken_flags<T: Copy + Drop, A: Allocator + Copy>(
 ) -> VortexResult<BitBuffer<A>>
     requires fits { HasLength (form_of validity.now) (length items.now) }
     requires counted { HasLength (form_of places.now) (length positions.now) }
-    requires within { ArePositions (optionals positions.now (flags (form_of places.now) (length positions.now))) (length items.now) }
+    requires within { ArePositions (optionals positions.now (flags (form_of places.now) (length positions.now)))
+        (length items.now) }
     ensures only { IsOkUnless result VortexError.OutOfMemory }
     ensures flags { IfOk result (λ taken. taken ≡ map is_some
         (take_rows (optionals items.now (flags (form_of validity.now) (length items.now)))

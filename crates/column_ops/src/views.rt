@@ -101,7 +101,8 @@ fn fill_bytes<A: Allocator + Copy>(
 ) -> VortexResult<VarBinViewArray<A>>
     requires { IsOfKind array.now.kind bytes.now }
     ensures only { IsOkUnless result VortexError.OutOfMemory }
-    ensures made { IfOk result (λ filled. IsMade (fill_rows (varbin_rows array.now) (varbin_value array.now.kind bytes.now))
+    ensures made { IfOk result (λ filled. IsMade (fill_rows (varbin_rows array.now)
+        (varbin_value array.now.kind bytes.now))
         (kind_dtype array.now.kind NonNullable) (OfVarBins filled)) }
 {
     let shared = array.buffers();

@@ -33,8 +33,10 @@ pub fn compare_scalar<A: Allocator + Copy>(
     right: &Scalar<A>,
 ) -> VortexResult<BoolArray<A>>
     ensures refused { IsRefusedBy (compare_scalar_fault (leaf_dtype (leaf_in column.entry)) right.now.dtype) result }
-    ensures rows { IfOk result (λ truths. map (option_map Single) (bool_rows truths) ≡ compare_with operator (single_rows (leaf_in column.entry)) (option_map Single right.now.value)) }
-    ensures dtype { IfOk result (λ truths. bool_dtype truths ≡ compare_dtype (leaf_dtype (leaf_in column.entry)) right.now.dtype) }
+    ensures rows { IfOk result (λ truths. map (option_map Single) (bool_rows truths) ≡
+        compare_with operator (single_rows (leaf_in column.entry)) (option_map Single right.now.value)) }
+    ensures dtype { IfOk result (λ truths. bool_dtype truths ≡
+        compare_dtype (leaf_dtype (leaf_in column.entry)) right.now.dtype) }
     ensures stored { IfOk result IsStoredComparison }
 {
     if let Some(error) = kind_fault(column.dtype(), right.dtype()) {
@@ -59,10 +61,13 @@ pub fn compare_column<A: Allocator + Copy>(
     operator: CompareOperator,
     right: FlatView<'_, A>,
 ) -> VortexResult<BoolArray<A>>
-    ensures refused { IsRefusedBy (compare_column_fault (leaf_dtype (leaf_in column.entry)) (leaf_dtype (leaf_in right.entry))
+    ensures refused { IsRefusedBy (compare_column_fault (leaf_dtype (leaf_in column.entry))
+        (leaf_dtype (leaf_in right.entry))
         (length (leaf_rows (leaf_in column.entry))) (length (leaf_rows (leaf_in right.entry)))) result }
-    ensures rows { IfOk result (λ truths. map (option_map Single) (bool_rows truths) ≡ compare_rows operator (single_rows (leaf_in column.entry)) (single_rows (leaf_in right.entry))) }
-    ensures dtype { IfOk result (λ truths. bool_dtype truths ≡ compare_dtype (leaf_dtype (leaf_in column.entry)) (leaf_dtype (leaf_in right.entry))) }
+    ensures rows { IfOk result (λ truths. map (option_map Single) (bool_rows truths) ≡
+        compare_rows operator (single_rows (leaf_in column.entry)) (single_rows (leaf_in right.entry))) }
+    ensures dtype { IfOk result (λ truths. bool_dtype truths ≡
+        compare_dtype (leaf_dtype (leaf_in column.entry)) (leaf_dtype (leaf_in right.entry))) }
     ensures stored { IfOk result IsStoredComparison }
 {
     let fault = column_fault(column.dtype(), right.dtype(), column.len(), right.len());
@@ -100,8 +105,10 @@ fn compare_to_null<A: Allocator + Copy>(
     requires of_type { IsViewOf dtype right.now }
     requires null { is_none (sees right.now) ≡ true }
     ensures only { IsOkUnless result VortexError.OutOfMemory }
-    ensures rows { IfOk result (λ truths. map (option_map Single) (bool_rows truths) ≡ compare_with operator (single_rows (leaf_in column.entry)) (sees right.now)) }
-    ensures dtype { IfOk result (λ truths. bool_dtype truths ≡ compare_dtype (leaf_dtype (leaf_in column.entry)) dtype) }
+    ensures rows { IfOk result (λ truths. map (option_map Single) (bool_rows truths) ≡
+        compare_with operator (single_rows (leaf_in column.entry)) (sees right.now)) }
+    ensures dtype { IfOk result (λ truths. bool_dtype truths ≡
+        compare_dtype (leaf_dtype (leaf_in column.entry)) dtype) }
     ensures stored { IfOk result IsStoredComparison }
 {
     let count = column.len();
@@ -121,8 +128,10 @@ fn compare_to_value<A: Allocator + Copy>(
     requires same_kind { same_kind (leaf_dtype (leaf_in column)) dtype ≡ true }
     requires value { is_none (sees right.now) ≡ false }
     ensures only { IsOkUnless result VortexError.OutOfMemory }
-    ensures rows { IfOk result (λ truths. map (option_map Single) (bool_rows truths) ≡ compare_with operator (single_rows (leaf_in column.entry)) (sees right.now)) }
-    ensures dtype { IfOk result (λ truths. bool_dtype truths ≡ compare_dtype (leaf_dtype (leaf_in column.entry)) dtype) }
+    ensures rows { IfOk result (λ truths. map (option_map Single) (bool_rows truths) ≡
+        compare_with operator (single_rows (leaf_in column.entry)) (sees right.now)) }
+    ensures dtype { IfOk result (λ truths. bool_dtype truths ≡
+        compare_dtype (leaf_dtype (leaf_in column.entry)) dtype) }
     ensures stored { IfOk result IsStoredComparison }
 {
     let bits = bits_of_answers(column, alloc, operator, right)?;
@@ -140,8 +149,10 @@ fn compare_beside<A: Allocator + Copy>(
 ) -> VortexResult<BoolArray<A>>
     requires { length (leaf_rows (leaf_in column)) ≡ length (leaf_rows (leaf_in right)) }
     ensures only { IsOkUnless result VortexError.OutOfMemory }
-    ensures rows { IfOk result (λ truths. map (option_map Single) (bool_rows truths) ≡ compare_rows operator (single_rows (leaf_in column.entry)) (single_rows (leaf_in right.entry))) }
-    ensures dtype { IfOk result (λ truths. bool_dtype truths ≡ compare_dtype (leaf_dtype (leaf_in column.entry)) (leaf_dtype (leaf_in right.entry))) }
+    ensures rows { IfOk result (λ truths. map (option_map Single) (bool_rows truths) ≡
+        compare_rows operator (single_rows (leaf_in column.entry)) (single_rows (leaf_in right.entry))) }
+    ensures dtype { IfOk result (λ truths. bool_dtype truths ≡
+        compare_dtype (leaf_dtype (leaf_in column.entry)) (leaf_dtype (leaf_in right.entry))) }
     ensures stored { IfOk result IsStoredComparison }
 {
     let count = column.len();

@@ -31,7 +31,8 @@ pub(crate) fn bits_of_answers<A: Allocator + Copy>(
 ) -> VortexResult<BitBufferMut<A>>
     requires { is_none (sees right.now) ≡ false → IsViewOf (leaf_dtype (leaf_in column)) right.now }
     ensures only { IsOkUnless result VortexError.OutOfMemory }
-    ensures bits { IfOk result (λ bits. bits ≡ answer_bits (compare_with operator (single_rows (leaf_in column.entry)) (sees right.now))) }
+    ensures bits { IfOk result (λ bits. bits ≡ answer_bits (compare_with operator (single_rows (leaf_in column.entry))
+        (sees right.now))) }
 {
     match (column, right) {
         (FlatView::Primitive(array), ScalarView::Unsigned(number)) => {
@@ -57,7 +58,8 @@ fn bits_of_rows<A: Allocator + Copy>(
     right: &ScalarView<'_, A>,
 ) -> VortexResult<BitBufferMut<A>>
     ensures only { IsOkUnless result VortexError.OutOfMemory }
-    ensures bits { IfOk result (λ bits. bits ≡ answer_bits (compare_with operator (single_rows (leaf_in column.entry)) (sees right.now))) }
+    ensures bits { IfOk result (λ bits. bits ≡ answer_bits (compare_with operator (single_rows (leaf_in column.entry))
+        (sees right.now))) }
 {
     let count = column.len();
     let mut bits = BitBufferMut::with_capacity(alloc, count)?;
@@ -154,7 +156,8 @@ fn bits_of_valid<T: Copy + Ord + Drop, A: Allocator + Copy>(
 ) -> VortexResult<BitBufferMut<A>>
     requires { length valid.now ≡ length items.now }
     ensures only { IsOkUnless result VortexError.OutOfMemory }
-    ensures bits { IfOk result (λ bits. bits ≡ map (is_held (λ item. holds_of operator (T.cmp item right))) (optionals items.now valid.now)) }
+    ensures bits { IfOk result (λ bits. bits ≡ map (is_held (λ item. holds_of operator (T.cmp item right)))
+        (optionals items.now valid.now)) }
 {
     let outcomes = Outcomes::of(operator);
     let mut bits = BitBufferMut::with_capacity(alloc, items.len())?;

@@ -25,9 +25,12 @@ pub fn min_max<'a, A: Allocator + Copy>(
 ) -> Option<(ScalarView<'a, A>, ScalarView<'a, A>)>
     requires ordered { range.start ≤ range.end }
     requires in_bounds { range.end ≤ length (leaf_rows (leaf_in column)) }
-    ensures none { IfNone result (All (λ row. row ≡ None) (slice_range (single_rows (leaf_in column.entry)) range.start range.end)) }
-    ensures least { IfSome result (λ ends. IsLeast (slice_range (single_rows (leaf_in column.entry)) range.start range.end) (sees ends.0)) }
-    ensures greatest { IfSome result (λ ends. IsGreatest (slice_range (single_rows (leaf_in column.entry)) range.start range.end) (sees ends.1)) }
+    ensures none { IfNone result (All (λ row. row ≡
+        None) (slice_range (single_rows (leaf_in column.entry)) range.start range.end)) }
+    ensures least { IfSome result (λ ends. IsLeast
+        (slice_range (single_rows (leaf_in column.entry)) range.start range.end) (sees ends.0)) }
+    ensures greatest { IfSome result (λ ends. IsGreatest
+        (slice_range (single_rows (leaf_in column.entry)) range.start range.end) (sees ends.1)) }
     ensures least_of_type { IfSome result (λ ends. IsViewOf (leaf_dtype (leaf_in column.entry)) ends.0) }
     ensures greatest_of_type { IfSome result (λ ends. IsViewOf (leaf_dtype (leaf_in column.entry)) ends.1) }
 {
@@ -42,7 +45,8 @@ fn ends_in<'a, A: Allocator + Copy>(
     requires ordered { range.start ≤ range.end }
     requires in_bounds { range.end ≤ length (leaf_rows (leaf_in column)) }
     ensures { let rows = slice_range (single_rows (leaf_in column.entry)) range.start range.end in
-        MatchOption result (All (λ row. row ≡ None) rows) (λ ends. AreEnds (leaf_dtype (leaf_in column.entry)) rows ends.0 ends.1) }
+        MatchOption result (All (λ row. row ≡ None) rows) (λ ends.
+        AreEnds (leaf_dtype (leaf_in column.entry)) rows ends.0 ends.1) }
 {
     match column {
         FlatView::Primitive(array) => ends_of_numbers(array, range),
@@ -60,7 +64,8 @@ fn ends_of_numbers<'a, A: Allocator + Copy>(
     requires ordered { range.start ≤ range.end }
     requires in_bounds { range.end ≤ length (leaf_rows (OfNumbers array.now)) }
     ensures { let rows = slice_range (single_rows (OfNumbers array.now)) range.start range.end in
-        MatchOption result (All (λ row. row ≡ None) rows) (λ ends. AreEnds (primitive_dtype array.now) rows ends.0 ends.1) }
+        MatchOption result (All (λ row. row ≡ None) rows) (λ ends.
+        AreEnds (primitive_dtype array.now) rows ends.0 ends.1) }
 {
     let validity = array.validity();
     match_each_native!(array.values(), items => min_max_of(items.as_slice(), validity, range))
@@ -74,7 +79,8 @@ fn ends_of_decimals<'a, A: Allocator + Copy>(
     requires ordered { range.start ≤ range.end }
     requires in_bounds { range.end ≤ length (leaf_rows (OfDecimals array.now)) }
     ensures { let rows = slice_range (single_rows (OfDecimals array.now)) range.start range.end in
-        MatchOption result (All (λ row. row ≡ None) rows) (λ ends. AreEnds (decimal_dtype_of array.now) rows ends.0 ends.1) }
+        MatchOption result (All (λ row. row ≡ None) rows) (λ ends.
+        AreEnds (decimal_dtype_of array.now) rows ends.0 ends.1) }
 {
     min_max_of(array.values(), array.validity(), range)
 }
@@ -87,7 +93,8 @@ fn ends_of_rows<'a, R: FlatRows<A>, A: Allocator + Copy>(
     requires ordered { range.start ≤ range.end }
     requires in_bounds { range.end ≤ length (leaf_rows (R.leaf column.now)) }
     ensures { let rows = slice_range (single_rows (R.leaf column.now)) range.start range.end in
-        MatchOption result (All (λ row. row ≡ None) rows) (λ ends. AreEnds (leaf_dtype (R.leaf column.now)) rows ends.0 ends.1) }
+        MatchOption result (All (λ row. row ≡ None) rows) (λ ends.
+        AreEnds (leaf_dtype (R.leaf column.now)) rows ends.0 ends.1) }
 {
     let least = furthest(column, range.start..range.end, Ordering::Less)?;
     let greatest = furthest(column, range, Ordering::Greater)?;
@@ -103,8 +110,10 @@ fn furthest<'a, R: FlatRows<A>, A: Allocator + Copy>(
     requires ordered { range.start ≤ range.end }
     requires in_bounds { range.end ≤ length (leaf_rows (R.leaf column.now)) }
     requires side { side ≢ Ordering.Equal }
-    ensures none { IfNone result (All (λ row. row ≡ None) (slice_range (single_rows (R.leaf column.now)) range.start range.end)) }
-    ensures some { IfSome result (λ row. IsFurthest side (slice_range (single_rows (R.leaf column.now)) range.start range.end) (sees row)) }
+    ensures none { IfNone result (All (λ row. row ≡
+        None) (slice_range (single_rows (R.leaf column.now)) range.start range.end)) }
+    ensures some { IfSome result (λ row. IsFurthest side
+        (slice_range (single_rows (R.leaf column.now)) range.start range.end) (sees row)) }
     ensures of_type { IfSome result (λ row. IsViewOf (leaf_dtype (R.leaf column.now)) row) }
 {
     let mut best = None;

@@ -32,8 +32,10 @@ pub trait FlatOrder<A: Allocator + Copy> {
         right: &Scalar<A>,
     ) -> VortexResult<BoolArray<A>>
         ensures refused { IsRefusedBy (compare_scalar_fault (leaf_dtype (form self.now)) right.now.dtype) result }
-        ensures rows { IfOk result (λ truths. map (option_map Single) (bool_rows truths) ≡ compare_with operator (single_rows (form self.now)) (option_map Single right.now.value)) }
-        ensures dtype { IfOk result (λ truths. bool_dtype truths ≡ compare_dtype (leaf_dtype (form self.now)) right.now.dtype) }
+        ensures rows { IfOk result (λ truths. map (option_map Single) (bool_rows truths) ≡
+            compare_with operator (single_rows (form self.now)) (option_map Single right.now.value)) }
+        ensures dtype { IfOk result (λ truths. bool_dtype truths ≡
+            compare_dtype (leaf_dtype (form self.now)) right.now.dtype) }
         ensures stored { IfOk result IsStoredComparison };
 
     /// Does the operator hold of each row and the row beside it? Null where either row is null. The answer
@@ -46,10 +48,13 @@ pub trait FlatOrder<A: Allocator + Copy> {
         operator: CompareOperator,
         right: &FlatColumn<A>,
     ) -> VortexResult<BoolArray<A>>
-        ensures refused { IsRefusedBy (compare_column_fault (leaf_dtype (form self.now)) (leaf_dtype (leaf_of right.now))
+        ensures refused { IsRefusedBy (compare_column_fault (leaf_dtype (form self.now))
+            (leaf_dtype (leaf_of right.now))
             (length (leaf_rows (form self.now))) (length (leaf_rows (leaf_of right.now)))) result }
-        ensures rows { IfOk result (λ truths. map (option_map Single) (bool_rows truths) ≡ compare_rows operator (single_rows (form self.now)) (single_rows (leaf_of right.now))) }
-        ensures dtype { IfOk result (λ truths. bool_dtype truths ≡ compare_dtype (leaf_dtype (form self.now)) (leaf_dtype (leaf_of right.now))) }
+        ensures rows { IfOk result (λ truths. map (option_map Single) (bool_rows truths) ≡
+            compare_rows operator (single_rows (form self.now)) (single_rows (leaf_of right.now))) }
+        ensures dtype { IfOk result (λ truths. bool_dtype truths ≡
+            compare_dtype (leaf_dtype (form self.now)) (leaf_dtype (leaf_of right.now))) }
         ensures stored { IfOk result IsStoredComparison };
 
     /// The least and the greatest of the rows from `range.start` to `range.end - 1` that are no nulls,
@@ -57,9 +62,12 @@ pub trait FlatOrder<A: Allocator + Copy> {
     fn min_max(&self, range: Range<usize>) -> Option<(ScalarView<'_, A>, ScalarView<'_, A>)>
         requires ordered { range.start ≤ range.end }
         requires in_bounds { range.end ≤ length (leaf_rows (form self.now)) }
-        ensures none { IfNone result (All (λ row. row ≡ None) (slice_range (single_rows (form self.now)) range.start range.end)) }
-        ensures least { IfSome result (λ ends. IsLeast (slice_range (single_rows (form self.now)) range.start range.end) (sees ends.0)) }
-        ensures greatest { IfSome result (λ ends. IsGreatest (slice_range (single_rows (form self.now)) range.start range.end) (sees ends.1)) }
+        ensures none { IfNone result (All (λ row. row ≡
+            None) (slice_range (single_rows (form self.now)) range.start range.end)) }
+        ensures least { IfSome result (λ ends. IsLeast (slice_range (single_rows (form self.now)) range.start range.end)
+            (sees ends.0)) }
+        ensures greatest { IfSome result (λ ends. IsGreatest
+            (slice_range (single_rows (form self.now)) range.start range.end) (sees ends.1)) }
         ensures least_of_type { IfSome result (λ ends. IsViewOf (leaf_dtype (form self.now)) ends.0) }
         ensures greatest_of_type { IfSome result (λ ends. IsViewOf (leaf_dtype (form self.now)) ends.1) };
 

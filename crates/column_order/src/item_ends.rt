@@ -22,8 +22,11 @@ pub(crate) fn min_max_of<'a, T: FlatItem, A: Allocator>(
     requires fits { HasLength (form_of validity.now) (length items.now) }
     requires ordered { range.start ≤ range.end }
     requires in_bounds { range.end ≤ length items.now }
-    ensures { (decimal : DecimalDType) (nullability : Nullability) → let rows = slice_range (flagged_rows T.value items.now (flags (form_of validity.now) (length items.now))) range.start range.end in
-        MatchOption result (All (λ row. row ≡ None) rows) (λ ends. AreEnds (T.dtype decimal nullability) rows ends.0 ends.1) }
+    ensures { (decimal : DecimalDType) (nullability : Nullability) →
+        let rows = slice_range (flagged_rows T.value items.now (flags (form_of validity.now) (length items.now)))
+        range.start range.end in
+        MatchOption result (All (λ row. row ≡ None) rows) (λ ends.
+        AreEnds (T.dtype decimal nullability) rows ends.0 ends.1) }
 {
     let (least, greatest) = item_ends(items, validity, range.start, range.end)?;
     Some((least.view(), greatest.view()))
@@ -39,9 +42,13 @@ fn item_ends<T: FlatItem, A: Allocator>(
     requires fits { HasLength (form_of validity.now) (length items.now) }
     requires ordered { start ≤ stop }
     requires in_bounds { stop ≤ length items.now }
-    ensures none { IfNone result (All (λ row. row ≡ None) (slice_range (flagged_rows T.value items.now (flags (form_of validity.now) (length items.now))) start stop)) }
-    ensures least { IfSome result (λ ends. IsLeast (slice_range (flagged_rows T.value items.now (flags (form_of validity.now) (length items.now))) start stop) (item_row T.value ends.0)) }
-    ensures greatest { IfSome result (λ ends. IsGreatest (slice_range (flagged_rows T.value items.now (flags (form_of validity.now) (length items.now))) start stop) (item_row T.value ends.1)) }
+    ensures none { IfNone result (All (λ row. row ≡
+        None) (slice_range (flagged_rows T.value items.now (flags (form_of validity.now) (length items.now))) start
+        stop)) }
+    ensures least { IfSome result (λ ends. IsLeast (slice_range (flagged_rows T.value items.now
+        (flags (form_of validity.now) (length items.now))) start stop) (item_row T.value ends.0)) }
+    ensures greatest { IfSome result (λ ends. IsGreatest (slice_range (flagged_rows T.value items.now
+        (flags (form_of validity.now) (length items.now))) start stop) (item_row T.value ends.1)) }
 {
     match validity {
         Validity::NonNullable => ends_of_valid(items, start, stop),
@@ -56,8 +63,10 @@ fn ends_of_valid<T: FlatItem>(items: &[T], start: usize, stop: usize) -> Option<
     requires ordered { start ≤ stop }
     requires in_bounds { stop ≤ length items.now }
     ensures none { IfNone result (start ≡ stop) }
-    ensures least { IfSome result (λ ends. IsLeast (slice_range (item_rows T.value items.now) start stop) (item_row T.value ends.0)) }
-    ensures greatest { IfSome result (λ ends. IsGreatest (slice_range (item_rows T.value items.now) start stop) (item_row T.value ends.1)) }
+    ensures least { IfSome result (λ ends. IsLeast (slice_range (item_rows T.value items.now) start stop)
+        (item_row T.value ends.0)) }
+    ensures greatest { IfSome result (λ ends. IsGreatest (slice_range (item_rows T.value items.now) start stop)
+        (item_row T.value ends.1)) }
 {
     if start == stop {
         return None;
@@ -98,9 +107,12 @@ fn ends_of_flagged<T: FlatItem, A: Allocator>(
     requires fits { length flags.now ≡ length items.now }
     requires ordered { start ≤ stop }
     requires in_bounds { stop ≤ length items.now }
-    ensures none { IfNone result (All (λ row. row ≡ None) (slice_range (flagged_rows T.value items.now flags.now) start stop)) }
-    ensures least { IfSome result (λ ends. IsLeast (slice_range (flagged_rows T.value items.now flags.now) start stop) (item_row T.value ends.0)) }
-    ensures greatest { IfSome result (λ ends. IsGreatest (slice_range (flagged_rows T.value items.now flags.now) start stop) (item_row T.value ends.1)) }
+    ensures none { IfNone result (All (λ row. row ≡
+        None) (slice_range (flagged_rows T.value items.now flags.now) start stop)) }
+    ensures least { IfSome result (λ ends. IsLeast (slice_range (flagged_rows T.value items.now flags.now) start stop)
+        (item_row T.value ends.0)) }
+    ensures greatest { IfSome result (λ ends. IsGreatest
+        (slice_range (flagged_rows T.value items.now flags.now) start stop) (item_row T.value ends.1)) }
 {
     let from = first_valid(flags, start, stop);
     if from == stop {

@@ -26,7 +26,8 @@ pub(crate) fn is_constant_of<T: FlatItem, A: Allocator>(
     requires fits { HasLength (form_of validity.now) (length items.now) }
     requires ordered { range.start ≤ range.end }
     requires in_bounds { range.end ≤ length items.now }
-    ensures { IsTrue result ↔ IsConstant (slice_range (flagged_rows T.value items.now (flags (form_of validity.now) (length items.now))) range.start range.end) }
+    ensures { IsTrue result ↔ IsConstant (slice_range (flagged_rows T.value items.now (flags (form_of validity.now)
+        (length items.now))) range.start range.end) }
 {
     match validity {
         Validity::NonNullable => is_constant_valid(items, range.start, range.end),
@@ -103,7 +104,8 @@ pub(crate) fn is_sorted_of<T: FlatItem, A: Allocator>(
     requires fits { HasLength (form_of validity.now) (length items.now) }
     requires ordered { range.start ≤ range.end }
     requires in_bounds { range.end ≤ length items.now }
-    ensures { IsTrue result ↔ IsSorted strict (slice_range (flagged_rows T.value items.now (flags (form_of validity.now) (length items.now))) range.start range.end) }
+    ensures { IsTrue result ↔ IsSorted strict (slice_range (flagged_rows T.value items.now (flags (form_of validity.now)
+        (length items.now))) range.start range.end) }
 {
     match validity {
         Validity::NonNullable => is_sorted_valid(items, range.start, range.end, strict),

@@ -25,7 +25,8 @@ pub(crate) trait FlatItem: Copy + Ord + Drop {
     /// The item as a row.
     fn view<'a, A: Allocator>(self) -> ScalarView<'a, A>
         ensures row { sees result ≡ item_row value self }
-        ensures of_type { (decimal : DecimalDType) (nullability : Nullability) → IsViewOf (dtype decimal nullability) result };
+        ensures of_type { (decimal : DecimalDType) (nullability : Nullability) →
+            IsViewOf (dtype decimal nullability) result };
 
     ghost ordered: { (a b : Self) → Self.cmp a b ≡ flat_cmp (value a) (value b) };
 }

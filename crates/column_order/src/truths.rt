@@ -83,7 +83,8 @@ pub(crate) fn validity_of_answers<A: Allocator + Copy>(
     ensures fits { IfOk result (λ validity. HasLength (form_of validity) count) }
     ensures normal { IfOk result (λ validity. IsNormal (form_of validity)) }
     ensures some { IfOk result (λ validity. form_of validity ≡ AllNull → 0 < count) }
-    ensures nullability { IfOk result (λ validity. nullability_in (form_of validity) ≡ either_nullability (nullability_in (form_of rows.now)) nullability) }
+    ensures nullability { IfOk result (λ validity. nullability_in (form_of validity) ≡
+        either_nullability (nullability_in (form_of rows.now)) nullability) }
 {
     match (rows, nullability) {
         (Validity::NonNullable, Nullability::Nullable) => Ok(Validity::AllValid),

@@ -34,7 +34,8 @@ pub fn sum_flat<A: Allocator>(column: &FlatColumn<A>) -> VortexResult<SumAnswer>
 pub fn sum_view<A: Allocator>(column: FlatView<'_, A>) -> VortexResult<SumAnswer>
     ensures refused { IsRefusedBy (sum_fault (leaf_dtype (leaf_in column.entry))) result }
     ensures no_memory { result ≢ Err VortexError.OutOfMemory }
-    ensures answer { IfOk result (IsSumAnswer (leaf_dtype (leaf_in column.entry)) (single_rows (leaf_in column.entry))) }
+    ensures answer { IfOk result (IsSumAnswer (leaf_dtype (leaf_in column.entry))
+        (single_rows (leaf_in column.entry))) }
 {
     match column {
         FlatView::Primitive(array) => Ok(sum_numbers(array)),

@@ -64,7 +64,8 @@ impl SignedSum {
 // The sum and `len` times the value, where that is in the range.
 #[inline]
 fn next_sum(sum: i64, value: i64, len: usize) -> Option<i64>
-    ensures sum { MatchOption result (is_within SignedRange (sum +ℤ value *ℤ pos len) ≡ false) (λ next. next ≡ sum +ℤ value *ℤ pos len) }
+    ensures sum { MatchOption result (is_within SignedRange (sum +ℤ value *ℤ pos len) ≡ false) (λ next. next ≡
+        sum +ℤ value *ℤ pos len) }
     ensures within { IfSome result (λ _. is_within SignedRange (sum +ℤ value *ℤ pos len) ≡ true) }
 {
     match near_sum(sum, value, len) {
@@ -86,7 +87,8 @@ fn near_sum(sum: i64, value: i64, len: usize) -> Option<i64>
 // The sum and `len` times the value, where that is in the range, by 128 bits: a product may leave 64 bits where the sum
 // is in the range.
 fn far_sum(sum: i64, value: i64, len: usize) -> Option<i64>
-    ensures { MatchOption result (is_within SignedRange (sum +ℤ value *ℤ pos len) ≡ false) (λ far. far ≡ sum +ℤ value *ℤ pos len) }
+    ensures { MatchOption result (is_within SignedRange (sum +ℤ value *ℤ pos len) ≡ false) (λ far. far ≡
+        sum +ℤ value *ℤ pos len) }
 {
     i64::try_from(sum_with(sum, value, len)).ok()
 }

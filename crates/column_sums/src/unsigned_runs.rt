@@ -83,7 +83,8 @@ fn add_runs<R: UnsignedRuns>(runs: &R, sum: &mut UnsignedSum) -> SumAnswer
 #[inline(always)]
 fn add_parts<R: UnsignedRuns>(runs: &R, sum: &mut UnsignedSum) -> Option<bool>
     requires { sum.old.value ≡ pos 0 }
-    ensures summed { IfSome result (λ is_empty. IsSummed UnsignedRange sum.old.calls (R.runs runs.now) (length (R.runs runs.now)) sum.new is_empty) }
+    ensures summed { IfSome result (λ is_empty. IsSummed UnsignedRange sum.old.calls (R.runs runs.now)
+        (length (R.runs runs.now)) sum.new is_empty) }
     ensures left { result ≡ None → IsSumOfRuns UnsignedRange sum.old.calls (R.runs runs.now) None sum.new.calls false }
 {
     let count = runs.run_count();
@@ -106,9 +107,11 @@ fn add_between<const INNER: bool, R: UnsignedRuns>(
     requires within { to ≤ length (R.runs runs.now) }
     requires ordered { from ≤ to }
     requires inner { INNER ≡ true → from < to → (0 < from) × (to < length (R.runs runs.now)) }
-    ensures summed { IfSome result (λ empty. (before : List (ℤ × ℕ)) → IsSummed UnsignedRange before (R.runs runs.now) from sum.old is_empty
+    ensures summed { IfSome result (λ empty. (before : List (ℤ × ℕ)) →
+        IsSummed UnsignedRange before (R.runs runs.now) from sum.old is_empty
         → IsSummed UnsignedRange before (R.runs runs.now) to sum.new empty) }
-    ensures left { result ≡ None → (before : List (ℤ × ℕ)) → IsSummed UnsignedRange before (R.runs runs.now) from sum.old is_empty
+    ensures left { result ≡ None → (before : List (ℤ × ℕ)) →
+        IsSummed UnsignedRange before (R.runs runs.now) from sum.old is_empty
         → IsSumOfRuns UnsignedRange before (R.runs runs.now) None sum.new.calls false }
 {
     let mut empty = is_empty;

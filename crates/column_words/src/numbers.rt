@@ -20,7 +20,8 @@ pub fn parse_count(word: &str) -> Option<usize>
 /// The number of a word of decimal digits with or without a minus before them, or `None` where the
 /// word is anything else or the number is below -2^127, or 2^127 or more. Zeros may lead.
 pub fn parse_integer(word: &str) -> Option<i128>
-    ensures { SomeIff result (IsWholeNumber word.now × FitsSigned w128 (whole_number word.now)) (whole_number word.now) }
+    ensures { SomeIff result (IsWholeNumber word.now ×
+        FitsSigned w128 (whole_number word.now)) (whole_number word.now) }
 {
     // Nor may these.
     if word.starts_with('+') {

@@ -11,7 +11,8 @@ use std::alloc::{AllocError, Allocator};
 /// The type of rows that a word names: a type of numbers, with a question mark behind it where
 /// rows may be null.
 pub fn parse_type(word: &str) -> Option<(PType, Nullability)>
-    ensures { MatchOption result ((ptype : PType) (nullability : Nullability) → word.now ≢ type_name ptype nullability) (λ named. word.now ≡ type_name named.0 named.1) }
+    ensures { MatchOption result ((ptype : PType) (nullability : Nullability) →
+        word.now ≢ type_name ptype nullability) (λ named. word.now ≡ type_name named.0 named.1) }
 {
     let (name, nullability) = split_mark(word);
     Some((parse_ptype(name)?, nullability))
@@ -31,7 +32,8 @@ pub fn split_mark(word: &str) -> (&str, Nullability)
 
 /// The type of numbers that a word names, as `u8`.
 pub fn parse_ptype(word: &str) -> Option<PType>
-    ensures { MatchOption result ((ptype : PType) → word.now ≢ ptype_name ptype) (λ ptype. word.now ≡ ptype_name ptype) }
+    ensures { MatchOption result ((ptype : PType) → word.now ≢ ptype_name ptype) (λ ptype. word.now ≡
+        ptype_name ptype) }
 {
     match word {
         "u8" => Some(PType::U8),

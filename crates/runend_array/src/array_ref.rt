@@ -110,7 +110,8 @@ impl<A: Allocator + Copy> ArrayRef<A> {
     pub fn scalar_at(&self, index: usize) -> VortexResult<ScalarView<'_, A>>
         ensures row { IfOk result (λ view. slice_get (rows self.now) index ≡ Some (sees view)) }
         ensures of_type { IfOk result (λ view. IsViewOf (dtype_of self.now) view) }
-        ensures refused { IsErrOf result (VortexError.OutOfBounds (pos index) (length (rows self.now))) ↔ (length (rows self.now) ≤ index) }
+        ensures refused { IsErrOf result (VortexError.OutOfBounds (pos index) (length (rows self.now))) ↔
+            (length (rows self.now) ≤ index) }
         ensures only { IsOkUnless result (VortexError.OutOfBounds (pos index) (length (rows self.now))) }
     {
         match self {
@@ -251,7 +252,8 @@ impl<A: Allocator + Copy> ArrayRef<A> {
         requires window { IsWindow (ends_of ends.now) offset count }
         requires paired { length (rows self.now) ≡ length ends.now.numbers }
         ensures only { IsOkUnless result VortexError.OutOfMemory }
-        ensures rows { IfOk result (λ flat. column_rows (canonical_column flat) ≡ run_rows (ends_of ends.now) (rows self.now) offset count) }
+        ensures rows { IfOk result (λ flat. column_rows (canonical_column flat) ≡
+            run_rows (ends_of ends.now) (rows self.now) offset count) }
         ensures dtype { IfOk result (λ flat. column_dtype (canonical_column flat) ≡ dtype_of self.now) }
         ensures form { IfOk result (λ flat. IsComputedFlat (canonical_column flat)) }
     {

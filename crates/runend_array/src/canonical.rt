@@ -62,8 +62,10 @@ impl<A: Allocator + Copy> Canonical<A> {
         requires window { IsWindow (ends_of ends.now) offset count }
         requires paired { length (column_rows (canonical_column self)) ≡ length ends.now.numbers }
         ensures only { IsOkUnless result VortexError.OutOfMemory }
-        ensures rows { IfOk result (λ flat. column_rows (canonical_column flat) ≡ run_rows (ends_of ends.now) (column_rows (canonical_column self)) offset count) }
-        ensures dtype { IfOk result (λ flat. column_dtype (canonical_column flat) ≡ column_dtype (canonical_column self)) }
+        ensures rows { IfOk result (λ flat. column_rows (canonical_column flat) ≡
+            run_rows (ends_of ends.now) (column_rows (canonical_column self)) offset count) }
+        ensures dtype { IfOk result (λ flat. column_dtype (canonical_column flat) ≡
+            column_dtype (canonical_column self)) }
         ensures form { IfOk result (λ flat. IsComputedFlat (canonical_column flat)) }
     {
         match self {

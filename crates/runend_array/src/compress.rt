@@ -83,7 +83,8 @@ pub fn decode_column<A: Allocator + Copy>(
     requires window { IsWindow (ends_of ends.now) offset count }
     requires paired { length (leaf_rows (leaf_of values)) ≡ length ends.now.numbers }
     ensures only { IsOkUnless result VortexError.OutOfMemory }
-    ensures rows { IfOk result (λ array. rows array ≡ run_rows (ends_of ends.now) (single_rows (leaf_of values)) offset count) }
+    ensures rows { IfOk result (λ array. rows array ≡
+        run_rows (ends_of ends.now) (single_rows (leaf_of values)) offset count) }
     ensures dtype { IfOk result (λ array. dtype_of array ≡ leaf_dtype (leaf_of values)) }
     ensures form { IfOk result (λ array. IsDecodedForm (single_rows (leaf_of values)) (column_of array)) }
 {

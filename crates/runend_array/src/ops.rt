@@ -20,7 +20,8 @@ pub fn find_physical_index<A: Allocator + Copy>(ends: &ArrayRef<A>, index: usize
     requires plain { IsPlainEnds (column_of ends.now) }
     requires increasing { IsStrictlyIncreasing (end_numbers (column_of ends.now)) }
     requires some { 0 < length (end_numbers (column_of ends.now)) }
-    ensures { result ≡ min (count_by (λ e. nat_le e index) (end_numbers (column_of ends.now))) (length (end_numbers (column_of ends.now)) - 1) }
+    ensures { result ≡ min (count_by (λ e. nat_le e index) (end_numbers (column_of ends.now)))
+        (length (end_numbers (column_of ends.now)) - 1) }
 {
     match ends {
         ArrayRef::Primitive(plain) => first_past_of(plain, index).min(plain.len() - 1),
@@ -36,7 +37,8 @@ pub fn find_slice_end_index<A: Allocator + Copy>(ends: &ArrayRef<A>, index: usiz
     requires plain { IsPlainEnds (column_of ends.now) }
     requires increasing { IsStrictlyIncreasing (end_numbers (column_of ends.now)) }
     requires some { 0 < length (end_numbers (column_of ends.now)) }
-    ensures { result ≡ min (count_by (λ e. nat_lt e index) (end_numbers (column_of ends.now)) + 1) (length (end_numbers (column_of ends.now))) }
+    ensures { result ≡ min (count_by (λ e. nat_lt e index) (end_numbers (column_of ends.now)) + 1)
+        (length (end_numbers (column_of ends.now))) }
 {
     match ends {
         ArrayRef::Primitive(plain) => ended_before(plain, index)

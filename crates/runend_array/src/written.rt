@@ -42,7 +42,8 @@ pub(crate) fn write_constant<A: Allocator + Copy>(
     constant: &ConstantArray<A>,
 ) -> VortexResult<Canonical<A>>
     ensures only { IsOkUnless result VortexError.OutOfMemory }
-    ensures rows { IfOk result (λ flat. column_rows (canonical_column flat) ≡ replicate constant.now.count (option_map Single constant.now.value)) }
+    ensures rows { IfOk result (λ flat. column_rows (canonical_column flat) ≡
+        replicate constant.now.count (option_map Single constant.now.value)) }
     ensures dtype { IfOk result (λ flat. column_dtype (canonical_column flat) ≡ constant.now.dtype) }
     ensures form { IfOk result (λ flat. IsCanonical (OfConstant constant.now) (canonical_column flat)) }
 {
@@ -224,7 +225,12 @@ fn write_views<A: Allocator + Copy>(
 ) -> VortexResult<VarBinViewArray<A>>
     requires { IsOfKind kind bytes.now }
     ensures only { IsOkUnless result VortexError.OutOfMemory }
-    ensures written { IfOk result (λ array. IsConstantLeaf (record { dtype = kind_dtype kind nullability; value = Some (varbin_value kind bytes.now); count = count }) (OfVarBins array)) }
+    ensures written { IfOk result (λ array. IsConstantLeaf (record {
+      dtype = kind_dtype kind nullability;
+      value =
+          Some (varbin_value kind bytes.now);
+      count = count;
+    }) (OfVarBins array)) }
 {
     let view = View {
         buffer: 0,
@@ -386,7 +392,8 @@ fn no_views<A: Allocator + Copy>(
 // Zeros in u64.
 fn zeros_of<A: Allocator + Copy>(alloc: A, count: usize) -> VortexResult<ArrayRef<A>>
     ensures only { IsOkUnless result VortexError.OutOfMemory }
-    ensures form { IfOk result (λ array. column_of array ≡ OfLeaf (OfNumbers (primitive_with U64 (replicate count (pos 0)) NeverNull))) }
+    ensures form { IfOk result (λ array. column_of array ≡
+        OfLeaf (OfNumbers (primitive_with U64 (replicate count (pos 0)) NeverNull))) }
 {
     let zeros = copies_of(alloc, 0u64, count)?;
     let zeros = PrimitiveArray::new_unchecked(
@@ -402,8 +409,10 @@ fn zeros_twice<A: Allocator + Copy>(
     count: usize,
 ) -> VortexResult<(ArrayRef<A>, ArrayRef<A>)>
     ensures only { IsOkUnless result VortexError.OutOfMemory }
-    ensures offsets { IfOk result (λ pair. column_of pair.0 ≡ OfLeaf (OfNumbers (primitive_with U64 (replicate count (pos 0)) NeverNull))) }
-    ensures sizes { IfOk result (λ pair. column_of pair.1 ≡ OfLeaf (OfNumbers (primitive_with U64 (replicate count (pos 0)) NeverNull))) }
+    ensures offsets { IfOk result (λ pair. column_of pair.0 ≡
+        OfLeaf (OfNumbers (primitive_with U64 (replicate count (pos 0)) NeverNull))) }
+    ensures sizes { IfOk result (λ pair. column_of pair.1 ≡
+        OfLeaf (OfNumbers (primitive_with U64 (replicate count (pos 0)) NeverNull))) }
 {
     let offsets = zeros_of(alloc, count)?;
     match zeros_of(alloc, count) {
@@ -423,7 +432,8 @@ fn write_null_lists<A: Allocator + Copy>(
 ) -> VortexResult<ListViewArray<A>>
     requires { constant.now.dtype ≡ column.List element (nullability_of constant.now.dtype) }
     ensures only { IsOkUnless result VortexError.OutOfMemory }
-    ensures rows { IfOk result (λ lists. list_rows lists ≡ replicate constant.now.count (option_map Single constant.now.value)) }
+    ensures rows { IfOk result (λ lists. list_rows lists ≡
+        replicate constant.now.count (option_map Single constant.now.value)) }
     ensures dtype { IfOk result (λ lists. list_dtype lists ≡ constant.now.dtype) }
     ensures form { IfOk result (λ lists. (constant.now.value ≡ None) × (lists.validity ≡ ByRows AllNull)) }
 {

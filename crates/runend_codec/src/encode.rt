@@ -85,7 +85,8 @@ fn encode_items<T: NativePType, A: Allocator + Copy>(
 ) -> VortexResult<Encoder<T, A>>
     requires { HasLength (form_of validity.now) (length items.now) }
     ensures only { IsOkUnless result VortexError.OutOfMemory }
-    ensures cover { IfOk result (λ runs. IsTightCover (optionals (map T.number items.now) (flags (form_of validity.now) (length items.now)))
+    ensures cover { IfOk result (λ runs. IsTightCover (optionals (map T.number items.now) (flags (form_of validity.now)
+        (length items.now)))
         runs.ends.items (optionals (map T.number runs.values.items) runs.flags)) }
     ensures paired { IfOk result (λ runs. length runs.flags ≡ length runs.values.items) }
     ensures zeroed { IfOk result (λ runs. AreZeroAtNulls (map T.number runs.values.items) runs.flags) }
@@ -150,7 +151,8 @@ fn encode_valid<T: NativePType, A: Allocator + Copy>(
     items: &[T],
 ) -> VortexResult<Encoder<T, A>>
     ensures only { IsOkUnless result VortexError.OutOfMemory }
-    ensures cover { IfOk result (λ runs. IsTightCover (optionals (map T.number items.now) (replicate (length items.now) true))
+    ensures cover { IfOk result (λ runs. IsTightCover (optionals (map T.number items.now)
+        (replicate (length items.now) true))
         runs.ends.items (optionals (map T.number runs.values.items) runs.flags)) }
     ensures paired { IfOk result (λ runs. length runs.flags ≡ length runs.values.items) }
     ensures zeroed { IfOk result (λ runs. AreZeroAtNulls (map T.number runs.values.items) runs.flags) }
@@ -171,7 +173,8 @@ fn valid_runs<T: NativePType, A: Allocator + Copy>(
     items: &[T],
 ) -> VortexResult<(Vec<u64, A>, Vec<T, A>)>
     ensures only { IsOkUnless result VortexError.OutOfMemory }
-    ensures cover { IfOk result (λ runs. IsTightCover (map T.number items.now) runs.0.items (map T.number runs.1.items)) }
+    ensures cover { IfOk result (λ runs. IsTightCover (map T.number items.now) runs.0.items
+        (map T.number runs.1.items)) }
 {
     let mut ends = Vec::new(alloc);
     let mut values = Vec::new(alloc);
@@ -201,7 +204,8 @@ fn encode_nullable<T: NativePType, A: Allocator + Copy>(
 ) -> VortexResult<Encoder<T, A>>
     requires { HasLength (form_of validity.now) (length items.now) }
     ensures only { IsOkUnless result VortexError.OutOfMemory }
-    ensures cover { IfOk result (λ runs. IsTightCover (optionals (map T.number items.now) (flags (form_of validity.now) (length items.now)))
+    ensures cover { IfOk result (λ runs. IsTightCover (optionals (map T.number items.now) (flags (form_of validity.now)
+        (length items.now)))
         runs.ends.items (optionals (map T.number runs.values.items) runs.flags)) }
     ensures paired { IfOk result (λ runs. length runs.flags ≡ length runs.values.items) }
     ensures zeroed { IfOk result (λ runs. AreZeroAtNulls (map T.number runs.values.items) runs.flags) }

@@ -30,7 +30,8 @@ pub fn validate_ends<A: Allocator>(
 
 // The first run whose end is not above the end before it.
 fn first_fall<E: UnsignedPType>(ends: &[E]) -> Option<usize>
-    ensures { MatchOption result (IsStrictlyIncreasing (map E.natural ends.now)) (λ run. IsFirstFall (map E.natural ends.now) run) }
+    ensures { MatchOption result (IsStrictlyIncreasing (map E.natural ends.now)) (λ run.
+        IsFirstFall (map E.natural ends.now) run) }
 {
     for run in 1..ends.len() {
         if ends[run].to_u64() <= ends[run - 1].to_u64() {

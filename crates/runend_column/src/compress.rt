@@ -61,7 +61,8 @@ pub fn runend_decode_decimal<A: Allocator + Copy>(
     requires window { IsWindow (ends_of ends) offset length }
     requires paired { item_count values.numbers ≡ item_count ends.numbers }
     ensures only { IsOkUnless result VortexError.OutOfMemory }
-    ensures rows { IfOk result (λ array. rows array ≡ run_rows (ends_of ends) (single_rows (OfDecimals values)) offset length) }
+    ensures rows { IfOk result (λ array. rows array ≡
+        run_rows (ends_of ends) (single_rows (OfDecimals values)) offset length) }
     ensures dtype { IfOk result (λ array. dtype_of array ≡ leaf_dtype (OfDecimals values)) }
     ensures form { IfOk result (λ array. IsDecodedForm (single_rows (OfDecimals values)) (column_of array)) }
     ensures session { ctx.new ≡ ctx.old }
@@ -84,7 +85,8 @@ pub fn runend_decode_varbinview<A: Allocator + Copy>(
     requires window { IsWindow (ends_of ends) offset length }
     requires paired { item_count values.views ≡ item_count ends.numbers }
     ensures only { IsOkUnless result VortexError.OutOfMemory }
-    ensures rows { IfOk result (λ array. rows array ≡ run_rows (ends_of ends) (single_rows (OfVarBins values)) offset length) }
+    ensures rows { IfOk result (λ array. rows array ≡
+        run_rows (ends_of ends) (single_rows (OfVarBins values)) offset length) }
     ensures dtype { IfOk result (λ array. dtype_of array ≡ leaf_dtype (OfVarBins values)) }
     ensures form { IfOk result (λ array. IsDecodedForm (single_rows (OfVarBins values)) (column_of array)) }
     ensures session { ctx.new ≡ ctx.old }
@@ -107,7 +109,8 @@ pub(crate) fn decode_runs<A: Allocator + Copy>(
     requires window { IsWindow (ends_of ends) offset length }
     requires paired { item_count (leaf_rows (leaf_of values)) ≡ item_count ends.numbers }
     ensures only { IsOkUnless result VortexError.OutOfMemory }
-    ensures rows { IfOk result (λ array. rows array ≡ run_rows (ends_of ends) (single_rows (leaf_of values)) offset length) }
+    ensures rows { IfOk result (λ array. rows array ≡
+        run_rows (ends_of ends) (single_rows (leaf_of values)) offset length) }
     ensures dtype { IfOk result (λ array. dtype_of array ≡ leaf_dtype (leaf_of values)) }
     ensures form { IfOk result (λ array. IsDecodedForm (single_rows (leaf_of values)) (column_of array)) }
     ensures session { ctx.new ≡ ctx.old }
@@ -169,8 +172,10 @@ pub fn runend_decode_typed_primitive<
     requires masked { item_count (mask_bits values_validity) ≡ item_count values.now }
     requires nullable { FitsMask values_nullability values_validity }
     ensures only { IsOkUnless result VortexError.OutOfMemory }
-    ensures rows { IfOk result (λ array. (ends : List ℕ) → AreRunEnds I.next_gives run_ends (item_count values.now) length ends →
-        number_rows array ≡ run_rows ends (masked_values (map T.number values.now) (mask_bits values_validity)) 0 length) }
+    ensures rows { IfOk result (λ array. (ends : List ℕ) →
+        AreRunEnds I.next_gives run_ends (item_count values.now) length ends →
+        number_rows array ≡ run_rows ends (masked_values (map T.number values.now)
+        (mask_bits values_validity)) 0 length) }
     ensures dtype { IfOk result (λ array. primitive_dtype array ≡ column.Primitive T.PTYPE values_nullability) }
     ensures form { IfOk result (λ array. IsComputed array) }
     ensures some { IfOk result (λ array. HasRowIfAllNull array.validity length) }

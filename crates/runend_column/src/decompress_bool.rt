@@ -33,7 +33,8 @@ pub fn runend_decode_bools<A: Allocator + Copy>(
     requires window { IsWindow (ends_of ends) offset length }
     requires paired { item_count values.bits ≡ item_count ends.numbers }
     ensures only { IsOkUnless result VortexError.OutOfMemory }
-    ensures rows { IfOk result (λ array. rows array ≡ run_rows (ends_of ends) (single_rows (OfTruths values)) offset length) }
+    ensures rows { IfOk result (λ array. rows array ≡
+        run_rows (ends_of ends) (single_rows (OfTruths values)) offset length) }
     ensures dtype { IfOk result (λ array. dtype_of array ≡ leaf_dtype (OfTruths values)) }
     ensures form { IfOk result (λ array. IsDecodedForm (single_rows (OfTruths values)) (column_of array)) }
     ensures session { ctx.new ≡ ctx.old }
@@ -62,10 +63,12 @@ pub fn runend_decode_typed_bool<I: Iterator<Item = usize>, A: Allocator + Copy>(
     requires masked { item_count (mask_bits values_validity) ≡ item_count values.now }
     requires nullable { FitsMask values_nullability values_validity }
     ensures only { IsOkUnless result VortexError.OutOfMemory }
-    ensures rows { IfOk result (λ array. (ends : List ℕ) → AreRunEnds I.next_gives run_ends (item_count values.now) length ends →
+    ensures rows { IfOk result (λ array. (ends : List ℕ) →
+        AreRunEnds I.next_gives run_ends (item_count values.now) length ends →
         rows array ≡ run_rows ends (masked_truths values.now (mask_bits values_validity)) 0 length) }
     ensures dtype { IfOk result (λ array. dtype_of array ≡ column.Bool values_nullability) }
-    ensures form { IfOk result (λ array. IsDecodedForm (masked_truths values.now (mask_bits values_validity)) (column_of array)) }
+    ensures form { IfOk result (λ array. IsDecodedForm (masked_truths values.now (mask_bits values_validity))
+        (column_of array)) }
     ensures session { ctx.new ≡ ctx.old }
 {
     if masks_all(&values_validity, values) {

@@ -39,7 +39,8 @@ impl<'a, A: Allocator + Copy> RunEndProbe<'a, A> {
     pub fn execute_scalar(&self, index: usize) -> VortexResult<ScalarView<'a, A>>
         ensures row { IfOk result (λ view. slice_get (column_rows (column_of_runs self.now)) index ≡ Some (sees view)) }
         ensures of_type { IfOk result (λ view. IsViewOf (column_dtype self.now.values) view) }
-        ensures refused { IsErrOf result (VortexError.OutOfBounds (pos index) self.now.count) ↔ (self.now.count ≤ index) }
+        ensures refused { IsErrOf result (VortexError.OutOfBounds (pos index) self.now.count) ↔
+            (self.now.count ≤ index) }
         ensures only { IsOkUnless result (VortexError.OutOfBounds (pos index) self.now.count) }
     {
         self.array.row_at(index)

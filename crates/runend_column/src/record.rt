@@ -105,7 +105,8 @@ fn count_stated<A: Allocator + Copy>(metadata: &RunEndMetadata, ends: &ArrayRef<
     requires known { IsEndsTypeNumber metadata.now.ends_ptype }
     ensures { MatchOption result
         (¬ HasStatedType metadata.now (column_of ends.now))
-        (λ count. HasStatedType metadata.now (column_of ends.now) × (count ≡ length (end_numbers (column_of ends.now)))) }
+        (λ count. HasStatedType metadata.now (column_of ends.now) ×
+        (count ≡ length (end_numbers (column_of ends.now)))) }
 {
     let stated = DType::Primitive(metadata.ends_ptype(), Nullability::NonNullable);
     match ends {

@@ -29,8 +29,10 @@ pub fn slice<A: Allocator + Copy>(
 ) -> VortexResult<ArrayRef<A>>
     ensures refused { let count = length (column_rows (column_of_runs array.now)) in
         IsErrOf result (VortexError.BadRange range.start range.end count) ↔ IsBadRange range.start range.end count }
-    ensures fault { IsRefusedBy (range_fault range.start range.end (length (column_rows (column_of_runs array.now)))) result }
-    ensures rows { IfOk result (λ part. rows part ≡ slice_range (column_rows (column_of_runs array.now)) range.start range.end) }
+    ensures fault { IsRefusedBy (range_fault range.start range.end (length (column_rows (column_of_runs array.now))))
+        result }
+    ensures rows { IfOk result (λ part. rows part ≡
+        slice_range (column_rows (column_of_runs array.now)) range.start range.end) }
     ensures dtype { IfOk result (λ part. dtype_of part ≡ column_dtype array.now.values) }
     ensures form { IfOk result (λ part. IsSliceForm array.now range.start range.end (column_of part)) }
     ensures session { ctx.new ≡ ctx.old }
@@ -44,9 +46,11 @@ fn slice_of_count<A: Allocator + Copy>(
     range: Range<usize>,
     ctx: &mut ExecutionCtx<A>,
 ) -> VortexResult<ArrayRef<A>>
-    ensures refused { IsErrOf result (VortexError.BadRange range.start range.end array.now.count) ↔ IsBadRange range.start range.end array.now.count }
+    ensures refused { IsErrOf result (VortexError.BadRange range.start range.end array.now.count) ↔
+        IsBadRange range.start range.end array.now.count }
     ensures only { ¬ IsBadRange range.start range.end array.now.count → IsOkUnless result VortexError.OutOfMemory }
-    ensures rows { IfOk result (λ part. rows part ≡ slice_range (column_rows (column_of_runs array.now)) range.start range.end) }
+    ensures rows { IfOk result (λ part. rows part ≡
+        slice_range (column_rows (column_of_runs array.now)) range.start range.end) }
     ensures dtype { IfOk result (λ part. dtype_of part ≡ column_dtype array.now.values) }
     ensures form { IfOk result (λ part. IsSliceForm array.now range.start range.end (column_of part)) }
     ensures session { ctx.new ≡ ctx.old }

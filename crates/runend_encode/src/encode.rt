@@ -26,7 +26,8 @@ pub fn encode_flat<A: Allocator + Copy>(
     column: FlatView<'_, A>,
 ) -> VortexResult<(PrimitiveArray<A>, FlatColumn<A>)>
     ensures only { IsOkUnless result VortexError.OutOfMemory }
-    ensures encoding { IfOk result (λ parts. IsRowEncoding (single_rows (leaf_in column.entry)) (leaf_dtype (leaf_in column.entry)) parts.0 (leaf_of parts.1)) }
+    ensures encoding { IfOk result (λ parts. IsRowEncoding (single_rows (leaf_in column.entry))
+        (leaf_dtype (leaf_in column.entry)) parts.0 (leaf_of parts.1)) }
 {
     match column {
         FlatView::Primitive(array) => {
@@ -63,7 +64,8 @@ pub fn encode_runs<A: Allocator + Copy>(
     requires paired { length (leaf_rows (leaf_of values.now)) ≡ length (ends_of ends.now) }
     requires shown { (run : ℕ) → run < length (ends_of ends.now) → HasRow (ends_of ends.now) offset count run }
     ensures only { IsOkUnless result VortexError.OutOfMemory }
-    ensures encoding { IfOk result (λ parts. IsRowEncoding (run_rows (ends_of ends.now) (single_rows (leaf_of values.now)) offset count)
+    ensures encoding { IfOk result (λ parts. IsRowEncoding (run_rows (ends_of ends.now)
+        (single_rows (leaf_of values.now)) offset count)
         (leaf_dtype (leaf_of values.now)) parts.0 (leaf_of parts.1)) }
 {
     match values {
@@ -92,7 +94,8 @@ fn runs_of<R: FlatRows<A>, A: Allocator + Copy>(
     column: &R,
 ) -> VortexResult<(Vec<u64, A>, R)>
     ensures only { IsOkUnless result VortexError.OutOfMemory }
-    ensures runs { IfOk result (λ parts. AreRunValues (single_rows (R.leaf column.now)) (leaf_dtype (R.leaf column.now)) parts.0.items (R.leaf parts.1)) }
+    ensures runs { IfOk result (λ parts. AreRunValues (single_rows (R.leaf column.now))
+        (leaf_dtype (R.leaf column.now)) parts.0.items (R.leaf parts.1)) }
 {
     let ends = run_ends(alloc, column)?;
     let starts = starts_of(alloc, ends.as_slice())?;
@@ -106,7 +109,8 @@ fn encode_rows<R: FlatRows<A>, A: Allocator + Copy>(
     column: &R,
 ) -> VortexResult<(PrimitiveArray<A>, R)>
     ensures only { IsOkUnless result VortexError.OutOfMemory }
-    ensures encoding { IfOk result (λ parts. IsRowEncoding (single_rows (R.leaf column.now)) (leaf_dtype (R.leaf column.now)) parts.0 (R.leaf parts.1)) }
+    ensures encoding { IfOk result (λ parts. IsRowEncoding (single_rows (R.leaf column.now))
+        (leaf_dtype (R.leaf column.now)) parts.0 (R.leaf parts.1)) }
 {
     let (ends, values) = runs_of(alloc, column)?;
     let ends = least_ends(alloc, ends)?;
@@ -127,7 +131,8 @@ fn encode_shown<R: FlatRows<A>, A: Allocator + Copy>(
     requires paired { length (leaf_rows (R.leaf values.now)) ≡ length (ends_of ends.now) }
     requires shown { (run : ℕ) → run < length (ends_of ends.now) → HasRow (ends_of ends.now) offset count run }
     ensures only { IsOkUnless result VortexError.OutOfMemory }
-    ensures encoding { IfOk result (λ parts. IsRowEncoding (run_rows (ends_of ends.now) (single_rows (R.leaf values.now)) offset count)
+    ensures encoding { IfOk result (λ parts. IsRowEncoding (run_rows (ends_of ends.now)
+        (single_rows (R.leaf values.now)) offset count)
         (leaf_dtype (R.leaf values.now)) parts.0 (R.leaf parts.1)) }
 {
     let (joined, values) = runs_of(alloc, values)?;

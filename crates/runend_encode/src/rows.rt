@@ -43,7 +43,8 @@ impl<A: Allocator + Copy> FlatRows<A> for VarBinViewArray<A> {
 
 /// Are two rows of flat columns equal, null being equal to null?
 pub(crate) fn is_same_row<A: Allocator>(left: &ScalarView<'_, A>, right: &ScalarView<'_, A>) -> bool
-    ensures { (a b : Option FlatValue) → option_map Single a ≡ sees left.now → option_map Single b ≡ sees right.now → (IsTrue result ↔ (a ≡ b)) }
+    ensures { (a b : Option FlatValue) → option_map Single a ≡ sees left.now → option_map Single b ≡ sees right.now →
+        (IsTrue result ↔ (a ≡ b)) }
 {
     compare_views(left, right).is_eq()
 }

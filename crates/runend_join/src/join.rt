@@ -101,7 +101,8 @@ fn stored_in_window<E: EndsType, A: Allocator + Copy>(
 // Does each run show another value than the one before it?
 fn all_differ<A: Allocator>(values: &PrimitiveArray<A>) -> bool
     requires { IsComputed values.now }
-    ensures differ { IsTrue result → AllAdjacentBelow (λ x y. x ≢ y) (optional_numbers values.now) (length values.now.numbers) }
+    ensures differ { IsTrue result → AllAdjacentBelow (λ x y. x ≢
+        y) (optional_numbers values.now) (length values.now.numbers) }
     ensures counted { HasLength values.now.validity (length values.now.numbers) }
 {
     let validity = values.validity();
@@ -144,7 +145,8 @@ fn join_values<E: UnsignedPType, A: Allocator + Copy>(
     requires shown { AllHaveRows (map unsigned_abs (map E.number ends.now)) offset count }
     requires computed { IsComputed values.now }
     ensures only { IsOkUnless result VortexError.OutOfMemory }
-    ensures joined { IfOk result (λ parts. AreJoined (primitive_with E.PTYPE (map E.number ends.now) NeverNull) values.now offset count parts.0 parts.1) }
+    ensures joined { IfOk result (λ parts. AreJoined (primitive_with E.PTYPE (map E.number ends.now) NeverNull)
+        values.now offset count parts.0 parts.1) }
 {
     let validity = values.validity();
     match_each_native!(values.values(), items => join_as(alloc, ends, items.as_slice(), validity, offset, count))
@@ -198,7 +200,8 @@ fn join_items<E: UnsignedPType, T: NativePType, A: Allocator + Copy>(
     requires zeroed { AreZeroAtNulls (map T.number items.now) (flags (form_of validity.now) (length items.now)) }
     ensures only { IsOkUnless result VortexError.OutOfMemory }
     ensures cover { IfOk result (λ runs. IsTightCover
-        (run_rows (map unsigned_abs (map E.number ends.now)) (optionals (map T.number items.now) (flags (form_of validity.now) (length items.now))) offset count)
+        (run_rows (map unsigned_abs (map E.number ends.now)) (optionals (map T.number items.now)
+        (flags (form_of validity.now) (length items.now))) offset count)
         (map unsigned_abs (map E.number runs.ends.items)) (optionals (map T.number runs.values.items) runs.flags)) }
     ensures paired { IfOk result (λ runs. length runs.flags ≡ length runs.values.items) }
     ensures zeroed { IfOk result (λ runs. AreZeroAtNulls (map T.number runs.values.items) runs.flags) }
@@ -226,7 +229,8 @@ fn join_valid<E: UnsignedPType, T: NativePType, A: Allocator + Copy>(
     requires shown { AllHaveRows (map unsigned_abs (map E.number ends.now)) offset count }
     ensures only { IsOkUnless result VortexError.OutOfMemory }
     ensures cover { IfOk result (λ runs. IsTightCover
-        (run_rows (map unsigned_abs (map E.number ends.now)) (optionals (map T.number items.now) (replicate (length items.now) true)) offset count)
+        (run_rows (map unsigned_abs (map E.number ends.now)) (optionals (map T.number items.now)
+        (replicate (length items.now) true)) offset count)
         (map unsigned_abs (map E.number runs.ends.items)) (optionals (map T.number runs.values.items) runs.flags)) }
     ensures paired { IfOk result (λ runs. length runs.flags ≡ length runs.values.items) }
     ensures zeroed { IfOk result (λ runs. AreZeroAtNulls (map T.number runs.values.items) runs.flags) }

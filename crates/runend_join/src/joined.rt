@@ -80,7 +80,8 @@ pub(crate) fn join_nullable<E: UnsignedPType, T: NativePType, A: Allocator + Cop
     requires zeroed { AreZeroAtNulls (map T.number items.now) (flags (form_of validity.now) (length items.now)) }
     ensures only { IsOkUnless result VortexError.OutOfMemory }
     ensures cover { IfOk result (λ runs. IsTightCover
-        (run_rows (map unsigned_abs (map E.number ends.now)) (optionals (map T.number items.now) (flags (form_of validity.now) (length items.now))) offset count)
+        (run_rows (map unsigned_abs (map E.number ends.now)) (optionals (map T.number items.now)
+        (flags (form_of validity.now) (length items.now))) offset count)
         (map unsigned_abs (map E.number runs.ends.items)) (optionals (map T.number runs.values.items) runs.flags)) }
     ensures paired { IfOk result (λ runs. length runs.flags ≡ length runs.values.items) }
     ensures zeroed { IfOk result (λ runs. AreZeroAtNulls (map T.number runs.values.items) runs.flags) }
@@ -109,7 +110,8 @@ fn join_alike<E: UnsignedPType, T: NativePType, A: Allocator + Copy>(
     requires zeroed { AreZeroAtNulls (map T.number items.now) (replicate (length items.now) valid) }
     ensures only { IsOkUnless result VortexError.OutOfMemory }
     ensures cover { IfOk result (λ runs. IsTightCover
-        (run_rows (map unsigned_abs (map E.number ends.now)) (optionals (map T.number items.now) (replicate (length items.now) valid)) offset count)
+        (run_rows (map unsigned_abs (map E.number ends.now)) (optionals (map T.number items.now)
+        (replicate (length items.now) valid)) offset count)
         (map unsigned_abs (map E.number runs.ends.items)) (optionals (map T.number runs.values.items) runs.flags)) }
     ensures paired { IfOk result (λ runs. length runs.flags ≡ length runs.values.items) }
     ensures zeroed { IfOk result (λ runs. AreZeroAtNulls (map T.number runs.values.items) runs.flags) }
@@ -135,7 +137,8 @@ fn join_marked<E: UnsignedPType, T: NativePType, A: Allocator + Copy>(
     requires zeroed { AreZeroAtNulls (map T.number items.now) marks.now }
     ensures only { IsOkUnless result VortexError.OutOfMemory }
     ensures cover { IfOk result (λ runs. IsTightCover
-        (run_rows (map unsigned_abs (map E.number ends.now)) (optionals (map T.number items.now) marks.now) offset count)
+        (run_rows (map unsigned_abs (map E.number ends.now))
+        (optionals (map T.number items.now) marks.now) offset count)
         (map unsigned_abs (map E.number runs.ends.items)) (optionals (map T.number runs.values.items) runs.flags)) }
     ensures paired { IfOk result (λ runs. length runs.flags ≡ length runs.values.items) }
     ensures zeroed { IfOk result (λ runs. AreZeroAtNulls (map T.number runs.values.items) runs.flags) }
@@ -184,8 +187,10 @@ fn shows_other<T: NativePType, A: Allocator>(items: &[T], marks: &BitBuffer<A>, 
     requires within { run < length items.now }
     requires counted { length marks.now ≡ length items.now }
     requires zeroed { AreZeroAtNulls (map T.number items.now) marks.now }
-    ensures yes { result ≡ true → slice_get (optionals (map T.number items.now) marks.now) (run - 1) ≢ slice_get (optionals (map T.number items.now) marks.now) run }
-    ensures no { result ≡ false → slice_get (optionals (map T.number items.now) marks.now) (run - 1) ≡ slice_get (optionals (map T.number items.now) marks.now) run }
+    ensures yes { result ≡ true → slice_get (optionals (map T.number items.now) marks.now) (run - 1) ≢
+        slice_get (optionals (map T.number items.now) marks.now) run }
+    ensures no { result ≡ false → slice_get (optionals (map T.number items.now) marks.now) (run - 1) ≡
+        slice_get (optionals (map T.number items.now) marks.now) run }
 {
     // Marks are looked at only where the numbers are equal, which they seldom are: the number of a null is 0.
     if items[run] != items[run - 1] {
@@ -251,7 +256,8 @@ const COMPARED_AT_ONCE: usize = 256;
 pub(crate) fn differ_in<T: NativePType, A: Allocator>(items: &[T], validity: &Validity<A>) -> bool
     requires counted { HasLength (form_of validity.now) (length items.now) }
     requires zeroed { AreZeroAtNulls (map T.number items.now) (flags (form_of validity.now) (length items.now)) }
-    ensures { IsTrue result → AllAdjacentBelow (λ x y. x ≢ y) (optionals (map T.number items.now) (flags (form_of validity.now) (length items.now))) (length items.now) }
+    ensures { IsTrue result → AllAdjacentBelow (λ x y. x ≢
+        y) (optionals (map T.number items.now) (flags (form_of validity.now) (length items.now))) (length items.now) }
 {
     let mut start = 1;
     while start < items.len() {
@@ -294,8 +300,10 @@ fn differ_between<T: NativePType, A: Allocator>(
     requires ordered { start ≤ stop }
     requires counted { HasLength (form_of validity.now) (length items.now) }
     requires zeroed { AreZeroAtNulls (map T.number items.now) (flags (form_of validity.now) (length items.now)) }
-    ensures { IsTrue result → AllAdjacentBelow (λ x y. x ≢ y) (optionals (map T.number items.now) (flags (form_of validity.now) (length items.now))) start
-        → AllAdjacentBelow (λ x y. x ≢ y) (optionals (map T.number items.now) (flags (form_of validity.now) (length items.now))) stop }
+    ensures { IsTrue result → AllAdjacentBelow (λ x y. x ≢
+        y) (optionals (map T.number items.now) (flags (form_of validity.now) (length items.now))) start
+        → AllAdjacentBelow (λ x y. x ≢ y) (optionals (map T.number items.now) (flags (form_of validity.now)
+        (length items.now))) stop }
 {
     for run in start..stop {
         let item = items[run];

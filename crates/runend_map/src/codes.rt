@@ -36,10 +36,14 @@ pub(crate) fn take_from_flat<A: Allocator + Copy>(
     dictionary: &FlatColumn<A>,
     ctx: &mut ExecutionCtx<A>,
 ) -> VortexResult<ArrayRef<A>>
-    ensures refused { IsRefusedBy (code_fault (plain_of (column_of_runs codes.now)) (length (leaf_rows (leaf_of dictionary.now)))) result }
-    ensures rows { IfOk result (λ taken. rows taken ≡ code_rows (single_rows (leaf_of dictionary.now)) (column_rows (column_of_runs codes.now))) }
-    ensures dtype { IfOk result (λ taken. dtype_of taken ≡ take_dtype (leaf_dtype (leaf_of dictionary.now)) (column_dtype codes.now.values)) }
-    ensures form { IfOk result (λ taken. IsTakenForm (keeps_runs (leaf_dtype (leaf_of dictionary.now))) (leaf_dtype (leaf_of dictionary.now)) codes.now (column_of taken)) }
+    ensures refused { IsRefusedBy (code_fault (plain_of (column_of_runs codes.now))
+        (length (leaf_rows (leaf_of dictionary.now)))) result }
+    ensures rows { IfOk result (λ taken. rows taken ≡
+        code_rows (single_rows (leaf_of dictionary.now)) (column_rows (column_of_runs codes.now))) }
+    ensures dtype { IfOk result (λ taken. dtype_of taken ≡
+        take_dtype (leaf_dtype (leaf_of dictionary.now)) (column_dtype codes.now.values)) }
+    ensures form { IfOk result (λ taken. IsTakenForm (keeps_runs (leaf_dtype (leaf_of dictionary.now)))
+        (leaf_dtype (leaf_of dictionary.now)) codes.now (column_of taken)) }
     ensures session { ctx.new ≡ ctx.old }
 {
     if !is_number_type(codes.dtype()) {
@@ -94,7 +98,8 @@ fn placed<A: Allocator + Copy>(
     requires paired { length (leaf_rows (leaf_of taken)) ≡ length (values_of_visible codes.now) }
     requires computed { IsComputedLeaf (leaf_of taken) }
     ensures only { IsOkUnless result VortexError.OutOfMemory }
-    ensures rows { IfOk result (λ part. rows part ≡ run_rows (visible_ends codes.now) (single_rows (leaf_of taken)) (window_start codes.now.count codes.now.offset) codes.now.count) }
+    ensures rows { IfOk result (λ part. rows part ≡ run_rows (visible_ends codes.now) (single_rows (leaf_of taken))
+        (window_start codes.now.count codes.now.offset) codes.now.count) }
     ensures dtype { IfOk result (λ part. dtype_of part ≡ leaf_dtype (leaf_of taken)) }
     ensures form { IfOk result (λ part. IsTakenForm kept (leaf_dtype (leaf_of taken)) codes.now (column_of part)) }
 {
@@ -119,10 +124,14 @@ fn take_at_codes<A: Allocator + Copy>(
     requires numbers { is_numbers (column_dtype codes.now.values) ≡ true }
     requires codes { map code_number (values_of_visible codes.now) ≡ optional_numbers indices.now }
     requires of_type { primitive_dtype indices.now ≡ column_dtype codes.now.values }
-    ensures refused { IsRefusedBy (code_fault (plain_of (column_of_runs codes.now)) (length (leaf_rows (leaf_of dictionary.now)))) result }
-    ensures rows { IfOk result (λ taken. rows taken ≡ code_rows (single_rows (leaf_of dictionary.now)) (column_rows (column_of_runs codes.now))) }
-    ensures dtype { IfOk result (λ taken. dtype_of taken ≡ take_dtype (leaf_dtype (leaf_of dictionary.now)) (column_dtype codes.now.values)) }
-    ensures form { IfOk result (λ taken. IsTakenForm (keeps_runs (leaf_dtype (leaf_of dictionary.now))) (leaf_dtype (leaf_of dictionary.now)) codes.now (column_of taken)) }
+    ensures refused { IsRefusedBy (code_fault (plain_of (column_of_runs codes.now))
+        (length (leaf_rows (leaf_of dictionary.now)))) result }
+    ensures rows { IfOk result (λ taken. rows taken ≡
+        code_rows (single_rows (leaf_of dictionary.now)) (column_rows (column_of_runs codes.now))) }
+    ensures dtype { IfOk result (λ taken. dtype_of taken ≡
+        take_dtype (leaf_dtype (leaf_of dictionary.now)) (column_dtype codes.now.values)) }
+    ensures form { IfOk result (λ taken. IsTakenForm (keeps_runs (leaf_dtype (leaf_of dictionary.now)))
+        (leaf_dtype (leaf_of dictionary.now)) codes.now (column_of taken)) }
 {
     let taken = dictionary.take(alloc, indices)?;
     placed(codes, taken, is_kept_type(dictionary.dtype()), alloc)

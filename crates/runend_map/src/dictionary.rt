@@ -38,11 +38,15 @@ pub fn take_from<A: Allocator + Copy>(
     dictionary: &ArrayRef<A>,
     ctx: &mut ExecutionCtx<A>,
 ) -> VortexResult<ArrayRef<A>>
-    ensures refused { IsRefusedBy (code_fault (plain_of (column_of_runs codes.now)) (length (rows dictionary.now))) result }
+    ensures refused { IsRefusedBy (code_fault (plain_of (column_of_runs codes.now))
+        (length (rows dictionary.now))) result }
     ensures typed { is_numbers (column_dtype codes.now.values) ≡ false → result ≡ Err VortexError.TypeMismatch }
-    ensures rows { IfOk result (λ taken. rows taken ≡ code_rows (rows dictionary.now) (column_rows (column_of_runs codes.now))) }
-    ensures dtype { IfOk result (λ taken. dtype_of taken ≡ take_dtype (dtype_of dictionary.now) (column_dtype codes.now.values)) }
-    ensures form { IfOk result (λ taken. IsTakenForm (keeps_runs (dtype_of dictionary.now)) (dtype_of dictionary.now) codes.now (column_of taken)) }
+    ensures rows { IfOk result (λ taken. rows taken ≡
+        code_rows (rows dictionary.now) (column_rows (column_of_runs codes.now))) }
+    ensures dtype { IfOk result (λ taken. dtype_of taken ≡
+        take_dtype (dtype_of dictionary.now) (column_dtype codes.now.values)) }
+    ensures form { IfOk result (λ taken. IsTakenForm (keeps_runs (dtype_of dictionary.now))
+        (dtype_of dictionary.now) codes.now (column_of taken)) }
     ensures session { ctx.new ≡ ctx.old }
 {
     if !is_number_type(codes.dtype()) {
@@ -104,7 +108,8 @@ fn codes_of_runs<A: Allocator + Copy>(
 ) -> VortexResult<PrimitiveArray<A>>
     requires numbers { is_numbers (column_dtype codes.now.values) ≡ true }
     ensures only { IsOkUnless result VortexError.OutOfMemory }
-    ensures codes { IfOk result (λ indices. code_numbers (column_rows (column_of_runs codes.now)) ≡ optional_numbers indices) }
+    ensures codes { IfOk result (λ indices. code_numbers (column_rows (column_of_runs codes.now)) ≡
+        optional_numbers indices) }
     ensures dtype { IfOk result (λ indices. primitive_dtype indices ≡ column_dtype codes.now.values) }
 {
     let values = visible_values(codes, alloc)?;
@@ -120,9 +125,12 @@ fn take_each<A: Allocator + Copy>(
     ctx: &mut ExecutionCtx<A>,
 ) -> VortexResult<ArrayRef<A>>
     requires numbers { is_numbers (column_dtype codes.now.values) ≡ true }
-    ensures refused { IsRefusedBy (code_fault (plain_of (column_of_runs codes.now)) (length (rows dictionary.now))) result }
-    ensures rows { IfOk result (λ taken. rows taken ≡ code_rows (rows dictionary.now) (column_rows (column_of_runs codes.now))) }
-    ensures dtype { IfOk result (λ taken. dtype_of taken ≡ take_dtype (dtype_of dictionary.now) (column_dtype codes.now.values)) }
+    ensures refused { IsRefusedBy (code_fault (plain_of (column_of_runs codes.now))
+        (length (rows dictionary.now))) result }
+    ensures rows { IfOk result (λ taken. rows taken ≡
+        code_rows (rows dictionary.now) (column_rows (column_of_runs codes.now))) }
+    ensures dtype { IfOk result (λ taken. dtype_of taken ≡
+        take_dtype (dtype_of dictionary.now) (column_dtype codes.now.values)) }
     ensures flat { IfOk result (λ taken. IsComputedFlat (column_of taken)) }
     ensures session { ctx.new ≡ ctx.old }
 {

@@ -29,9 +29,11 @@ pub fn fill_null<A: Allocator + Copy>(
     ctx: &mut ExecutionCtx<A>,
 ) -> VortexResult<ArrayRef<A>>
     ensures refused { IsRefusedBy (fill_fault (column_dtype array.now.values) value.now) result }
-    ensures rows { IfOk result (λ filled. IfSome value.now.value (λ flat. rows filled ≡ fill_rows (column_rows (column_of_runs array.now)) (Single flat))) }
+    ensures rows { IfOk result (λ filled. IfSome value.now.value (λ flat. rows filled ≡
+        fill_rows (column_rows (column_of_runs array.now)) (Single flat))) }
     ensures dtype { IfOk result (λ filled. dtype_of filled ≡ fill_dtype (column_dtype array.now.values)) }
-    ensures form { IfOk result (λ filled. IsRunForm (fill_dtype (column_dtype array.now.values)) array.now (column_of filled)) }
+    ensures form { IfOk result (λ filled. IsRunForm (fill_dtype (column_dtype array.now.values)) array.now
+        (column_of filled)) }
     ensures session { ctx.new ≡ ctx.old }
 {
     if is_list_type(array.dtype()) {
@@ -59,9 +61,11 @@ fn fill_lent<A: Allocator + Copy>(
     requires rows { single_rows (OfNumbers numbers.now) ≡ values_of_visible array.now }
     requires of_type { primitive_dtype numbers.now ≡ column_dtype array.now.values }
     ensures refused { IsRefusedBy (fill_fault (column_dtype array.now.values) value.now) result }
-    ensures rows { IfOk result (λ filled. IfSome value.now.value (λ flat. rows filled ≡ fill_rows (column_rows (column_of_runs array.now)) (Single flat))) }
+    ensures rows { IfOk result (λ filled. IfSome value.now.value (λ flat. rows filled ≡
+        fill_rows (column_rows (column_of_runs array.now)) (Single flat))) }
     ensures dtype { IfOk result (λ filled. dtype_of filled ≡ fill_dtype (column_dtype array.now.values)) }
-    ensures form { IfOk result (λ filled. IsRunForm (fill_dtype (column_dtype array.now.values)) array.now (column_of filled)) }
+    ensures form { IfOk result (λ filled. IsRunForm (fill_dtype (column_dtype array.now.values)) array.now
+        (column_of filled)) }
 {
     let filled = numbers.fill_null(alloc, value)?;
     over_runs(array, FlatColumn::Primitive(filled), alloc)

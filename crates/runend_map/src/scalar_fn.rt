@@ -30,9 +30,11 @@ pub fn map_rows<S: NativePType, T: NativePType, F: Fn(Option<S>) -> Option<T>, A
     function: &F,
     ctx: &mut ExecutionCtx<A>,
 ) -> VortexResult<ArrayRef<A>>
-    requires { is_native S.PTYPE (dtype_of column.now) ≡ true → MayAsk (number_row S.number) (λ row. F.pre function.now row) (rows column.now) }
+    requires { is_native S.PTYPE (dtype_of column.now) ≡ true →
+        MayAsk (number_row S.number) (λ row. F.pre function.now row) (rows column.now) }
     ensures refused { IsRefusedBy (native_fault S.PTYPE (dtype_of column.now)) result }
-    ensures rows { IfOk result (λ mapped. AllZip (IsOwed (number_row S.number) (number_row T.number) (λ row answer. F.post function.now row answer)) (rows column.now) (rows mapped)) }
+    ensures rows { IfOk result (λ mapped. AllZip (IsOwed (number_row S.number) (number_row T.number) (λ row answer.
+        F.post function.now row answer)) (rows column.now) (rows mapped)) }
     ensures dtype { IfOk result (λ mapped. dtype_of mapped ≡ types.Primitive T.PTYPE Nullable) }
     ensures form { IfOk result (λ mapped. IsMappedForm ctx.old (column_of column.now) (column_of mapped)) }
     ensures session { ctx.new ≡ ctx.old }
@@ -57,9 +59,11 @@ pub fn map_rows_bool<S: NativePType, F: Fn(Option<S>) -> Option<bool>, A: Alloca
     function: &F,
     ctx: &mut ExecutionCtx<A>,
 ) -> VortexResult<ArrayRef<A>>
-    requires { is_native S.PTYPE (dtype_of column.now) ≡ true → MayAsk (number_row S.number) (λ row. F.pre function.now row) (rows column.now) }
+    requires { is_native S.PTYPE (dtype_of column.now) ≡ true →
+        MayAsk (number_row S.number) (λ row. F.pre function.now row) (rows column.now) }
     ensures refused { IsRefusedBy (native_fault S.PTYPE (dtype_of column.now)) result }
-    ensures rows { IfOk result (λ mapped. AllZip (IsOwed (number_row S.number) truth_row (λ row answer. F.post function.now row answer)) (rows column.now) (rows mapped)) }
+    ensures rows { IfOk result (λ mapped. AllZip (IsOwed (number_row S.number) truth_row (λ row answer.
+        F.post function.now row answer)) (rows column.now) (rows mapped)) }
     ensures dtype { IfOk result (λ mapped. dtype_of mapped ≡ types.Bool Nullable) }
     ensures form { IfOk result (λ mapped. IsMappedForm ctx.old (column_of column.now) (column_of mapped)) }
     ensures session { ctx.new ≡ ctx.old }
@@ -109,9 +113,11 @@ fn answers_to<S: NativePType, R: Drop, F: Fn(Option<S>) -> R, A: Allocator + Cop
     alloc: A,
 ) -> VortexResult<Vec<R, A>>
     requires native { is_native S.PTYPE (leaf_dtype (leaf_of values.now)) ≡ true }
-    requires callable { MayAsk (number_row S.number) (λ row. F.pre function.now row) (single_rows (leaf_of values.now)) }
+    requires callable { MayAsk (number_row S.number) (λ row.
+        F.pre function.now row) (single_rows (leaf_of values.now)) }
     ensures only { IsOkUnless result VortexError.OutOfMemory }
-    ensures each { IfOk result (λ answers. AllZip (IsAsked (number_row S.number) (λ row answer. F.post function.now row answer)) (single_rows (leaf_of values.now)) answers.items) }
+    ensures each { IfOk result (λ answers. AllZip (IsAsked (number_row S.number) (λ row answer.
+        F.post function.now row answer)) (single_rows (leaf_of values.now)) answers.items) }
 {
     let FlatColumn::Primitive(array) = values else {
         unreachable!()
@@ -131,7 +137,8 @@ fn asked_answers<S: NativePType, R: Drop, F: Fn(Option<S>) -> R, A: Allocator + 
     requires native { is_native S.PTYPE (dtype_of column.now) ≡ true }
     requires callable { MayAsk (number_row S.number) (λ row. F.pre function.now row) (rows column.now) }
     ensures only { IsOkUnless result VortexError.OutOfMemory }
-    ensures each { IfOk result (λ answers. AllZip (IsAsked (number_row S.number) (λ row answer. F.post function.now row answer)) (asked_rows (column_of column.now)) answers.items) }
+    ensures each { IfOk result (λ answers. AllZip (IsAsked (number_row S.number) (λ row answer.
+        F.post function.now row answer)) (asked_rows (column_of column.now)) answers.items) }
     ensures valid { HasValidRuns (column_of column.now) }
     ensures session { ctx.new ≡ ctx.old }
 {
@@ -150,7 +157,8 @@ fn answered<A: Allocator + Copy>(
     requires paired { length (leaf_rows (leaf_of answers)) ≡ length (asked_rows (column_of column.now)) }
     requires computed { IsComputedLeaf (leaf_of answers) }
     ensures only { IsOkUnless result VortexError.OutOfMemory }
-    ensures rows { IfOk result (λ mapped. rows mapped ≡ answered_rows (column_of column.now) (single_rows (leaf_of answers))) }
+    ensures rows { IfOk result (λ mapped. rows mapped ≡
+        answered_rows (column_of column.now) (single_rows (leaf_of answers))) }
     ensures dtype { IfOk result (λ mapped. dtype_of mapped ≡ leaf_dtype (leaf_of answers)) }
     ensures form { IfOk result (λ mapped. IsMappedForm ctx.old (column_of column.now) (column_of mapped)) }
     ensures session { ctx.new ≡ ctx.old }

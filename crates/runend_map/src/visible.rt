@@ -27,7 +27,9 @@ pub(crate) fn shown_rows<A: Allocator + Copy>(
 ) -> VortexResult<FlatColumn<A>>
     requires paired { length (leaf_rows (leaf_of values)) ≡ length (values_of_visible array.now) }
     ensures only { IsOkUnless result VortexError.OutOfMemory }
-    ensures rows { IfOk result (λ flat. single_rows (leaf_of flat) ≡ run_rows (visible_ends array.now) (single_rows (leaf_of values)) (window_start array.now.count array.now.offset) array.now.count) }
+    ensures rows { IfOk result (λ flat. single_rows (leaf_of flat) ≡
+        run_rows (visible_ends array.now) (single_rows (leaf_of values))
+        (window_start array.now.count array.now.offset) array.now.count) }
     ensures dtype { IfOk result (λ flat. leaf_dtype (leaf_of flat) ≡ leaf_dtype (leaf_of values)) }
     ensures computed { IfOk result (λ flat. IsComputedLeaf (leaf_of flat)) }
 {
@@ -61,7 +63,8 @@ pub(crate) fn shown_truths<A: Allocator + Copy>(
 ) -> VortexResult<ArrayRef<A>>
     requires paired { length (bool_rows truths) ≡ length (values_of_visible array.now) }
     ensures only { IsOkUnless result VortexError.OutOfMemory }
-    ensures rows { IfOk result (λ shown. rows shown ≡ run_rows (visible_ends array.now) (single_rows (OfTruths truths)) (window_start array.now.count array.now.offset) array.now.count) }
+    ensures rows { IfOk result (λ shown. rows shown ≡ run_rows (visible_ends array.now) (single_rows (OfTruths truths))
+        (window_start array.now.count array.now.offset) array.now.count) }
     ensures dtype { IfOk result (λ shown. dtype_of shown ≡ bool_dtype truths) }
     ensures form { IfOk result (λ shown. IsDecodedForm (single_rows (OfTruths truths)) (column_of shown)) }
     ensures session { ctx.new ≡ ctx.old }

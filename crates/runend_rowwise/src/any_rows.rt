@@ -53,7 +53,8 @@ pub fn take_rows<A: Allocator + Copy>(
 ) -> VortexResult<ArrayRef<A>>
     ensures refused { IsRefusedBy (take_fault (optional_numbers indices.now) (length (rows array.now))) result }
     ensures rows { IfOk result (λ taken. rows taken ≡ rows_at_indices (rows array.now) (optional_numbers indices.now)) }
-    ensures dtype { IfOk result (λ taken. dtype_of taken ≡ take_dtype (dtype_of array.now) (primitive_dtype indices.now)) }
+    ensures dtype { IfOk result (λ taken. dtype_of taken ≡
+        take_dtype (dtype_of array.now) (primitive_dtype indices.now)) }
     ensures flat { IfOk result (λ taken. IsComputedFlat (column_of taken)) }
     ensures session { ctx.new ≡ ctx.old }
 {

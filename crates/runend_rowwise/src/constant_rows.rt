@@ -30,11 +30,14 @@ pub(crate) fn take_constant<A: Allocator + Copy>(
 ) -> VortexResult<Canonical<A>>
     requires constant { column_of values.now ≡ OfConstant constant.now }
     requires counted { HasLength (form_of places.now) (length positions.now) }
-    requires within { ArePositions (optionals positions.now (flags (form_of places.now) (length positions.now))) (length (rows values.now)) }
+    requires within { ArePositions (optionals positions.now (flags (form_of places.now) (length positions.now)))
+        (length (rows values.now)) }
     ensures only { IsOkUnless result VortexError.OutOfMemory }
     ensures made { IfOk result (λ taken. IsComputedAs
-        (take_rows (rows values.now) (position_numbers (optionals positions.now (flags (form_of places.now) (length positions.now)))))
-        (dtype_with (dtype_of values.now) (either_nullable (nullability_of (dtype_of values.now)) (nullability_in (form_of places.now))))
+        (take_rows (rows values.now) (position_numbers (optionals positions.now (flags (form_of places.now)
+        (length positions.now)))))
+        (dtype_with (dtype_of values.now) (either_nullable (nullability_of (dtype_of values.now))
+        (nullability_in (form_of places.now))))
         (canonical_column taken)) }
 {
     let one = values.rows_between(alloc, 0, constant.len().min(1))?;
@@ -51,11 +54,14 @@ fn take_first<A: Allocator + Copy>(
     places: &Validity<A>,
 ) -> VortexResult<Canonical<A>>
     requires counted { HasLength (form_of places.now) count }
-    requires within { ArePositions (optionals (replicate count 0) (flags (form_of places.now) count)) (length (column_rows (canonical_column one.now))) }
+    requires within { ArePositions (optionals (replicate count 0) (flags (form_of places.now) count))
+        (length (column_rows (canonical_column one.now))) }
     ensures only { IsOkUnless result VortexError.OutOfMemory }
     ensures made { IfOk result (λ taken. IsComputedAs
-        (take_rows (column_rows (canonical_column one.now)) (position_numbers (optionals (replicate count 0) (flags (form_of places.now) count))))
-        (dtype_with (column_dtype (canonical_column one.now)) (either_nullable (nullability_of (column_dtype (canonical_column one.now))) (nullability_in (form_of places.now))))
+        (take_rows (column_rows (canonical_column one.now)) (position_numbers (optionals (replicate count 0)
+        (flags (form_of places.now) count))))
+        (dtype_with (column_dtype (canonical_column one.now)) (either_nullable
+        (nullability_of (column_dtype (canonical_column one.now))) (nullability_in (form_of places.now))))
         (canonical_column taken)) }
 {
     let zeros = first_positions(alloc, count)?;
@@ -75,7 +81,8 @@ pub(crate) fn select_constant<A: Allocator + Copy>(
     requires constant { column_of values.now ≡ OfConstant constant.now }
     requires masked { length (mask_bits mask.now) ≡ length (rows values.now) }
     ensures only { IsOkUnless result VortexError.OutOfMemory }
-    ensures made { IfOk result (λ kept. IsComputedAs (filter_rows (mask_bits mask.now) (rows values.now)) (dtype_of values.now) (canonical_column kept)) }
+    ensures made { IfOk result (λ kept. IsComputedAs (filter_rows (mask_bits mask.now) (rows values.now))
+        (dtype_of values.now) (canonical_column kept)) }
 {
     let count = mask.true_count();
     let flat = values.rows_between(alloc, 0, count)?;

@@ -24,7 +24,8 @@ pub fn fill_rows<A: Allocator + Copy>(
     ctx: &mut ExecutionCtx<A>,
 ) -> VortexResult<ArrayRef<A>>
     ensures refused { IsRefusedBy (fill_fault (dtype_of array.now) value.now) result }
-    ensures rows { IfOk result (λ filled. IfSome value.now.value (λ flat. rows filled ≡ filled_rows (rows array.now) (Single flat))) }
+    ensures rows { IfOk result (λ filled. IfSome value.now.value (λ flat. rows filled ≡
+        filled_rows (rows array.now) (Single flat))) }
     ensures dtype { IfOk result (λ filled. dtype_of filled ≡ fill_dtype (dtype_of array.now)) }
     ensures form { IfOk result (λ filled. IsComputedFlat (column_of filled)) }
     ensures session { ctx.new ≡ ctx.old }

@@ -25,11 +25,14 @@ pub(crate) fn take_lists<A: Allocator + Copy>(
     places: &Validity<A>,
 ) -> VortexResult<ListViewArray<A>>
     requires counted { HasLength (form_of places.now) (length positions.now) }
-    requires within { ArePositions (optionals positions.now (flags (form_of places.now) (length positions.now))) (length (list_rows lists.now)) }
+    requires within { ArePositions (optionals positions.now (flags (form_of places.now) (length positions.now)))
+        (length (list_rows lists.now)) }
     ensures only { IsOkUnless result VortexError.OutOfMemory }
     ensures made { IfOk result (λ taken. IsComputedAs
-        (take_rows (list_rows lists.now) (position_numbers (optionals positions.now (flags (form_of places.now) (length positions.now)))))
-        (dtype_with (list_dtype lists.now) (either_nullable (nullability_of (list_dtype lists.now)) (nullability_in (form_of places.now))))
+        (take_rows (list_rows lists.now) (position_numbers (optionals positions.now (flags (form_of places.now)
+        (length positions.now)))))
+        (dtype_with (list_dtype lists.now) (either_nullable (nullability_of (list_dtype lists.now))
+        (nullability_in (form_of places.now))))
         (OfLists taken)) }
 {
     lists.take_at(alloc, positions, places)
@@ -43,7 +46,8 @@ fn lists_at_bits<A: Allocator + Copy>(
 ) -> VortexResult<ListViewArray<A>>
     requires masked { length bits.now ≡ length (list_rows lists.now) }
     ensures only { IsOkUnless result VortexError.OutOfMemory }
-    ensures made { IfOk result (λ kept. IsComputedAs (filter_rows bits.now (list_rows lists.now)) (list_dtype lists.now) (OfLists kept)) }
+    ensures made { IfOk result (λ kept. IsComputedAs (filter_rows bits.now (list_rows lists.now)) (list_dtype lists.now)
+        (OfLists kept)) }
 {
     let places = set_places(alloc, bits)?;
     let kept = take_lists(alloc, lists, places.as_slice(), &Validity::NonNullable);
@@ -73,7 +77,8 @@ pub(crate) fn select_lists<A: Allocator + Copy>(
 ) -> VortexResult<ListViewArray<A>>
     requires masked { length (mask_bits mask.now) ≡ length (list_rows lists.now) }
     ensures only { IsOkUnless result VortexError.OutOfMemory }
-    ensures made { IfOk result (λ kept. IsComputedAs (filter_rows (mask_bits mask.now) (list_rows lists.now)) (list_dtype lists.now) (OfLists kept)) }
+    ensures made { IfOk result (λ kept. IsComputedAs (filter_rows (mask_bits mask.now) (list_rows lists.now))
+        (list_dtype lists.now) (OfLists kept)) }
 {
     match mask {
         Mask::AllTrue(_) => first_lists(alloc, lists, lists.len()),

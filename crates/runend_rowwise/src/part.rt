@@ -21,7 +21,8 @@ pub fn part_of<A: Allocator + Copy>(
     ctx: &mut ExecutionCtx<A>,
 ) -> VortexResult<ArrayRef<A>>
     ensures refused { IsRefusedBy (range_fault range.start range.end (length (rows column.now))) result }
-    ensures first { (error : VortexError) → range_fault range.start range.end (length (rows column.now)) ≡ Some error → IsErrOf result error }
+    ensures first { (error : VortexError) → range_fault range.start range.end (length (rows column.now)) ≡ Some error →
+        IsErrOf result error }
     ensures rows { IfOk result (λ part. rows part ≡ slice_range (rows column.now) range.start range.end) }
     ensures dtype { IfOk result (λ part. dtype_of part ≡ dtype_of column.now) }
     ensures form { IfOk result (λ part. IsPlainPart (column_of column.now) range.start range.end (column_of part)) }

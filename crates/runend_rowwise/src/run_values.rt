@@ -29,7 +29,8 @@ pub fn selected_by<C: ColumnOps<A>, A: Allocator + Copy>(
 ) -> VortexResult<C>
     requires masked { length (mask_bits mask.now) ≡ length (single_rows (C.leaf column.now)) }
     ensures only { IsOkUnless result VortexError.OutOfMemory }
-    ensures made { IfOk result (λ kept. IsComputedAs (filter_rows (mask_bits mask.now) (single_rows (C.leaf column.now))) (leaf_dtype (C.leaf column.now)) (OfLeaf (C.leaf kept))) }
+    ensures made { IfOk result (λ kept. IsComputedAs (filter_rows (mask_bits mask.now)
+        (single_rows (C.leaf column.now))) (leaf_dtype (C.leaf column.now)) (OfLeaf (C.leaf kept))) }
 {
     column.filter(alloc, mask)
 }
@@ -43,11 +44,14 @@ pub fn take_values<A: Allocator + Copy>(
     places: &Validity<A>,
 ) -> VortexResult<Canonical<A>>
     requires counted { HasLength (form_of places.now) (length positions.now) }
-    requires within { ArePositions (optionals positions.now (flags (form_of places.now) (length positions.now))) (length (rows values.now)) }
+    requires within { ArePositions (optionals positions.now (flags (form_of places.now) (length positions.now)))
+        (length (rows values.now)) }
     ensures only { IsOkUnless result VortexError.OutOfMemory }
     ensures made { IfOk result (λ taken. IsComputedAs
-        (take_rows (rows values.now) (position_numbers (optionals positions.now (flags (form_of places.now) (length positions.now)))))
-        (dtype_with (dtype_of values.now) (either_nullable (nullability_of (dtype_of values.now)) (nullability_in (form_of places.now))))
+        (take_rows (rows values.now) (position_numbers (optionals positions.now (flags (form_of places.now)
+        (length positions.now)))))
+        (dtype_with (dtype_of values.now) (either_nullable (nullability_of (dtype_of values.now))
+        (nullability_in (form_of places.now))))
         (canonical_column taken)) }
 {
     match values {
@@ -84,7 +88,8 @@ pub fn select_values<A: Allocator + Copy>(
 ) -> VortexResult<Canonical<A>>
     requires masked { length (mask_bits mask.now) ≡ length (rows values.now) }
     ensures only { IsOkUnless result VortexError.OutOfMemory }
-    ensures made { IfOk result (λ kept. IsComputedAs (filter_rows (mask_bits mask.now) (rows values.now)) (dtype_of values.now) (canonical_column kept)) }
+    ensures made { IfOk result (λ kept. IsComputedAs (filter_rows (mask_bits mask.now) (rows values.now))
+        (dtype_of values.now) (canonical_column kept)) }
 {
     match values {
         ArrayRef::Primitive(array) => {
@@ -120,11 +125,14 @@ fn taken_at<C: ColumnOps<A>, A: Allocator + Copy>(
     places: &Validity<A>,
 ) -> VortexResult<C>
     requires counted { HasLength (form_of places.now) (length positions.now) }
-    requires within { ArePositions (optionals positions.now (flags (form_of places.now) (length positions.now))) (length (single_rows (C.leaf column.now))) }
+    requires within { ArePositions (optionals positions.now (flags (form_of places.now) (length positions.now)))
+        (length (single_rows (C.leaf column.now))) }
     ensures only { IsOkUnless result VortexError.OutOfMemory }
     ensures made { IfOk result (λ taken. IsComputedAs
-        (take_rows (single_rows (C.leaf column.now)) (position_numbers (optionals positions.now (flags (form_of places.now) (length positions.now)))))
-        (dtype_with (leaf_dtype (C.leaf column.now)) (either_nullable (nullability_of (leaf_dtype (C.leaf column.now))) (nullability_in (form_of places.now))))
+        (take_rows (single_rows (C.leaf column.now)) (position_numbers (optionals positions.now
+        (flags (form_of places.now) (length positions.now)))))
+        (dtype_with (leaf_dtype (C.leaf column.now)) (either_nullable (nullability_of (leaf_dtype (C.leaf column.now)))
+        (nullability_in (form_of places.now))))
         (OfLeaf (C.leaf taken))) }
 {
     column.take_at(alloc, positions, places)
@@ -147,11 +155,14 @@ pub(crate) fn take_flat<A: Allocator + Copy>(
     places: &Validity<A>,
 ) -> VortexResult<Canonical<A>>
     requires counted { HasLength (form_of places.now) (length positions.now) }
-    requires within { ArePositions (optionals positions.now (flags (form_of places.now) (length positions.now))) (length (column_rows (canonical_column values.now))) }
+    requires within { ArePositions (optionals positions.now (flags (form_of places.now) (length positions.now)))
+        (length (column_rows (canonical_column values.now))) }
     ensures only { IsOkUnless result VortexError.OutOfMemory }
     ensures made { IfOk result (λ taken. IsComputedAs
-        (take_rows (column_rows (canonical_column values.now)) (position_numbers (optionals positions.now (flags (form_of places.now) (length positions.now)))))
-        (dtype_with (column_dtype (canonical_column values.now)) (either_nullable (nullability_of (column_dtype (canonical_column values.now))) (nullability_in (form_of places.now))))
+        (take_rows (column_rows (canonical_column values.now)) (position_numbers (optionals positions.now
+        (flags (form_of places.now) (length positions.now)))))
+        (dtype_with (column_dtype (canonical_column values.now)) (either_nullable
+        (nullability_of (column_dtype (canonical_column values.now))) (nullability_in (form_of places.now))))
         (canonical_column taken)) }
 {
     match values {
@@ -174,7 +185,8 @@ pub(crate) fn select_flat<A: Allocator + Copy>(
 ) -> VortexResult<Canonical<A>>
     requires masked { length (mask_bits mask.now) ≡ length (column_rows (canonical_column values.now)) }
     ensures only { IsOkUnless result VortexError.OutOfMemory }
-    ensures made { IfOk result (λ kept. IsComputedAs (filter_rows (mask_bits mask.now) (column_rows (canonical_column values.now))) (column_dtype (canonical_column values.now)) (canonical_column kept)) }
+    ensures made { IfOk result (λ kept. IsComputedAs (filter_rows (mask_bits mask.now) (column_rows
+        (canonical_column values.now))) (column_dtype (canonical_column values.now)) (canonical_column kept)) }
 {
     match values {
         Canonical::Flat(flat) => {
@@ -196,11 +208,14 @@ fn take_flattened<A: Allocator + Copy>(
     places: &Validity<A>,
 ) -> VortexResult<Canonical<A>>
     requires counted { HasLength (form_of places.now) (length positions.now) }
-    requires within { ArePositions (optionals positions.now (flags (form_of places.now) (length positions.now))) (length (rows values.now)) }
+    requires within { ArePositions (optionals positions.now (flags (form_of places.now) (length positions.now)))
+        (length (rows values.now)) }
     ensures only { IsOkUnless result VortexError.OutOfMemory }
     ensures made { IfOk result (λ taken. IsComputedAs
-        (take_rows (rows values.now) (position_numbers (optionals positions.now (flags (form_of places.now) (length positions.now)))))
-        (dtype_with (dtype_of values.now) (either_nullable (nullability_of (dtype_of values.now)) (nullability_in (form_of places.now))))
+        (take_rows (rows values.now) (position_numbers (optionals positions.now (flags (form_of places.now)
+        (length positions.now)))))
+        (dtype_with (dtype_of values.now) (either_nullable (nullability_of (dtype_of values.now))
+        (nullability_in (form_of places.now))))
         (canonical_column taken)) }
 {
     let flat = canonical_of(alloc, values)?;
@@ -217,7 +232,8 @@ fn select_flattened<A: Allocator + Copy>(
 ) -> VortexResult<Canonical<A>>
     requires masked { length (mask_bits mask.now) ≡ length (rows values.now) }
     ensures only { IsOkUnless result VortexError.OutOfMemory }
-    ensures made { IfOk result (λ kept. IsComputedAs (filter_rows (mask_bits mask.now) (rows values.now)) (dtype_of values.now) (canonical_column kept)) }
+    ensures made { IfOk result (λ kept. IsComputedAs (filter_rows (mask_bits mask.now) (rows values.now))
+        (dtype_of values.now) (canonical_column kept)) }
 {
     let flat = canonical_of(alloc, values)?;
     let kept = select_flat(alloc, &flat, mask);

@@ -30,7 +30,8 @@ pub fn over_runs<A: Allocator + Copy>(
     requires paired { length (leaf_rows (leaf_of values)) ≡ length (values_of_visible array.now) }
     requires computed { IsComputedLeaf (leaf_of values) }
     ensures only { IsOkUnless result VortexError.OutOfMemory }
-    ensures rows { IfOk result (λ part. rows part ≡ run_rows (visible_ends array.now) (single_rows (leaf_of values)) (window_start array.now.count array.now.offset) array.now.count) }
+    ensures rows { IfOk result (λ part. rows part ≡ run_rows (visible_ends array.now) (single_rows (leaf_of values))
+        (window_start array.now.count array.now.offset) array.now.count) }
     ensures dtype { IfOk result (λ part. dtype_of part ≡ leaf_dtype (leaf_of values)) }
     ensures form { IfOk result (λ part. IsRunForm (leaf_dtype (leaf_of values)) array.now (column_of part)) }
 {
@@ -60,7 +61,8 @@ pub fn over_visible_runs<A: Allocator + Copy>(
     requires paired { length (leaf_rows (leaf_of values)) ≡ length (values_of_visible array.now) }
     requires computed { IsComputedLeaf (leaf_of values) }
     ensures only { IsOkUnless result VortexError.OutOfMemory }
-    ensures rows { IfOk result (λ part. rows part ≡ run_rows (visible_ends array.now) (single_rows (leaf_of values)) (window_start array.now.count array.now.offset) array.now.count) }
+    ensures rows { IfOk result (λ part. rows part ≡ run_rows (visible_ends array.now) (single_rows (leaf_of values))
+        (window_start array.now.count array.now.offset) array.now.count) }
     ensures dtype { IfOk result (λ part. dtype_of part ≡ leaf_dtype (leaf_of values)) }
     ensures form { IfOk result (λ part. IsOverVisibleRuns array.now (column_of part)) }
 {
@@ -85,7 +87,8 @@ pub fn over_least_runs<A: Allocator + Copy>(
     requires paired { length (leaf_rows (OfNumbers numbers)) ≡ length (values_of_visible array.now) }
     requires computed { IsComputed numbers }
     ensures only { IsOkUnless result VortexError.OutOfMemory }
-    ensures rows { IfOk result (λ part. rows part ≡ run_rows (visible_ends array.now) (single_rows (OfNumbers numbers)) (window_start array.now.count array.now.offset) array.now.count) }
+    ensures rows { IfOk result (λ part. rows part ≡ run_rows (visible_ends array.now) (single_rows (OfNumbers numbers))
+        (window_start array.now.count array.now.offset) array.now.count) }
     ensures dtype { IfOk result (λ part. dtype_of part ≡ primitive_dtype numbers) }
     ensures form { IfOk result (λ part. IsLeastForm array.now.ends_type (column_of part)) }
 {
@@ -115,7 +118,8 @@ pub fn least_runs<A: Allocator + Copy>(
     requires shown { AllHaveRows (ends_of ends) offset count }
     requires computed { IsComputed values }
     ensures only { IsOkUnless result VortexError.OutOfMemory }
-    ensures rows { IfOk result (λ least. column_rows (column_of_runs least) ≡ run_rows (ends_of ends) (number_rows values) offset count) }
+    ensures rows { IfOk result (λ least. column_rows (column_of_runs least) ≡
+        run_rows (ends_of ends) (number_rows values) offset count) }
     ensures dtype { IfOk result (λ least. column_dtype least.values ≡ primitive_dtype values) }
     ensures form { IfOk result (λ least. AreLeastRuns ends.ptype least) }
 {

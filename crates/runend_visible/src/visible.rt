@@ -34,7 +34,8 @@ pub fn ends_of_visible<A: Allocator + Copy>(
     ensures typed { IfOk result (λ ends. ends.ptype ≡ array.now.ends_type) }
     ensures window { IsWindow (visible_ends array.now) (window_start array.now.count array.now.offset) array.now.count }
     ensures paired { length (values_of_visible array.now) ≡ length (visible_ends array.now) }
-    ensures shown { AllHaveRows (visible_ends array.now) (window_start array.now.count array.now.offset) array.now.count }
+    ensures shown { AllHaveRows (visible_ends array.now)
+        (window_start array.now.count array.now.offset) array.now.count }
     ensures counted { IfOk result (λ ends. length ends.numbers ≡ length (visible_ends array.now)) }
 {
     let runs = array.visible_runs();

@@ -100,7 +100,8 @@ impl<T, A: Allocator> Buffer<T, A> {
 
 // The vector, where this is its only owner, and else a buffer of all its items.
 fn sole_vector<T, A: Allocator>(vector: Arc<Vec<T, A>, A>) -> Result<Vec<T, A>, Buffer<T, A>>
-    ensures { MatchResult result (λ items. items.items ≡ vector.value.items) (λ buffer. buffer.items ≡ vector.value.items) }
+    ensures { MatchResult result (λ items. items.items ≡ vector.value.items) (λ buffer. buffer.items ≡
+        vector.value.items) }
 {
     match Arc::try_unwrap(vector) {
         Ok(items) => Ok(items),

@@ -36,10 +36,13 @@ impl<A: Allocator + Copy> Report<A> {
     /// its report may be cut.
     pub fn count(&mut self, before: usize, expected: &str, answer: &str) -> VortexResult<()>
         ensures only { IsOkUnless result VortexError.OutOfMemory }
-        ensures agrees { answer.now ≡ expected.now → (self.new.agree ≡ one_more self.old.agree) × (self.new.differ ≡ self.old.differ) }
-        ensures differs { answer.now ≢ expected.now → (self.new.agree ≡ self.old.agree) × (self.new.differ ≡ one_more self.old.differ) }
+        ensures agrees { answer.now ≡ expected.now → (self.new.agree ≡ one_more self.old.agree) ×
+            (self.new.differ ≡ self.old.differ) }
+        ensures differs { answer.now ≢ expected.now → (self.new.agree ≡ self.old.agree) ×
+            (self.new.differ ≡ one_more self.old.differ) }
         ensures silent { answer.now ≡ expected.now → string_bytes self.new.text ≡ string_bytes self.old.text }
-        ensures reported { answer.now ≢ expected.now → OnOk result (string_bytes self.new.text ≡ string_bytes self.old.text ++ difference before answer.now) }
+        ensures reported { answer.now ≢ expected.now → OnOk result (string_bytes self.new.text ≡
+            string_bytes self.old.text ++ difference before answer.now) }
     {
         if answer == expected {
             self.agree = self.agree.saturating_add(1);
@@ -54,7 +57,8 @@ impl<A: Allocator + Copy> Report<A> {
     /// Reports how many lines agree, and how many differ. Refused for want of memory alone.
     pub fn total(&mut self) -> VortexResult<()>
         ensures only { IsOkUnless result VortexError.OutOfMemory }
-        ensures reported { OnOk result (string_bytes self.new.text ≡ string_bytes self.old.text ++ totals self.old.agree self.old.differ) }
+        ensures reported { OnOk result (string_bytes self.new.text ≡
+            string_bytes self.old.text ++ totals self.old.agree self.old.differ) }
         ensures agree { self.new.agree ≡ self.old.agree }
         ensures differ { self.new.differ ≡ self.old.differ }
     {

@@ -23,9 +23,11 @@ pub fn physical_indices_binary<E: UnsignedPType, T: NativePType, A: Allocator + 
     requires masked { item_count (mask_bits mask.now) ≡ item_count indices.now }
     requires in_window { AreInWindow ends.old.ends offset (optional_indices T.number indices.now (mask_bits mask.now)) }
     ensures only { IsOkUnless result VortexError.OutOfMemory }
-    ensures runs { IfOk result (λ runs. runs.items ≡ runs_of ends.old.ends offset 0 (optional_indices T.number indices.now (mask_bits mask.now))) }
+    ensures runs { IfOk result (λ runs. runs.items ≡
+        runs_of ends.old.ends offset 0 (optional_indices T.number indices.now (mask_bits mask.now))) }
     ensures same { ends.new.ends ≡ ends.old.ends }
-    ensures cost { ends.new.tests ≤ ends.old.tests + valid_count (optional_indices T.number indices.now (mask_bits mask.now)) * digits (item_count ends.old.ends) }
+    ensures cost { ends.new.tests ≤ ends.old.tests + valid_count (optional_indices T.number indices.now
+        (mask_bits mask.now)) * digits (item_count ends.old.ends) }
     ensures untested { OnErr result (ends.new.tests ≡ ends.old.tests) }
     ensures session { ctx.new ≡ ctx.old }
 {
@@ -46,9 +48,11 @@ pub fn physical_indices_linear_sorted<E: UnsignedPType, T: NativePType, A: Alloc
     requires in_window { AreInWindow ends.old.ends offset (optional_indices T.number indices.now (mask_bits mask.now)) }
     requires sorted { AreSorted (optional_indices T.number indices.now (mask_bits mask.now)) }
     ensures only { IsOkUnless result VortexError.OutOfMemory }
-    ensures runs { IfOk result (λ runs. runs.items ≡ runs_of ends.old.ends offset 0 (optional_indices T.number indices.now (mask_bits mask.now))) }
+    ensures runs { IfOk result (λ runs. runs.items ≡
+        runs_of ends.old.ends offset 0 (optional_indices T.number indices.now (mask_bits mask.now))) }
     ensures same { ends.new.ends ≡ ends.old.ends }
-    ensures cost { ends.new.tests ≤ ends.old.tests + (item_count ends.old.ends - 1 + valid_count (optional_indices T.number indices.now (mask_bits mask.now))) }
+    ensures cost { ends.new.tests ≤ ends.old.tests + (item_count ends.old.ends - 1 + valid_count
+        (optional_indices T.number indices.now (mask_bits mask.now))) }
     ensures untested { OnErr result (ends.new.tests ≡ ends.old.tests) }
     ensures session { ctx.new ≡ ctx.old }
 {
@@ -68,9 +72,11 @@ pub fn physical_indices_linear_unsorted<E: UnsignedPType, T: NativePType, A: All
     requires masked { item_count (mask_bits mask.now) ≡ item_count indices.now }
     requires in_window { AreInWindow ends.old.ends offset (optional_indices T.number indices.now (mask_bits mask.now)) }
     ensures only { IsOkUnless result VortexError.OutOfMemory }
-    ensures runs { IfOk result (λ runs. runs.items ≡ runs_of ends.old.ends offset 0 (optional_indices T.number indices.now (mask_bits mask.now))) }
+    ensures runs { IfOk result (λ runs. runs.items ≡
+        runs_of ends.old.ends offset 0 (optional_indices T.number indices.now (mask_bits mask.now))) }
     ensures same { ends.new.ends ≡ ends.old.ends }
-    ensures cost { ends.new.tests ≤ ends.old.tests + (item_count ends.old.ends - 1 + valid_count (optional_indices T.number indices.now (mask_bits mask.now))) }
+    ensures cost { ends.new.tests ≤ ends.old.tests + (item_count ends.old.ends - 1 + valid_count
+        (optional_indices T.number indices.now (mask_bits mask.now))) }
     ensures untested { OnErr result (ends.new.tests ≡ ends.old.tests) }
     ensures session { ctx.new ≡ ctx.old }
 {
@@ -112,9 +118,11 @@ pub fn physical_indices_table<T: NativePType, A: Allocator + Copy>(
 ) -> VortexResult<Vec<u64, A>>
     requires some { 0 < item_count table.now }
     requires masked { item_count (mask_bits mask.now) ≡ item_count indices.now }
-    requires in_bounds { AreInBounds (optional_indices T.number indices.now (mask_bits mask.now)) (item_count table.now) }
+    requires in_bounds { AreInBounds (optional_indices T.number indices.now (mask_bits mask.now))
+        (item_count table.now) }
     ensures only { IsOkUnless result VortexError.OutOfMemory }
-    ensures items { IfOk result (λ runs. runs.items ≡ map (item_of table.now) (optional_indices T.number indices.now (mask_bits mask.now))) }
+    ensures items { IfOk result (λ runs. runs.items ≡
+        map (item_of table.now) (optional_indices T.number indices.now (mask_bits mask.now))) }
     ensures session { ctx.new ≡ ctx.old }
 {
     runend_positions::physical_indices_table(table, *ctx.allocator(), indices, mask)

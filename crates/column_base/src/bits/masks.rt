@@ -39,7 +39,8 @@ fn mask_between(low: usize, high: usize) -> u64
 pub(crate) fn filled_word(word: u64, low: usize, high: usize, bit: bool) -> u64
     requires ordered { low < high }
     requires in_word { high ≤ 64 }
-    ensures { (j : ℕ) → j < 64 → bit_at result j ≡ (if nat_le low j && nat_lt j high then one_if bit else bit_at word j) }
+    ensures { (j : ℕ) → j < 64 → bit_at result j ≡
+        (if nat_le low j && nat_lt j high then one_if bit else bit_at word j) }
 {
     if bit {
         word | mask_between(low, high)
@@ -52,7 +53,8 @@ pub(crate) fn filled_word(word: u64, low: usize, high: usize, bit: bool) -> u64
 pub(crate) fn joined_words(word: u64, next: u64, low: usize) -> u64
     requires some { 0 < low }
     requires not_all { low < 64 }
-    ensures { (j : ℕ) → j < 64 → bit_at result j ≡ (if nat_lt (low + j) 64 then bit_at word (low + j) else bit_at next (low + j - 64)) }
+    ensures { (j : ℕ) → j < 64 → bit_at result j ≡
+        (if nat_lt (low + j) 64 then bit_at word (low + j) else bit_at next (low + j - 64)) }
 {
     (word >> low) | (next << (64 - low))
 }

@@ -25,7 +25,8 @@ impl RunEnd {
     ) -> VortexResult<RunEndArray<A>>
         ensures parts { let count = last_end (end_numbers (column_of ends)) in
             MatchResult result
-            (λ array. AreParts (column_of ends) (column_of values) 0 count × (array ≡ runs_of (column_of ends) (column_of values) 0 count))
+            (λ array. AreParts (column_of ends) (column_of values) 0 count ×
+            (array ≡ runs_of (column_of ends) (column_of values) 0 count))
             (λ error. PartsFault (column_of ends) (column_of values) 0 count error) }
         ensures session { ctx.new ≡ ctx.old }
     {
@@ -48,7 +49,8 @@ impl RunEnd {
         ctx: &mut ExecutionCtx<A>,
     ) -> VortexResult<RunEndArray<A>>
         ensures parts { MatchResult result
-            (λ array. AreParts (column_of ends) (column_of values) offset length × (array ≡ runs_of (column_of ends) (column_of values) offset length))
+            (λ array. AreParts (column_of ends) (column_of values) offset length ×
+            (array ≡ runs_of (column_of ends) (column_of values) offset length))
             (λ error. PartsFault (column_of ends) (column_of values) offset length error) }
         ensures session { ctx.new ≡ ctx.old }
     {
@@ -70,7 +72,8 @@ impl RunEnd {
         ctx: &mut ExecutionCtx<A>,
     ) -> RunEndArray<A>
         requires { AreParts (column_of ends) (column_of values) 0 (last_end (end_numbers (column_of ends))) }
-        ensures whole { result ≡ runs_of (column_of ends) (column_of values) 0 (last_end (end_numbers (column_of ends))) }
+        ensures whole { result ≡ runs_of (column_of ends) (column_of values) 0
+            (last_end (end_numbers (column_of ends))) }
         ensures session { ctx.new ≡ ctx.old }
     {
         let _ = &ctx;

@@ -42,7 +42,8 @@ impl<A: Allocator + Copy> RunEndArray<A> {
     pub(crate) fn truth_at(&self, index: usize) -> bool
         requires plain { IsPlainTruths self.now.values }
         requires within { index < self.now.count }
-        ensures { result ≡ slice_index_or (truths_of self.now.values) (run_at self.now.ends (self.now.offset + index)) false }
+        ensures { result ≡ slice_index_or (truths_of self.now.values) (run_at self.now.ends (self.now.offset +
+            index)) false }
     {
         let run = ops::run_of(&self.ends, self.offset + index);
         plain_truth_at(&self.values, run)
@@ -63,7 +64,8 @@ impl<A: Allocator + Copy> RunEndArray<A> {
         requires plain { IsPlainIndex self.now.values }
         requires within { index < self.now.count }
         requires before { run.old ≤ run_at self.now.ends (self.now.offset + index) }
-        ensures number { result.value ≡ slice_index (end_numbers self.now.values) (run_at self.now.ends (self.now.offset + index)) }
+        ensures number { result.value ≡ slice_index (end_numbers self.now.values) (run_at self.now.ends
+            (self.now.offset + index)) }
         ensures stop { result.stop ≡ run_stop self.now.ends self.now.offset self.now.count index }
         ensures within { index < result.stop }
         ensures run { run.new ≡ run_at self.now.ends (self.now.offset + index) }
@@ -82,7 +84,8 @@ impl<A: Allocator + Copy> RunEndArray<A> {
         requires plain { IsPlainTruths self.now.values }
         requires within { index < self.now.count }
         requires before { run.old ≤ run_at self.now.ends (self.now.offset + index) }
-        ensures truth { result.value ≡ slice_index_or (truths_of self.now.values) (run_at self.now.ends (self.now.offset + index)) false }
+        ensures truth { result.value ≡ slice_index_or (truths_of self.now.values) (run_at self.now.ends
+            (self.now.offset + index)) false }
         ensures stop { result.stop ≡ run_stop self.now.ends self.now.offset self.now.count index }
         ensures within { index < result.stop }
         ensures run { run.new ≡ run_at self.now.ends (self.now.offset + index) }
@@ -118,7 +121,9 @@ impl<A: Allocator + Copy> RunEndArray<A> {
         requires ordered { start ≤ stop }
         requires in_bounds { stop ≤ self.now.count }
         ensures only { IsOkUnless result VortexError.OutOfMemory }
-        ensures numbers { IfOk result (λ numbers. numbers.items ≡ map (λ row. slice_index (end_numbers self.now.values) (run_at self.now.ends (self.now.offset + row))) (range_with_len start (stop - start))) }
+        ensures numbers { IfOk result (λ numbers. numbers.items ≡
+            map (λ row. slice_index (end_numbers self.now.values) (run_at self.now.ends (self.now.offset + row)))
+            (range_with_len start (stop - start))) }
     {
         if start == stop {
             return Ok(Vec::new(alloc));
@@ -144,7 +149,8 @@ impl<A: Allocator + Copy> RunEndArray<A> {
         requires ordered { start ≤ stop }
         requires in_bounds { stop ≤ self.now.count }
         ensures only { IsOkUnless result VortexError.OutOfMemory }
-        ensures truths { IfOk result (λ truths. truths ≡ map (λ row. slice_index_or (truths_of self.now.values) (run_at self.now.ends (self.now.offset + row)) false) (range_with_len start (stop - start))) }
+        ensures truths { IfOk result (λ truths. truths ≡ map (λ row. slice_index_or (truths_of self.now.values)
+            (run_at self.now.ends (self.now.offset + row)) false) (range_with_len start (stop - start))) }
     {
         let mut rows = BitBufferMut::with_capacity(alloc, stop - start)?;
         if start == stop {

@@ -52,7 +52,8 @@ impl<A: Allocator + Copy> RunEndArray<A> {
     pub fn row_at(&self, index: usize) -> VortexResult<ScalarView<'_, A>>
         ensures row { IfOk result (λ view. slice_get (column_rows (column_of_runs self.now)) index ≡ Some (sees view)) }
         ensures of_type { IfOk result (λ view. IsViewOf (column_dtype self.now.values) view) }
-        ensures refused { IsErrOf result (VortexError.OutOfBounds (pos index) self.now.count) ↔ (self.now.count ≤ index) }
+        ensures refused { IsErrOf result (VortexError.OutOfBounds (pos index) self.now.count) ↔
+            (self.now.count ≤ index) }
         ensures only { IsOkUnless result (VortexError.OutOfBounds (pos index) self.now.count) }
     {
         if index >= self.length {
@@ -103,7 +104,8 @@ impl<A: Allocator + Copy> RunEndArray<A> {
         prefill_runs: usize,
     ) -> VortexResult<Canonical<A>>
         ensures only { IsOkUnless result VortexError.OutOfMemory }
-        ensures rows { IfOk result (λ flat. column_rows (canonical_column flat) ≡ column_rows (column_of_runs self.now)) }
+        ensures rows { IfOk result (λ flat. column_rows (canonical_column flat) ≡
+            column_rows (column_of_runs self.now)) }
         ensures dtype { IfOk result (λ flat. column_dtype (canonical_column flat) ≡ column_dtype self.now.values) }
         ensures form { IfOk result (λ flat. IsComputedFlat (canonical_column flat)) }
     {
@@ -123,7 +125,8 @@ impl<A: Allocator + Copy> RunEndArray<A> {
         ensures last { result.end ≡ last_run self.now stop + 1 }
         ensures ordered { result.start < result.end }
         ensures in_bounds { result.end ≤ length self.now.ends }
-        ensures window { IsWindow (slice_range self.now.ends result.start result.end) (self.now.offset + start) (stop - start) }
+        ensures window { IsWindow (slice_range self.now.ends result.start result.end) (self.now.offset + start)
+            (stop - start) }
     {
         let first = ops::find_physical_index(&self.ends, self.offset + start);
         let stop = ops::find_slice_end_index(&self.ends, self.offset + stop);
@@ -137,8 +140,10 @@ impl<A: Allocator + Copy> RunEndArray<A> {
         ensures stop { result.end ≡ stop_visible self.now.ends self.now.offset self.now.count }
         ensures ordered { result.start ≤ result.end }
         ensures in_bounds { result.end ≤ length self.now.ends }
-        ensures ends { slice_range self.now.ends result.start result.end ≡ visible self.now.ends self.now.offset self.now.count self.now.ends }
-        ensures values { slice_range (column_rows self.now.values) result.start result.end ≡ visible self.now.ends self.now.offset self.now.count (column_rows self.now.values) }
+        ensures ends { slice_range self.now.ends result.start result.end ≡
+            visible self.now.ends self.now.offset self.now.count self.now.ends }
+        ensures values { slice_range (column_rows self.now.values) result.start result.end ≡
+            visible self.now.ends self.now.offset self.now.count (column_rows self.now.values) }
         ensures valid { AreRuns self.now }
     {
         if self.length == 0 {

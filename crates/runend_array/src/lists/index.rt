@@ -49,7 +49,8 @@ pub(crate) fn plain_numbers_between<A: Allocator + Copy>(
     requires ordered { start ≤ stop }
     requires in_bounds { stop ≤ length (end_numbers (column_of column.now)) }
     ensures only { IsOkUnless result VortexError.OutOfMemory }
-    ensures numbers { IfOk result (λ numbers. numbers.items ≡ slice_range (end_numbers (column_of column.now)) start stop) }
+    ensures numbers { IfOk result (λ numbers. numbers.items ≡
+        slice_range (end_numbers (column_of column.now)) start stop) }
 {
     match column {
         ArrayRef::Primitive(numbers) => match numbers.values() {

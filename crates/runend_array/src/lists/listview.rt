@@ -83,7 +83,8 @@ impl<A: Allocator + Copy> ListViewArray<A> {
         ctx: &mut ExecutionCtx<A>,
     ) -> VortexResult<Self>
         ensures parts { MatchResult result
-            (λ lists. AreListParts elements.value offsets sizes validity × (lists ≡ lists_of elements.value offsets sizes validity))
+            (λ lists. AreListParts elements.value offsets sizes validity ×
+            (lists ≡ lists_of elements.value offsets sizes validity))
             (λ error. ListPartsFault elements.value offsets sizes validity error) }
         ensures session { ctx.new ≡ ctx.old }
     {
@@ -207,9 +208,11 @@ impl<A: Allocator + Copy> ListViewArray<A> {
         requires window { IsWindow (ends_of ends.now) offset count }
         requires paired { list_count self.now ≡ length ends.now.numbers }
         ensures only { IsOkUnless result VortexError.OutOfMemory }
-        ensures rows { IfOk result (λ lists. list_rows lists ≡ run_rows (ends_of ends.now) (list_rows self.now) offset count) }
+        ensures rows { IfOk result (λ lists. list_rows lists ≡
+            run_rows (ends_of ends.now) (list_rows self.now) offset count) }
         ensures dtype { IfOk result (λ lists. list_dtype lists ≡ list_dtype self.now) }
-        ensures form { IfOk result (λ lists. AreListsInRuns ends.now.ptype (ends_of ends.now) self.now offset count lists) }
+        ensures form { IfOk result (λ lists. AreListsInRuns ends.now.ptype
+            (ends_of ends.now) self.now offset count lists) }
     {
         let elements = self.elements.clone()?;
         let offsets = index_in_runs(alloc, ends, &self.offsets, offset, count)?;
@@ -238,7 +241,8 @@ impl<A: Allocator + Copy> ListViewArray<A> {
     pub fn slice(&self, alloc: A, range: Range<usize>) -> VortexResult<ListViewArray<A>>
         ensures refused { let count = list_count self.now in
             IsErrOf result (VortexError.BadRange range.start range.end count) ↔ IsBadRange range.start range.end count }
-        ensures only { ¬ IsBadRange range.start range.end (list_count self.now) → IsOkUnless result VortexError.OutOfMemory }
+        ensures only { ¬ IsBadRange range.start range.end (list_count self.now) →
+            IsOkUnless result VortexError.OutOfMemory }
         ensures rows { IfOk result (λ part. list_rows part ≡ slice_range (list_rows self.now) range.start range.end) }
         ensures dtype { IfOk result (λ part. list_dtype part ≡ list_dtype self.now) }
         ensures elements { IfOk result (λ part. part.elements ≡ self.now.elements) }
@@ -298,7 +302,8 @@ impl<A: Allocator + Copy> ListViewArray<A> {
         ensures only { IsOkUnless result VortexError.OutOfMemory }
         ensures rows { IfOk result (λ part. list_rows part ≡ lists_taken self.now positions.now (form_of places.now)) }
         ensures dtype { IfOk result (λ part. list_dtype part
-            ≡ dtype_with (list_dtype self.now) (nullability_taken (nullability_of (list_dtype self.now)) (nullability_in (form_of places.now)))) }
+            ≡ dtype_with (list_dtype self.now) (nullability_taken (nullability_of (list_dtype self.now))
+            (nullability_in (form_of places.now)))) }
         ensures form { IfOk result (λ part. AreListsAt self.now positions.now (form_of places.now) part) }
     {
         let elements = self.elements.clone()?;

@@ -33,7 +33,8 @@ pub(crate) fn index_in_runs<A: Allocator + Copy>(
     requires paired { index_count (index_of (column_of index.now)) ≡ length ends.now.numbers }
     ensures only { IsOkUnless result VortexError.OutOfMemory }
     ensures index { IfOk result (λ runs. IsIndex (column_of runs)) }
-    ensures form { IfOk result (λ runs. index_of (column_of runs) ≡ RunIndex ends.now.ptype (ends_of ends.now) (index_numbers (index_of (column_of index.now))) offset count) }
+    ensures form { IfOk result (λ runs. index_of (column_of runs) ≡
+        RunIndex ends.now.ptype (ends_of ends.now) (index_numbers (index_of (column_of index.now))) offset count) }
 {
     let numbers = PrimitiveValues::U64(numbers_between(alloc, index, 0, index_len(index))?);
     let numbers = PrimitiveArray::new_unchecked(numbers, Validity::NonNullable);
@@ -67,7 +68,8 @@ fn flags_in_runs<A: Allocator + Copy>(
     requires paired { length flags ≡ length ends.now.numbers }
     ensures only { IsOkUnless result VortexError.OutOfMemory }
     ensures plain { IfOk result (λ rows. IsRowValidity rows) }
-    ensures form { IfOk result (λ rows. validity_of rows ≡ ByRuns ends.now.ptype (ends_of ends.now) flags offset count) }
+    ensures form { IfOk result (λ rows. validity_of rows ≡
+        ByRuns ends.now.ptype (ends_of ends.now) flags offset count) }
 {
     let values = BoolArray::new_unchecked(flags, Validity::NonNullable);
     let ends = match ends.try_clone(alloc) {
@@ -102,7 +104,8 @@ pub(crate) fn validity_in_runs<A: Allocator + Copy>(
     requires counted { HasRows (validity_of validity.now) (length ends.now.numbers) }
     ensures only { IsOkUnless result VortexError.OutOfMemory }
     ensures plain { IfOk result (λ rows. IsRowValidity rows) }
-    ensures form { IfOk result (λ rows. IsValidityInRuns ends.now.ptype (ends_of ends.now) (validity_of validity.now) (length ends.now.numbers) offset count (validity_of rows)) }
+    ensures form { IfOk result (λ rows. IsValidityInRuns ends.now.ptype (ends_of ends.now) (validity_of validity.now)
+        (length ends.now.numbers) offset count (validity_of rows)) }
 {
     match validity {
         RowValidity::NonNullable => Ok(RowValidity::NonNullable),

@@ -27,7 +27,8 @@ pub(super) fn numbers_between<A: Allocator + Copy>(
     requires ordered { start ≤ stop }
     requires in_bounds { stop ≤ index_count (index_of (column_of index.now)) }
     ensures only { IsOkUnless result VortexError.OutOfMemory }
-    ensures numbers { IfOk result (λ numbers. numbers.items ≡ map (number_in_row (index_of (column_of index.now))) (range_with_len start (stop - start))) }
+    ensures numbers { IfOk result (λ numbers. numbers.items ≡
+        map (number_in_row (index_of (column_of index.now))) (range_with_len start (stop - start))) }
 {
     match index {
         ArrayRef::Primitive(_) => plain_numbers_between(index, alloc, start, stop),
@@ -53,7 +54,8 @@ pub(super) fn flags_between<A: Allocator + Copy>(
     requires ordered { start ≤ stop }
     requires in_bounds { stop ≤ count }
     ensures only { IsOkUnless result VortexError.OutOfMemory }
-    ensures flags { IfOk result (λ bits. bits ≡ map (row_flag_at (validity_of validity.now)) (range_with_len start (stop - start))) }
+    ensures flags { IfOk result (λ bits. bits ≡ map (row_flag_at (validity_of validity.now)) (range_with_len start
+        (stop - start))) }
 {
     let _ = count;
     match validity {
@@ -86,7 +88,8 @@ pub(crate) fn index_between<A: Allocator + Copy>(
     requires in_bounds { stop ≤ index_count (index_of (column_of index.now)) }
     ensures only { IsOkUnless result VortexError.OutOfMemory }
     ensures index { IfOk result (λ part. IsIndex (column_of part)) }
-    ensures form { IfOk result (λ part. index_of (column_of part) ≡ PlainIndex (slice_range (index_numbers (index_of (column_of index.now))) start stop)) }
+    ensures form { IfOk result (λ part. index_of (column_of part) ≡
+        PlainIndex (slice_range (index_numbers (index_of (column_of index.now))) start stop)) }
 {
     let numbers = numbers_between(alloc, index, start, stop)?;
     let values = PrimitiveValues::U64(numbers);

@@ -29,7 +29,9 @@ pub(crate) fn index_taken<A: Allocator + Copy>(
     requires within { ArePlacesOf (index_count (index_of (column_of index.now))) positions.now (form_of places.now) }
     ensures only { IsOkUnless result VortexError.OutOfMemory }
     ensures index { IfOk result (λ part. IsIndex (column_of part)) }
-    ensures form { IfOk result (λ part. index_of (column_of part) ≡ PlainIndex (map (number_taken (index_of (column_of index.now)) positions.now (form_of places.now)) (range_with_len 0 (length positions.now)))) }
+    ensures form { IfOk result (λ part. index_of (column_of part) ≡
+        PlainIndex (map (number_taken (index_of (column_of index.now)) positions.now (form_of places.now))
+        (range_with_len 0 (length positions.now)))) }
 {
     let numbers = numbers_at(alloc, index, positions, places)?;
     let values = PrimitiveValues::from_vec(numbers);
@@ -48,7 +50,9 @@ fn numbers_at<A: Allocator + Copy>(
     requires fits { HasLength (form_of places.now) (length positions.now) }
     requires within { ArePlacesOf (index_count (index_of (column_of index.now))) positions.now (form_of places.now) }
     ensures only { IsOkUnless result VortexError.OutOfMemory }
-    ensures numbers { IfOk result (λ numbers. numbers.items ≡ map (number_taken (index_of (column_of index.now)) positions.now (form_of places.now)) (range_with_len 0 (length positions.now))) }
+    ensures numbers { IfOk result (λ numbers. numbers.items ≡
+        map (number_taken (index_of (column_of index.now)) positions.now (form_of places.now))
+        (range_with_len 0 (length positions.now))) }
 {
     let mut numbers = Vec::with_capacity(alloc, positions.len())?;
     for place in 0..positions.len() {
@@ -92,7 +96,8 @@ pub(crate) fn validity_taken<A: Allocator + Copy>(
     requires within { ArePlacesOf count positions.now (form_of places.now) }
     ensures only { IsOkUnless result VortexError.OutOfMemory }
     ensures plain { IfOk result (λ part. IsRowValidity part) }
-    ensures form { IfOk result (λ part. IsValidityAt (validity_of validity.now) positions.now (form_of places.now) (validity_of part)) }
+    ensures form { IfOk result (λ part. IsValidityAt (validity_of validity.now) positions.now (form_of places.now)
+        (validity_of part)) }
 {
     match nullability_at(validity, places) {
         Nullability::NonNullable => Ok(RowValidity::NonNullable),
@@ -108,7 +113,8 @@ fn nullability_at<A: Allocator + Copy>(
     validity: &RowValidity<A>,
     places: &Validity<A>,
 ) -> Nullability
-    ensures { result ≡ nullability_taken (row_nullability (validity_of validity.now)) (nullability_in (form_of places.now)) }
+    ensures { result ≡ nullability_taken (row_nullability (validity_of validity.now))
+        (nullability_in (form_of places.now)) }
 {
     match validity.nullability() {
         Nullability::NonNullable => places.nullability(),
@@ -129,7 +135,8 @@ fn flags_at<A: Allocator + Copy>(
     requires fits { HasLength (form_of places.now) (length positions.now) }
     requires within { ArePlacesOf count positions.now (form_of places.now) }
     ensures only { IsOkUnless result VortexError.OutOfMemory }
-    ensures flags { IfOk result (λ bits. bits ≡ map (flag_taken (validity_of validity.now) positions.now (form_of places.now)) (range_with_len 0 (length positions.now))) }
+    ensures flags { IfOk result (λ bits. bits ≡ map (flag_taken (validity_of validity.now) positions.now
+        (form_of places.now)) (range_with_len 0 (length positions.now))) }
 {
     let mut bits = BitBufferMut::with_capacity(alloc, positions.len())?;
     for place in 0..positions.len() {

@@ -28,7 +28,8 @@ pub fn cast<A: Allocator + Copy>(
     ensures dtype { IfOk result (λ cast. dtype_of cast ≡ dtype) }
     ensures kernel { HasKernel ctx.old cast_kernel (column_of column.now) → OnRuns (column_of column.now)
         (λ runs. IfOk result (λ cast. IsRunForm dtype runs (column_of cast))) }
-    ensures otherwise { ¬ HasKernel ctx.old cast_kernel (column_of column.now) → IfOk result (λ cast. IsFlat (column_of cast)) }
+    ensures otherwise { ¬ HasKernel ctx.old cast_kernel (column_of column.now) →
+        IfOk result (λ cast. IsFlat (column_of cast)) }
     ensures session { ctx.new ≡ ctx.old }
 {
     match runs_for(column, Kernel::Cast, ctx) {

@@ -30,8 +30,10 @@ pub fn take_from<A: Allocator + Copy>(
     ensures rows { IfOk result (λ taken. rows taken ≡ code_rows (rows dictionary.now) (rows column.now)) }
     ensures dtype { IfOk result (λ taken. dtype_of taken ≡ take_dtype (dtype_of dictionary.now) (dtype_of column.now)) }
     ensures kernel { HasKernel ctx.old take_from_kernel (column_of column.now) → OnRuns (column_of column.now)
-        (λ runs. IfOk result (λ taken. IsTakenForm (keeps_runs (dtype_of dictionary.now)) (dtype_of dictionary.now) runs (column_of taken))) }
-    ensures otherwise { ¬ HasKernel ctx.old take_from_kernel (column_of column.now) → IfOk result (λ taken. IsFlat (column_of taken)) }
+        (λ runs. IfOk result (λ taken. IsTakenForm (keeps_runs (dtype_of dictionary.now)) (dtype_of dictionary.now) runs
+        (column_of taken))) }
+    ensures otherwise { ¬ HasKernel ctx.old take_from_kernel (column_of column.now) →
+        IfOk result (λ taken. IsFlat (column_of taken)) }
     ensures session { ctx.new ≡ ctx.old }
 {
     match runs_for(column, Kernel::TakeFrom, ctx) {

@@ -27,11 +27,14 @@ pub fn compare<A: Allocator + Copy>(
     right: &ArrayRef<A>,
     ctx: &mut ExecutionCtx<A>,
 ) -> VortexResult<ArrayRef<A>>
-    ensures refused { IsRefusedBy (compare_column_fault (dtype_of column.now) (dtype_of right.now) (length (rows column.now)) (length (rows right.now))) result }
+    ensures refused { IsRefusedBy (compare_column_fault (dtype_of column.now) (dtype_of right.now)
+        (length (rows column.now)) (length (rows right.now))) result }
     ensures rows { IfOk result (λ truths. rows truths ≡ compare_rows operator (rows column.now) (rows right.now)) }
     ensures dtype { IfOk result (λ truths. dtype_of truths ≡ compare_dtype (dtype_of column.now) (dtype_of right.now)) }
-    ensures kernel { HasKernel ctx.old compare_kernel (column_of column.now) → IfOk result (λ truths. IsComparisonForm (column_of right.now) (column_of truths)) }
-    ensures otherwise { ¬ HasKernel ctx.old compare_kernel (column_of column.now) → IfOk result (λ truths. IsFlat (column_of truths)) }
+    ensures kernel { HasKernel ctx.old compare_kernel (column_of column.now) →
+        IfOk result (λ truths. IsComparisonForm (column_of right.now) (column_of truths)) }
+    ensures otherwise { ¬ HasKernel ctx.old compare_kernel (column_of column.now) →
+        IfOk result (λ truths. IsFlat (column_of truths)) }
     ensures session { ctx.new ≡ ctx.old }
 {
     match runs_for(column, Kernel::Compare, ctx) {
@@ -48,7 +51,8 @@ fn truths_row_by_row<A: Allocator + Copy>(
     right: &ArrayRef<A>,
     ctx: &mut ExecutionCtx<A>,
 ) -> VortexResult<ArrayRef<A>>
-    ensures refused { IsRefusedBy (compare_column_fault (dtype_of column.now) (dtype_of right.now) (length (rows column.now)) (length (rows right.now))) result }
+    ensures refused { IsRefusedBy (compare_column_fault (dtype_of column.now) (dtype_of right.now)
+        (length (rows column.now)) (length (rows right.now))) result }
     ensures rows { IfOk result (λ truths. rows truths ≡ compare_rows operator (rows column.now) (rows right.now)) }
     ensures dtype { IfOk result (λ truths. dtype_of truths ≡ compare_dtype (dtype_of column.now) (dtype_of right.now)) }
     ensures form { IfOk result (λ truths. IsFlat (column_of truths)) }
@@ -65,7 +69,8 @@ fn fault_beside<A: Allocator + Copy>(
     column: &ArrayRef<A>,
     right: &ArrayRef<A>,
 ) -> Option<VortexError>
-    ensures { result ≡ compare_column_fault (dtype_of column.now) (dtype_of right.now) (length (rows column.now)) (length (rows right.now)) }
+    ensures { result ≡ compare_column_fault (dtype_of column.now) (dtype_of right.now) (length (rows column.now))
+        (length (rows right.now)) }
 {
     column_fault(column.dtype(), right.dtype(), column.len(), right.len())
 }
@@ -77,7 +82,8 @@ fn truths_of_rows<A: Allocator + Copy>(
     right: &ArrayRef<A>,
     ctx: &mut ExecutionCtx<A>,
 ) -> VortexResult<ArrayRef<A>>
-    requires comparable { compare_column_fault (dtype_of column.now) (dtype_of right.now) (length (rows column.now)) (length (rows right.now)) ≡ None }
+    requires comparable { compare_column_fault (dtype_of column.now) (dtype_of right.now) (length (rows column.now))
+        (length (rows right.now)) ≡ None }
     ensures only { IsOkUnless result VortexError.OutOfMemory }
     ensures rows { IfOk result (λ truths. rows truths ≡ compare_rows operator (rows column.now) (rows right.now)) }
     ensures dtype { IfOk result (λ truths. dtype_of truths ≡ compare_dtype (dtype_of column.now) (dtype_of right.now)) }
@@ -97,10 +103,13 @@ fn truths_of_flat<A: Allocator + Copy>(
     right: &ArrayRef<A>,
     ctx: &mut ExecutionCtx<A>,
 ) -> VortexResult<ArrayRef<A>>
-    requires comparable { compare_column_fault (leaf_dtype (leaf_of left.now)) (dtype_of right.now) (length (single_rows (leaf_of left.now))) (length (rows right.now)) ≡ None }
+    requires comparable { compare_column_fault (leaf_dtype (leaf_of left.now)) (dtype_of right.now)
+        (length (single_rows (leaf_of left.now))) (length (rows right.now)) ≡ None }
     ensures only { IsOkUnless result VortexError.OutOfMemory }
-    ensures rows { IfOk result (λ truths. rows truths ≡ compare_rows operator (single_rows (leaf_of left.now)) (rows right.now)) }
-    ensures dtype { IfOk result (λ truths. dtype_of truths ≡ compare_dtype (leaf_dtype (leaf_of left.now)) (dtype_of right.now)) }
+    ensures rows { IfOk result (λ truths. rows truths ≡
+        compare_rows operator (single_rows (leaf_of left.now)) (rows right.now)) }
+    ensures dtype { IfOk result (λ truths. dtype_of truths ≡
+        compare_dtype (leaf_dtype (leaf_of left.now)) (dtype_of right.now)) }
     ensures form { IfOk result (λ truths. IsFlat (column_of truths)) }
     ensures session { ctx.new ≡ ctx.old }
 {

@@ -24,7 +24,8 @@ pub fn is_constant<A: Allocator + Copy>(
 ) -> VortexResult<bool>
     ensures refused { IsRefusedBy (list_fault (dtype_of column.now)) result }
     ensures answer { IfOk result (λ constant. IsTrue constant ↔ order.IsConstant (rows column.now)) }
-    ensures in_place { IsReadInPlace ctx.old constant_kernel (column_of column.now) → result ≢ Err VortexError.OutOfMemory }
+    ensures in_place { IsReadInPlace ctx.old constant_kernel (column_of column.now) →
+        result ≢ Err VortexError.OutOfMemory }
     ensures session { ctx.new ≡ ctx.old }
 {
     if let Some(runs) = runs_for(column, Kernel::IsConstant, ctx) {

@@ -30,7 +30,8 @@ pub fn min_max<A: Allocator + Copy>(
 ) -> VortexResult<Option<(Scalar<A>, Scalar<A>)>>
     ensures refused { IsRefusedBy (list_fault (dtype_of column.now)) result }
     ensures extremes { IfOk result (AreExtremesIfAny (plain column.now)) }
-    ensures in_place { ¬ HasBytes (dtype_of column.now) → IsReadInPlace ctx.old min_max_kernel (column_of column.now) → result ≢ Err VortexError.OutOfMemory }
+    ensures in_place { ¬ HasBytes (dtype_of column.now) → IsReadInPlace ctx.old min_max_kernel (column_of column.now) →
+        result ≢ Err VortexError.OutOfMemory }
     ensures session { ctx.new ≡ ctx.old }
 {
     if let Some(runs) = runs_for(column, Kernel::MinMax, ctx) {

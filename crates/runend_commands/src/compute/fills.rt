@@ -28,7 +28,8 @@ pub fn fill_null<A: Allocator + Copy>(
     ensures dtype { IfOk result (λ filled. dtype_of filled ≡ fill_dtype (dtype_of column.now)) }
     ensures kernel { HasKernel ctx.old fill_kernel (column_of column.now) → OnRuns (column_of column.now)
         (λ runs. IfOk result (λ filled. IsRunForm (fill_dtype (dtype_of column.now)) runs (column_of filled))) }
-    ensures otherwise { ¬ HasKernel ctx.old fill_kernel (column_of column.now) → IfOk result (λ filled. IsFlat (column_of filled)) }
+    ensures otherwise { ¬ HasKernel ctx.old fill_kernel (column_of column.now) →
+        IfOk result (λ filled. IsFlat (column_of filled)) }
     ensures session { ctx.new ≡ ctx.old }
 {
     match runs_for(column, Kernel::FillNull, ctx) {

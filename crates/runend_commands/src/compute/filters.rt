@@ -29,7 +29,8 @@ pub fn filter<A: Allocator + Copy>(
     ensures dtype { IfOk result (λ kept. dtype_of kept ≡ dtype_of column.now) }
     ensures kernel { HasKernel ctx.old filter_kernel (column_of column.now) → OnRuns (column_of column.now)
         (λ runs. IfOk result (λ kept. IsFilterForm ctx.old.thresholds runs mask.now (column_of kept))) }
-    ensures otherwise { ¬ HasKernel ctx.old filter_kernel (column_of column.now) → IfOk result (λ kept. IsFlat (column_of kept)) }
+    ensures otherwise { ¬ HasKernel ctx.old filter_kernel (column_of column.now) →
+        IfOk result (λ kept. IsFlat (column_of kept)) }
     ensures session { ctx.new ≡ ctx.old }
 {
     match runs_for(column, Kernel::Filter, ctx) {

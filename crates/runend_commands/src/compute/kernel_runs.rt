@@ -33,7 +33,8 @@ pub fn constant_for<'a, A: Allocator + Copy>(
 ) -> Option<&'a ConstantArray<A>>
     ensures { MatchOption result
         (¬ HasConstantKernel ctx.now kernel (column_of column.now))
-        (λ constant. HasConstantKernel ctx.now kernel (column_of column.now) × (column_of column.now ≡ OfConstant constant.now)) }
+        (λ constant. HasConstantKernel ctx.now kernel (column_of column.now) ×
+        (column_of column.now ≡ OfConstant constant.now)) }
 {
     match column {
         ArrayRef::Constant(constant) if ctx.session().is_registered(kernel) => Some(constant),

@@ -27,10 +27,13 @@ pub fn compare_scalar<A: Allocator + Copy>(
     ctx: &mut ExecutionCtx<A>,
 ) -> VortexResult<ArrayRef<A>>
     ensures refused { IsRefusedBy (compare_scalar_fault (dtype_of column.now) value.now.dtype) result }
-    ensures rows { IfOk result (λ truths. rows truths ≡ compare_with operator (rows column.now) (option_map Single value.now.value)) }
+    ensures rows { IfOk result (λ truths. rows truths ≡
+        compare_with operator (rows column.now) (option_map Single value.now.value)) }
     ensures dtype { IfOk result (λ truths. dtype_of truths ≡ compare_dtype (dtype_of column.now) value.now.dtype) }
-    ensures kernel { HasKernel ctx.old compare_kernel (column_of column.now) → IfOk result (λ truths. IsDecodedForm (rows truths) (column_of truths)) }
-    ensures otherwise { ¬ HasKernel ctx.old compare_kernel (column_of column.now) → IfOk result (λ truths. IsFlat (column_of truths)) }
+    ensures kernel { HasKernel ctx.old compare_kernel (column_of column.now) →
+        IfOk result (λ truths. IsDecodedForm (rows truths) (column_of truths)) }
+    ensures otherwise { ¬ HasKernel ctx.old compare_kernel (column_of column.now) →
+        IfOk result (λ truths. IsFlat (column_of truths)) }
     ensures session { ctx.new ≡ ctx.old }
 {
     match runs_for(column, Kernel::Compare, ctx) {
@@ -47,8 +50,10 @@ fn truths_of_runs<A: Allocator + Copy>(
     ctx: &mut ExecutionCtx<A>,
 ) -> VortexResult<ArrayRef<A>>
     ensures refused { IsRefusedBy (compare_scalar_fault (column_dtype runs.now.values) value.now.dtype) result }
-    ensures rows { IfOk result (λ truths. rows truths ≡ compare_with operator (column_rows (column_of_runs runs.now)) (option_map Single value.now.value)) }
-    ensures dtype { IfOk result (λ truths. dtype_of truths ≡ compare_dtype (column_dtype runs.now.values) value.now.dtype) }
+    ensures rows { IfOk result (λ truths. rows truths ≡
+        compare_with operator (column_rows (column_of_runs runs.now)) (option_map Single value.now.value)) }
+    ensures dtype { IfOk result (λ truths. dtype_of truths ≡
+        compare_dtype (column_dtype runs.now.values) value.now.dtype) }
     ensures form { IfOk result (λ truths. IsDecodedForm (rows truths) (column_of truths)) }
     ensures session { ctx.new ≡ ctx.old }
 {
@@ -67,7 +72,8 @@ fn truths_row_by_row<A: Allocator + Copy>(
     ctx: &mut ExecutionCtx<A>,
 ) -> VortexResult<ArrayRef<A>>
     ensures refused { IsRefusedBy (compare_scalar_fault (dtype_of column.now) value.now.dtype) result }
-    ensures rows { IfOk result (λ truths. rows truths ≡ compare_with operator (rows column.now) (option_map Single value.now.value)) }
+    ensures rows { IfOk result (λ truths. rows truths ≡
+        compare_with operator (rows column.now) (option_map Single value.now.value)) }
     ensures dtype { IfOk result (λ truths. dtype_of truths ≡ compare_dtype (dtype_of column.now) value.now.dtype) }
     ensures form { IfOk result (λ truths. IsFlat (column_of truths)) }
     ensures session { ctx.new ≡ ctx.old }

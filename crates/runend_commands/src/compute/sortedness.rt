@@ -26,7 +26,8 @@ pub fn is_sorted<A: Allocator + Copy>(
 ) -> VortexResult<bool>
     ensures refused { IsRefusedBy (list_fault (dtype_of column.now)) result }
     ensures answer { IfOk result (λ sorted. IsTrue sorted ↔ order.IsSorted strict (rows column.now)) }
-    ensures in_place { IsReadInPlace ctx.old sorted_kernel (column_of column.now) → result ≢ Err VortexError.OutOfMemory }
+    ensures in_place { IsReadInPlace ctx.old sorted_kernel (column_of column.now) →
+        result ≢ Err VortexError.OutOfMemory }
     ensures session { ctx.new ≡ ctx.old }
 {
     if let Some(runs) = runs_for(column, Kernel::IsSorted, ctx) {

@@ -26,10 +26,14 @@ pub fn take<A: Allocator + Copy>(
     ctx: &mut ExecutionCtx<A>,
 ) -> VortexResult<ArrayRef<A>>
     ensures refused { IsRefusedBy (take_fault (optional_numbers indices.now) (length (rows column.now))) result }
-    ensures rows { IfOk result (λ taken. rows taken ≡ rows_at_indices (rows column.now) (optional_numbers indices.now)) }
-    ensures dtype { IfOk result (λ taken. dtype_of taken ≡ take_dtype (dtype_of column.now) (primitive_dtype indices.now)) }
-    ensures kernel { HasKernel ctx.old take_kernel (column_of column.now) → IfOk result (λ taken. IsTakeForm (optional_numbers indices.now) (column_of taken)) }
-    ensures otherwise { ¬ HasKernel ctx.old take_kernel (column_of column.now) → IfOk result (λ taken. IsFlat (column_of taken)) }
+    ensures rows { IfOk result (λ taken. rows taken ≡
+        rows_at_indices (rows column.now) (optional_numbers indices.now)) }
+    ensures dtype { IfOk result (λ taken. dtype_of taken ≡
+        take_dtype (dtype_of column.now) (primitive_dtype indices.now)) }
+    ensures kernel { HasKernel ctx.old take_kernel (column_of column.now) →
+        IfOk result (λ taken. IsTakeForm (optional_numbers indices.now) (column_of taken)) }
+    ensures otherwise { ¬ HasKernel ctx.old take_kernel (column_of column.now) →
+        IfOk result (λ taken. IsFlat (column_of taken)) }
     ensures session { ctx.new ≡ ctx.old }
 {
     match runs_for(column, Kernel::Take, ctx) {
