@@ -3,3 +3,5 @@ pub mod TrimmedItems
 pub mod Blocks
 pub mod Marked
 pub mod BitRuns
+pub mod Lowest
+pub mod FilledRows

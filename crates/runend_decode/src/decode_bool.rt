@@ -1,5 +1,5 @@
 //! The decoder of truth values.
-ghost use Rattle.std.specs.Prelude.{◌≡◌, IfOk, IsOkUnless, length as item_count, map, unsigned_abs, false};
+ghost use Rattle.std.specs.Prelude.{◌≡◌, ◌≤◌, ◌↔◌, IfOk, IsOkUnless, IsTrue, length as item_count, map, unsigned_abs, false};
 ghost use Rattle.column_base.specs.ValidityForm.{HasLength};
 ghost use Rattle.column_base.specs.Validity.{form_of};
 ghost use Rattle.column_core.specs.Optionals.{optionals};
@@ -10,15 +10,24 @@ ghost use Rattle.runend_codec.specs.Cover.{Covers};
 ghost use Rattle.runend_codec.specs.Ends.{IsEndsType, ends_of};
 ghost use Rattle.runend_codec.specs.Decoding.{AreDecoded};
 ghost use Rattle.runend_codec.specs.Encoding.{IsDecodedLeaf, blanked};
+ghost use Rattle.runend_decode.specs.BitRunsForm.{majority_of};
 
-use crate::bit_runs::{marked_at, start_over};
-use crate::decode::{decode_validity, reach_of};
+use crate::bit_runs::is_majority;
+use crate::decode::decode_validity;
+use crate::filled_runs::{fill_runs, runs_unlike};
 use column_base::match_each_unsigned;
 use column_core::{
     BitBuffer, BitBufferMut, BoolArray, PrimitiveArray, UnsignedPType, Validity, VortexError,
     VortexResult,
 };
 use std::alloc::Allocator;
+
+// Do the rows start true? From `prefill_runs` runs on they start as most runs are, false on a tie; below, false.
+fn starts_true<A: Allocator>(bits: &BitBuffer<A>, prefill_runs: usize) -> bool
+    ensures { IsTrue result ↔ ((prefill_runs ≤ item_count bits.now) × IsTrue (majority_of bits.now)) }
+{
+    bits.len() >= prefill_runs && is_majority(bits.true_count(), bits.len())
+}
 
 // The truth values that the runs show in the window, where no run is null.
 fn decode_bits<E: UnsignedPType, A: Allocator + Copy>(
@@ -34,12 +43,14 @@ fn decode_bits<E: UnsignedPType, A: Allocator + Copy>(
     ensures only { IsOkUnless result VortexError.OutOfMemory }
     ensures cover { IfOk result (λ bits. Covers bits (map unsigned_abs (map E.number ends.now)) values.now offset count) }
 {
-    let mut rows = start_over(alloc, values, count, prefill_runs)?;
-    for run in 0..ends.len() {
-        let reach = reach_of(ends, run, offset, count);
-        rows.repeat_to(values.value(run), reach)?;
+    let start = starts_true(values, prefill_runs);
+    let mut rows = BitBufferMut::full(alloc, start, count)?;
+    let words = values.words();
+    for index in 0..words.len() {
+        let runs = runs_unlike(words[index], start);
+        fill_runs(&mut rows, ends, runs, index * 64, !start, offset, count);
     }
-    Ok(rows.finish())
+    Ok(rows.freeze())
 }
 
 // The truth values that the runs show in the window, false for null, and whether each row is valid, in one
@@ -61,14 +72,20 @@ fn decode_marked<E: UnsignedPType, A: Allocator + Copy>(
         (blanked false (optionals values.now marks.now)) offset count) }
     ensures flags { IfOk result (λ parts. Covers parts.1 (map unsigned_abs (map E.number ends.now)) marks.now offset count) }
 {
-    let mut rows = start_over(alloc, values, count, prefill_runs)?;
-    let mut flags = start_over(alloc, marks, count, prefill_runs)?;
-    for run in 0..ends.len() {
-        let reach = reach_of(ends, run, offset, count);
-        rows.repeat_to(marked_at(values, marks, run), reach)?;
-        flags.repeat_to(marks.value(run), reach)?;
+    let start = starts_true(values, prefill_runs);
+    let valid = starts_true(marks, prefill_runs);
+    let mut rows = BitBufferMut::full(alloc, start, count)?;
+    let mut flags = BitBufferMut::full(alloc, valid, count)?;
+    let words = values.words();
+    let marked = marks.words();
+    for index in 0..words.len() {
+        let first = index * 64;
+        let truths = runs_unlike(words[index] & marked[index], start);
+        fill_runs(&mut rows, ends, truths, first, !start, offset, count);
+        let nulls = runs_unlike(marked[index], valid);
+        fill_runs(&mut flags, ends, nulls, first, !valid, offset, count);
     }
-    Ok((rows.finish(), flags.finish()))
+    Ok((rows.freeze(), flags.freeze()))
 }
 
 // The truth values and the validity of the rows that the runs show in the window.
@@ -143,8 +160,8 @@ fn decode_under<E: UnsignedPType, A: Allocator + Copy>(
 }
 
 /// The rows that runs of truth values show, from row `offset` on, `count` many, as a flat column with
-/// false under null. From `prefill_runs` runs on the rows start as the truth value of most runs, and only
-/// the other runs are written; the answer is the same. Refused as `OutOfMemory` alone.
+/// false under null. From `prefill_runs` runs on the rows start as the truth value of most runs, below as
+/// false, and only the other runs are written; the answer is the same. Refused as `OutOfMemory` alone.
 pub fn decode_truths<A: Allocator + Copy>(
     alloc: A,
     ends: &PrimitiveArray<A>,

@@ -5,6 +5,7 @@
 mod bit_runs;
 mod decode;
 mod decode_bool;
+mod filled_runs;
 mod flat;
 mod run_writer;
 mod typed;
