@@ -59,7 +59,8 @@ impl<A: Allocator + Copy> BitRuns<A> {
     /// Refused as `OutOfMemory` alone, and then the bits stay and the background is gone.
     #[inline(always)]
     pub fn repeat_to(&mut self, bit: bool, end: usize) -> VortexResult<()>
-        ensures ok { OnOk result (self.new.written ≡ self.old.written ++ replicate (end - length self.old.written) bit) }
+        ensures ok { OnOk result (self.new.written ≡
+            self.old.written ++ replicate (end - length self.old.written) bit) }
         ensures left { OnOk result (self.new.prefilled ≡ drop (end - length self.old.written) self.old.prefilled) }
         ensures err { OnErr result (self.new ≡ record { written = self.old.written; prefilled = [] }) }
         ensures only { IsOkUnless result VortexError.OutOfMemory }
@@ -97,7 +98,11 @@ pub fn start_over<A: Allocator + Copy>(
     prefill_runs: usize,
 ) -> VortexResult<BitRuns<A>>
     ensures only { IsOkUnless result VortexError.OutOfMemory }
-    ensures start { IfOk result (λ runs. runs ≡ record { written = []; prefilled = background_of bits.now count prefill_runs }) }
+    ensures start { IfOk result (λ runs. runs ≡ record {
+      written = [];
+      prefilled =
+          background_of bits.now count prefill_runs;
+    }) }
 {
     if bits.len() < prefill_runs {
         return BitRuns::with_room(alloc, count);

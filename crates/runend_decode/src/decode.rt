@@ -40,7 +40,8 @@ fn decode_valid<E: UnsignedPType, T: Copy + Drop, A: Allocator + Copy>(
     requires window { IsWindow (map unsigned_abs (map E.number ends.now)) offset count }
     requires paired { length values.now ≡ length ends.now }
     ensures only { IsOkUnless result VortexError.OutOfMemory }
-    ensures cover { IfOk result (λ items. Covers items.items (map unsigned_abs (map E.number ends.now)) values.now offset count) }
+    ensures cover { IfOk result (λ items. Covers items.items
+        (map unsigned_abs (map E.number ends.now)) values.now offset count) }
 {
     let mut rows = RunWriter::with_room(alloc, count)?;
     for run in 0..ends.len() {
@@ -80,7 +81,8 @@ fn decode_marked<E: UnsignedPType, T: Copy + Drop, A: Allocator + Copy>(
     ensures only { IsOkUnless result VortexError.OutOfMemory }
     ensures items { IfOk result (λ parts. Covers parts.0.items (map unsigned_abs (map E.number ends.now))
         (blanked blank (optionals values.now marks.now)) offset count) }
-    ensures bits { IfOk result (λ parts. Covers parts.1 (map unsigned_abs (map E.number ends.now)) marks.now offset count) }
+    ensures bits { IfOk result (λ parts. Covers parts.1 (map unsigned_abs (map E.number ends.now)) marks.now offset
+        count) }
 {
     let mut rows = RunWriter::with_room(alloc, count)?;
     let mut bits = BitBufferMut::full(alloc, true, count)?;
@@ -182,7 +184,8 @@ fn decode_under<E: UnsignedPType, T: Copy + Drop, A: Allocator + Copy>(
     requires paired { length values.now ≡ length ends.now }
     requires fits { HasLength (form_of validity.now) (length values.now) }
     ensures only { IsOkUnless result VortexError.OutOfMemory }
-    ensures decoded { IfOk result (λ parts. AreDecoded blank (map unsigned_abs (map E.number ends.now)) values.now (form_of validity.now) offset count
+    ensures decoded { IfOk result (λ parts. AreDecoded blank (map unsigned_abs (map E.number ends.now)) values.now
+        (form_of validity.now) offset count
         parts.0.items (form_of parts.1)) }
 {
     match validity {
@@ -222,10 +225,12 @@ pub fn decode_rows<T: Copy + Drop, A: Allocator + Copy>(
     requires paired { length values.now ≡ length ends.now.numbers }
     requires fits { HasLength (form_of validity.now) (length values.now) }
     ensures only { IsOkUnless result VortexError.OutOfMemory }
-    ensures decoded { IfOk result (λ parts. AreDecoded blank (ends_of ends.now) values.now (form_of validity.now) offset count
+    ensures decoded { IfOk result (λ parts. AreDecoded blank (ends_of ends.now) values.now
+        (form_of validity.now) offset count
         parts.0.items (form_of parts.1)) }
 {
-    match_each_unsigned!(ends.values(), items => decode_under(alloc, items.as_slice(), values, validity, blank, offset, count), _ => unreachable!())
+    match_each_unsigned!(ends.values(), items => decode_under(alloc, items.as_slice(), values, validity, blank, offset,
+    count), _ => unreachable!())
 }
 
 fn decode_as<T: NativePType, A: Allocator + Copy>(

@@ -22,70 +22,52 @@ use column_core::{
 };
 use std::alloc::Allocator;
 
-// Do the rows start true? From `prefill_runs` runs on they start as most runs are, false on a tie; below, false.
-fn starts_true<A: Allocator>(bits: &BitBuffer<A>, prefill_runs: usize) -> bool
-    ensures { IsTrue result ↔ ((prefill_runs ≤ item_count bits.now) × IsTrue (majority_of bits.now)) }
-{
-    bits.len() >= prefill_runs && is_majority(bits.true_count(), bits.len())
-}
-
-// The truth values that the runs show in the window, where no run is null.
-fn decode_bits<E: UnsignedPType, A: Allocator + Copy>(
+/// The rows that runs of truth values show, from row `offset` on, `count` many, as a flat column with
+/// false under null. From `prefill_runs` runs on the rows start as the truth value of most runs, below as
+/// false, and only the other runs are written; the answer is the same. Refused as `OutOfMemory` alone.
+pub fn decode_truths<A: Allocator + Copy>(
     alloc: A,
-    ends: &[E],
-    values: &BitBuffer<A>,
+    ends: &PrimitiveArray<A>,
+    values: &BoolArray<A>,
     offset: usize,
     count: usize,
     prefill_runs: usize,
-) -> VortexResult<BitBuffer<A>>
-    requires window { IsWindow (map unsigned_abs (map E.number ends.now)) offset count }
-    requires paired { item_count values.now ≡ item_count ends.now }
+) -> VortexResult<BoolArray<A>>
+    requires plain { IsEndsType (primitive_dtype ends.now) }
+    requires window { IsWindow (ends_of ends.now) offset count }
+    requires paired { item_count values.now.bits ≡ item_count ends.now.numbers }
     ensures only { IsOkUnless result VortexError.OutOfMemory }
-    ensures cover { IfOk result (λ bits. Covers bits (map unsigned_abs (map E.number ends.now)) values.now offset count) }
+    ensures flat { IfOk result (λ array. IsDecodedLeaf (ends_of ends.now) (OfTruths values.now) offset count
+        (OfTruths array)) }
 {
-    let start = starts_true(values, prefill_runs);
-    let mut rows = BitBufferMut::full(alloc, start, count)?;
-    let words = values.words();
-    for index in 0..words.len() {
-        let runs = runs_unlike(words[index], start);
-        fill_runs(&mut rows, ends, runs, index * 64, !start, offset, count);
-    }
-    Ok(rows.freeze())
+    match_each_unsigned!(ends.values(), items => decode_under(alloc, items.as_slice(), values, offset, count,
+    prefill_runs), _ => unreachable!())
 }
 
-// The truth values that the runs show in the window, false for null, and whether each row is valid, in one
-// walk over the runs.
-fn decode_marked<E: UnsignedPType, A: Allocator + Copy>(
+fn decode_under<E: UnsignedPType, A: Allocator + Copy>(
     alloc: A,
     ends: &[E],
-    values: &BitBuffer<A>,
-    marks: &BitBuffer<A>,
+    values: &BoolArray<A>,
     offset: usize,
     count: usize,
     prefill_runs: usize,
-) -> VortexResult<(BitBuffer<A>, BitBuffer<A>)>
+) -> VortexResult<BoolArray<A>>
     requires window { IsWindow (map unsigned_abs (map E.number ends.now)) offset count }
-    requires paired { item_count values.now ≡ item_count ends.now }
-    requires fits { item_count marks.now ≡ item_count values.now }
+    requires paired { item_count values.now.bits ≡ item_count ends.now }
     ensures only { IsOkUnless result VortexError.OutOfMemory }
-    ensures bits { IfOk result (λ parts. Covers parts.0 (map unsigned_abs (map E.number ends.now))
-        (blanked false (optionals values.now marks.now)) offset count) }
-    ensures flags { IfOk result (λ parts. Covers parts.1 (map unsigned_abs (map E.number ends.now)) marks.now offset count) }
+    ensures flat { IfOk result (λ array. IsDecodedLeaf (map unsigned_abs (map E.number ends.now))
+        (OfTruths values.now) offset count (OfTruths array)) }
 {
-    let start = starts_true(values, prefill_runs);
-    let valid = starts_true(marks, prefill_runs);
-    let mut rows = BitBufferMut::full(alloc, start, count)?;
-    let mut flags = BitBufferMut::full(alloc, valid, count)?;
-    let words = values.words();
-    let marked = marks.words();
-    for index in 0..words.len() {
-        let first = index * 64;
-        let truths = runs_unlike(words[index] & marked[index], start);
-        fill_runs(&mut rows, ends, truths, first, !start, offset, count);
-        let nulls = runs_unlike(marked[index], valid);
-        fill_runs(&mut flags, ends, nulls, first, !valid, offset, count);
-    }
-    Ok((rows.freeze(), flags.freeze()))
+    let (bits, rows) = decode_parts(
+        alloc,
+        ends,
+        values.values(),
+        values.validity(),
+        offset,
+        count,
+        prefill_runs,
+    )?;
+    Ok(BoolArray::new_unchecked(bits, rows))
 }
 
 // The truth values and the validity of the rows that the runs show in the window.
@@ -102,7 +84,8 @@ fn decode_parts<E: UnsignedPType, A: Allocator + Copy>(
     requires paired { item_count values.now ≡ item_count ends.now }
     requires fits { HasLength (form_of validity.now) (item_count values.now) }
     ensures only { IsOkUnless result VortexError.OutOfMemory }
-    ensures decoded { IfOk result (λ parts. AreDecoded false (map unsigned_abs (map E.number ends.now)) values.now (form_of validity.now) offset count
+    ensures decoded { IfOk result (λ parts. AreDecoded false (map unsigned_abs (map E.number ends.now)) values.now
+        (form_of validity.now) offset count
         parts.0 (form_of parts.1)) }
 {
     match validity {
@@ -134,47 +117,70 @@ fn decode_parts<E: UnsignedPType, A: Allocator + Copy>(
     }
 }
 
-fn decode_under<E: UnsignedPType, A: Allocator + Copy>(
-    alloc: A,
-    ends: &[E],
-    values: &BoolArray<A>,
-    offset: usize,
-    count: usize,
-    prefill_runs: usize,
-) -> VortexResult<BoolArray<A>>
-    requires window { IsWindow (map unsigned_abs (map E.number ends.now)) offset count }
-    requires paired { item_count values.now.bits ≡ item_count ends.now }
-    ensures only { IsOkUnless result VortexError.OutOfMemory }
-    ensures flat { IfOk result (λ array. IsDecodedLeaf (map unsigned_abs (map E.number ends.now)) (OfTruths values.now) offset count (OfTruths array)) }
+// Do the rows start true? From `prefill_runs` runs on they start as most runs are, false on a tie; below, false.
+fn starts_true<A: Allocator>(bits: &BitBuffer<A>, prefill_runs: usize) -> bool
+    ensures { IsTrue result ↔ ((prefill_runs ≤ item_count bits.now) × IsTrue (majority_of bits.now)) }
 {
-    let (bits, rows) = decode_parts(
-        alloc,
-        ends,
-        values.values(),
-        values.validity(),
-        offset,
-        count,
-        prefill_runs,
-    )?;
-    Ok(BoolArray::new_unchecked(bits, rows))
+    bits.len() >= prefill_runs && is_majority(bits.true_count(), bits.len())
 }
 
-/// The rows that runs of truth values show, from row `offset` on, `count` many, as a flat column with
-/// false under null. From `prefill_runs` runs on the rows start as the truth value of most runs, below as
-/// false, and only the other runs are written; the answer is the same. Refused as `OutOfMemory` alone.
-pub fn decode_truths<A: Allocator + Copy>(
+// The truth values that the runs show in the window, where no run is null.
+fn decode_bits<E: UnsignedPType, A: Allocator + Copy>(
     alloc: A,
-    ends: &PrimitiveArray<A>,
-    values: &BoolArray<A>,
+    ends: &[E],
+    values: &BitBuffer<A>,
     offset: usize,
     count: usize,
     prefill_runs: usize,
-) -> VortexResult<BoolArray<A>>
-    requires plain { IsEndsType (primitive_dtype ends.now) }
-    requires window { IsWindow (ends_of ends.now) offset count }
-    requires paired { item_count values.now.bits ≡ item_count ends.now.numbers }
+) -> VortexResult<BitBuffer<A>>
+    requires window { IsWindow (map unsigned_abs (map E.number ends.now)) offset count }
+    requires paired { item_count values.now ≡ item_count ends.now }
     ensures only { IsOkUnless result VortexError.OutOfMemory }
-    ensures flat { IfOk result (λ array. IsDecodedLeaf (ends_of ends.now) (OfTruths values.now) offset count (OfTruths array)) }
+    ensures cover { IfOk result (λ bits. Covers bits (map unsigned_abs (map E.number ends.now)) values.now offset
+        count) }
 {
-    match_each_unsigned!(ends.values(), items => decode_under(alloc, items.as_slice(), values, offset, count, prefill_runs), _ => unreachable!())
+    let start = starts_true(values, prefill_runs);
+    let mut rows = BitBufferMut::full(alloc, start, count)?;
+    let words = values.words();
+    for index in 0..words.len() {
+        let runs = runs_unlike(words[index], start);
+        fill_runs(&mut rows, ends, runs, index * 64, !start, offset, count);
+    }
+    Ok(rows.freeze())
+}
+
+// The truth values that the runs show in the window, false for null, and whether each row is valid, in one
+// walk over the runs.
+fn decode_marked<E: UnsignedPType, A: Allocator + Copy>(
+    alloc: A,
+    ends: &[E],
+    values: &BitBuffer<A>,
+    marks: &BitBuffer<A>,
+    offset: usize,
+    count: usize,
+    prefill_runs: usize,
+) -> VortexResult<(BitBuffer<A>, BitBuffer<A>)>
+    requires window { IsWindow (map unsigned_abs (map E.number ends.now)) offset count }
+    requires paired { item_count values.now ≡ item_count ends.now }
+    requires fits { item_count marks.now ≡ item_count values.now }
+    ensures only { IsOkUnless result VortexError.OutOfMemory }
+    ensures bits { IfOk result (λ parts. Covers parts.0 (map unsigned_abs (map E.number ends.now))
+        (blanked false (optionals values.now marks.now)) offset count) }
+    ensures flags { IfOk result (λ parts. Covers parts.1 (map unsigned_abs (map E.number ends.now)) marks.now offset
+        count) }
+{
+    let start = starts_true(values, prefill_runs);
+    let valid = starts_true(marks, prefill_runs);
+    let mut rows = BitBufferMut::full(alloc, start, count)?;
+    let mut flags = BitBufferMut::full(alloc, valid, count)?;
+    let words = values.words();
+    let marked = marks.words();
+    for index in 0..words.len() {
+        let first = index * 64;
+        let truths = runs_unlike(words[index] & marked[index], start);
+        fill_runs(&mut rows, ends, truths, first, !start, offset, count);
+        let nulls = runs_unlike(marked[index], valid);
+        fill_runs(&mut flags, ends, nulls, first, !valid, offset, count);
+    }
+    Ok((rows.freeze(), flags.freeze()))
 }

@@ -32,9 +32,11 @@ pub fn fill_runs<E: UnsignedPType, A: Allocator + Copy>(
     requires long { length rows.old ≡ count }
     requires counts { first + 64 ≤ 2 ^ 64 }
     ensures len { length rows.new ≡ count }
-    ensures put { (i : ℕ) → i < count → (j : ℕ) → run_at (map unsigned_abs (map E.number ends.now)) (offset + i) ≡ first + j
+    ensures put { (i : ℕ) → i < count → (j : ℕ) → run_at (map unsigned_abs (map E.number ends.now)) (offset + i) ≡
+        first + j
         → bit_at runs j ≡ 1 → slice_get rows.new i ≡ Some bit }
-    ensures kept { (i : ℕ) → i < count → (j : ℕ) → run_at (map unsigned_abs (map E.number ends.now)) (offset + i) ≡ first + j
+    ensures kept { (i : ℕ) → i < count → (j : ℕ) → run_at (map unsigned_abs (map E.number ends.now)) (offset + i) ≡
+        first + j
         → bit_at runs j ≡ 0 → slice_get rows.new i ≡ slice_get rows.old i }
     ensures before { (i : ℕ) → i < count → run_at (map unsigned_abs (map E.number ends.now)) (offset + i) < first
         → slice_get rows.new i ≡ slice_get rows.old i }

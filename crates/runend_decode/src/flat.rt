@@ -20,6 +20,72 @@ use column_core::{
 };
 use std::alloc::Allocator;
 
+/// The rows that runs show, from row `offset` on, `count` many, as a flat column with 0, false or the
+/// view of nothing under null. The values are left as they are; of texts and bytes, the bytes are shared. Of
+/// truth values, the rows start as the value of most runs from `prefill_runs` runs on; the answer is the same.
+/// Refused as `OutOfMemory` alone.
+pub fn decode_flat<A: Allocator + Copy>(
+    alloc: A,
+    ends: &PrimitiveArray<A>,
+    values: FlatView<'_, A>,
+    offset: usize,
+    count: usize,
+    prefill_runs: usize,
+) -> VortexResult<FlatColumn<A>>
+    requires plain { IsEndsType (primitive_dtype ends.now) }
+    requires window { IsWindow (ends_of ends.now) offset count }
+    requires paired { length (leaf_rows (leaf_in values)) ≡ length ends.now.numbers }
+    ensures only { IsOkUnless result VortexError.OutOfMemory }
+    ensures flat { IfOk result (λ array. IsDecodedLeaf (ends_of ends.now) (leaf_in values.entry) offset count
+        (leaf_of array)) }
+{
+    match values {
+        FlatView::Primitive(values) => {
+            prove_eq!(values.len(), ends.len());
+            let array = decode_numbers(alloc, ends, values, offset, count)?;
+            Ok(FlatColumn::Primitive(array))
+        }
+        FlatView::Bool(values) => {
+            prove_eq!(values.len(), ends.len());
+            let array = decode_truths(alloc, ends, values, offset, count, prefill_runs)?;
+            Ok(FlatColumn::Bool(array))
+        }
+        FlatView::Decimal(values) => {
+            prove_eq!(values.len(), ends.len());
+            let array = decode_decimals(alloc, ends, values, offset, count)?;
+            Ok(FlatColumn::Decimal(array))
+        }
+        FlatView::VarBinView(values) => {
+            prove_eq!(values.len(), ends.len());
+            let array = decode_views(alloc, ends, values, offset, count)?;
+            Ok(FlatColumn::VarBinView(array))
+        }
+    }
+}
+
+/// Is there a row, and is each row null?
+pub fn has_nulls_alone<A: Allocator>(values: &FlatColumn<A>) -> bool
+    ensures nulls { IsTrue result ↔ HasNullsAlone (single_rows (leaf_of values.now)) }
+    ensures fits { HasLength (leaf_validity (leaf_of values.now)) (leaf_count (leaf_of values.now)) }
+{
+    valid_count(values) == 0 && values.len() != 0
+}
+
+// How many rows are valid.
+fn valid_count<A: Allocator>(array: &FlatColumn<A>) -> usize
+    ensures count { result ≡ count_by (λ flag. flag) (flags (leaf_validity (leaf_of array.now))
+        (leaf_count (leaf_of array.now))) }
+    ensures fits { HasLength (leaf_validity (leaf_of array.now)) (leaf_count (leaf_of array.now)) }
+    ensures rows { length (leaf_rows (leaf_of array.now)) ≡ leaf_count (leaf_of array.now) }
+{
+    match array.validity() {
+        Validity::NonNullable => array.len(),
+        Validity::AllValid => array.len(),
+        Validity::AllInvalid => 0,
+        Validity::Bits(bits) => bits.true_count(),
+    }
+}
+
 // The rows that runs of decimals show, 0 under null.
 fn decode_decimals<A: Allocator + Copy>(
     alloc: A,
@@ -32,7 +98,8 @@ fn decode_decimals<A: Allocator + Copy>(
     requires window { IsWindow (ends_of ends.now) offset count }
     requires paired { length values.now.numbers ≡ length ends.now.numbers }
     ensures only { IsOkUnless result VortexError.OutOfMemory }
-    ensures flat { IfOk result (λ array. IsDecodedLeaf (ends_of ends.now) (OfDecimals values.now) offset count (OfDecimals array)) }
+    ensures flat { IfOk result (λ array. IsDecodedLeaf (ends_of ends.now) (OfDecimals values.now) offset count
+        (OfDecimals array)) }
 {
     let validity = values.validity();
     let (numbers, rows) = decode_rows(alloc, ends, values.values(), validity, 0, offset, count)?;
@@ -52,7 +119,8 @@ fn decode_views<A: Allocator + Copy>(
     requires window { IsWindow (ends_of ends.now) offset count }
     requires paired { length values.now.views ≡ length ends.now.numbers }
     ensures only { IsOkUnless result VortexError.OutOfMemory }
-    ensures flat { IfOk result (λ array. IsDecodedLeaf (ends_of ends.now) (OfVarBins values.now) offset count (OfVarBins array)) }
+    ensures flat { IfOk result (λ array. IsDecodedLeaf (ends_of ends.now) (OfVarBins values.now) offset count
+        (OfVarBins array)) }
 {
     let blank = View {
         buffer: 0,
@@ -85,68 +153,4 @@ fn buffers_of<A: Allocator + Copy>(
     drop(validity);
     drop(views);
     Ok(buffers)
-}
-
-/// The rows that runs show, from row `offset` on, `count` many, as a flat column with 0, false or the
-/// view of nothing under null. The values are left as they are; of texts and bytes, the bytes are shared. Of
-/// truth values, the rows start as the value of most runs from `prefill_runs` runs on; the answer is the same.
-/// Refused as `OutOfMemory` alone.
-pub fn decode_flat<A: Allocator + Copy>(
-    alloc: A,
-    ends: &PrimitiveArray<A>,
-    values: FlatView<'_, A>,
-    offset: usize,
-    count: usize,
-    prefill_runs: usize,
-) -> VortexResult<FlatColumn<A>>
-    requires plain { IsEndsType (primitive_dtype ends.now) }
-    requires window { IsWindow (ends_of ends.now) offset count }
-    requires paired { length (leaf_rows (leaf_in values)) ≡ length ends.now.numbers }
-    ensures only { IsOkUnless result VortexError.OutOfMemory }
-    ensures flat { IfOk result (λ array. IsDecodedLeaf (ends_of ends.now) (leaf_in values.entry) offset count (leaf_of array)) }
-{
-    match values {
-        FlatView::Primitive(values) => {
-            prove_eq!(values.len(), ends.len());
-            let array = decode_numbers(alloc, ends, values, offset, count)?;
-            Ok(FlatColumn::Primitive(array))
-        }
-        FlatView::Bool(values) => {
-            prove_eq!(values.len(), ends.len());
-            let array = decode_truths(alloc, ends, values, offset, count, prefill_runs)?;
-            Ok(FlatColumn::Bool(array))
-        }
-        FlatView::Decimal(values) => {
-            prove_eq!(values.len(), ends.len());
-            let array = decode_decimals(alloc, ends, values, offset, count)?;
-            Ok(FlatColumn::Decimal(array))
-        }
-        FlatView::VarBinView(values) => {
-            prove_eq!(values.len(), ends.len());
-            let array = decode_views(alloc, ends, values, offset, count)?;
-            Ok(FlatColumn::VarBinView(array))
-        }
-    }
-}
-
-// How many rows are valid.
-fn valid_count<A: Allocator>(array: &FlatColumn<A>) -> usize
-    ensures count { result ≡ count_by (λ flag. flag) (flags (leaf_validity (leaf_of array.now)) (leaf_count (leaf_of array.now))) }
-    ensures fits { HasLength (leaf_validity (leaf_of array.now)) (leaf_count (leaf_of array.now)) }
-    ensures rows { length (leaf_rows (leaf_of array.now)) ≡ leaf_count (leaf_of array.now) }
-{
-    match array.validity() {
-        Validity::NonNullable => array.len(),
-        Validity::AllValid => array.len(),
-        Validity::AllInvalid => 0,
-        Validity::Bits(bits) => bits.true_count(),
-    }
-}
-
-/// Is there a row, and is each row null?
-pub fn has_nulls_alone<A: Allocator>(values: &FlatColumn<A>) -> bool
-    ensures nulls { IsTrue result ↔ HasNullsAlone (single_rows (leaf_of values.now)) }
-    ensures fits { HasLength (leaf_validity (leaf_of values.now)) (leaf_count (leaf_of values.now)) }
-{
-    valid_count(values) == 0 && values.len() != 0
 }

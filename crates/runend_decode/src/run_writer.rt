@@ -11,54 +11,6 @@ use std::mem::size_of_val;
 // The most items of a block.
 const LARGEST_BLOCK: usize = 32;
 
-// How many items are written at once: few stores, and no more than most short runs have. Large items are
-// written one by one.
-#[inline(always)]
-fn block_of<T: Copy>(value: &T) -> usize
-    ensures items { result ≡ block_items (type_size T.row) }
-    ensures largest { result ≤ 32 }
-{
-    match size_of_val(value) {
-        1 => LARGEST_BLOCK,
-        2 => 16,
-        size if size <= 64 => 8,
-        _ => 0,
-    }
-}
-
-// Puts `count` copies behind the last item, into room that is there.
-#[inline(always)]
-fn append_copies<T: Copy + Drop, A: Allocator>(items: &mut Vec<T, A>, value: T, count: usize)
-    requires { vec_len items.old + count ≤ vec_capacity items.old }
-    ensures items { items.new.items ≡ items.old.items ++ replicate count value }
-    ensures capacity { vec_capacity items.old ≤ vec_capacity items.new }
-{
-    for _ in 0..count {
-        items.push_reserved(value);
-    }
-}
-
-// The same of at most a block: a whole one is written, so that the number of items is the same for every short run,
-// and what is past the count is cut off.
-#[tactic(auto, using(crate::proofs::Blocks::take_block))]
-#[inline(always)]
-fn append_short<T: Copy + Drop, A: Allocator>(
-    items: &mut Vec<T, A>,
-    value: T,
-    count: usize,
-    block: usize,
-)
-    requires short { count ≤ block }
-    requires room { vec_len items.old + block ≤ vec_capacity items.old }
-    requires sized { block ≡ block_items (type_size T.row) }
-    ensures items { items.new.items ≡ items.old.items ++ replicate count value }
-    ensures capacity { vec_capacity items.old ≤ vec_capacity items.new }
-{
-    let end = items.len() + count;
-    append_copies(items, value, block);
-    items.truncate(end);
-}
-
 /// Rows that are written run by run, `limit` of them at most.
 #[derive(Drop)]
 pub struct RunWriter<T: Drop, A: Allocator> {
@@ -75,7 +27,8 @@ impl<T: Drop, A: Allocator> Model for RunWriter<T, A> {
     ghost view = { λ writer. record { rows = writer.written.items; limit = writer.limit } };
 
     // There is room for a block past the last row that there may be.
-    ghost invariant = { λ writer. (vec_len writer.written ≤ writer.limit) × (writer.limit + 32 ≤ vec_capacity writer.written) };
+    ghost invariant = { λ writer. (vec_len writer.written ≤ writer.limit) ×
+        (writer.limit + 32 ≤ vec_capacity writer.written) };
 }
 
 impl<T: Copy + Drop, A: Allocator> RunWriter<T, A> {
@@ -133,4 +86,52 @@ pub fn copies_of<T: Copy + Drop, A: Allocator + Copy>(
     let mut rows = RunWriter::with_room(alloc, count)?;
     rows.repeat_to(item, count);
     Ok(rows.finish())
+}
+
+// How many items are written at once: few stores, and no more than most short runs have. Large items are
+// written one by one.
+#[inline(always)]
+fn block_of<T: Copy>(value: &T) -> usize
+    ensures items { result ≡ block_items (type_size T.row) }
+    ensures largest { result ≤ 32 }
+{
+    match size_of_val(value) {
+        1 => LARGEST_BLOCK,
+        2 => 16,
+        size if size <= 64 => 8,
+        _ => 0,
+    }
+}
+
+// Puts `count` copies behind the last item, into room that is there.
+#[inline(always)]
+fn append_copies<T: Copy + Drop, A: Allocator>(items: &mut Vec<T, A>, value: T, count: usize)
+    requires { vec_len items.old + count ≤ vec_capacity items.old }
+    ensures items { items.new.items ≡ items.old.items ++ replicate count value }
+    ensures capacity { vec_capacity items.old ≤ vec_capacity items.new }
+{
+    for _ in 0..count {
+        items.push_reserved(value);
+    }
+}
+
+// Puts at most a block of copies behind the last item: a whole one is written, so that the number of items is the same
+// for every short run, and what is past the count is cut off.
+#[tactic(auto, using(crate::proofs::Blocks::take_block))]
+#[inline(always)]
+fn append_short<T: Copy + Drop, A: Allocator>(
+    items: &mut Vec<T, A>,
+    value: T,
+    count: usize,
+    block: usize,
+)
+    requires short { count ≤ block }
+    requires room { vec_len items.old + block ≤ vec_capacity items.old }
+    requires sized { block ≡ block_items (type_size T.row) }
+    ensures items { items.new.items ≡ items.old.items ++ replicate count value }
+    ensures capacity { vec_capacity items.old ≤ vec_capacity items.new }
+{
+    let end = items.len() + count;
+    append_copies(items, value, block);
+    items.truncate(end);
 }

@@ -42,7 +42,8 @@ fn repeat_values<T: NativePType, I: Iterator<Item = usize>, A: Allocator + Copy>
     requires can { I.can_next run_ends }
     requires ends { (ends : List ℕ) × AreRunEnds I.next_gives run_ends (length values.now) count ends }
     ensures only { IsOkUnless result VortexError.OutOfMemory }
-    ensures fills { IfOk result (λ items. (ends : List ℕ) → AreRunEnds I.next_gives run_ends (length values.now) count ends →
+    ensures fills { IfOk result (λ items. (ends : List ℕ) →
+        AreRunEnds I.next_gives run_ends (length values.now) count ends →
         Fills (map T.number items.items) ends (map T.number values.now) count) }
 {
     let mut rows = RunWriter::with_room(alloc, count)?;
@@ -56,7 +57,8 @@ fn repeat_values<T: NativePType, I: Iterator<Item = usize>, A: Allocator + Copy>
 fn number_at<T: NativePType, A: Allocator>(values: &[T], mask: &Mask<A>, run: usize) -> Option<T>
     requires within { run < length values.now }
     requires masked { length (mask_bits mask.now) ≡ length values.now }
-    ensures number { slice_get (optionals (map T.number values.now) (mask_bits mask.now)) run ≡ Some (option_map T.number result) }
+    ensures number { slice_get (optionals (map T.number values.now) (mask_bits mask.now)) run ≡
+        Some (option_map T.number result) }
     ensures flag { slice_get (mask_bits mask.now) run ≡ Some (is_some result) }
 {
     if mask.value(run) {
@@ -78,9 +80,12 @@ fn repeat_masked<T: NativePType, I: Iterator<Item = usize>, A: Allocator + Copy>
     requires ends { (ends : List ℕ) × AreRunEnds I.next_gives run_ends (length values.now) count ends }
     requires masked { length (mask_bits mask.now) ≡ length values.now }
     ensures only { IsOkUnless result VortexError.OutOfMemory }
-    ensures numbers { IfOk result (λ rows. (ends : List ℕ) → AreRunEnds I.next_gives run_ends (length values.now) count ends →
-        Fills (map T.number rows.0.items) ends (blanked (pos 0) (optionals (map T.number values.now) (mask_bits mask.now))) count) }
-    ensures flags { IfOk result (λ rows. (ends : List ℕ) → AreRunEnds I.next_gives run_ends (length values.now) count ends →
+    ensures numbers { IfOk result (λ rows. (ends : List ℕ) →
+        AreRunEnds I.next_gives run_ends (length values.now) count ends →
+        Fills (map T.number rows.0.items) ends (blanked (pos 0) (optionals (map T.number values.now)
+        (mask_bits mask.now))) count) }
+    ensures flags { IfOk result (λ rows. (ends : List ℕ) →
+        AreRunEnds I.next_gives run_ends (length values.now) count ends →
         Fills rows.1 ends (mask_bits mask.now) count) }
 {
     let mut numbers = RunWriter::with_room(alloc, count)?;
@@ -140,7 +145,8 @@ pub fn decode_typed_numbers<T: NativePType, I: Iterator<Item = usize>, A: Alloca
     requires masked { item_count (mask_bits mask.now) ≡ item_count values.now }
     requires nullable { FitsMask nullability mask.now }
     ensures only { IsOkUnless result VortexError.OutOfMemory }
-    ensures rows { IfOk result (λ array. (ends : List ℕ) → AreRunEnds I.next_gives run_ends (item_count values.now) count ends →
+    ensures rows { IfOk result (λ array. (ends : List ℕ) →
+        AreRunEnds I.next_gives run_ends (item_count values.now) count ends →
         number_rows array ≡ run_rows ends (masked_values (map T.number values.now) (mask_bits mask.now)) 0 count) }
     ensures dtype { IfOk result (λ array. primitive_dtype array ≡ column.Primitive T.PTYPE nullability) }
     ensures form { IfOk result (λ array. IsComputed array) }
