@@ -27,9 +27,11 @@ pub(crate) fn answers<S: Copy + Drop, R: Drop, F: Fn(Option<S>) -> R, A: Allocat
     function: &F,
 ) -> VortexResult<Vec<R, A>>
     requires fits { HasLength (form_of validity.now) (length items.now) }
-    requires callable { All (λ row. F.pre function.now row) (optionals items.now (flags (form_of validity.now) (length items.now))) }
+    requires callable { All (λ row. F.pre function.now row) (optionals items.now (flags (form_of validity.now)
+        (length items.now))) }
     ensures only { IsOkUnless result VortexError.OutOfMemory }
-    ensures each { IfOk result (λ answers. AllZip (λ row answer. F.post function.now row answer) (optionals items.now (flags (form_of validity.now) (length items.now))) answers.items) }
+    ensures each { IfOk result (λ answers. AllZip (λ row answer. F.post function.now row answer) (optionals items.now
+        (flags (form_of validity.now) (length items.now))) answers.items) }
 {
     let mut answers = Vec::with_capacity(alloc, items.len())?;
     for row in 0..items.len() {

@@ -44,8 +44,10 @@ pub fn compare<A: Allocator + Copy>(
     ensures refused { IsRefusedBy (compare_column_fault (column_dtype array.now.values) (dtype_of right.now)
         (length (column_rows (column_of_runs array.now))) (length (rows right.now))) result }
     ensures null { IsNullConstant (column_of right.now) → result ≢ Err VortexError.OutOfMemory }
-    ensures rows { IfOk result (λ truths. rows truths ≡ compare_rows operator (column_rows (column_of_runs array.now)) (rows right.now)) }
-    ensures dtype { IfOk result (λ truths. dtype_of truths ≡ compare_dtype (column_dtype array.now.values) (dtype_of right.now)) }
+    ensures rows { IfOk result (λ truths. rows truths ≡
+        compare_rows operator (column_rows (column_of_runs array.now)) (rows right.now)) }
+    ensures dtype { IfOk result (λ truths. dtype_of truths ≡
+        compare_dtype (column_dtype array.now.values) (dtype_of right.now)) }
     ensures form { IfOk result (λ truths. IsComparisonForm (column_of right.now) (column_of truths)) }
     ensures session { ctx.new ≡ ctx.old }
 {
@@ -63,7 +65,8 @@ fn fault_beside<A: Allocator + Copy>(
     array: &RunEndArray<A>,
     right: &ArrayRef<A>,
 ) -> Option<VortexError>
-    ensures { result ≡ compare_column_fault (column_dtype array.now.values) (dtype_of right.now) array.now.count (length (rows right.now)) }
+    ensures { result ≡ compare_column_fault (column_dtype array.now.values) (dtype_of right.now) array.now.count
+        (length (rows right.now)) }
 {
     column_fault(array.dtype(), right.dtype(), array.len(), right.len())
 }
@@ -97,8 +100,10 @@ fn compare_to_scalar<A: Allocator + Copy>(
     requires kind { compare_scalar_fault (column_dtype array.now.values) right.now.dtype ≡ None }
     ensures only { IsOkUnless result VortexError.OutOfMemory }
     ensures null { right.now.value ≡ None → 0 < array.now.count → result ≢ Err VortexError.OutOfMemory }
-    ensures rows { IfOk result (λ truths. rows truths ≡ compare_with operator (column_rows (column_of_runs array.now)) (option_map Single right.now.value)) }
-    ensures dtype { IfOk result (λ truths. dtype_of truths ≡ compare_dtype (column_dtype array.now.values) right.now.dtype) }
+    ensures rows { IfOk result (λ truths. rows truths ≡
+        compare_with operator (column_rows (column_of_runs array.now)) (option_map Single right.now.value)) }
+    ensures dtype { IfOk result (λ truths. dtype_of truths ≡
+        compare_dtype (column_dtype array.now.values) right.now.dtype) }
     ensures form { IfOk result (λ truths. IsDecodedForm (rows truths) (column_of truths)) }
     ensures session { ctx.new ≡ ctx.old }
 {
@@ -121,10 +126,13 @@ fn compare_flat<A: Allocator + Copy>(
     right: &ArrayRef<A>,
     ctx: &mut ExecutionCtx<A>,
 ) -> VortexResult<BoolArray<A>>
-    requires kind { compare_column_fault (leaf_dtype (leaf_of left.now)) (dtype_of right.now) (length (leaf_rows (leaf_of left.now))) (length (rows right.now)) ≡ None }
+    requires kind { compare_column_fault (leaf_dtype (leaf_of left.now)) (dtype_of right.now)
+        (length (leaf_rows (leaf_of left.now))) (length (rows right.now)) ≡ None }
     ensures only { IsOkUnless result VortexError.OutOfMemory }
-    ensures rows { IfOk result (λ truths. single_rows (OfTruths truths) ≡ compare_rows operator (single_rows (leaf_of left.now)) (rows right.now)) }
-    ensures dtype { IfOk result (λ truths. bool_dtype truths ≡ compare_dtype (leaf_dtype (leaf_of left.now)) (dtype_of right.now)) }
+    ensures rows { IfOk result (λ truths. single_rows (OfTruths truths) ≡
+        compare_rows operator (single_rows (leaf_of left.now)) (rows right.now)) }
+    ensures dtype { IfOk result (λ truths. bool_dtype truths ≡
+        compare_dtype (leaf_dtype (leaf_of left.now)) (dtype_of right.now)) }
     ensures computed { IfOk result (λ truths. IsComputedLeaf (OfTruths truths)) }
     ensures session { ctx.new ≡ ctx.old }
 {
@@ -142,10 +150,13 @@ fn compare_beside<A: Allocator + Copy>(
     right: &ArrayRef<A>,
     ctx: &mut ExecutionCtx<A>,
 ) -> VortexResult<ArrayRef<A>>
-    requires kind { compare_column_fault (column_dtype array.now.values) (dtype_of right.now) array.now.count (length (rows right.now)) ≡ None }
+    requires kind { compare_column_fault (column_dtype array.now.values) (dtype_of right.now) array.now.count
+        (length (rows right.now)) ≡ None }
     ensures only { IsOkUnless result VortexError.OutOfMemory }
-    ensures rows { IfOk result (λ truths. rows truths ≡ compare_rows operator (column_rows (column_of_runs array.now)) (rows right.now)) }
-    ensures dtype { IfOk result (λ truths. dtype_of truths ≡ compare_dtype (column_dtype array.now.values) (dtype_of right.now)) }
+    ensures rows { IfOk result (λ truths. rows truths ≡
+        compare_rows operator (column_rows (column_of_runs array.now)) (rows right.now)) }
+    ensures dtype { IfOk result (λ truths. dtype_of truths ≡
+        compare_dtype (column_dtype array.now.values) (dtype_of right.now)) }
     ensures form { IfOk result (λ truths. IsComputedFlat (column_of truths)) }
     ensures session { ctx.new ≡ ctx.old }
 {
