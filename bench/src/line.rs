@@ -1,7 +1,7 @@
 //! Lines: a call of the library and a kernel in turns, and what both answer beside each other.
 use crate::clock::now;
 use crate::kernels::black_box;
-use crate::memory::most_held;
+use crate::memory::{counted, Taken};
 
 /// What a line is of.
 #[derive(Clone, Debug, PartialEq, Eq)]
@@ -14,15 +14,17 @@ pub struct Shape {
     pub size: String,
 }
 
-/// What both sides took, nanoseconds a unit by the middle turn, and bytes.
+/// What both sides took: nanoseconds a unit by the middle turn, and memory.
 #[derive(Clone, Debug)]
 pub struct Line {
     pub shape: Shape,
     pub unit: &'static str,
+    /// How often the call was made in a turn.
+    pub calls: usize,
     pub ours: f64,
     pub rust: f64,
-    pub ours_bytes: u64,
-    pub rust_bytes: u64,
+    pub ours_taken: Taken,
+    pub rust_taken: Taken,
 }
 
 impl Line {
@@ -58,8 +60,8 @@ impl Bench {
         if !self.wants(&shape.call) {
             return;
         }
-        let (left, ours_bytes) = most_held(&ours);
-        let (right, rust_bytes) = most_held(&rust);
+        let (left, ours_taken) = counted(&ours);
+        let (right, rust_taken) = counted(&rust);
         if !same(&left, &right) {
             self.differ.push(shape.clone());
         }
@@ -69,11 +71,16 @@ impl Bench {
         let line = Line {
             shape,
             unit,
+            calls: if unit == "call" { units } else { 1 },
             ours: each(ours),
             rust: each(rust),
-            ours_bytes,
-            rust_bytes,
+            ours_taken,
+            rust_taken,
         };
+        self.add(line);
+    }
+
+    pub fn add(&mut self, line: Line) {
         line.tell();
         self.lines.push(line);
     }

@@ -64,7 +64,20 @@ fn asked() -> Option<Asked> {
     Some(asked)
 }
 
+/// One call in a process of its own, for `lines::first`.
+fn first_call() -> Option<String> {
+    let words: Vec<String> = std::env::args().skip(1).collect();
+    match words.iter().map(String::as_str).collect::<Vec<_>>()[..] {
+        ["--first", call, side, rows] => lines::first(call, side, rows.parse().ok()?),
+        _ => None,
+    }
+}
+
 fn main() -> ExitCode {
+    if let Some(told) = first_call() {
+        print!("{told}");
+        return ExitCode::SUCCESS;
+    }
     let Some(mut asked) = asked() else {
         eprintln!("{USAGE}");
         return ExitCode::from(2);

@@ -1,10 +1,11 @@
-//! Counts the bytes that malloc has lent, for the library and for Rust alike.
+//! Counts what malloc has lent, for the library and for Rust alike.
 use std::ffi::c_void;
-use std::sync::atomic::{AtomicBool, AtomicI64, Ordering::Relaxed};
+use std::sync::atomic::{AtomicBool, AtomicI64, AtomicU64, Ordering::Relaxed};
 
 static COUNTS: AtomicBool = AtomicBool::new(false);
 static HELD: AtomicI64 = AtomicI64::new(0);
 static MOST: AtomicI64 = AtomicI64::new(0);
+static REQUESTS: AtomicU64 = AtomicU64::new(0);
 
 extern "C" {
     fn __real_malloc(size: usize) -> *mut c_void;
@@ -14,14 +15,28 @@ extern "C" {
     fn malloc_usable_size(at: *mut c_void) -> usize;
 }
 
-/// What a call answers, and the greatest number of bytes that it held beyond those held before.
-pub fn most_held<R>(call: impl FnOnce() -> R) -> (R, u64) {
+/// What a call took of malloc.
+#[derive(Clone, Copy, Debug, Default)]
+pub struct Taken {
+    /// The greatest number of bytes that it held beyond those held before.
+    pub most_bytes: u64,
+    /// How often it asked for memory.
+    pub requests: u64,
+}
+
+/// What a call answers, and what it took.
+pub fn counted<R>(call: impl FnOnce() -> R) -> (R, Taken) {
     HELD.store(0, Relaxed);
     MOST.store(0, Relaxed);
+    REQUESTS.store(0, Relaxed);
     COUNTS.store(true, Relaxed);
     let answer = call();
     COUNTS.store(false, Relaxed);
-    (answer, MOST.load(Relaxed) as u64)
+    let taken = Taken {
+        most_bytes: MOST.load(Relaxed) as u64,
+        requests: REQUESTS.load(Relaxed),
+    };
+    (answer, taken)
 }
 
 unsafe fn lent(at: *mut c_void) -> *mut c_void {
@@ -29,6 +44,7 @@ unsafe fn lent(at: *mut c_void) -> *mut c_void {
         let bytes = malloc_usable_size(at) as i64;
         let held = HELD.fetch_add(bytes, Relaxed) + bytes;
         MOST.fetch_max(held, Relaxed);
+        REQUESTS.fetch_add(1, Relaxed);
     }
     at
 }

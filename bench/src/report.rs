@@ -1,5 +1,6 @@
 //! The tables, as Markdown.
 use crate::line::{Bench, Line, Shape};
+use crate::memory::Taken;
 use std::fmt::Write;
 
 const MEANS: [&str; 3] = ["3", "16", "200"];
@@ -34,7 +35,9 @@ pub fn tables(bench: &Bench) -> String {
         rows * 8 / 1024,
         runs * 12 / 1024,
     );
-    text.push_str("\n| Greatest bytes held | Of | Ours | Rust |\n|---|---|---|---|\n");
+    text.push_str(
+        "\n| Greatest bytes held | Of | Ours | Rust | Requests a call, ours | Rust |\n|---|---|---|---|---|---|\n",
+    );
     for line in bench.lines.iter().filter(|line| shows_memory(line)) {
         memory(&mut text, line);
     }
@@ -45,9 +48,10 @@ fn in_grid(line: &Line) -> bool {
     MEANS.contains(&line.shape.size.as_str())
 }
 
-/// Memory goes by rows and runs, so that one length of runs shows it.
+/// Memory goes by rows and runs, so that one length of runs shows it; and what a call takes that has little to do.
 fn shows_memory(line: &Line) -> bool {
-    line.shape.size == "16" && !["i32", "u8"].contains(&line.shape.kind)
+    let of_runs = line.shape.size == "16" && !["i32", "u8"].contains(&line.shape.kind);
+    of_runs || line.shape.call.ends_with(", ten rows")
 }
 
 pub fn geometric_mean(lines: &[&Line]) -> f64 {
@@ -111,12 +115,20 @@ fn single(text: &mut String, line: &Line) {
 }
 
 fn memory(text: &mut String, line: &Line) {
-    let kib = |bytes: u64| format!("{} KiB", bytes.div_ceil(1024));
-    let (ours, rust) = (kib(line.ours_bytes), kib(line.rust_bytes));
+    let bytes = |taken: Taken| match taken.most_bytes {
+        few @ ..=9_999 => format!("{few} B"),
+        most => format!("{} KiB", most.div_ceil(1024)),
+    };
+    let requests = |taken: Taken| taken.requests / line.calls.max(1) as u64;
+    let (ours, rust) = (line.ours_taken, line.rust_taken);
     let _ = writeln!(
         text,
-        "| {} | {} | {ours} | {rust} |",
+        "| {} | {} | {} | {} | {} | {} |",
         title(&line.shape),
-        line.shape.kind
+        line.shape.kind,
+        bytes(ours),
+        bytes(rust),
+        requests(ours),
+        requests(rust),
     );
 }

@@ -3,7 +3,7 @@ use crate::bits::Bits;
 use crate::data::{Flat, Runs, TruthRuns, Truths};
 
 /// Writes runs one after the other: a short run as one block, of which the next run writes over what is too much.
-struct RunWriter<T> {
+pub struct RunWriter<T> {
     items: Vec<T>,
     rows: usize,
 }
@@ -15,13 +15,13 @@ impl<T: Copy> RunWriter<T> {
         32 / size_of::<T>()
     };
 
-    fn new(rows: usize) -> RunWriter<T> {
+    pub fn new(rows: usize) -> RunWriter<T> {
         let items = Vec::with_capacity(rows + Self::BLOCK);
         RunWriter { items, rows }
     }
 
     #[inline(always)]
-    fn write(&mut self, value: T, end: usize) {
+    pub fn write(&mut self, value: T, end: usize) {
         let len = self.items.len();
         assert!(len <= end && end <= self.rows);
         let count = if end - len <= Self::BLOCK {
@@ -40,6 +40,10 @@ impl<T: Copy> RunWriter<T> {
                 .for_each(|place| _ = place.write(value));
         }
         unsafe { self.items.set_len(end) };
+    }
+
+    pub fn finish(self) -> Vec<T> {
+        self.items
     }
 }
 

@@ -68,31 +68,58 @@ fn runs<T>(ends: Vec<u64>, items: Vec<T>, flags: Option<Bits>) -> Runs<T> {
 /// 64 rows are compared with those before them without a branch; what differs is visited. Runs that are long cost
 /// nothing but the comparisons.
 #[inline(never)]
-pub fn encode_by_words<T: Copy + PartialEq>(items: &[T]) -> Runs<T> {
-    let (mut ends, mut values) = (Vec::new(), Vec::new());
-    let mut start = 1;
-    while start < items.len() {
-        let stop = (start + 64).min(items.len());
-        let pairs = items[start - 1..stop - 1].iter().zip(&items[start..stop]);
-        let differ = pairs.map(|(left, right)| left != right).enumerate();
-        let mut word = differ.fold(0u64, |word, (at, differs)| word | u64::from(differs) << at);
+pub fn encode_by_words<T: Copy + PartialEq + Default>(rows: &Flat<T>) -> Runs<T> {
+    let (mut ends, mut items, mut valid) = (Vec::new(), Vec::new(), Vec::new());
+    let flag = |row: usize| rows.flags.as_ref().is_none_or(|flags| flags.get(row));
+    let mut close = |end: usize| {
+        let shown = flag(end - 1);
+        ends.push(end as u32);
+        items.push(if shown {
+            rows.items[end - 1]
+        } else {
+            T::default()
+        });
+        valid.push(shown);
+    };
+    for start in (0..rows.items.len()).step_by(64) {
+        let mut word = changes(rows, start);
         while word != 0 {
-            let at = start + word.trailing_zeros() as usize;
-            ends.push(at as u32);
-            values.push(items[at - 1]);
+            close(start + word.trailing_zeros() as usize);
             word &= word - 1;
         }
-        start = stop;
     }
-    if let Some(last) = items.last() {
-        ends.push(items.len() as u32);
-        values.push(*last);
+    if !rows.items.is_empty() {
+        close(rows.items.len());
     }
+    let flags = rows
+        .flags
+        .as_ref()
+        .map(|_| Bits::from_fn(valid.len(), |run| valid[run]));
     Runs {
         ends,
-        values: Flat {
-            items: values,
-            flags: None,
-        },
+        values: Flat { items, flags },
     }
+}
+
+/// The rows from `start` on, 64 of them, that differ from the row before them: bit k is row `start + k`.
+fn changes<T: Copy + PartialEq>(rows: &Flat<T>, start: usize) -> u64 {
+    let (first, stop) = (start.max(1), (start + 64).min(rows.items.len()));
+    let pairs = rows.items[first - 1..stop - 1]
+        .iter()
+        .zip(&rows.items[first..stop]);
+    let differ = pairs.map(|(left, right)| left != right).enumerate();
+    let items =
+        differ.fold(0u64, |word, (at, differs)| word | u64::from(differs) << at) << (first - start);
+    let Some(flags) = &rows.flags else {
+        return items;
+    };
+    let valid = flags.words[start / 64];
+    let carry = if start == 0 {
+        valid & 1
+    } else {
+        flags.words[start / 64 - 1] >> 63
+    };
+    let before = valid << 1 | carry;
+    let shown = u64::MAX >> (63 - (stop - start - 1));
+    ((valid ^ before) | (valid & before & items)) & shown
 }

@@ -8,6 +8,7 @@ mod filter;
 mod join;
 mod look;
 mod map;
+mod shared;
 mod take;
 
 pub use aggregate::{is_constant, is_sorted, least, sum, Addend};
@@ -17,7 +18,8 @@ pub use encode::{encode, encode_by_words};
 pub use filter::{filter, filter_joined, filter_truths, Kept};
 pub use look::{look_up, look_up_by_halves, slice, Slice};
 pub use map::{cast, fill, take_from};
-pub use take::{take, take_by_fours, take_truths};
+pub use shared::{cast_shared, fill_shared, take_from_shared, SharedRuns, SharedSlice};
+pub use take::{take, take_by_blocks, take_by_fours, take_truths};
 
 /// Marks calls that are timed: they stay calls, as those of the library are.
 pub use std::hint::black_box;

@@ -1,6 +1,7 @@
 //! Rows at indices.
 use crate::bits::Bits;
 use crate::data::{Flat, TruthRuns, Truths};
+use crate::kernels::decode::RunWriter;
 
 /// Up to this many runs for each index sorted indices are merged with the ends.
 const RUNS_PER_SORTED_INDEX: usize = 16;
@@ -91,6 +92,15 @@ fn table(ends: &[u32], rows: usize) -> Vec<u32> {
     table
 }
 
+/// The same table, written by blocks: of a short run one block, of which the next run writes over what is too much.
+fn table_by_blocks(ends: &[u32], rows: usize) -> Vec<u32> {
+    let mut writer = RunWriter::new(rows);
+    for (run, end) in ends.iter().enumerate() {
+        writer.write(run as u32, *end as usize);
+    }
+    writer.finish()
+}
+
 fn sorted_first(ends: &[u32], indices: &[u64]) -> Vec<u32> {
     let mut pairs: Vec<(u64, usize)> = indices.iter().copied().zip(0..).collect();
     pairs.sort_unstable();
@@ -110,14 +120,16 @@ fn flags_at(flags: &Option<Bits>, places: &[u32]) -> Option<Bits> {
 
 #[inline(never)]
 pub fn take<T: Copy>(ends: &[u32], values: &Flat<T>, indices: &[u64]) -> Flat<T> {
-    let places = positions(ends, indices);
-    let items = places
-        .iter()
-        .map(|place| values.items[*place as usize])
-        .collect();
+    at(values, &positions(ends, indices))
+}
+
+/// The values at these runs.
+#[inline(always)]
+fn at<T: Copy>(values: &Flat<T>, places: &[u32]) -> Flat<T> {
+    let item = |place: &u32| values.items[*place as usize];
     Flat {
-        items,
-        flags: flags_at(&values.flags, &places),
+        items: places.iter().map(item).collect(),
+        flags: flags_at(&values.flags, places),
     }
 }
 
@@ -126,15 +138,17 @@ pub fn take<T: Copy>(ends: &[u32], values: &Flat<T>, indices: &[u64]) -> Flat<T>
 pub fn take_by_fours<T: Copy>(ends: &[u32], values: &Flat<T>, indices: &[u64]) -> Flat<T> {
     let rows = ends.last().map_or(0, |end| *end as usize);
     assert!(checked(indices, rows as u64).0, "an index is past the end");
-    let places = four_by_four(ends, indices);
-    let items = places
-        .iter()
-        .map(|place| values.items[*place as usize])
-        .collect();
-    Flat {
-        items,
-        flags: flags_at(&values.flags, &places),
-    }
+    at(values, &four_by_four(ends, indices))
+}
+
+/// The same where a table says the run of each row, which is written by blocks.
+#[inline(never)]
+pub fn take_by_blocks<T: Copy>(ends: &[u32], values: &Flat<T>, indices: &[u64]) -> Flat<T> {
+    let rows = ends.last().map_or(0, |end| *end as usize);
+    assert!(checked(indices, rows as u64).0, "an index is past the end");
+    let table = table_by_blocks(ends, rows);
+    let places: Vec<u32> = indices.iter().map(|index| table[*index as usize]).collect();
+    at(values, &places)
 }
 
 #[inline(never)]

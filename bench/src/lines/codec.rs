@@ -20,16 +20,14 @@ pub fn lines<T: Number>(bench: &mut Bench, load: &Load) {
         || encode(&flat),
         same_runs,
     );
-    if load.flags.is_none() {
-        let rust = || encode_by_words(&flat.items);
-        bench.line(
-            shape(load, "encode, beside words", T::NAME),
-            rows,
-            ours,
-            rust,
-            same_runs,
-        );
-    }
+    let rust = || encode_by_words(&flat);
+    bench.line(
+        shape(load, "encode, beside words", T::NAME),
+        rows,
+        ours,
+        rust,
+        same_runs,
+    );
     let column = Column::of_runs(&runs);
     bench.line(
         shape(load, "decode", T::NAME),

@@ -1,17 +1,19 @@
 //! How costs grow from a thousand runs to ten million, three rows to a run.
+use super::looks::same_slice;
 use super::selects::{index_column, indices, mask, mask_column, same_kept};
 use super::{same_runs, session};
 use crate::data::Runs;
-use crate::kernels;
+use crate::kernels::{self, SharedRuns, SharedSlice};
 use crate::library::{passed, Column, Item};
 use crate::line::{Bench, Line, Shape};
-use crate::load::Load;
+use crate::load::{Load, Random};
+use hivevigil::Kind;
 use std::fmt::Write;
 
 const POWERS: [u32; 5] = [3, 4, 5, 6, 7];
 const RUN_ROWS: u64 = 3;
 
-/// A table of nanoseconds a run, and the slopes: 1 where costs are as many times more as there are more runs.
+/// A table of nanoseconds, and the slopes: 1 where costs are as many times more as there are more runs, 0 where they stay.
 pub fn growth(bench: &mut Bench) -> String {
     for power in POWERS {
         step(bench, 10usize.pow(power));
@@ -43,18 +45,19 @@ fn row(text: &mut String, call: &str, lines: &[&Line]) {
         .iter()
         .map(|line| format!("{:.2}", line.ours))
         .collect();
-    let ours = slope(lines.iter().map(|line| line.ours));
-    let rust = slope(lines.iter().map(|line| line.rust));
+    let unit = lines[0].unit;
+    let ours = slope(unit, lines.iter().map(|line| line.ours));
+    let rust = slope(unit, lines.iter().map(|line| line.rust));
     let _ = writeln!(
         text,
-        "| {call} | {} | {ours:.2} | {rust:.2} |",
+        "| {call}, ns a {unit} | {} | {ours:.2} | {rust:.2} |",
         cells.join(" | ")
     );
 }
 
-/// The slope of the straight line through the logarithms of what a call takes, by least squares. Lines have
-/// nanoseconds a run, so that 1 is added.
-fn slope(each: impl Iterator<Item = f64>) -> f64 {
+/// The slope of the straight line through the logarithms of what a call takes, by least squares. Lines that have
+/// nanoseconds a run get 1 added.
+fn slope(unit: &str, each: impl Iterator<Item = f64>) -> f64 {
     let points: Vec<(f64, f64)> = POWERS
         .iter()
         .map(|power| f64::from(*power))
@@ -68,7 +71,7 @@ fn slope(each: impl Iterator<Item = f64>) -> f64 {
         .map(|(at, high)| (at - middle) * (high - height))
         .sum();
     let below: f64 = points.iter().map(|(at, _)| (at - middle).powi(2)).sum();
-    1.0 + above / below
+    f64::from(u8::from(unit == "run")) + above / below
 }
 
 fn step(bench: &mut Bench, runs: usize) {
@@ -78,6 +81,7 @@ fn step(bench: &mut Bench, runs: usize) {
     codec(bench, &load, &runs, &column);
     values(bench, &load, &runs, &column);
     selects(bench, &load, &runs, &column);
+    looks(bench, &load, &runs, &column);
 }
 
 fn shape(load: &Load, call: &str) -> Shape {
@@ -129,6 +133,11 @@ fn values(bench: &mut Bench, load: &Load, runs: &Runs<u64>, column: &Column) {
         || kernels::fill(runs, 9),
         same_runs,
     );
+    let cast = || column.cast(&session, Kind::I64.nullable());
+    let rust = || kernels::cast(runs, |item| i64::try_from(item).is_ok(), |item| item as i64);
+    bench.line(shape(load, "cast"), units, cast, rust, |ours, rust| {
+        rust.as_ref().is_some_and(|runs| same_runs(ours, runs))
+    });
     let less = || column.less_than(&session, passed(1 << 39, false));
     let rust = || kernels::less_by_runs(runs, 1 << 39);
     bench.line(shape(load, "compare"), units, less, rust, |ours, rust| {
@@ -160,11 +169,46 @@ fn selects(bench: &mut Bench, load: &Load, runs: &Runs<u64>, column: &Column) {
         rust,
         |ours, rust| ours.read_flat::<u64>().same_rows(rust),
     );
+}
+
+/// What does not go by runs: one row in so many, a range, and all of them shared.
+fn looks(bench: &mut Bench, load: &Load, runs: &Runs<u64>, column: &Column) {
+    const TIMES: usize = 1000;
+    let (session, rows) = (session(), load.rows());
+    let mut random = Random::new(31);
+    let places: Vec<usize> = (0..100_000)
+        .map(|_| random.below(rows as u64) as usize)
+        .collect();
+    let found = || places.iter().map(|row| column.at(*row)).collect::<Vec<_>>();
+    let rust = || {
+        let row = |row: &usize| kernels::look_up(runs, *row).map(i128::from);
+        places.iter().map(row).collect::<Vec<_>>()
+    };
+    let units = (places.len(), "row");
     bench.line(
-        shape(load, "clone"),
+        shape(load, "scalar_at"),
         units,
-        || column.try_clone(),
-        || runs.clone(),
-        same_runs,
+        found,
+        rust,
+        |ours, rust| ours == rust,
     );
+    let (range, shared) = (rows / 4..rows / 4 * 3, SharedRuns::of(runs.clone()));
+    let sliced = again(TIMES, || column.slice(&session, range.start, range.end));
+    let rust = again(TIMES, || shared.slice(range.clone()));
+    let same =
+        |ours: &Column, rust: &SharedSlice<u64>| same_slice(ours, &rust.copied(), range.clone());
+    let name = "slice of half, beside shared buffers";
+    bench.line(shape(load, name), (TIMES, "call"), sliced, rust, same);
+    let cloned = again(TIMES, || column.try_clone());
+    let rust = again(TIMES, || shared.clone());
+    let same = |ours: &Column, rust: &SharedRuns<u64>| same_runs(ours, &rust.copied().0);
+    let name = "clone, beside shared buffers";
+    bench.line(shape(load, name), (TIMES, "call"), cloned, rust, same);
+}
+
+fn again<A>(times: usize, call: impl Fn() -> A) -> impl Fn() -> A {
+    move || {
+        (1..times).for_each(|_| _ = kernels::black_box(call()));
+        call()
+    }
 }

@@ -1,7 +1,7 @@
 //! Single rows, ranges and copies.
 use super::session;
 use crate::data::Runs;
-use crate::kernels::{look_up, look_up_by_halves, slice, Slice};
+use crate::kernels::{look_up, look_up_by_halves, slice, SharedRuns, SharedSlice, Slice};
 use crate::library::{Column, Item};
 use crate::line::{Bench, Shape};
 use crate::load::{Load, Random};
@@ -74,7 +74,7 @@ fn ranges(bench: &mut Bench, nulls: bool) {
     const TIMES: usize = 1000;
     let load = Load::new(bench.rows * 4, 16, nulls);
     let (session, runs) = (session(), load.runs(|number| number));
-    let column = Column::of_runs(&runs);
+    let (column, shared) = (Column::of_runs(&runs), SharedRuns::of(runs.clone()));
     let (rows, one) = (load.rows(), load.ends[load.ends.len() / 2] as usize);
     let ranges = [
         ("half", rows / 4..rows / 4 * 3, 1),
@@ -92,22 +92,50 @@ fn ranges(bench: &mut Bench, nulls: bool) {
             slice(&runs, range.clone())
         };
         let same = |ours: &Column, rust: &Slice<u64>| same_slice(ours, rust, range.clone());
+        let units = (times, "call");
         bench.line(
             shape("slice", nulls, size.to_string()),
-            (times, "call"),
+            units,
+            ours,
+            rust,
+            same,
+        );
+        let rust = || {
+            (1..times).for_each(|_| _ = crate::kernels::black_box(shared.slice(range.clone())));
+            shared.slice(range.clone())
+        };
+        let same = |ours: &Column, rust: &SharedSlice<u64>| {
+            same_slice(ours, &rust.copied(), range.clone())
+        };
+        let name = "slice, beside shared buffers";
+        bench.line(
+            shape(name, nulls, size.to_string()),
+            units,
             ours,
             rust,
             same,
         );
     }
-    let size = format!("{} runs", load.ends.len());
-    let (ours, rust) = (|| column.try_clone(), || runs.clone());
+    copies(bench, &column, &runs, &shared);
+}
+
+fn copies(bench: &mut Bench, column: &Column, runs: &Runs<u64>, shared: &SharedRuns<u64>) {
+    let (size, nulls) = (
+        format!("{} runs", runs.ends.len()),
+        runs.values.flags.is_some(),
+    );
+    let (units, ours) = ((1, "call"), || column.try_clone());
+    let shape = |call: &str| shape(call, nulls, size.clone());
+    let rust = || runs.clone();
+    bench.line(shape("clone"), units, ours, rust, super::same_runs);
+    let same = |ours: &Column, rust: &SharedRuns<u64>| super::same_runs(ours, &rust.copied().0);
+    let rust = || shared.clone();
     bench.line(
-        shape("clone", nulls, size),
-        (load.ends.len(), "run"),
+        shape("clone, beside shared buffers"),
+        units,
         ours,
         rust,
-        super::same_runs,
+        same,
     );
 }
 

@@ -1,6 +1,10 @@
 //! Calls that change the values of runs.
 use super::{same_runs, session, shape, Number};
-use crate::kernels::{cast, fill, less_by_runs, less_by_turns, take_from};
+use crate::data::{Flat, Runs};
+use crate::kernels::{
+    cast, cast_shared, fill, fill_shared, less_by_runs, less_by_turns, take_from, take_from_shared,
+    SharedRuns,
+};
 use crate::library::{passed, Column, Item};
 use crate::line::Bench;
 use crate::load::Load;
@@ -12,35 +16,44 @@ pub fn lines<T: Number>(bench: &mut Bench, load: &Load) {
     {
         return;
     }
-    let (session, runs, units) = (session(), load.runs(T::of), (load.ends.len(), "run"));
+    let runs = load.runs(T::of);
     let column = Column::of_runs(&runs);
-    bench.line(
-        shape(load, "cast", T::NAME),
-        units,
-        || {
-            column.cast(
-                &session,
-                if load.flags.is_some() {
-                    T::OTHER.nullable()
-                } else {
-                    T::OTHER
-                },
-            )
-        },
-        || cast(&runs, T::fits, T::other).expect("each value fits"),
-        same_runs,
-    );
-    let nine = passed(9, T::SIGNED);
-    let ours = || column.fill(&session, nine);
-    bench.line(
-        shape(load, "fill", T::NAME),
-        units,
-        ours,
-        || fill(&runs, T::of(9)),
-        same_runs,
-    );
+    casts::<T>(bench, load, &column, &runs);
+    fills::<T>(bench, load, &column, &runs);
     compare::<T>(bench, load, &column);
     codes::<T>(bench, load);
+}
+
+/// Does the library's column have the runs that a kernel shares?
+fn same_shared<T: Item>(column: &Column, runs: &SharedRuns<T>) -> bool {
+    same_runs(column, &runs.copied().0)
+}
+
+fn casts<T: Number>(bench: &mut Bench, load: &Load, column: &Column, runs: &Runs<T>) {
+    let (session, units) = (session(), (load.ends.len(), "run"));
+    let kind = if load.flags.is_some() {
+        T::OTHER.nullable()
+    } else {
+        T::OTHER
+    };
+    let ours = || column.cast(&session, kind);
+    let rust = || cast(runs, T::fits, T::other).expect("each value fits");
+    bench.line(shape(load, "cast", T::NAME), units, ours, rust, same_runs);
+    let shared = SharedRuns::of(runs.clone());
+    let rust = || cast_shared(&shared, T::fits, T::other).expect("each value fits");
+    let name = "cast, beside shared ends";
+    bench.line(shape(load, name, T::NAME), units, ours, rust, same_shared);
+}
+
+fn fills<T: Number>(bench: &mut Bench, load: &Load, column: &Column, runs: &Runs<T>) {
+    let (session, units, nine) = (session(), (load.ends.len(), "run"), passed(9, T::SIGNED));
+    let ours = || column.fill(&session, nine);
+    let rust = || fill(runs, T::of(9));
+    bench.line(shape(load, "fill", T::NAME), units, ours, rust, same_runs);
+    let shared = SharedRuns::of(runs.clone());
+    let rust = || fill_shared(&shared, T::of(9));
+    let name = "fill, beside shared ends";
+    bench.line(shape(load, name, T::NAME), units, ours, rust, same_shared);
 }
 
 fn compare_with<T: Number>() -> T {
@@ -68,21 +81,27 @@ fn compare<T: Number>(bench: &mut Bench, load: &Load, column: &Column) {
 
 /// Codes below 100, each for a row of a dictionary of 100 rows.
 fn codes<T: Number>(bench: &mut Bench, load: &Load) {
-    let (session, codes) = (session(), load.runs(|number| T::of(number % 100)));
-    let rows = (0..100).map(|code| code * 3 + 1).collect();
-    let dictionary = crate::data::Flat {
-        items: rows,
+    let (session, units) = (session(), (load.ends.len(), "run"));
+    let codes = load.runs(|number| T::of(number % 100));
+    let dictionary = Flat {
+        items: (0..100u64).map(|code| code * 3 + 1).collect(),
         flags: None,
     };
-    let (column, ours) = (Column::of_runs(&codes), u64::column(&dictionary));
+    let (column, rows) = (Column::of_runs(&codes), u64::column(&dictionary));
+    let (ours, place) = (
+        || column.take_from(&session, &rows),
+        |code: T| code.wide() as usize,
+    );
+    let rust = || take_from(&codes, &dictionary.items, place).expect("each has a row");
     bench.line(
         shape(load, "take_from", T::NAME),
-        (load.ends.len(), "run"),
-        || column.take_from(&session, &ours),
-        || {
-            take_from(&codes, &dictionary.items, |code| code.wide() as usize)
-                .expect("each has a row")
-        },
+        units,
+        ours,
+        rust,
         same_runs,
     );
+    let shared = SharedRuns::of(codes.clone());
+    let rust = || take_from_shared(&shared, &dictionary.items, place).expect("each has a row");
+    let name = "take_from, beside shared ends";
+    bench.line(shape(load, name, T::NAME), units, ours, rust, same_shared);
 }

@@ -2,12 +2,15 @@
 mod aggregates;
 mod calls;
 mod codec;
+mod first;
 mod growth;
 mod kinds;
+mod lists;
 mod looks;
 mod maps;
 mod selects;
 
+pub use first::first;
 pub use growth::growth;
 
 use crate::data::Runs;
@@ -71,6 +74,8 @@ pub fn all(bench: &mut Bench) {
     }
     looks::lines(bench);
     calls::lines(bench);
+    lists::lines(bench);
+    first::lines(bench);
 }
 
 fn numbers<T: Number>(bench: &mut Bench, load: &Load) {

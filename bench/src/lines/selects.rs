@@ -2,7 +2,7 @@
 use super::{same_runs, session, shape, Number};
 use crate::bits::Bits;
 use crate::data::{Flat, Runs, Truths};
-use crate::kernels::{filter_joined, take, take_by_fours, Kept};
+use crate::kernels::{filter_joined, take, take_by_blocks, take_by_fours, Kept};
 use crate::library::{Column, Item};
 use crate::line::Bench;
 use crate::load::{Load, Random};
@@ -60,6 +60,8 @@ pub fn lines<T: Number>(bench: &mut Bench, load: &Load) {
     filters(bench, load, &column, &runs);
 }
 
+type Take<T> = fn(&[u32], &Flat<T>, &[u64]) -> Flat<T>;
+
 fn takes<T: Number>(bench: &mut Bench, load: &Load, column: &Column, runs: &Runs<T>) {
     for (name, every, ordered) in TAKES {
         if !bench.wants(name) {
@@ -71,9 +73,14 @@ fn takes<T: Number>(bench: &mut Bench, load: &Load, column: &Column, runs: &Runs
         let same = |ours: &Column, rust: &Flat<T>| ours.read_flat::<T>().same_rows(rust);
         let rust = || take(&runs.ends, &runs.values, &indices);
         bench.line(shape(load, name, T::NAME), units, ours, rust, same);
-        if every == FEW && !ordered {
-            let (name, rust) = (format!("{name}, beside fours"), || {
-                take_by_fours(&runs.ends, &runs.values, &indices)
+        let faster = match (every, ordered) {
+            (FEW, false) => Some(("fours", take_by_fours as Take<T>)),
+            (_, false) => Some(("blocks", take_by_blocks as Take<T>)),
+            _ => None,
+        };
+        if let Some((idea, take)) = faster {
+            let (name, rust) = (format!("{name}, beside {idea}"), || {
+                take(&runs.ends, &runs.values, &indices)
             });
             bench.line(shape(load, &name, T::NAME), units, ours, rust, same);
         }
