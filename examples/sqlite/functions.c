@@ -1,6 +1,7 @@
 /* An extension for SQLite: columns in runs, kept as blobs.
  *
  *     SELECT hv_column(level) FROM readings                     aggregate: the rows in their order, as one blob
+ *     SELECT hv_column(level, 'integer') FROM readings          the same, refused where a row is of another type
  *     SELECT hv_concat(levels) FROM packed                      aggregate: the rows of all blobs, one after the other
  *     hv_rows(c)  hv_count(c)  hv_sum(c)  hv_min(c)  hv_max(c)  hv_at(c, row)
  *     hv_filter(c, '>', 5)  hv_slice(c, start, stop)            a blob of some of the rows
@@ -117,21 +118,51 @@ static bool run_value_of(sqlite3_value *from, run_value *value) {
 
 /* hv_column and hv_concat: the rows so far stand in SQLite's memory for the aggregate, which begins as zeros. */
 
+/* The kind of values that a type of SQL's typeof() names, in any letters; HV_NULL for every other word. */
+static uint8_t kind_by_name(sqlite3_value *name) {
+    static const struct {
+        const char *name;
+        uint8_t kind;
+    } kinds[] = {{"integer", HV_SIGNED}, {"text", HV_TEXT}, {"blob", HV_BYTES}};
+    const char *asked = (const char *)sqlite3_value_text(name);
+    for (size_t i = 0; asked && i < sizeof kinds / sizeof *kinds; i++)
+        if (sqlite3_stricmp(asked, kinds[i].name) == 0) return kinds[i].kind;
+    return HV_NULL;
+}
+
+/* The kind that a second argument asks for, HV_NULL where there is none; false, and an error, where it names no type, or
+ * another than that of the rows before. */
+static bool is_asked(sqlite3_context *context, const run_list *list, int count, sqlite3_value **values,
+                     uint8_t *kind) {
+    *kind = count == 2 ? kind_by_name(values[1]) : HV_NULL;
+    if (count == 2 && *kind == HV_NULL) {
+        fail(context, sqlite3_mprintf("hv_column: a type is one of 'integer', 'text' and 'blob'"));
+        return false;
+    }
+    if (*kind == HV_NULL || list->kind == HV_NULL || *kind == list->kind) return true;
+    fail(context, sqlite3_mprintf("hv_column: row %llu asks for %s, and the rows before it are %s",
+                                  (unsigned long long)list->rows, kind_in_words(*kind), kind_in_words(list->kind)));
+    return false;
+}
+
 static void column_step(sqlite3_context *context, int count, sqlite3_value **values) {
     run_list *list = sqlite3_aggregate_context(context, sizeof *list);
     const hv_error none = {0, 0, 0};
     run_value value;
-    (void)count;
+    uint8_t kind;
     if (!list) {
         sqlite3_result_error_nomem(context);
         return;
     }
-    const bool fits = run_value_of(values[0], &value);
+    if (!is_asked(context, list, count, values, &kind)) return;
+    if (kind == HV_NULL) kind = list->kind;
+    const bool fits = run_value_of(values[0], &value) && (!kind || !value.kind || value.kind == kind);
     const int32_t answer = fits ? run_list_add(list, 1, &value) : HV_TYPE_MISMATCH;
     if (answer == HV_TYPE_MISMATCH)
-        fail(context, sqlite3_mprintf("hv_column: row %llu is %s, and a column holds %s",
-                                      (unsigned long long)list->rows, type_in_words(sqlite3_value_type(values[0])),
-                                      list->kind == HV_NULL ? "integers, texts or blobs" : kind_in_words(list->kind)));
+        fail(context, sqlite3_mprintf("hv_column: row %llu is %s, and %s holds %s", (unsigned long long)list->rows,
+                                      type_in_words(sqlite3_value_type(values[0])),
+                                      count == 2 ? "the column that is asked for" : "a column",
+                                      kind ? kind_in_words(kind) : "integers, texts or blobs"));
     else if (answer) refuse(context, "hv_column", answer, &none);
 }
 
@@ -336,7 +367,9 @@ int sqlite3_hivevigilsqlite_init(sqlite3 *db, char **error, const sqlite3_api_ro
     (void)error;
     (void)api;
     SQLITE_EXTENSION_INIT2(api);
-    int answer = sqlite3_create_function(db, "hv_column", 1, flags, "hv_column", NULL, column_step, finish);
+    int answer = SQLITE_OK;
+    for (int count = 1; !answer && count <= 2; count++)
+        answer = sqlite3_create_function(db, "hv_column", count, flags, "hv_column", NULL, column_step, finish);
     if (!answer) answer = sqlite3_create_function(db, "hv_concat", 1, flags, "hv_concat", NULL, concat_step, finish);
     for (size_t i = 0; !answer && i < sizeof functions / sizeof *functions; i++)
         answer = sqlite3_create_function(db, functions[i].name, functions[i].arguments, flags, (void *)&functions[i],

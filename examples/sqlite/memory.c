@@ -45,6 +45,7 @@ int main(void) {
     static const char *const statements[] = {
         "SELECT length(hv_column(v)) FROM t",
         "SELECT length(hv_column('a text of number ' || v)) FROM t",
+        "SELECT length(hv_column(v, 'integer')) FROM t",
         "SELECT length(hv_concat(c)) FROM p",
         "SELECT length(hv_concat(hv_slice(w, 1, 20))) FROM p",
         "SELECT hv_rows(c) + hv_count(c) + hv_sum(c) + hv_at(c, 3) FROM p",

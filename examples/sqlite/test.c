@@ -59,6 +59,27 @@ static void check_rows(void) {
     CHECK_SQL("SELECT sum((stop - start) * value) FROM p, hv_runs(c) WHERE value > 0", "21");
 }
 
+/* A type is what the rows have to be, and changes no byte of the column. */
+static void check_types(void) {
+    CHECK_SQL("SELECT hv_column(v, 'integer') = hv_column(v), hv_column(v, 'INTEGER') = hv_column(v) FROM t", "1|1");
+    CHECK_SQL("SELECT hv_column(v, 'text') = hv_column(v) FROM w", "1");
+    CHECK_SQL("SELECT hv_column(x'01', 'blob') = hv_column(x'01')", "1");
+    CHECK_SQL("SELECT hv_rows(hv_column(NULL, 'text')), hv_sum(hv_column(1, 'integer')) FROM t WHERE v = 4", "3|3");
+    CHECK_SQL("SELECT hv_rows(hv_column(v, 'blob')) FROM t WHERE 0", "0");
+    CHECK_SQL("SELECT hv_column(v, 'text') FROM (SELECT NULL AS v UNION ALL SELECT 7)",
+              "error: hv_column: row 1 is an integer, and the column that is asked for holds texts");
+    CHECK_SQL("SELECT hv_column('7', 'integer')",
+              "error: hv_column: row 0 is a text, and the column that is asked for holds integers");
+    CHECK_SQL("SELECT hv_column(0.5, 'blob')",
+              "error: hv_column: row 0 is a real number, and the column that is asked for holds blobs");
+    CHECK_SQL("SELECT hv_column(v, CASE v WHEN 1 THEN 'integer' ELSE 'text' END) FROM (SELECT 1 AS v UNION ALL SELECT "
+              "'x')",
+              "error: hv_column: row 1 asks for texts, and the rows before it are integers");
+    CHECK_SQL("SELECT hv_column(1, 'real')", "error: hv_column: a type is one of 'integer', 'text' and 'blob'");
+    CHECK_SQL("SELECT hv_column(1, NULL)", "error: hv_column: a type is one of 'integer', 'text' and 'blob'");
+    CHECK_SQL("SELECT hv_column(1, 'integer') OVER ()", "error: hv_column() may not be used as a window function");
+}
+
 static void check_texts(void) {
     ask("CREATE TABLE w(v)");
     ask("INSERT INTO w VALUES ('Oslo'), ('Oslo'), (NULL), (''), ('Zürich, where a text is longer than sixty-four "
@@ -242,6 +263,7 @@ int main(int count, char **words) {
     sqlite3_create_function(db, "unhex_byte", 1, SQLITE_UTF8, NULL, unhex_byte, NULL, NULL);
     check_rows();
     check_texts();
+    check_types();
     check_bytes();
     check_refusals();
     ask("CREATE TABLE r(v)");
