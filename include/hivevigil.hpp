@@ -35,13 +35,16 @@ public:
 
     // ---- Made of rows ----
 
-    // Whole numbers, of which none is null: of a vector, an array, a view, a span or a list.
+    // Whole numbers, of which none is null: of a vector, an array, a view or a span.
     template <class Items, class T = detail::Item<Items>, class = std::enable_if_t<detail::is_number<T>>>
     static Column of(const Items &items) {
         return of(std::data(items), std::size(items), nullptr);
     }
+    // The same of a list of whole numbers, truth values or texts.
     template <class T> static Column of(std::initializer_list<T> items) {
-        return of(items.begin(), items.size(), nullptr);
+        static_assert(detail::is_row<T>, "rows are whole numbers, truth values or texts, or std::optional of these");
+        if constexpr (detail::is_number<T>) return of(items.begin(), items.size(), nullptr);
+        else return of_rows(items);
     }
     // Whole numbers, null where the flag is false.
     template <class Items, class T = detail::Item<Items>, class = std::enable_if_t<detail::is_number<T>>>
@@ -51,12 +54,11 @@ public:
     template <class T> static Column of(std::initializer_list<T> items, const std::vector<bool> &valid) {
         return of(items.begin(), items.size(), &valid);
     }
-    // Whole numbers, null where there is none.
-    template <class T> static Column of(const std::vector<std::optional<T>> &rows) {
-        std::vector<T> items;
-        std::vector<bool> valid;
-        for (const std::optional<T> &row : rows) items.push_back(row.value_or(T{})), valid.push_back(row.has_value());
-        return of(items.data(), items.size(), &valid);
+    // Truth values or texts; std::optional of these or of whole numbers, null where there is none.
+    template <class Items, class T = detail::Row<Items>,
+              class = std::enable_if_t<detail::is_row<T> && !detail::is_number<T>>, class = void>
+    static Column of(const Items &rows) {
+        return of_rows(rows);
     }
     static Column truths(const std::vector<bool> &rows, const std::vector<bool> *valid = nullptr) {
         const Bytes bits = detail::bits_of(rows);
@@ -142,6 +144,15 @@ public:
                                      passed.size, out, error);
         });
     }
+    // The same beside a whole number or a text as it is written: column.compare(hv::Operator::less, 4).
+    template <class T, class = std::enable_if_t<detail::is_number<T> || detail::is_text<T>>>
+    Column compare(Operator by, const T &right, const hv_session &session = initial_session()) const {
+        return compare(by, detail::written(right, kind()), session);
+    }
+    template <class T, class = std::enable_if_t<detail::is_number<T> || detail::is_text<T>>>
+    Column fill(const T &value, const hv_session &session = initial_session()) const {
+        return fill(detail::written(value, kind()), session);
+    }
     Column fill(const Value &value, const hv_session &session = initial_session()) const {
         const detail::Passed passed(value);
         return made([&](auto *out, auto *error) {
@@ -214,13 +225,12 @@ public:
             return detail::Native<T>::read(&handle, start, count ? items : &none, count, error);
         });
     }
-    // The rows of a flat column of whole numbers, none where a row is null.
+    // The rows as T (as get has them), none where a row is null; whole numbers of a flat column by one call for all.
     template <class T> std::vector<std::optional<T>> optionals() const {
-        const std::vector<T> items = numbers<T>();
-        const std::vector<bool> valid = validity();
-        std::vector<std::optional<T>> rows(items.size());
-        for (size_t row = 0; row < rows.size(); row++)
-            if (valid[row]) rows[row] = items[row];
+        if constexpr (detail::is_number<T>)
+            if (form() == Form::flat) return flat_optionals<T>();
+        std::vector<std::optional<T>> rows;
+        for (const Value &row : *this) rows.push_back(detail::optional_of<T>(row));
         return rows;
     }
     std::vector<bool> truths() const { return flags(hv_read_bools); }
@@ -268,6 +278,30 @@ private:
         return with_nulls(rows, valid, [&](auto nulls, auto *bits, auto size, auto *out, auto *error) {
             return detail::Native<T>::make(rows ? items : &none, rows, nulls, bits, size, 0, out, error);
         });
+    }
+    // Rows that may be null, gathered as the makers take them.
+    template <class Items> static Column of_rows(const Items &rows) {
+        using T = detail::Row<Items>;
+        using Item = detail::InnerOf<T>;
+        using Kept = std::conditional_t<detail::is_text<Item>, std::string_view, Item>;
+        std::vector<Kept> items;
+        std::vector<bool> valid;
+        for (const T &row : rows) {
+            const Item *item = detail::Inner<T>::of(row);
+            items.push_back(item ? Kept(*item) : Kept{}), valid.push_back(item != nullptr);
+        }
+        const std::vector<bool> *flags = detail::is_optional<T> ? &valid : nullptr;
+        if constexpr (std::is_same_v<Item, bool>) return truths(items, flags);
+        else if constexpr (detail::is_text<Item>) return texts(items, flags);
+        else return of(items.data(), items.size(), flags);
+    }
+    template <class T> std::vector<std::optional<T>> flat_optionals() const {
+        const std::vector<T> items = numbers<T>();
+        const std::vector<bool> valid = validity();
+        std::vector<std::optional<T>> rows(items.size());
+        for (size_t row = 0; row < rows.size(); row++)
+            if (valid[row]) rows[row] = items[row];
+        return rows;
     }
     static Column cut(bool binary, const std::vector<std::string_view> &rows, const std::vector<bool> *valid) {
         std::string all;

@@ -2,11 +2,13 @@
 #ifndef HIVEVIGIL_VALUES_HPP
 #define HIVEVIGIL_VALUES_HPP
 #include "hivevigil_errors.h"
+#include <algorithm>
 #include <cstdint>
 #include <iterator>
 #include <optional>
 #include <stdexcept>
 #include <string>
+#include <string_view>
 #include <type_traits>
 #include <utility>
 #include <variant>
@@ -49,7 +51,24 @@ using Value = std::variant<Null, uint64_t, int64_t, bool, Decimal, std::string, 
 struct Sum {
     std::variant<Null, uint64_t, int64_t> total;
     bool empty;
+    // The number as T, int64_t or uint64_t; none where it left the range of 64 bits, or is no T.
+    template <class T> std::optional<T> get() const {
+        static_assert(std::is_same_v<T, int64_t> || std::is_same_v<T, uint64_t>, "a sum has 64 bits");
+        if (auto *item = std::get_if<T>(&total)) return *item;
+        if (auto *item = std::get_if<int64_t>(&total); item && *item >= 0) return static_cast<T>(*item);
+        if (auto *item = std::get_if<uint64_t>(&total); item && *item <= INT64_MAX) return static_cast<T>(*item);
+        return std::nullopt;
+    }
 };
+
+// Types by name, without null: hv::kinds::i64, and hv::nullable(hv::kinds::i64).
+namespace kinds {
+inline constexpr hv_kind u8{HV_U8, 0, 0, 0}, u16{HV_U16, 0, 0, 0}, u32{HV_U32, 0, 0, 0}, u64{HV_U64, 0, 0, 0};
+inline constexpr hv_kind i8{HV_I8, 0, 0, 0}, i16{HV_I16, 0, 0, 0}, i32{HV_I32, 0, 0, 0}, i64{HV_I64, 0, 0, 0};
+inline constexpr hv_kind boolean{HV_BOOL, 0, 0, 0}, utf8{HV_UTF8, 0, 0, 0}, binary{HV_BINARY, 0, 0, 0};
+constexpr hv_kind decimal(uint8_t precision, int8_t scale) { return {HV_DECIMAL, 0, precision, scale}; }
+} // namespace kinds
+constexpr hv_kind nullable(hv_kind kind) { return {kind.number, 1, kind.precision, kind.scale}; }
 
 enum class Form : uint8_t {
     flat = HV_FORM_FLAT,
@@ -94,6 +113,52 @@ private:
     const T *items = nullptr;
     size_t count = 0;
 };
+
+// "i64", "decimal(10, 2)", and a "?" behind where rows may be null
+inline std::string to_string(hv_kind kind) {
+    static constexpr const char *names[] = {"u8",  "u16",  "u32",     "u64",  "i8",     "i16", "i32",
+                                            "i64", "bool", "decimal", "utf8", "binary", "list"};
+    std::string text = kind.number <= HV_LIST ? names[kind.number] : "none";
+    if (kind.number == HV_DECIMAL)
+        text += "(" + std::to_string(kind.precision) + ", " + std::to_string(kind.scale) + ")";
+    return text + (kind.nullable ? "?" : "");
+}
+
+// The number with `scale` digits behind the point.
+inline std::string to_string(Decimal number, int scale = 0) {
+    const bool negative = number.high < 0;
+    uint64_t high = static_cast<uint64_t>(number.high), low = number.low;
+    if (negative) low = ~low + 1, high = ~high + (low == 0);
+    uint64_t parts[] = {high >> 32, high & UINT32_MAX, low >> 32, low & UINT32_MAX};
+    std::string digits(scale < 0 ? static_cast<size_t>(-scale) : 0, '0'); // the last one first
+    for (bool some = true; some;) {
+        uint64_t rest = 0;
+        some = false;
+        for (uint64_t &part : parts) {
+            const uint64_t all = rest << 32 | part;
+            part = all / 10, rest = all % 10, some |= part != 0;
+        }
+        digits.push_back(static_cast<char>('0' + rest));
+    }
+    while (static_cast<int>(digits.size()) <= scale) digits.push_back('0');
+    if (scale > 0) digits.insert(static_cast<size_t>(scale), ".");
+    if (negative) digits.push_back('-');
+    std::reverse(digits.begin(), digits.end());
+    return digits;
+}
+
+// A row to look at: "null", numbers, "true", a text as it is, bytes in hexadecimal; a decimal is its digits alone.
+inline std::string to_string(const Value &value) {
+    if (auto *item = std::get_if<uint64_t>(&value)) return std::to_string(*item);
+    if (auto *item = std::get_if<int64_t>(&value)) return std::to_string(*item);
+    if (auto *item = std::get_if<bool>(&value)) return *item ? "true" : "false";
+    if (auto *item = std::get_if<Decimal>(&value)) return to_string(*item);
+    if (auto *item = std::get_if<std::string>(&value)) return *item;
+    std::string text = std::holds_alternative<Null>(value) ? "null" : "";
+    if (auto *item = std::get_if<Bytes>(&value))
+        for (uint8_t byte : *item) text += "0123456789abcdef"[byte >> 4], text += "0123456789abcdef"[byte & 15];
+    return text;
+}
 
 // The session with every kernel and the thresholds of the library.
 inline const hv_session &initial_session() {
@@ -186,6 +251,37 @@ template <class Call> void ask(Call call) {
 template <class Items>
 using Item = std::remove_cv_t<std::remove_pointer_t<decltype(std::data(std::declval<const Items &>()))>>;
 template <class T> inline constexpr bool is_number = std::is_integral_v<T> && !std::is_same_v<T, bool>;
+
+template <class T> inline constexpr bool is_text = std::is_convertible_v<const T &, std::string_view>;
+
+// A row as it stands in a container, and what it is where it is not null.
+template <class Items> using Row = std::decay_t<decltype(*std::begin(std::declval<const Items &>()))>;
+template <class T> struct Inner {
+    using type = T;
+    static const T *of(const T &row) { return &row; }
+};
+template <class T> struct Inner<std::optional<T>> {
+    using type = T;
+    static const T *of(const std::optional<T> &row) { return row ? &*row : nullptr; }
+};
+template <class T> using InnerOf = typename Inner<T>::type;
+template <class T> inline constexpr bool is_optional = !std::is_same_v<T, InnerOf<T>>;
+template <class T>
+inline constexpr bool is_row = is_number<InnerOf<T>> || is_text<InnerOf<T>> || std::is_same_v<InnerOf<T>, bool>;
+
+// A whole number or a text as a value of the column's type, or of its own where it is none of that.
+template <class T> Value written(const T &item, hv_kind kind) {
+    if constexpr (is_text<T>) {
+        const std::string_view text = item;
+        return kind.number == HV_BINARY ? Value(Bytes(text.begin(), text.end())) : Value(std::string(text));
+    } else if constexpr (std::is_signed_v<T>) {
+        if (kind.number <= HV_U64 && item >= 0) return static_cast<uint64_t>(item);
+        return static_cast<int64_t>(item);
+    } else {
+        if (kind.number > HV_U64 && item <= static_cast<uint64_t>(INT64_MAX)) return static_cast<int64_t>(item);
+        return static_cast<uint64_t>(item);
+    }
+}
 
 // A row as T, null as none; refused as 12 where the row is of another type.
 template <class T> std::optional<T> optional_of(const Value &value) {

@@ -22,6 +22,7 @@ static std::vector<Value> rows_of(const Column &column) {
     for (size_t row = 0; row < column.size(); row++) rows.push_back(column.at(row));
     return rows;
 }
+static Column texts_with_null() { return Column::of(std::vector<std::optional<std::string>>{"one", std::nullopt}); }
 static Value number(int64_t item) { return item; }
 
 // 1 1 null null 2 3 3 3 null null
@@ -136,6 +137,55 @@ static void check_views_and_optionals() {
     } catch (const hv::Error &error) { CHECK(std::string(error.what()) == "row 3 is not among 3 rows"); }
 }
 
+static void check_rows_of_all_sorts() {
+    const std::vector<std::string> names = {"Oslo", "Oslo", "Bergen"};
+    CHECK(rows_of(Column::of(names)) == rows_of(Column::of({"Oslo", "Oslo", "Bergen"})));
+    CHECK(Column::of(names).kind().number == HV_UTF8 && !Column::of(names).kind().nullable);
+    const std::vector<std::optional<std::string_view>> some = {"Oslo", std::nullopt};
+    const Column texts = Column::of(some);
+    CHECK(texts.kind().nullable && texts.at(0) == Value(std::string("Oslo")) && texts.at(1) == Value(Null{}));
+    CHECK(texts.optionals<std::string>() == (std::vector<std::optional<std::string>>{"Oslo", std::nullopt}));
+    const Column truths = Column::of(std::vector<bool>{true, false, true});
+    CHECK(truths.kind().number == HV_BOOL && truths.get<bool>(1) == false && Column::of({true, false}).size() == 2);
+    const Column maybe = Column::of(std::vector<std::optional<bool>>{std::nullopt, true});
+    CHECK(maybe.optionals<bool>() == (std::vector<std::optional<bool>>{std::nullopt, true}));
+    CHECK(Column::of({std::optional<int16_t>(3), std::optional<int16_t>()}).encode().optionals<int16_t>() ==
+          (std::vector<std::optional<int16_t>>{3, std::nullopt}));
+    CHECK(Column::of(std::vector<std::string>{}).empty() && Column::of(std::vector<std::optional<bool>>{}).empty());
+}
+
+static void check_values_as_they_are_written() {
+    const Column runs = made().encode(), wide = Column::of<uint64_t>({1, UINT64_MAX});
+    CHECK(rows_of(runs.compare(Operator::greater, 1)) == rows_of(runs.compare(Operator::greater, number(1))));
+    CHECK(wide.compare(Operator::less, 2).at(0) == Value(true));
+    CHECK(wide.compare(Operator::equal, UINT64_MAX).at(1) == Value(true));
+    CHECK(runs.compare(Operator::less, 2u).at(0) == Value(true) && runs.fill(7).at(9) == number(7));
+    CHECK(Column::of({"b", "c"}).compare(Operator::less, "c").truths() == (std::vector<bool>{true, false}));
+    CHECK(Column::bytes({"b"}).compare(Operator::equal, std::string("b")).at(0) == Value(true));
+    CHECK(texts_with_null().fill("none").at(1) == Value(std::string("none")));
+    try {
+        wide.compare(Operator::equal, -1);
+        CHECK(!"refused");
+    } catch (const hv::Error &error) { CHECK(error.number == HV_TYPE_MISMATCH); }
+}
+
+static void check_words() {
+    CHECK(made().cast(hv::nullable(hv::kinds::i64)).kind().number == HV_I64);
+    CHECK(hv::to_string(made().kind()) == "i32?" && hv::to_string(hv::kinds::decimal(10, 2)) == "decimal(10, 2)");
+    CHECK(hv::to_string(hv::kinds::boolean) == "bool" && hv::to_string(Column().kind()) == "none");
+    CHECK(hv::to_string(number(-7)) == "-7" && hv::to_string(Value(UINT64_MAX)) == "18446744073709551615");
+    CHECK(hv::to_string(Value(Null{})) == "null" && hv::to_string(Value(true)) == "true");
+    CHECK(hv::to_string(Value(std::string("a b"))) == "a b" && hv::to_string(Value(hv::Bytes{0, 255})) == "00ff");
+    CHECK(hv::to_string(hv::Decimal{1250, 0}, 2) == "12.50" && hv::to_string(hv::Decimal{5, 0}, 3) == "0.005");
+    CHECK(hv::to_string(hv::Decimal{UINT64_MAX, -1}) == "-1" && hv::to_string(hv::Decimal{12, 0}, -2) == "1200");
+    CHECK(hv::to_string(hv::Decimal{0, 1}) == "18446744073709551616");
+    CHECK(hv::to_string(hv::Decimal{0, INT64_MIN}) == "-170141183460469231731687303715884105728");
+    CHECK(made().sum().get<int64_t>() == 9 + 4 && made().sum().get<uint64_t>() == 13u);
+    CHECK(!Column::of<int64_t>({-1}).sum().get<uint64_t>() && Column::of<int64_t>({-1}).sum().get<int64_t>() == -1);
+    CHECK(!Column::of<uint64_t>({UINT64_MAX}).sum().get<int64_t>());
+    CHECK(!Column::of<uint64_t>({UINT64_MAX, 1}).sum().get<uint64_t>());
+}
+
 static void check_moves() {
     Column first = made(), second = Column::of<uint8_t>({1, 2});
     first = std::move(second);
@@ -169,6 +219,9 @@ int main() {
     check_other_types();
     check_iteration();
     check_views_and_optionals();
+    check_rows_of_all_sorts();
+    check_values_as_they_are_written();
+    check_words();
     check_moves();
     check_refusals();
     check_arrow();

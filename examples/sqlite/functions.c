@@ -130,7 +130,7 @@ static uint8_t kind_by_name(sqlite3_value *name) {
     return HV_NULL;
 }
 
-/* The kind that a second argument asks for, HV_NULL where there is none; false, and an error, where it names no type, or
+/* The kind that a second argument asks for, HV_NULL where there is none; false, and an error, where it names no type or
  * another than that of the rows before. */
 static bool is_asked(sqlite3_context *context, const run_list *list, int count, sqlite3_value **values,
                      uint8_t *kind) {
