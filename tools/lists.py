@@ -94,6 +94,14 @@ class Lists:
             body = re.search(rf"enum class {what} : uint8_t \{{(.*?)\}}", code, re.S)
             found = re.findall(rf"= {prefix}(\w+)", body[1] if body else "")
             self.same(f"{what} of hivevigil_values.hpp", found, list(numbers))
+        said = re.search(r"names\[\] = \{(.*?)\}", code, re.S)
+        names = re.findall(r'"(\w+)"', said[1] if said else "")
+        self.same("types in words of hivevigil_values.hpp", names, [name.lower() for name in self.types])
+        kinds = re.search(r"namespace kinds \{(.*?)\n\}", code, re.S)
+        found = dict(re.findall(r"(\w+)\{HV_(\w+), 0, 0, 0\}", kinds[1] if kinds else ""))
+        plain = without(self.types, "DECIMAL", "LIST")
+        expected = {name.lower().replace("bool", "boolean"): name for name in plain}
+        self.same("kinds of hivevigil_values.hpp", found, expected)
 
     def check_rust(self) -> None:
         found = re.search(r'^version = "(.*)"$', text_of("rust/Cargo.toml"), re.M)
