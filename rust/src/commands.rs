@@ -36,8 +36,8 @@ impl Column {
         })
     }
 
-    /// Each row as the same value of another type; refused as `CastOutOfRange` or `NullNotAllowed` at the first row that
-    /// is none, and as `Unsupported` unless both types are of whole numbers or of one kind that is no list.
+    /// Each row as the same value of another type; refused as `CastOutOfRange` or `NullNotAllowed` at the first row
+    /// that is none, and as `Unsupported` unless both types are of whole numbers or of one kind that is no list.
     pub fn cast(&self, kind: Kind) -> Result<Column, Error> {
         self.command(|session, column, out, fields| unsafe {
             raw::hv_cast(session, column, &kind, out, fields)
@@ -76,8 +76,20 @@ impl Column {
         })
     }
 
-    /// The same against one value, of the column's type or null.
-    pub fn compare_value(&self, operator: Operator, value: &Value) -> Result<Column, Error> {
+    /// The same against one value, of the column's type or null. A whole number is passed as the column's type has it.
+    ///
+    /// ```
+    /// use hivevigil::{Column, Operator, Value};
+    /// let above = Column::new(&[4u64, 7])?.compare_value(Operator::Greater, 4)?;
+    /// assert_eq!((above.at(0)?, above.at(1)?), (Value::Truth(false), Value::Truth(true)));
+    /// # Ok::<(), hivevigil::Error>(())
+    /// ```
+    pub fn compare_value(
+        &self,
+        operator: Operator,
+        value: impl Into<Value>,
+    ) -> Result<Column, Error> {
+        let value = value.into().beside(self.kind());
         let (passed, text) = value.passed();
         self.command(|session, column, out, fields| unsafe {
             let (some, count) = (text.as_ptr(), text.len());
@@ -95,7 +107,8 @@ impl Column {
     }
 
     /// A value in place of each null, after which the type has no null; refused as `NullFill` for null.
-    pub fn fill(&self, value: &Value) -> Result<Column, Error> {
+    pub fn fill(&self, value: impl Into<Value>) -> Result<Column, Error> {
+        let value = value.into().beside(self.kind());
         let (passed, text) = value.passed();
         self.command(|session, column, out, fields| unsafe {
             raw::hv_fill(

@@ -1,73 +1,191 @@
-//! Columns made of slices, by `try_from`.
-use crate::{Column, Error, Native};
+//! Columns made of slices by `try_from`, and rows as values of Rust's own types.
+use crate::{Column, Error, ErrorKind, Native, Value};
 
-/// Whole numbers, of which none is null.
-impl<T: Native> TryFrom<&[T]> for Column {
-    type Error = Error;
-
-    fn try_from(items: &[T]) -> Result<Column, Error> {
-        Column::new(items)
-    }
-}
-
-/// Whole numbers, null where there is none.
+/// What a row may be in a slice, an array or a vector of which a column is made: a whole number, a truth value, a text,
+/// bytes, or an `Option` of these, of which `None` is null.
 ///
 /// ```
-/// use hivevigil::{Column, Value};
-/// let column = Column::try_from(&[Some(1u8), None][..])?;
-/// assert_eq!(column.at(1)?, Value::Null);
+/// use hivevigil::{Column, Kind, Value};
+/// let column = Column::try_from(&[Some(1u8), None])?;
+/// assert_eq!((column.kind(), column.at(1)?), (Kind::U8.nullable(), Value::Null));
+/// let names: Vec<String> = vec!["Oslo".to_string(), "Bergen".to_string()];
+/// assert_eq!(Column::try_from(&names)?.get::<String>(0)?.as_deref(), Some("Oslo"));
 /// # Ok::<(), hivevigil::Error>(())
 /// ```
-impl<T: Native> TryFrom<&[Option<T>]> for Column {
+pub trait Row: Sized {
+    #[doc(hidden)]
+    fn column(rows: &[Self]) -> Result<Column, Error>;
+}
+
+impl<R: Row> TryFrom<&[R]> for Column {
     type Error = Error;
 
-    fn try_from(rows: &[Option<T>]) -> Result<Column, Error> {
-        let (items, valid) = split(rows);
-        Column::with_validity(&items, Some(&valid))
+    fn try_from(rows: &[R]) -> Result<Column, Error> {
+        R::column(rows)
     }
 }
 
-/// Truth values, of which none is null.
-impl TryFrom<&[bool]> for Column {
+impl<R: Row, const N: usize> TryFrom<&[R; N]> for Column {
     type Error = Error;
 
-    fn try_from(rows: &[bool]) -> Result<Column, Error> {
+    fn try_from(rows: &[R; N]) -> Result<Column, Error> {
+        R::column(rows)
+    }
+}
+
+impl<R: Row> TryFrom<&Vec<R>> for Column {
+    type Error = Error;
+
+    fn try_from(rows: &Vec<R>) -> Result<Column, Error> {
+        R::column(rows)
+    }
+}
+
+impl<T: Native> Row for T {
+    fn column(rows: &[T]) -> Result<Column, Error> {
+        Column::new(rows)
+    }
+}
+
+impl<T: Native> Row for Option<T> {
+    fn column(rows: &[Option<T>]) -> Result<Column, Error> {
+        let items: Vec<T> = rows.iter().map(|row| row.unwrap_or_default()).collect();
+        Column::with_validity(&items, Some(&valid(rows)))
+    }
+}
+
+impl Row for bool {
+    fn column(rows: &[bool]) -> Result<Column, Error> {
         Column::truths(rows, None)
     }
 }
 
-/// Truth values, null where there is none.
-impl TryFrom<&[Option<bool>]> for Column {
-    type Error = Error;
-
-    fn try_from(rows: &[Option<bool>]) -> Result<Column, Error> {
-        let (truths, valid) = split(rows);
-        Column::truths(&truths, Some(&valid))
+impl Row for Option<bool> {
+    fn column(rows: &[Option<bool>]) -> Result<Column, Error> {
+        let truths: Vec<bool> = rows.iter().map(|row| row.unwrap_or_default()).collect();
+        Column::truths(&truths, Some(&valid(rows)))
     }
 }
 
-/// Texts, of which none is null.
-impl TryFrom<&[&str]> for Column {
-    type Error = Error;
+macro_rules! texts {
+    ($($row:ty, $text:ty, $make:ident;)*) => { $(
+        impl Row for $row {
+            fn column(rows: &[$row]) -> Result<Column, Error> {
+                let texts: Vec<&$text> = rows.iter().map(|row| row.as_ref()).collect();
+                Column::$make(&texts, None)
+            }
+        }
 
-    fn try_from(rows: &[&str]) -> Result<Column, Error> {
-        Column::texts(rows, None)
+        impl Row for Option<$row> {
+            fn column(rows: &[Option<$row>]) -> Result<Column, Error> {
+                let texts: Vec<&$text> = rows
+                    .iter()
+                    .map(|row| match row {
+                        Some(row) => row.as_ref(),
+                        None => Default::default(),
+                    })
+                    .collect();
+                Column::$make(&texts, Some(&valid(rows)))
+            }
+        }
+    )* };
+}
+
+texts! {
+    &str, str, texts;
+    String, str, texts;
+    &[u8], [u8], bytes;
+    Vec<u8>, [u8], bytes;
+}
+
+fn valid<T>(rows: &[Option<T>]) -> Vec<bool> {
+    rows.iter().map(Option::is_some).collect()
+}
+
+macro_rules! wholes {
+    ($($type:ty, $sort:ident, $wide:ty;)*) => { $(
+        impl From<$type> for Value {
+            fn from(item: $type) -> Value {
+                Value::$sort(<$wide>::from(item))
+            }
+        }
+
+        /// Of the same number in any type of whole numbers; refused as `TypeMismatch` where this one does not have it.
+        impl TryFrom<Value> for $type {
+            type Error = Error;
+
+            fn try_from(value: Value) -> Result<$type, Error> {
+                let item = match value {
+                    Value::Unsigned(item) => item.try_into().ok(),
+                    Value::Signed(item) => item.try_into().ok(),
+                    _ => None,
+                };
+                item.ok_or(Error::of(ErrorKind::TypeMismatch))
+            }
+        }
+    )* };
+}
+
+wholes! {
+    u8, Unsigned, u64;
+    u16, Unsigned, u64;
+    u32, Unsigned, u64;
+    u64, Unsigned, u64;
+    i8, Signed, i64;
+    i16, Signed, i64;
+    i32, Signed, i64;
+    i64, Signed, i64;
+}
+
+macro_rules! others {
+    ($($type:ty, $sort:ident;)*) => { $(
+        impl From<$type> for Value {
+            fn from(item: $type) -> Value {
+                Value::$sort(item)
+            }
+        }
+
+        /// Refused as `TypeMismatch` where the value is of another sort.
+        impl TryFrom<Value> for $type {
+            type Error = Error;
+
+            fn try_from(value: Value) -> Result<$type, Error> {
+                match value {
+                    Value::$sort(item) => Ok(item),
+                    _ => Err(Error::of(ErrorKind::TypeMismatch)),
+                }
+            }
+        }
+    )* };
+}
+
+others! {
+    bool, Truth;
+    String, Text;
+    Vec<u8>, Bytes;
+}
+
+impl From<&str> for Value {
+    fn from(text: &str) -> Value {
+        Value::Text(text.to_string())
     }
 }
 
-/// Texts, null where there is none.
-impl TryFrom<&[Option<&str>]> for Column {
-    type Error = Error;
-
-    fn try_from(rows: &[Option<&str>]) -> Result<Column, Error> {
-        let (texts, valid) = split(rows);
-        Column::texts(&texts, Some(&valid))
+impl From<&[u8]> for Value {
+    fn from(bytes: &[u8]) -> Value {
+        Value::Bytes(bytes.to_vec())
     }
 }
 
-/// The items, with the default under null, and which rows are not null.
-fn split<T: Copy + Default>(rows: &[Option<T>]) -> (Vec<T>, Vec<bool>) {
-    rows.iter()
-        .map(|row| (row.unwrap_or_default(), row.is_some()))
-        .unzip()
+impl From<&Value> for Value {
+    fn from(value: &Value) -> Value {
+        value.clone()
+    }
+}
+
+/// `None` is null.
+impl<T: Into<Value>> From<Option<T>> for Value {
+    fn from(item: Option<T>) -> Value {
+        item.map_or(Value::Null, Into::into)
+    }
 }

@@ -88,6 +88,14 @@ impl Error {
             .find(|kind| *kind as i32 == self.number)
     }
 
+    /// A refusal without fields.
+    pub(crate) fn of(kind: ErrorKind) -> Error {
+        Error {
+            number: kind as i32,
+            fields: Fields::default(),
+        }
+    }
+
     /// Two lengths that belong together differ.
     pub(crate) fn lengths(left: usize, right: usize) -> Error {
         Error {

@@ -1,6 +1,5 @@
 //! Columns row by row, and run by run.
 use crate::{Column, Error, Form, Kind, Value};
-use std::fmt;
 use std::iter::FusedIterator;
 use std::ops::Range;
 
@@ -170,18 +169,5 @@ fn wide_ends(ends: &Column) -> Result<Vec<u64>, Error> {
         Kind::U16 => ends.numbers::<u16>().map(widened),
         Kind::U32 => ends.numbers::<u32>().map(widened),
         _ => ends.numbers::<u64>(),
-    }
-}
-
-/// "10 rows of i32? as Runs"
-impl fmt::Debug for Column {
-    fn fmt(&self, formatter: &mut fmt::Formatter<'_>) -> fmt::Result {
-        write!(
-            formatter,
-            "{} rows of {} as {:?}",
-            self.len(),
-            self.kind(),
-            self.form()
-        )
     }
 }

@@ -92,6 +92,16 @@ impl Kind {
         self.nullable != 0
     }
 
+    /// Are the rows whole numbers from 0 on?
+    pub const fn is_unsigned(self) -> bool {
+        self.number <= Kind::U64.number
+    }
+
+    /// Are the rows whole numbers that may be negative?
+    pub const fn is_signed(self) -> bool {
+        Kind::I8.number <= self.number && self.number <= Kind::I64.number
+    }
+
     /// Are the rows lists? A list type is only named, and cannot be asked for.
     pub const fn is_list(self) -> bool {
         self.number == LIST

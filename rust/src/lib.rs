@@ -5,7 +5,7 @@
 //! use hivevigil::{Column, Sum, Value};
 //!
 //! let rows = [Some(4i64), Some(4), None, None, Some(9)];
-//! let runs = Column::try_from(&rows[..])?.encode()?;
+//! let runs = Column::try_from(&rows)?.encode()?;
 //! assert_eq!(runs.sum()?, Sum { total: Some(17), empty: false });
 //! for run in runs.runs()? {
 //!     let run = run?;
@@ -26,9 +26,11 @@ mod kind;
 mod native;
 mod questions;
 mod raw;
+mod show;
 mod value;
 
 pub use column::Column;
+pub use convert::Row;
 pub use error::{Error, ErrorKind, Fields};
 pub use iterate::{Rows, Run, Runs};
 pub use kind::{Form, Kind};

@@ -115,6 +115,22 @@ impl Column {
 
 /// Rows and parts read out.
 impl Column {
+    /// Row `row` as `T`, `None` where it is null: a whole number, `bool`, `String` or `Vec<u8>`; refused as
+    /// `TypeMismatch` where it is none.
+    ///
+    /// ```
+    /// let column = hivevigil::Column::try_from(&[Some(4i64), None])?;
+    /// assert_eq!((column.get::<i64>(0)?, column.get::<i64>(1)?), (Some(4), None));
+    /// assert!(column.get::<String>(0).is_err());
+    /// # Ok::<(), hivevigil::Error>(())
+    /// ```
+    pub fn get<T: TryFrom<Value, Error = Error>>(&self, row: usize) -> Result<Option<T>, Error> {
+        match self.at(row)? {
+            Value::Null => Ok(None),
+            value => T::try_from(value).map(Some),
+        }
+    }
+
     /// The stored numbers of a flat column, where a row is null too.
     pub fn numbers<T: Native>(&self) -> Result<Vec<T>, Error> {
         let mut items = vec![T::default(); self.len()];

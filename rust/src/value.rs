@@ -1,5 +1,6 @@
 //! Rows and sums.
 use crate::raw::RawValue;
+use crate::Kind;
 use std::fmt;
 
 /// A row.
@@ -81,6 +82,19 @@ impl Value {
                 Value::Bytes(text)
             }
             _ => Value::Null,
+        }
+    }
+
+    /// A whole number as one of the sign of a column's type, where that has it.
+    pub(crate) fn beside(self, kind: Kind) -> Value {
+        match self {
+            Value::Signed(item) if kind.is_unsigned() => {
+                u64::try_from(item).map_or(self, Value::Unsigned)
+            }
+            Value::Unsigned(item) if kind.is_signed() => {
+                i64::try_from(item).map_or(self, Value::Signed)
+            }
+            other => other,
         }
     }
 
