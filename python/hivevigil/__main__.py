@@ -9,6 +9,7 @@ from collections.abc import Callable
 from . import report
 from .csv_files import BadFile
 from .errors import HivevigilError
+from .functions import version
 
 
 def _arguments() -> argparse.Namespace:
@@ -17,17 +18,20 @@ def _arguments() -> argparse.Namespace:
     parser.add_argument("--plot", metavar="FILE.svg", help="draws how long the runs are (needs Matplotlib)")
     parser.add_argument("--batch", type=int, default=65536, metavar="ROWS", help="rows that are read at once")
     parser.add_argument("--reader", choices=("gdal", "csv"), help="GDAL (where it is there), or Python's csv module")
+    parser.add_argument("--version", action="version", version=f"hivevigil {version()}")
     chosen = parser.parse_args()
     if chosen.batch < 1:
         parser.error("--batch takes at least one row")
     return chosen
 
 
-def _plotter() -> Callable[[report.Report, str], None]:
+def _plotter(path: str) -> Callable[[report.Report, str], None]:
+    """What draws; refused before a long file is read where the figure could not be saved."""
     try:
         from . import plot
     except ImportError:
         raise ImportError("--plot needs Matplotlib (Debian: python3-matplotlib)") from None
+    plot.check(path)
     return plot.save
 
 
@@ -35,7 +39,7 @@ def main() -> int:
     """The status: 0, or 1 where the file could not be read or drawn, which one line says."""
     chosen = _arguments()
     try:
-        save = _plotter() if chosen.plot else None
+        save = _plotter(chosen.plot) if chosen.plot else None
         found = report.read(chosen.file, chosen.batch, chosen.reader)
         print(*report.table(found), sep="\n")
         if save:
@@ -43,7 +47,9 @@ def main() -> int:
         return 0
     except UnicodeDecodeError as error:
         print(f"{chosen.file}: no UTF-8: {error}", file=sys.stderr)
-    except (BadFile, csv.Error, HivevigilError, OSError, ImportError, ValueError) as error:
+    except OSError as error:
+        print(f"{error.filename}: {error.strerror}" if error.filename else error, file=sys.stderr)
+    except (BadFile, csv.Error, HivevigilError, ImportError, ValueError) as error:
         print(error, file=sys.stderr)
     return 1
 

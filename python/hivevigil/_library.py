@@ -170,9 +170,20 @@ def initial_session() -> Session:
 session = initial_session()
 
 
+# what calls are called here that have another name
+_METHODS = {
+    "extreme": "min and max", "compare_scalar": "compare", "serialize": "record", "deserialize": "from_record",
+    "runs": "from_runs", "clone": "copy", "concat_columns": "concat", "export_with": "to_arrow",
+    "export_stream": "to_arrow", "read_bools": "truths", "read_validity": "validity",
+}
+
+
 def ask(call: Any, *arguments: Any) -> None:
     """Calls, and raises the refusal if there is one."""
     fields = Fields()
     answer = call(*arguments, fields)
     if answer:
-        raise refusal(answer, fields.first, fields.second, fields.third)
+        columns = [argument for argument in arguments if hasattr(argument, "_as_parameter_")]
+        name = call.__name__[len("hv_") :]
+        refused = refusal(answer, fields.first, fields.second, fields.third)
+        raise refused.about(_METHODS.get(name, name), *(column for column in columns if not column.freed))

@@ -100,7 +100,7 @@ class Rows:
             wide = (int.from_bytes(data[at : at + 16], "little", signed=True) for at in range(0, len(data), 16))
             return [decimal_of(number, self.scale) for number in wide]
         if self.name == "list":
-            raise Unsupported()
+            raise Unsupported().about("to_list", self.column)
         return _split(*texts(self.column, start, stop), self.name == "utf8")
 
 

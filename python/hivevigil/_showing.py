@@ -25,9 +25,13 @@ _NULL_PATTERN = (
 
 
 def _word(value: Scalar) -> str:
-    """A value as Python writes it, a decimal without its class, cut where it is long."""
-    text = str(value) if isinstance(value, Decimal) else repr(value)
-    return text if len(text) <= _LETTERS_SHOWN else text[: _LETTERS_SHOWN - 3] + "..."
+    """A value as Python writes it, a decimal without its class; of a long text its front and three points."""
+    if isinstance(value, Decimal):
+        return str(value)
+    text = repr(value)
+    if len(text) <= _LETTERS_SHOWN or not isinstance(value, (str, bytes)):
+        return text
+    return repr(value[: _LETTERS_SHOWN - len("'...'")])[:-1] + "..." + text[-1]
 
 
 def _counted(number: int, what: str) -> str:

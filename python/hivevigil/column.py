@@ -4,7 +4,7 @@ from __future__ import annotations
 import array
 import ctypes
 from collections.abc import Iterator, Sequence
-from typing import Any, Optional
+from typing import Any, NoReturn, Optional
 
 from . import _arrow, _copying, _indexing, _making, _reading, _runs, _showing
 from ._library import Handle, Kind, Total, Value, ask, calls, session
@@ -75,7 +75,7 @@ class Column:
         return self._made(calls.hv_clone, self)
 
     def compact(self) -> Column:
-        """A copy in the same form that shares no buffer but the bytes of texts: a small slice keeps a whole column's."""
+        """A copy in the same form that shares no buffer but texts' bytes: a small slice keeps a whole column's."""
         return self._made(calls.hv_compact, self)
 
     def __copy__(self) -> Column:
@@ -197,7 +197,10 @@ class Column:
         a '?' says otherwise."""
         kind = kind_of(type)
         kind.nullable = nullable if nullable is not None else kind.nullable or self._kind.nullable
-        return self._made(calls.hv_cast, session, self, kind)
+        try:
+            return self._made(calls.hv_cast, session, self, kind)
+        except Unsupported as refused:
+            raise refused.about(f"cast to {text_of(kind)}", self) from None
 
     def take(self, indices: Any) -> Column:
         """The rows at the indices: a column, a list, or an array; null at a null index. Of lists and arrays negative
@@ -238,6 +241,12 @@ class Column:
 
     def le(self, right: Any) -> Column:
         return self.compare("<=", right)
+
+    def __lt__(self, _: Any) -> NoReturn:
+        self._there()
+        raise TypeError("rows are compared by column.lt(..), le, gt, ge, eq and ne, and columns have no order")
+
+    __le__ = __gt__ = __ge__ = __lt__
 
     def fill(self, value: Any) -> Column:
         """A value in place of each null, after which the type has no null."""
@@ -370,7 +379,7 @@ class Column:
     def to_array(self) -> array.array[int]:
         """The stored numbers of a flat column of whole numbers, which NumPy reads without a copy."""
         if TYPES[self._kind.number] not in LETTERS or self.form != "flat":
-            raise Unsupported()
+            raise Unsupported().about("to_array", self)
         return _reading.numbers(self, 0, len(self))
 
     def validity(self) -> bytes:

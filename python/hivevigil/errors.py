@@ -5,7 +5,7 @@ a column that was freed a ValueError, a refused request for memory a MemoryError
 """
 from __future__ import annotations
 
-from typing import ClassVar
+from typing import Any, ClassVar
 
 
 class HivevigilError(Exception):
@@ -13,10 +13,17 @@ class HivevigilError(Exception):
 
     number: ClassVar[int] = 0
     sentence: ClassVar[str] = "the call was refused"
+    call: str = ""  # which one was refused, and "i64 (flat)" of each column that it was lent
+    columns: tuple[str, ...] = ()
 
     def __init__(self, *fields: int) -> None:
         super().__init__(*fields)
         self.fields: tuple[int, ...] = (*fields, 0, 0, 0)[:3]
+
+    def about(self, call: str, *columns: Any) -> HivevigilError:
+        """The same refusal, which tells of the call and of the types and forms of its columns."""
+        self.call, self.columns = call, tuple(f"{column.type} ({column.form})" for column in columns)
+        return self
 
     def __str__(self) -> str:
         return self.sentence.format(*self.fields)
@@ -74,9 +81,19 @@ class ColumnLength(HivevigilError, ValueError):
 class TypeMismatch(HivevigilError, TypeError):
     number, sentence = 12, "the types do not go together"
 
+    def __str__(self) -> str:
+        if len(self.columns) < 2:
+            return super().__str__()
+        return f"{self.call}: columns of {' and of '.join(self.columns)} do not go together"
+
 
 class Unsupported(HivevigilError, TypeError):
     number, sentence = 13, "the call does not serve columns of this type or form"
+
+    def __str__(self) -> str:
+        if not self.columns:
+            return super().__str__()
+        return f"{self.call} does not serve columns of {' and of '.join(self.columns)}"
 
 
 class CastOutOfRange(HivevigilError, OverflowError):

@@ -9,6 +9,7 @@ from typing import Any
 from ._arrow import import_columns
 from ._library import Handle, calls, session
 from .column import Column
+from .errors import TypeMismatch
 
 
 def columns_from_arrow(source: Any) -> dict[str, Column]:
@@ -19,10 +20,16 @@ def columns_from_arrow(source: Any) -> dict[str, Column]:
 def concat(columns: Iterable[Column]) -> Column:
     """The rows of columns of one type, one column after the other: runs where each is runs or a constant, else flat."""
     given = list(columns)
+    if not given:
+        raise ValueError("concat takes at least one column, whose type is that of the answer")
     handles = (Handle * max(1, len(given)))()
     for place, column in enumerate(given):
         handles[place] = column._there()._handle
-    return Column._made(calls.hv_concat_columns, session, handles, len(given))
+    try:
+        return Column._made(calls.hv_concat_columns, session, handles, len(given))
+    except TypeMismatch as refused:
+        other = next(column for column in given if column.type.rstrip("?") != given[0].type.rstrip("?"))
+        raise refused.about("concat", given[0], other) from None
 
 
 def version() -> str:

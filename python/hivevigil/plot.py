@@ -2,8 +2,10 @@
 from __future__ import annotations
 
 from collections import Counter
+from pathlib import Path
 from typing import Any
 
+from matplotlib.backend_bases import FigureCanvasBase
 from matplotlib.figure import Figure
 
 from .report import Report, Summary
@@ -30,6 +32,15 @@ def _draw(axes: Any, summary: Summary, kind: str, most: int) -> None:
     axes.set_title(f"{summary.name}  ({kind}, {summary.rows:,} rows in {summary.runs:,} runs)", loc="left", fontsize=9)
     axes.spines[["top", "right"]].set_visible(False)
     axes.tick_params(labelsize=8)
+
+
+def check(path: str) -> None:
+    """Refuses a file that could not be saved: its folder, or the sort that its name ends in, is none."""
+    folder, kinds = Path(path).parent, FigureCanvasBase.get_supported_filetypes()
+    if not folder.is_dir():
+        raise ValueError(f"{path}: there is no folder {folder}")
+    if Path(path).suffix[1:].lower() not in kinds:
+        raise ValueError(f"{path}: a figure's name ends in one of {', '.join(sorted(kinds))}")
 
 
 def save(report: Report, path: str) -> None:

@@ -6,7 +6,7 @@ import pickle
 import numpy
 import pandas
 import pytest
-from hivevigil import CLASSES, Column, HivevigilError, errors
+from hivevigil import CLASSES, Column, HivevigilError, concat, errors
 from hypothesis import given
 from hypothesis import strategies as st
 
@@ -140,6 +140,37 @@ def test_refusals_of_the_library():
         assert "{" not in str(caught.value) and str(caught.value)
 
 
+def test_refusals_name_the_call_and_its_columns():
+    texts, numbers = Column.of(["a"]), Column.of(ROWS)
+    due = [
+        (texts.sum, "sum does not serve columns of utf8 (flat)"),
+        (texts.to_runs().sum, "sum does not serve columns of utf8 (runs)"),
+        (lambda: numbers.encode().cast("utf8"), "cast to utf8? does not serve columns of i64? (runs)"),
+        (numbers.ends, "ends does not serve columns of i64? (flat)"),
+        (texts.record, "record does not serve columns of utf8 (flat)"),
+        (texts.to_array, "to_array does not serve columns of utf8 (flat)"),
+        (lambda: Column.of(["a"] * 4).eq(numbers),
+         "compare: columns of utf8 (flat) and of i64? (flat) do not go together"),
+        (lambda: concat([numbers, numbers.encode(), texts]),
+         "concat: columns of i64? (flat) and of utf8 (flat) do not go together"),
+    ]
+    for call, sentence in due:
+        with pytest.raises(HivevigilError) as caught:
+            call()
+        assert str(caught.value) == sentence
+        assert str(pickle.loads(pickle.dumps(caught.value))) == sentence
+    assert str(errors.Unsupported()) == "the call does not serve columns of this type or form"
+    assert str(errors.TypeMismatch()) == "the types do not go together"
+
+
+def test_columns_have_no_order():
+    for call in (lambda: runs() > 1, lambda: runs() <= 1, lambda: 1 < runs(), lambda: sorted([runs(), runs()])):
+        with pytest.raises(TypeError, match=r"column\.lt"):
+            call()
+    with pytest.raises(ValueError, match="at least one"):
+        concat([])
+
+
 def test_records_that_are_none():
     ends, values = Column.of([2], "u8"), Column.of([5])
     record = Column.from_runs(ends, values).record()
@@ -179,7 +210,7 @@ def test_columns_are_made_by_their_makers():
 ARGUMENTS = {
     "slice": (0, 1), "cast": ("i8",), "take": ([0],), "filter": ([True] * 4,), "take_from": ([1, 2, 3],),
     "compare": ("==", 1), "fill": (1,), "at": (0,), "__getitem__": (0,), "__deepcopy__": ({},),
-    **{name: (1,) for name in ("eq", "ne", "gt", "ge", "lt", "le")},
+    **{name: (1,) for name in ("eq", "ne", "gt", "ge", "lt", "le", "__lt__", "__le__", "__gt__", "__ge__")},
 }
 STAY = {"free", "freed", "__repr__", "__exit__", "__del__", "_repr_html_"}
 MAKERS = {"of", "from_buffer", "from_runs", "from_record", "from_arrow", "from_arrow_structs"}

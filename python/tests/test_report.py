@@ -150,6 +150,13 @@ def test_names_that_gdal_may_change(tmp_path, names):
     assert by_gdal.types == by_csv.types and list(by_gdal.types) == names.split(",")
 
 
+def test_files_that_are_none(tmp_path):
+    for path, why in ((tmp_path / "none.csv", "No such file or directory"), (tmp_path, "Is a directory")):
+        ended = run(path)
+        assert (ended.returncode, ended.stdout, ended.stderr) == (1, "", f"{path}: {why}\n")
+    assert run("--version").stdout == f"hivevigil {hivevigil.__version__}\n"
+
+
 def test_without_matplotlib(file, tmp_path):
     (tmp_path / "matplotlib.py").write_text("raise ImportError")
     finds = {**FINDS, "PYTHONPATH": f"{tmp_path}{os.pathsep}{FINDS['PYTHONPATH']}"}
@@ -164,7 +171,11 @@ def test_figure(file, tmp_path):
     ended = run(file, "--plot", figure)
     assert (ended.returncode, ended.stderr) == (0, "")
     assert ElementTree.parse(figure).getroot().tag.endswith("svg")
-    assert run(file, "--plot", tmp_path / "none" / "figure.svg").returncode == 1
+    folder = tmp_path / "none"
+    due = ((folder / "figure.svg", f"there is no folder {folder}"), (tmp_path / "a.b", "a figure's name ends in"))
+    for path, why in due:
+        ended = run(file, "--plot", path)
+        assert (ended.returncode, ended.stdout) == (1, "") and ended.stderr.startswith(f"{path}: {why}")
 
 
 def test_progress(capsys):

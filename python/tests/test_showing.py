@@ -32,7 +32,7 @@ SVG = "{http://www.w3.org/2000/svg}"
             + "\n".join(f"  {at}:{at + 1}  {at}" for at in range(8))
             + "\n  and 1,992 more runs",
         ),
-        (Column.of(["x" * 50]), f"<Column utf8: 1 row, flat>\n  ['{'x' * 36}...]"),
+        (Column.of(["x" * 50]), f"<Column utf8: 1 row, flat>\n  ['{'x' * 35}...']"),
     ],
 )
 def test_text(column, shown):
