@@ -69,6 +69,7 @@ for test in first errors layout answers refusals arrow_arrays; do
 done
 wraps="-Wl,--wrap=malloc,--wrap=calloc,--wrap=realloc,--wrap=free"
 run "c/refused_memory.c" built "$cc" "$c_flags -O2 $wraps" examples/c/refused_memory.c
+run "c/helpers.c" built "$cc" "$c_flags -O2" examples/c/helpers.c
 
 echo 'int main(void) { return 0; }' >"$work/empty.c"
 if $cc $watched "$work/empty.c" -o "$work/empty" 2>/dev/null && "$work/empty"; then
@@ -96,6 +97,7 @@ under_valgrind() {
 if has valgrind; then
     for test in answers refusals arrow_arrays; do run "c/$test.c under valgrind" under_valgrind "$test"; done
     run "c/refused_memory.c under valgrind" under_valgrind refused_memory "$wraps"
+    run "c/helpers.c under valgrind" under_valgrind helpers
 else
     skip "memory that is read and lost" valgrind
 fi
