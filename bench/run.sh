@@ -1,7 +1,7 @@
 #!/bin/sh
 # Times the library's calls for C beside plain Rust kernels that do the same work, and compares what both answer. From
 # any folder, over lib/libhivevigil.a (or that of the folder that HIVEVIGIL_LIB names):
-#     sh bench/run.sh >tables.md           all lines: some ten minutes, 3 GB
+#     sh bench/run.sh >tables.md           all lines: some fifteen minutes, 3 GB
 #     sh bench/run.sh --only sum,cast      the lines whose names begin so
 #     sh bench/run.sh --growth             a thousand to ten million runs
 #     sh bench/run.sh --smoke              every line over few rows, in seconds: do both sides answer the same?

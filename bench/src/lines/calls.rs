@@ -1,7 +1,7 @@
 //! What a call costs that has little to do: ten rows, called again and again, with what it makes given back.
 use super::looks::same_slice;
 use super::selects::{index_column, mask_column};
-use super::{same_runs, session};
+use super::{again, same_runs, session};
 use crate::bits::Bits;
 use crate::data::{Flat, Runs};
 use crate::kernels::{self, black_box};
@@ -31,14 +31,7 @@ fn line<O, R>(
         nulls: true,
         size: "a call".to_string(),
     };
-    let ours = || {
-        (1..TIMES).for_each(|_| _ = black_box(ours()));
-        ours()
-    };
-    let rust = || {
-        (1..TIMES).for_each(|_| _ = black_box(rust()));
-        rust()
-    };
+    let (ours, rust) = (again(TIMES, ours), again(TIMES, rust));
     bench.line(shape, (TIMES, "call"), ours, rust, same);
 }
 

@@ -1,7 +1,7 @@
 //! How costs grow from a thousand runs to ten million, three rows to a run.
 use super::looks::same_slice;
 use super::selects::{index_column, indices, mask, mask_column, same_kept};
-use super::{same_runs, session};
+use super::{again, same_runs, session};
 use crate::data::Runs;
 use crate::kernels::{self, SharedRuns, SharedSlice};
 use crate::library::{passed, Column, Item};
@@ -204,11 +204,4 @@ fn looks(bench: &mut Bench, load: &Load, runs: &Runs<u64>, column: &Column) {
     let same = |ours: &Column, rust: &SharedRuns<u64>| same_runs(ours, &rust.copied().0);
     let name = "clone, beside shared buffers";
     bench.line(shape(load, name), (TIMES, "call"), cloned, rust, same);
-}
-
-fn again<A>(times: usize, call: impl Fn() -> A) -> impl Fn() -> A {
-    move || {
-        (1..times).for_each(|_| _ = kernels::black_box(call()));
-        call()
-    }
 }

@@ -1,7 +1,7 @@
 //! Lists of ten commands, each made on what the one before it left, beside ten kernels: what is left between them is
 //! given back at once. C has no call that runs a list, so that ours are ten calls.
 use super::selects::{index_column, indices, mask, mask_column};
-use super::session;
+use super::{again, session};
 use crate::bits::Bits;
 use crate::data::{Flat, Runs};
 use crate::kernels::{self, Kept};
@@ -60,18 +60,7 @@ fn line(bench: &mut Bench, flat: &Flat<u64>, given: &Given) {
         ours.0.read_flat::<u64>().same_rows(&rust.0) && ours.1 == rust.1
     };
     let units = (times, "call");
-    bench.line(
-        shape,
-        units,
-        || again(times, ours),
-        || again(times, rust),
-        same,
-    );
-}
-
-fn again<A>(times: usize, list: impl Fn() -> A) -> A {
-    (1..times).for_each(|_| _ = kernels::black_box(list()));
-    list()
+    bench.line(shape, units, again(times, ours), again(times, rust), same);
 }
 
 /// encode, cast, filter, fill, filter, cast, decode, encode, take, sum.

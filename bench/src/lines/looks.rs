@@ -1,5 +1,5 @@
 //! Single rows, ranges and copies.
-use super::session;
+use super::{again, session};
 use crate::data::Runs;
 use crate::kernels::{look_up, look_up_by_halves, slice, SharedRuns, SharedSlice, Slice};
 use crate::library::{Column, Item};
@@ -70,8 +70,9 @@ fn rows(bench: &mut Bench, runs: usize, nulls: bool) {
     }
 }
 
+const TIMES: usize = 1000;
+
 fn ranges(bench: &mut Bench, nulls: bool) {
-    const TIMES: usize = 1000;
     let load = Load::new(bench.rows * 4, 16, nulls);
     let (session, runs) = (session(), load.runs(|number| number));
     let (column, shared) = (Column::of_runs(&runs), SharedRuns::of(runs.clone()));
@@ -82,39 +83,23 @@ fn ranges(bench: &mut Bench, nulls: bool) {
         ("1 run", one..one + 1, TIMES),
     ];
     for (size, range, times) in ranges {
-        let ours = || {
-            let cut = || column.slice(&session, range.start, range.end);
-            (1..times).for_each(|_| _ = cut());
-            cut()
-        };
-        let rust = || {
-            (1..times).for_each(|_| _ = crate::kernels::black_box(slice(&runs, range.clone())));
-            slice(&runs, range.clone())
-        };
+        let cut = || column.slice(&session, range.start, range.end);
         let same = |ours: &Column, rust: &Slice<u64>| same_slice(ours, rust, range.clone());
-        let units = (times, "call");
-        bench.line(
-            shape("slice", nulls, size.to_string()),
-            units,
-            ours,
-            rust,
-            same,
+        let (ours, rust) = (
+            again(times, cut),
+            again(times, || slice(&runs, range.clone())),
         );
-        let rust = || {
-            (1..times).for_each(|_| _ = crate::kernels::black_box(shared.slice(range.clone())));
-            shared.slice(range.clone())
-        };
+        let shape = |call: &str| shape(call, nulls, size.to_string());
+        bench.line(shape("slice"), (times, "call"), ours, rust, same);
         let same = |ours: &Column, rust: &SharedSlice<u64>| {
             same_slice(ours, &rust.copied(), range.clone())
         };
-        let name = "slice, beside shared buffers";
-        bench.line(
-            shape(name, nulls, size.to_string()),
-            units,
-            ours,
-            rust,
-            same,
+        let (ours, rust) = (
+            again(TIMES, cut),
+            again(TIMES, || shared.slice(range.clone())),
         );
+        let name = "slice, beside shared buffers";
+        bench.line(shape(name), (TIMES, "call"), ours, rust, same);
     }
     copies(bench, &column, &runs, &shared);
 }
@@ -124,19 +109,14 @@ fn copies(bench: &mut Bench, column: &Column, runs: &Runs<u64>, shared: &SharedR
         format!("{} runs", runs.ends.len()),
         runs.values.flags.is_some(),
     );
-    let (units, ours) = ((1, "call"), || column.try_clone());
+    let (units, ours) = ((runs.ends.len(), "run"), || column.try_clone());
     let shape = |call: &str| shape(call, nulls, size.clone());
     let rust = || runs.clone();
     bench.line(shape("clone"), units, ours, rust, super::same_runs);
     let same = |ours: &Column, rust: &SharedRuns<u64>| super::same_runs(ours, &rust.copied().0);
-    let rust = || shared.clone();
-    bench.line(
-        shape("clone, beside shared buffers"),
-        units,
-        ours,
-        rust,
-        same,
-    );
+    let (ours, rust) = (again(TIMES, ours), again(TIMES, || shared.clone()));
+    let name = "clone, beside shared buffers";
+    bench.line(shape(name), (TIMES, "call"), ours, rust, same);
 }
 
 /// Does the library's column have the rows of this range?

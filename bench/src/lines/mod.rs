@@ -14,7 +14,7 @@ pub use first::first;
 pub use growth::growth;
 
 use crate::data::Runs;
-use crate::kernels::Addend;
+use crate::kernels::{black_box, Addend};
 use crate::library::{Column, Item};
 use crate::line::{Bench, Shape};
 use crate::load::Load;
@@ -83,6 +83,14 @@ fn numbers<T: Number>(bench: &mut Bench, load: &Load) {
     aggregates::lines::<T>(bench, load);
     maps::lines::<T>(bench, load);
     selects::lines::<T>(bench, load);
+}
+
+/// The call made so often, and what the last one answers; what the others made is given back.
+fn again<A>(times: usize, call: impl Fn() -> A) -> impl Fn() -> A {
+    move || {
+        (1..times).for_each(|_| _ = black_box(call()));
+        call()
+    }
 }
 
 /// What a line of a load is of.
