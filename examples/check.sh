@@ -102,7 +102,18 @@ else
     skip "memory that is read and lost" valgrind
 fi
 
+# what a program includes that takes every warning for an error
+headers_alone() {
+    warned="-Wall -Wextra -Wpedantic -Wshadow -Wconversion -Wno-string-conversion -Werror -Iinclude -fsyntax-only"
+    for header in hivevigil hivevigil_errors hivevigil_helpers hivevigil_arrow; do
+        echo "#include <$header.h>" >"$work/alone.c"
+        cp "$work/alone.c" "$work/alone.cpp"
+        $cc -std=c99 $warned "$work/alone.c" && $cxx -std=c++17 $warned "$work/alone.cpp" || return 1
+    done
+    $cxx -std=c++17 $warned examples/cpp/demo.cpp && echo "those of C and C++, and what is made of their templates"
+}
 if has "$cxx"; then
+    run "headers alone, with every warning" headers_alone
     run "cpp/demo.cpp" built "$cxx" "$cxx_flags -O2" examples/cpp/demo.cpp
 else
     skip "cpp/demo.cpp" "$cxx"

@@ -330,11 +330,11 @@ private:
             return hv_extreme(&session, &handle, greatest, value, text, room, error);
         });
     }
-    template <class Read> std::vector<bool> flags(Read read) const {
+    template <class Call> std::vector<bool> flags(Call call) const {
         if (!*this) return {};
         const size_t rows = size(), count = rows / 64 + (rows % 64 != 0);
         std::vector<uint64_t> words(count + 1);
-        detail::ask([&](auto *error) { return read(&handle, words.data(), count, error); });
+        detail::ask([&](auto *error) { return call(&handle, words.data(), count, error); });
         return detail::flags_of(words, rows);
     }
 };

@@ -19,17 +19,17 @@ namespace hv {
 // What a call refused: its number, as HV_OUT_OF_BOUNDS, its fields in the order of hivevigil.h, and a sentence.
 class Error : public std::runtime_error {
 public:
-    Error(int32_t number, hv_error fields)
-        : std::runtime_error(text_of(number, fields)), number(number), fields(fields) {}
+    Error(int32_t answer, hv_error of_answer)
+        : std::runtime_error(text_of(answer, of_answer)), number(answer), fields(of_answer) {}
     const int32_t number;
     const hv_error fields;
     // "HV_OUT_OF_BOUNDS"
     const char *name() const { return hv_error_name(number); }
 
 private:
-    static std::string text_of(int32_t number, hv_error fields) {
+    static std::string text_of(int32_t answer, hv_error of_answer) {
         char text[HV_ERROR_TEXT];
-        return hv_error_text(number, &fields, text);
+        return hv_error_text(answer, &of_answer, text);
     }
 };
 
@@ -97,11 +97,11 @@ struct Run {
 template <class T> class View {
 public:
     constexpr View() = default;
-    constexpr View(const T *items, size_t count) : items(items), count(count) {}
+    constexpr View(const T *first, size_t size) : items(first), count(size) {}
     // Of a vector, an array or a span.
     template <class Items, class = std::enable_if_t<std::is_convertible_v<
                                decltype(std::data(std::declval<const Items &>())), const T *>>>
-    constexpr View(const Items &items) : items(std::data(items)), count(std::size(items)) {}
+    constexpr View(const Items &all) : items(std::data(all)), count(std::size(all)) {}
     constexpr const T *data() const { return items; }
     constexpr size_t size() const { return count; }
     constexpr bool empty() const { return count == 0; }
@@ -206,8 +206,8 @@ inline std::vector<bool> flags_of(const std::vector<uint64_t> &words, size_t row
 // A value as C passes it, with the bytes of a text beside it.
 class Passed {
 public:
-    explicit Passed(const Value &value) {
-        std::visit([this](const auto &item) { set(item); }, value);
+    explicit Passed(const Value &row) {
+        std::visit([this](const auto &item) { set(item); }, row);
     }
     hv_value value{};
     const uint8_t *text = &none;
@@ -304,7 +304,7 @@ public:
     using pointer = const value_type *;
     using reference = value_type;
 
-    Walk(const Source *source, size_t position) : source(source), position(position) {}
+    Walk(const Source *walked, size_t first) : source(walked), position(first) {}
     value_type operator*() const { return source->item(position); }
     Walk &operator++() {
         position++;
