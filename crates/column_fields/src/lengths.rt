@@ -3,12 +3,12 @@ ghost use Rattle.std.specs.Prelude.{◌≡◌, ◌++◌, length, map, pos, unsig
 ghost use Rattle.column_base.specs.Numbers.{numbers, ptype_of};
 ghost use Rattle.column_base.specs.Types.{IsUnsigned, HasNumber};
 ghost use Rattle.column_fields.specs.Refusal.{IsBadOrMemory};
-ghost use Rattle.column_fields.specs.Lengths.{lengths_bytes, Rises, HasNoEnds, AreNoEndsOf};
+ghost use Rattle.column_fields.specs.Lengths.{lengths_bytes, Rises, HasNoEnds, AreEndsOf, AreNoEndsOf};
 
 use crate::fields::put_varint;
+use crate::stored::StoredEnd;
 use column_base::{
-    NativePType, PType, PrimitiveValues, UnsignedPType, VortexError, VortexResult,
-    match_each_unsigned,
+    NativePType, PType, PrimitiveValues, VortexError, VortexResult, match_each_unsigned,
 };
 use std::alloc::Allocator;
 use varints::read_shortest;
@@ -21,6 +21,7 @@ pub fn put_lengths_of<A: Allocator, B: Allocator>(
 ) -> VortexResult<()>
     requires { IsUnsigned (ptype_of ends.now) }
     ensures ok { OnOk result (out.new.items ≡ out.old.items ++ lengths_bytes 0 (map unsigned_abs (numbers ends.now))) }
+    ensures fit { OnOk result (AreEndsOf (ptype_of ends.now) (map unsigned_abs (numbers ends.now))) }
     ensures only { IsOkUnless result VortexError.OutOfMemory }
 {
     match_each_unsigned!(ends,
@@ -30,13 +31,14 @@ pub fn put_lengths_of<A: Allocator, B: Allocator>(
 }
 
 /// Writes the lengths of runs with these ends at the end.
-fn put_lengths<E: UnsignedPType, A: Allocator>(out: &mut Vec<u8, A>, ends: &[E]) -> VortexResult<()>
+fn put_lengths<E: StoredEnd, A: Allocator>(out: &mut Vec<u8, A>, ends: &[E]) -> VortexResult<()>
     ensures ok { OnOk result (out.new.items ≡ out.old.items ++ lengths_bytes 0 (map E.natural ends.now)) }
+    ensures fit { OnOk result (AreEndsOf E.PTYPE (map E.natural ends.now)) }
     ensures only { IsOkUnless result VortexError.OutOfMemory }
 {
     let mut start = 0;
     for stop in ends {
-        let end = stop.to_u64();
+        let end = stop.end();
         put_varint(out, end.saturating_sub(start))?;
         start = end;
     }

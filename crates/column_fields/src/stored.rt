@@ -1,9 +1,9 @@
 //! Native numbers as bytes, the lowest first.
-ghost use Rattle.std.specs.Prelude.{◌≡◌, ◌++◌, length, OnOk, IsOkUnless};
+ghost use Rattle.std.specs.Prelude.{◌≡◌, ◌++◌, length, pos, OnOk, IsOkUnless};
 ghost use Rattle.column_fields.specs.NumberBytes.{number_bytes, size_of};
 ghost use Rattle.column_base.specs.Types.{HasNumber};
 
-use column_base::{NativePType, VortexError, VortexResult};
+use column_base::{NativePType, UnsignedPType, VortexError, VortexResult};
 use std::alloc::Allocator;
 
 /// A native number that is stored as bytes.
@@ -23,6 +23,38 @@ pub(crate) trait StoredNumber: NativePType {
         requires { length bytes.now ≡ size_of Self.PTYPE }
         ensures shows { number_bytes Self.PTYPE (Self.number result) ≡ bytes.now }
         ensures fits { HasNumber Self.PTYPE (Self.number result) };
+}
+
+/// The end of a run, as its type stores it.
+pub(crate) trait StoredEnd: UnsignedPType {
+    /// The end as a `u64`. It is a number of its own type too.
+    fn end(self) -> u64
+        ensures value { result ≡ Self.natural self }
+        ensures fits { HasNumber Self.PTYPE (pos (Self.natural self)) };
+}
+
+impl StoredEnd for u8 {
+    fn end(self) -> u64 {
+        u64::from(self)
+    }
+}
+
+impl StoredEnd for u16 {
+    fn end(self) -> u64 {
+        u64::from(self)
+    }
+}
+
+impl StoredEnd for u32 {
+    fn end(self) -> u64 {
+        u64::from(self)
+    }
+}
+
+impl StoredEnd for u64 {
+    fn end(self) -> u64 {
+        self
+    }
 }
 
 impl StoredNumber for u8 {

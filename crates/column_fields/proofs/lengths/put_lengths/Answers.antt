@@ -1,12 +1,35 @@
-use Rattle.std.proofs.Common.{◌≡◌, ◌∙◌, ap, arith, ℕ, ◌-◌, ◌++◌, refl, rules}
+use Rattle.std.proofs.Common.{◌≡◌, ◌∙◌, ap, sym, arith, ℕ, List, pos, map, take, [], ◌∷◌, ◌+◌, ◌-◌, ◌++◌, refl}
+use Rattle.std.proofs.lemmas.List.{map_more, take_all}
+use Rattle.std.proofs.lemmas.List.Elements.{All-push, All-nil, All-same}
 use Rattle.varints.specs.Varint.{varint}
+use Rattle.column_base.specs.Types.{HasNumber}
 use Rattle.column_fields.proofs.LengthLaws.{lengths_step, lengths_done}
 use Rattle.column_fields.proofs.lengths.put_lengths.Goals as goal
+
+pub loop-stop-init : goal.loop-stop-init
+loop-stop-init g c = record {
+  shows = refl;
+  fits = All-nil (λ (end : ℕ). HasNumber g.E.NativePType.PTYPE (pos end));
+}
 
 pub loop-stop-preserved : goal.loop-stop-preserved
 loop-stop-preserved g c =
     let natural = g.E.UnsignedPType.natural in
-    rw c.to_u64-end.ensures (lengths_step natural c.args.ends.now c.loop-stop.stop-index c.loop-stop.start c.stop-item.result c.loop-stop.out.items _ _ c.loop-stop-test.true c.stop-item.is c.loop-stop.invariant (c.in_ok-put_varint.ensures.ok ∙ ap (λ (n : ℕ). c.loop-stop.out.items ++ varint n) (c.saturating_sub.ensures ∙ ap (λ (k : ℕ). k - c.loop-stop.start) c.to_u64-end.ensures)))
+    let has = λ (end : ℕ). HasNumber g.E.NativePType.PTYPE (pos end) in
+    let front : List ℕ = map natural (take c.loop-stop.stop-index c.args.ends.now) in
+    let more : map natural (take (c.loop-stop.stop-index + 1) c.args.ends.now) ≡ front ++ natural c.stop-item.result ∷ [] = map_more natural c.args.ends.now c.loop-stop.stop-index c.stop-item.result c.loop-stop-test.true ∙ ap (λ x. front ++ natural x ∷ []) (sym c.stop-item.is) in
+    record {
+      shows = rw c.end-end.ensures.value (lengths_step natural c.args.ends.now c.loop-stop.stop-index c.loop-stop.start c.stop-item.result c.loop-stop.out.items _ _ c.loop-stop-test.true c.stop-item.is c.loop-stop.invariant.shows (c.in_ok-put_varint.ensures.ok ∙ ap (λ (n : ℕ). c.loop-stop.out.items ++ varint n) (c.saturating_sub.ensures ∙ ap (λ (k : ℕ). k - c.loop-stop.start) c.end-end.ensures.value)));
+      fits = All-same has _ _ more (All-push has front (natural c.stop-item.result) c.loop-stop.invariant.fits c.end-end.ensures.fits);
+    }
 
 pub returns-clause-ok : goal.returns-clause-ok
-returns-clause-ok g c = lengths_done g.E.UnsignedPType.natural c.args.ends.now c.loop-stop.stop-index c.loop-stop.start c.loop-stop.out.items _ (omega arith) c.loop-stop.invariant
+returns-clause-ok g c = lengths_done g.E.UnsignedPType.natural c.args.ends.now c.loop-stop.stop-index c.loop-stop.start c.loop-stop.out.items _ (omega arith) c.loop-stop.invariant.shows
+
+pub returns-clause-fit : goal.returns-clause-fit
+returns-clause-fit g c =
+    let has = λ (end : ℕ). HasNumber g.E.NativePType.PTYPE (pos end) in
+    record {
+      unsigned = g.met.E.UnsignedPType.unsigned_law;
+      fit = All-same has _ _ (ap (map g.E.UnsignedPType.natural) (sym (take_all c.loop-stop.stop-index c.args.ends.now (omega arith)))) c.loop-stop.invariant.fits;
+    }
