@@ -17,6 +17,73 @@ use column_sums::{
 use runend_array::ConstantArray;
 use std::alloc::Allocator;
 
+/// The sum of the rows of a constant column, as `sum` answers it of runs: its value is added once, as
+/// often as there are rows. Refused as `Unsupported` exactly for columns of other types than whole
+/// numbers. It takes no memory.
+pub fn sum_of_constant<A: Allocator>(array: &ConstantArray<A>) -> VortexResult<SumAnswer>
+    ensures refused { IsRefusedBy (sum_fault array.now.dtype) result }
+    ensures no_memory { result ≢ Err VortexError.OutOfMemory }
+    ensures answer { IfOk result (IsSumAnswer array.now.dtype (column_rows (OfConstant array.now))) }
+{
+    match array.dtype() {
+        DType::Primitive(ptype, _) if ptype.is_unsigned_int() => {
+            Ok(sum_unsigned_constant(array, &mut UnsignedSum::new()))
+        }
+        DType::Primitive(_, _) => Ok(sum_signed_constant(array, &mut SignedSum::new())),
+        _ => Err(VortexError::Unsupported),
+    }
+}
+
+// The sum of a constant of signed numbers, by at most one call of `add_run`.
+fn sum_signed_constant<A: Allocator>(array: &ConstantArray<A>, sum: &mut SignedSum) -> SumAnswer
+    requires signed { IsSignedType array.now.dtype }
+    requires zero { sum.old.value ≡ pos 0 }
+    ensures answer { IsSumAnswer array.now.dtype (column_rows (OfConstant array.now)) result }
+    ensures calls { sum.new.calls ≡ sum.old.calls ++ calls_of SignedRange (constant_runs array.now) }
+{
+    let run = SignedRun {
+        value: signed_number(array),
+        row_count: array.len(),
+    };
+    sum_signed_in_runs(&run, sum)
+}
+
+// The number of a constant that has no unsigned numbers.
+fn signed_number<A: Allocator>(array: &ConstantArray<A>) -> Option<i64>
+    requires { ¬ IsUnsignedType array.now.dtype }
+    ensures { result ≡ number_in (option_map Single array.now.value) }
+{
+    match array.scalar().view() {
+        ScalarView::Signed(number) => Some(number),
+        _ => None,
+    }
+}
+
+// The sum of a constant of unsigned numbers, by at most one call of `add_run`.
+fn sum_unsigned_constant<A: Allocator>(array: &ConstantArray<A>, sum: &mut UnsignedSum) -> SumAnswer
+    requires unsigned { IsUnsignedType array.now.dtype }
+    requires zero { sum.old.value ≡ pos 0 }
+    ensures answer { IsSumAnswer array.now.dtype (column_rows (OfConstant array.now)) result }
+    ensures calls { sum.new.calls ≡ sum.old.calls ++ calls_of UnsignedRange (constant_runs array.now) }
+{
+    let run = UnsignedRun {
+        value: unsigned_number(array),
+        row_count: array.len(),
+    };
+    sum_unsigned_in_runs(&run, sum)
+}
+
+// The number of a constant that has no signed numbers.
+fn unsigned_number<A: Allocator>(array: &ConstantArray<A>) -> Option<u64>
+    requires { ¬ IsSignedType array.now.dtype }
+    ensures { option_map pos result ≡ number_in (option_map Single array.now.value) }
+{
+    match array.scalar().view() {
+        ScalarView::Unsigned(number) => Some(number),
+        _ => None,
+    }
+}
+
 // The run of all rows of a constant of signed numbers. There is none where there is no row.
 #[derive(Drop)]
 struct SignedRun {
@@ -42,7 +109,8 @@ impl SignedRuns for SignedRun {
     // There is no run between two others: any run may be asked for.
     fn inner_row_count(&self, run: usize) -> usize
         requires { run < length (one_run self.now.value self.now.row_count) }
-        ensures counted { option_map (λ shown. shown.1) (slice_get (one_run self.now.value self.now.row_count) run) ≡ Some result }
+        ensures counted { option_map (λ shown. shown.1) (slice_get (one_run self.now.value self.now.row_count) run) ≡
+            Some result }
         ensures shown { 0 < result }
     {
         self.row_count(run)
@@ -74,76 +142,10 @@ impl UnsignedRuns for UnsignedRun {
     // There is no run between two others: any run may be asked for.
     fn inner_row_count(&self, run: usize) -> usize
         requires { run < length (one_run (option_map pos self.now.value) self.now.row_count) }
-        ensures counted { option_map (λ shown. shown.1) (slice_get (one_run (option_map pos self.now.value) self.now.row_count) run) ≡ Some result }
+        ensures counted { option_map (λ shown. shown.1)
+            (slice_get (one_run (option_map pos self.now.value) self.now.row_count) run) ≡ Some result }
         ensures shown { 0 < result }
     {
         self.row_count(run)
     }
-}
-
-/// The sum of the rows of a constant column, as `sum` answers it of runs: its value is added once, as
-/// often as there are rows. Refused as `Unsupported` exactly for columns of other types than whole
-/// numbers. It takes no memory.
-pub fn sum_of_constant<A: Allocator>(array: &ConstantArray<A>) -> VortexResult<SumAnswer>
-    ensures refused { IsRefusedBy (sum_fault array.now.dtype) result }
-    ensures no_memory { result ≢ Err VortexError.OutOfMemory }
-    ensures answer { IfOk result (IsSumAnswer array.now.dtype (column_rows (OfConstant array.now))) }
-{
-    match array.dtype() {
-        DType::Primitive(ptype, _) if ptype.is_unsigned_int() => {
-            Ok(sum_unsigned_constant(array, &mut UnsignedSum::new()))
-        }
-        DType::Primitive(_, _) => Ok(sum_signed_constant(array, &mut SignedSum::new())),
-        _ => Err(VortexError::Unsupported),
-    }
-}
-
-// The number of a constant that has no unsigned numbers.
-fn signed_number<A: Allocator>(array: &ConstantArray<A>) -> Option<i64>
-    requires { ¬ IsUnsignedType array.now.dtype }
-    ensures { result ≡ number_in (option_map Single array.now.value) }
-{
-    match array.scalar().view() {
-        ScalarView::Signed(number) => Some(number),
-        _ => None,
-    }
-}
-
-// The number of a constant that has no signed numbers.
-fn unsigned_number<A: Allocator>(array: &ConstantArray<A>) -> Option<u64>
-    requires { ¬ IsSignedType array.now.dtype }
-    ensures { option_map pos result ≡ number_in (option_map Single array.now.value) }
-{
-    match array.scalar().view() {
-        ScalarView::Unsigned(number) => Some(number),
-        _ => None,
-    }
-}
-
-// The sum of a constant of signed numbers, by at most one call of `add_run`.
-fn sum_signed_constant<A: Allocator>(array: &ConstantArray<A>, sum: &mut SignedSum) -> SumAnswer
-    requires signed { IsSignedType array.now.dtype }
-    requires zero { sum.old.value ≡ pos 0 }
-    ensures answer { IsSumAnswer array.now.dtype (column_rows (OfConstant array.now)) result }
-    ensures calls { sum.new.calls ≡ sum.old.calls ++ calls_of SignedRange (constant_runs array.now) }
-{
-    let run = SignedRun {
-        value: signed_number(array),
-        row_count: array.len(),
-    };
-    sum_signed_in_runs(&run, sum)
-}
-
-// The sum of a constant of unsigned numbers, by at most one call of `add_run`.
-fn sum_unsigned_constant<A: Allocator>(array: &ConstantArray<A>, sum: &mut UnsignedSum) -> SumAnswer
-    requires unsigned { IsUnsignedType array.now.dtype }
-    requires zero { sum.old.value ≡ pos 0 }
-    ensures answer { IsSumAnswer array.now.dtype (column_rows (OfConstant array.now)) result }
-    ensures calls { sum.new.calls ≡ sum.old.calls ++ calls_of UnsignedRange (constant_runs array.now) }
-{
-    let run = UnsignedRun {
-        value: unsigned_number(array),
-        row_count: array.len(),
-    };
-    sum_unsigned_in_runs(&run, sum)
 }

@@ -19,8 +19,10 @@ pub fn min_max_of_constant<A: Allocator + Copy>(
     ensures refused { IsRefusedBy (list_fault array.now.dtype) result }
     ensures no_memory { result ≢ Err VortexError.OutOfMemory }
     ensures none { IfOk result (λ found. IfNone found (All (λ row. row ≡ None) (column_rows (OfConstant array.now)))) }
-    ensures least { IfOk result (λ found. IfSome found (λ ends. IsLeast (column_rows (OfConstant array.now)) (sees ends.0))) }
-    ensures greatest { IfOk result (λ found. IfSome found (λ ends. IsGreatest (column_rows (OfConstant array.now)) (sees ends.1))) }
+    ensures least { IfOk result (λ found. IfSome found (λ ends.
+        IsLeast (column_rows (OfConstant array.now)) (sees ends.0))) }
+    ensures greatest { IfOk result (λ found. IfSome found (λ ends. IsGreatest (column_rows (OfConstant array.now))
+        (sees ends.1))) }
     ensures least_of_type { IfOk result (λ found. IfSome found (λ ends. IsViewOf array.now.dtype ends.0)) }
     ensures greatest_of_type { IfOk result (λ found. IfSome found (λ ends. IsViewOf array.now.dtype ends.1)) }
 {

@@ -23,11 +23,16 @@ pub fn min_max<'a, A: Allocator + Copy>(
 ) -> VortexResult<Option<(ScalarView<'a, A>, ScalarView<'a, A>)>>
     ensures refused { IsRefusedBy (list_fault (column_dtype array.now.values)) result }
     ensures no_memory { result ≢ Err VortexError.OutOfMemory }
-    ensures none { IfOk result (λ found. IfNone found (All (λ row. row ≡ None) (column_rows (column_of_runs array.now)))) }
-    ensures least { IfOk result (λ found. IfSome found (λ ends. IsLeast (column_rows (column_of_runs array.now)) (sees ends.0))) }
-    ensures greatest { IfOk result (λ found. IfSome found (λ ends. IsGreatest (column_rows (column_of_runs array.now)) (sees ends.1))) }
-    ensures least_of_type { IfOk result (λ found. IfSome found (λ ends. IsViewOf (column_dtype array.now.values) ends.0)) }
-    ensures greatest_of_type { IfOk result (λ found. IfSome found (λ ends. IsViewOf (column_dtype array.now.values) ends.1)) }
+    ensures none { IfOk result (λ found. IfNone found (All (λ row. row ≡
+        None) (column_rows (column_of_runs array.now)))) }
+    ensures least { IfOk result (λ found. IfSome found (λ ends. IsLeast (column_rows (column_of_runs array.now))
+        (sees ends.0))) }
+    ensures greatest { IfOk result (λ found. IfSome found (λ ends. IsGreatest (column_rows (column_of_runs array.now))
+        (sees ends.1))) }
+    ensures least_of_type { IfOk result (λ found. IfSome found (λ ends.
+        IsViewOf (column_dtype array.now.values) ends.0)) }
+    ensures greatest_of_type { IfOk result (λ found. IfSome found (λ ends.
+        IsViewOf (column_dtype array.now.values) ends.1)) }
     ensures session { ctx.new ≡ ctx.old }
 {
     let _ = &ctx;
@@ -47,7 +52,8 @@ fn furthest<A: Allocator + Copy>(
     requires in_bounds { range.end ≤ length (rows values.now) }
     requires side { side ≢ Ordering.Equal }
     ensures none { IfNone result (All (λ row. row ≡ None) (slice_range (rows values.now) range.start range.end)) }
-    ensures some { IfSome result (λ row. IsFurthest side (slice_range (rows values.now) range.start range.end) (sees row)) }
+    ensures some { IfSome result (λ row. IsFurthest side (slice_range (rows values.now) range.start range.end)
+        (sees row)) }
     ensures of_type { IfSome result (λ row. IsViewOf (dtype_of values.now) row) }
 {
     let mut best = None;
@@ -69,8 +75,10 @@ fn looked_up_ends<A: Allocator + Copy>(
     requires ordered { range.start ≤ range.end }
     requires in_bounds { range.end ≤ length (rows values.now) }
     ensures none { IfNone result (All (λ row. row ≡ None) (slice_range (rows values.now) range.start range.end)) }
-    ensures least { IfSome result (λ ends. IsLeast (slice_range (rows values.now) range.start range.end) (sees ends.0)) }
-    ensures greatest { IfSome result (λ ends. IsGreatest (slice_range (rows values.now) range.start range.end) (sees ends.1)) }
+    ensures least { IfSome result (λ ends. IsLeast (slice_range (rows values.now) range.start range.end)
+        (sees ends.0)) }
+    ensures greatest { IfSome result (λ ends. IsGreatest (slice_range (rows values.now) range.start range.end)
+        (sees ends.1)) }
     ensures least_of_type { IfSome result (λ ends. IsViewOf (dtype_of values.now) ends.0) }
     ensures greatest_of_type { IfSome result (λ ends. IsViewOf (dtype_of values.now) ends.1) }
 {
@@ -79,7 +87,7 @@ fn looked_up_ends<A: Allocator + Copy>(
     Some((least, greatest))
 }
 
-// The same. Flat values are read where they are stored, by their type.
+// The least and the greatest of some rows that are no nulls. Flat values are read where they are stored, by their type.
 fn ends_of<A: Allocator + Copy>(
     values: &ArrayRef<A>,
     range: Range<usize>,
@@ -87,8 +95,10 @@ fn ends_of<A: Allocator + Copy>(
     requires ordered { range.start ≤ range.end }
     requires in_bounds { range.end ≤ length (rows values.now) }
     ensures none { IfNone result (All (λ row. row ≡ None) (slice_range (rows values.now) range.start range.end)) }
-    ensures least { IfSome result (λ ends. IsLeast (slice_range (rows values.now) range.start range.end) (sees ends.0)) }
-    ensures greatest { IfSome result (λ ends. IsGreatest (slice_range (rows values.now) range.start range.end) (sees ends.1)) }
+    ensures least { IfSome result (λ ends. IsLeast (slice_range (rows values.now) range.start range.end)
+        (sees ends.0)) }
+    ensures greatest { IfSome result (λ ends. IsGreatest (slice_range (rows values.now) range.start range.end)
+        (sees ends.1)) }
     ensures least_of_type { IfSome result (λ ends. IsViewOf (dtype_of values.now) ends.0) }
     ensures greatest_of_type { IfSome result (λ ends. IsViewOf (dtype_of values.now) ends.1) }
 {

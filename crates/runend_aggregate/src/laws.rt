@@ -30,8 +30,8 @@ pub fn sum_of_four_runs<A: Allocator + Copy>(
     sum_signed_runs(four_runs, sum, ctx)
 }
 
-/// The same of 4 of these rows, from position 3 on: they are three nulls and a 4, so that the sum is 4,
-/// by one call for the one row that the window shows of the third run.
+/// `sum_signed_runs` of 4 of these rows, from position 3 on: they are three nulls and a 4, so that the sum is 4, by
+/// one call for the one row that the window shows of the third run.
 pub fn sum_in_four_runs<A: Allocator + Copy>(
     four_runs: &RunEndArray<A>,
     sum: &mut SignedSum,

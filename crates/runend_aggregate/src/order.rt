@@ -73,7 +73,7 @@ fn are_looked_up_equal<A: Allocator + Copy>(values: &ArrayRef<A>, range: Range<u
     true
 }
 
-// The same. Flat values are read where they are stored, by their type.
+// Are any two of these rows equal? Flat values are read where they are stored, by their type.
 fn are_equal<A: Allocator + Copy>(values: &ArrayRef<A>, range: Range<usize>) -> bool
     requires flat { is_list (dtype_of values.now) ≡ false }
     requires ordered { range.start ≤ range.end }
@@ -117,7 +117,7 @@ fn are_looked_up_sorted<A: Allocator + Copy>(
     true
 }
 
-// The same. Flat values are read where they are stored, by their type.
+// Are these rows in order? Flat values are read where they are stored, by their type.
 fn are_sorted<A: Allocator + Copy>(values: &ArrayRef<A>, range: Range<usize>, strict: bool) -> bool
     requires flat { is_list (dtype_of values.now) ≡ false }
     requires ordered { range.start ≤ range.end }

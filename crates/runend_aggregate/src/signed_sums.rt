@@ -25,6 +25,126 @@ use column_sums::{
 use runend_array::{ArrayRef, RunEndArray, RunEndArrayExt, RunEndArraySlotsExt};
 use std::alloc::Allocator;
 
+/// The sum of the rows of a column of signed numbers, by one call of `add_run` for each visible run that
+/// is not null, up to and with the first that leaves the range of `i64`.
+pub(crate) fn sum_signed_visible<A: Allocator + Copy>(
+    array: &RunEndArray<A>,
+    sum: &mut SignedSum,
+) -> SumAnswer
+    requires signed { IsSignedType (column_dtype array.now.values) }
+    requires zero { sum.old.value ≡ pos 0 }
+    ensures answer { result ≡ answer_of SignedRange (rows_of_runs (visible_runs array.now)) }
+    ensures calls { sum.new.calls ≡ sum.old.calls ++ calls_of SignedRange (visible_runs array.now) }
+    ensures few { length sum.new.calls ≤ length sum.old.calls + length (valid_runs (visible_runs array.now)) }
+    ensures valid { AreRuns array.now }
+{
+    let ends = visible::plain_ends(array);
+    match_each_unsigned!(ends.values(), items => sum_over(array, items.as_slice(), sum), _ => unreachable!())
+}
+
+// The sum of the rows, over these ends.
+fn sum_over<E: UnsignedPType, A: Allocator + Copy>(
+    array: &RunEndArray<A>,
+    ends: &[E],
+    sum: &mut SignedSum,
+) -> SumAnswer
+    requires ends { map E.natural ends.now ≡ array.now.ends }
+    requires signed { IsSignedType (column_dtype array.now.values) }
+    requires zero { sum.old.value ≡ pos 0 }
+    ensures answer { result ≡ answer_of SignedRange (rows_of_runs (visible_runs array.now)) }
+    ensures calls { sum.new.calls ≡ sum.old.calls ++ calls_of SignedRange (visible_runs array.now) }
+    ensures few { length sum.new.calls ≤ length sum.old.calls + length (valid_runs (visible_runs array.now)) }
+{
+    match array.values() {
+        ArrayRef::Primitive(values) => sum_values(array, ends, values, sum),
+        values => sum_numbers(array, ends, &SignedRows { values }, sum),
+    }
+}
+
+// The sum of the rows, of these flat values.
+fn sum_values<E: UnsignedPType, A: Allocator + Copy>(
+    array: &RunEndArray<A>,
+    ends: &[E],
+    values: &PrimitiveArray<A>,
+    sum: &mut SignedSum,
+) -> SumAnswer
+    requires ends { map E.natural ends.now ≡ array.now.ends }
+    requires values { OfLeaf (OfNumbers values.now) ≡ array.now.values }
+    requires signed { IsSignedType (column_dtype array.now.values) }
+    requires zero { sum.old.value ≡ pos 0 }
+    ensures answer { result ≡ answer_of SignedRange (rows_of_runs (visible_runs array.now)) }
+    ensures calls { sum.new.calls ≡ sum.old.calls ++ calls_of SignedRange (visible_runs array.now) }
+    ensures few { length sum.new.calls ≤ length sum.old.calls + length (valid_runs (visible_runs array.now)) }
+{
+    let validity = values.validity();
+    match values.values() {
+        PrimitiveValues::I8(items) => sum_items(array, ends, items.as_slice(), validity, sum),
+        PrimitiveValues::I16(items) => sum_items(array, ends, items.as_slice(), validity, sum),
+        PrimitiveValues::I32(items) => sum_items(array, ends, items.as_slice(), validity, sum),
+        PrimitiveValues::I64(items) => sum_items(array, ends, items.as_slice(), validity, sum),
+        _ => unreachable!(),
+    }
+}
+
+// The sum of the rows, of values that are these items where they are valid.
+fn sum_items<E: UnsignedPType, T: SignedPType, A: Allocator + Copy>(
+    array: &RunEndArray<A>,
+    ends: &[E],
+    items: &[T],
+    validity: &Validity<A>,
+    sum: &mut SignedSum,
+) -> SumAnswer
+    requires ends { map E.natural ends.now ≡ array.now.ends }
+    requires items { optionals (map T.number items.now) (flags (form_of validity.now) (length items.now)) ≡
+        map number_in (column_rows array.now.values) }
+    requires zero { sum.old.value ≡ pos 0 }
+    ensures answer { result ≡ answer_of SignedRange (rows_of_runs (visible_runs array.now)) }
+    ensures calls { sum.new.calls ≡ sum.old.calls ++ calls_of SignedRange (visible_runs array.now) }
+    ensures few { length sum.new.calls ≤ length sum.old.calls + length (valid_runs (visible_runs array.now)) }
+{
+    let count = items.len();
+    match validity {
+        Validity::NonNullable | Validity::AllValid => {
+            let flags = &AllValid { count };
+            sum_numbers(array, ends, &SignedItems { items, flags }, sum)
+        }
+        Validity::AllInvalid => {
+            let flags = &AllNull { count };
+            sum_numbers(array, ends, &SignedItems { items, flags }, sum)
+        }
+        Validity::Bits(bits) => {
+            let flags = &ByBits { bits };
+            sum_numbers(array, ends, &SignedItems { items, flags }, sum)
+        }
+    }
+}
+
+// The sum of the rows, of values that are these numbers.
+fn sum_numbers<E: UnsignedPType, N: SignedNumbers, A: Allocator + Copy>(
+    array: &RunEndArray<A>,
+    ends: &[E],
+    numbers: &N,
+    sum: &mut SignedSum,
+) -> SumAnswer
+    requires ends { map E.natural ends.now ≡ array.now.ends }
+    requires numbers { N.numbers numbers.now ≡ map number_in (column_rows array.now.values) }
+    requires zero { sum.old.value ≡ pos 0 }
+    ensures answer { result ≡ answer_of SignedRange (rows_of_runs (visible_runs array.now)) }
+    ensures calls { sum.new.calls ≡ sum.old.calls ++ calls_of SignedRange (visible_runs array.now) }
+    ensures few { length sum.new.calls ≤ length sum.old.calls + length (valid_runs (visible_runs array.now)) }
+{
+    let runs = array.visible_runs();
+    let visible = SignedVisible {
+        ends,
+        numbers,
+        first: runs.start,
+        stop: runs.end,
+        offset: array.offset(),
+        count: array.len(),
+    };
+    sum_signed_in_runs(&visible, sum)
+}
+
 // Runs from `first` to `stop - 1`, which a window of `count` rows from position `offset` on shows.
 #[derive(Drop)]
 struct SignedVisible<'a, E: UnsignedPType, N: SignedNumbers> {
@@ -42,7 +162,8 @@ struct SignedVisible<'a, E: UnsignedPType, N: SignedNumbers> {
 }
 
 impl<'a, E: UnsignedPType, N: SignedNumbers> SignedRuns for SignedVisible<'a, E, N> {
-    ghost runs = { λ s. runs_from (map E.natural s.ends.now) (N.numbers s.numbers.now) s.offset s.count s.first (s.stop - s.first) };
+    ghost runs = { λ s. runs_from (map E.natural s.ends.now) (N.numbers s.numbers.now) s.offset s.count s.first
+        (s.stop - s.first) };
 
     #[inline]
     fn run_count(&self) -> usize {
@@ -81,123 +202,4 @@ impl<'a, A: Allocator + Copy> SignedNumbers for SignedRows<'a, A> {
     fn number(&self, index: usize) -> Option<i64> {
         visible::signed_in(self.values, index)
     }
-}
-
-/// The sum of the rows of a column of signed numbers, by one call of `add_run` for each visible run that
-/// is not null, up to and with the first that leaves the range of `i64`.
-pub(crate) fn sum_signed_visible<A: Allocator + Copy>(
-    array: &RunEndArray<A>,
-    sum: &mut SignedSum,
-) -> SumAnswer
-    requires signed { IsSignedType (column_dtype array.now.values) }
-    requires zero { sum.old.value ≡ pos 0 }
-    ensures answer { result ≡ answer_of SignedRange (rows_of_runs (visible_runs array.now)) }
-    ensures calls { sum.new.calls ≡ sum.old.calls ++ calls_of SignedRange (visible_runs array.now) }
-    ensures few { length sum.new.calls ≤ length sum.old.calls + length (valid_runs (visible_runs array.now)) }
-    ensures valid { AreRuns array.now }
-{
-    let ends = visible::plain_ends(array);
-    match_each_unsigned!(ends.values(), items => sum_over(array, items.as_slice(), sum), _ => unreachable!())
-}
-
-// The same, over these ends.
-fn sum_over<E: UnsignedPType, A: Allocator + Copy>(
-    array: &RunEndArray<A>,
-    ends: &[E],
-    sum: &mut SignedSum,
-) -> SumAnswer
-    requires ends { map E.natural ends.now ≡ array.now.ends }
-    requires signed { IsSignedType (column_dtype array.now.values) }
-    requires zero { sum.old.value ≡ pos 0 }
-    ensures answer { result ≡ answer_of SignedRange (rows_of_runs (visible_runs array.now)) }
-    ensures calls { sum.new.calls ≡ sum.old.calls ++ calls_of SignedRange (visible_runs array.now) }
-    ensures few { length sum.new.calls ≤ length sum.old.calls + length (valid_runs (visible_runs array.now)) }
-{
-    match array.values() {
-        ArrayRef::Primitive(values) => sum_values(array, ends, values, sum),
-        values => sum_numbers(array, ends, &SignedRows { values }, sum),
-    }
-}
-
-// The same, of these flat values.
-fn sum_values<E: UnsignedPType, A: Allocator + Copy>(
-    array: &RunEndArray<A>,
-    ends: &[E],
-    values: &PrimitiveArray<A>,
-    sum: &mut SignedSum,
-) -> SumAnswer
-    requires ends { map E.natural ends.now ≡ array.now.ends }
-    requires values { OfLeaf (OfNumbers values.now) ≡ array.now.values }
-    requires signed { IsSignedType (column_dtype array.now.values) }
-    requires zero { sum.old.value ≡ pos 0 }
-    ensures answer { result ≡ answer_of SignedRange (rows_of_runs (visible_runs array.now)) }
-    ensures calls { sum.new.calls ≡ sum.old.calls ++ calls_of SignedRange (visible_runs array.now) }
-    ensures few { length sum.new.calls ≤ length sum.old.calls + length (valid_runs (visible_runs array.now)) }
-{
-    let validity = values.validity();
-    match values.values() {
-        PrimitiveValues::I8(items) => sum_items(array, ends, items.as_slice(), validity, sum),
-        PrimitiveValues::I16(items) => sum_items(array, ends, items.as_slice(), validity, sum),
-        PrimitiveValues::I32(items) => sum_items(array, ends, items.as_slice(), validity, sum),
-        PrimitiveValues::I64(items) => sum_items(array, ends, items.as_slice(), validity, sum),
-        _ => unreachable!(),
-    }
-}
-
-// The same, of values that are these items where they are valid.
-fn sum_items<E: UnsignedPType, T: SignedPType, A: Allocator + Copy>(
-    array: &RunEndArray<A>,
-    ends: &[E],
-    items: &[T],
-    validity: &Validity<A>,
-    sum: &mut SignedSum,
-) -> SumAnswer
-    requires ends { map E.natural ends.now ≡ array.now.ends }
-    requires items { optionals (map T.number items.now) (flags (form_of validity.now) (length items.now)) ≡ map number_in (column_rows array.now.values) }
-    requires zero { sum.old.value ≡ pos 0 }
-    ensures answer { result ≡ answer_of SignedRange (rows_of_runs (visible_runs array.now)) }
-    ensures calls { sum.new.calls ≡ sum.old.calls ++ calls_of SignedRange (visible_runs array.now) }
-    ensures few { length sum.new.calls ≤ length sum.old.calls + length (valid_runs (visible_runs array.now)) }
-{
-    let count = items.len();
-    match validity {
-        Validity::NonNullable | Validity::AllValid => {
-            let flags = &AllValid { count };
-            sum_numbers(array, ends, &SignedItems { items, flags }, sum)
-        }
-        Validity::AllInvalid => {
-            let flags = &AllNull { count };
-            sum_numbers(array, ends, &SignedItems { items, flags }, sum)
-        }
-        Validity::Bits(bits) => {
-            let flags = &ByBits { bits };
-            sum_numbers(array, ends, &SignedItems { items, flags }, sum)
-        }
-    }
-}
-
-// The same, of values that are these numbers.
-fn sum_numbers<E: UnsignedPType, N: SignedNumbers, A: Allocator + Copy>(
-    array: &RunEndArray<A>,
-    ends: &[E],
-    numbers: &N,
-    sum: &mut SignedSum,
-) -> SumAnswer
-    requires ends { map E.natural ends.now ≡ array.now.ends }
-    requires numbers { N.numbers numbers.now ≡ map number_in (column_rows array.now.values) }
-    requires zero { sum.old.value ≡ pos 0 }
-    ensures answer { result ≡ answer_of SignedRange (rows_of_runs (visible_runs array.now)) }
-    ensures calls { sum.new.calls ≡ sum.old.calls ++ calls_of SignedRange (visible_runs array.now) }
-    ensures few { length sum.new.calls ≤ length sum.old.calls + length (valid_runs (visible_runs array.now)) }
-{
-    let runs = array.visible_runs();
-    let visible = SignedVisible {
-        ends,
-        numbers,
-        first: runs.start,
-        stop: runs.end,
-        offset: array.offset(),
-        count: array.len(),
-    };
-    sum_signed_in_runs(&visible, sum)
 }

@@ -26,7 +26,8 @@ pub fn sum_signed_runs<A: Allocator + Copy>(
     requires signed { IsSignedType (column_dtype array.now.values) }
     requires zero { sum.old.value ≡ pos 0 }
     ensures served { IsOk result }
-    ensures answer { IfOk result (IsSumAnswer (column_dtype array.now.values) (column_rows (column_of_runs array.now))) }
+    ensures answer { IfOk result (IsSumAnswer (column_dtype array.now.values)
+        (column_rows (column_of_runs array.now))) }
     ensures calls { sum.new.calls ≡ sum.old.calls ++ calls_of SignedRange (visible_runs array.now) }
     ensures few { length sum.new.calls ≤ length sum.old.calls + length (valid_runs (visible_runs array.now)) }
     ensures rows { rows_of_runs (visible_runs array.now) ≡ map number_in (column_rows (column_of_runs array.now)) }
@@ -48,7 +49,8 @@ pub fn sum_unsigned_runs<A: Allocator + Copy>(
     requires unsigned { IsUnsignedType (column_dtype array.now.values) }
     requires zero { sum.old.value ≡ pos 0 }
     ensures served { IsOk result }
-    ensures answer { IfOk result (IsSumAnswer (column_dtype array.now.values) (column_rows (column_of_runs array.now))) }
+    ensures answer { IfOk result (IsSumAnswer (column_dtype array.now.values)
+        (column_rows (column_of_runs array.now))) }
     ensures calls { sum.new.calls ≡ sum.old.calls ++ calls_of UnsignedRange (visible_runs array.now) }
     ensures few { length sum.new.calls ≤ length sum.old.calls + length (valid_runs (visible_runs array.now)) }
     ensures rows { rows_of_runs (visible_runs array.now) ≡ map number_in (column_rows (column_of_runs array.now)) }
@@ -69,7 +71,8 @@ pub fn sum<A: Allocator + Copy>(
 ) -> VortexResult<SumAnswer>
     ensures refused { IsRefusedBy (sum_fault (column_dtype array.now.values)) result }
     ensures no_memory { result ≢ Err VortexError.OutOfMemory }
-    ensures answer { IfOk result (IsSumAnswer (column_dtype array.now.values) (column_rows (column_of_runs array.now))) }
+    ensures answer { IfOk result (IsSumAnswer (column_dtype array.now.values)
+        (column_rows (column_of_runs array.now))) }
     ensures session { ctx.new ≡ ctx.old }
 {
     match array.dtype() {

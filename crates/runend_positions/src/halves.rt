@@ -23,9 +23,11 @@ pub fn physical_indices_binary<E: UnsignedPType, T: NativePType, A: Allocator + 
     requires masked { length (mask_bits mask.now) ≡ length indices.now }
     requires in_window { AreInWindow ends.old.ends offset (optional_indices T.number indices.now (mask_bits mask.now)) }
     ensures only { IsOkUnless result VortexError.OutOfMemory }
-    ensures runs { IfOk result (λ runs. runs.items ≡ runs_of ends.old.ends offset 0 (optional_indices T.number indices.now (mask_bits mask.now))) }
+    ensures runs { IfOk result (λ runs. runs.items ≡
+        runs_of ends.old.ends offset 0 (optional_indices T.number indices.now (mask_bits mask.now))) }
     ensures same { ends.new.ends ≡ ends.old.ends }
-    ensures cost { ends.new.tests ≤ ends.old.tests + valid_count (optional_indices T.number indices.now (mask_bits mask.now)) * digits (length ends.old.ends) }
+    ensures cost { ends.new.tests ≤ ends.old.tests + valid_count (optional_indices T.number indices.now
+        (mask_bits mask.now)) * digits (length ends.old.ends) }
     ensures untested { OnErr result (ends.new.tests ≡ ends.old.tests) }
 {
     if selects_all(mask) {
@@ -35,7 +37,7 @@ pub fn physical_indices_binary<E: UnsignedPType, T: NativePType, A: Allocator + 
     }
 }
 
-// The same, where `ALL` says that no index is null.
+// The run of each valid index, and 0 for a null one, where `ALL` says that no index is null.
 fn searched_runs<const ALL: bool, E: UnsignedPType, T: NativePType, A: Allocator + Copy>(
     ends: &mut CountedEnds<'_, E>,
     alloc: A,
@@ -47,9 +49,11 @@ fn searched_runs<const ALL: bool, E: UnsignedPType, T: NativePType, A: Allocator
     requires all { ALL ≡ true → All (λ bit. bit ≡ true) (mask_bits mask.now) }
     requires in_window { AreInWindow ends.old.ends offset (optional_indices T.number indices.now (mask_bits mask.now)) }
     ensures only { IsOkUnless result VortexError.OutOfMemory }
-    ensures runs { IfOk result (λ runs. runs.items ≡ runs_of ends.old.ends offset 0 (optional_indices T.number indices.now (mask_bits mask.now))) }
+    ensures runs { IfOk result (λ runs. runs.items ≡
+        runs_of ends.old.ends offset 0 (optional_indices T.number indices.now (mask_bits mask.now))) }
     ensures same { ends.new.ends ≡ ends.old.ends }
-    ensures cost { ends.new.tests ≤ ends.old.tests + valid_count (optional_indices T.number indices.now (mask_bits mask.now)) * digits (length ends.old.ends) }
+    ensures cost { ends.new.tests ≤ ends.old.tests + valid_count (optional_indices T.number indices.now
+        (mask_bits mask.now)) * digits (length ends.old.ends) }
     ensures untested { OnErr result (ends.new.tests ≡ ends.old.tests) }
 {
     let mut runs = Vec::with_capacity(alloc, indices.len())?;
@@ -91,10 +95,14 @@ fn four_rows<const ALL: bool, T: NativePType, A: Allocator>(
     requires masked { length (mask_bits mask.now) ≡ length indices.now }
     requires all { ALL ≡ true → All (λ bit. bit ≡ true) (mask_bits mask.now) }
     requires in_bounds { AreInBounds (optional_indices T.number indices.now (mask_bits mask.now)) (2 ^ 64) }
-    ensures first { IfSome result (λ rows. slice_get (optional_indices T.number indices.now (mask_bits mask.now)) place ≡ Some (Some (pos rows.0))) }
-    ensures second { IfSome result (λ rows. slice_get (optional_indices T.number indices.now (mask_bits mask.now)) (place + 1) ≡ Some (Some (pos rows.1))) }
-    ensures third { IfSome result (λ rows. slice_get (optional_indices T.number indices.now (mask_bits mask.now)) (place + 2) ≡ Some (Some (pos rows.2))) }
-    ensures fourth { IfSome result (λ rows. slice_get (optional_indices T.number indices.now (mask_bits mask.now)) (place + 3) ≡ Some (Some (pos rows.3))) }
+    ensures first { IfSome result (λ rows. slice_get (optional_indices T.number indices.now
+        (mask_bits mask.now)) place ≡ Some (Some (pos rows.0))) }
+    ensures second { IfSome result (λ rows. slice_get (optional_indices T.number indices.now (mask_bits mask.now))
+        (place + 1) ≡ Some (Some (pos rows.1))) }
+    ensures third { IfSome result (λ rows. slice_get (optional_indices T.number indices.now (mask_bits mask.now))
+        (place + 2) ≡ Some (Some (pos rows.2))) }
+    ensures fourth { IfSome result (λ rows. slice_get (optional_indices T.number indices.now (mask_bits mask.now))
+        (place + 3) ≡ Some (Some (pos rows.3))) }
 {
     if indices.len() - place < 4 {
         return None;
@@ -131,7 +139,8 @@ fn push_run<E: UnsignedPType, A: Allocator>(
     requires increasing { IsStrictlyIncreasing ends.old.ends }
     requires position { IfSome row (λ row. offset + row < 2 ^ 64) }
     requires room { vec_len runs.old < vec_capacity runs.old }
-    ensures items { runs.new.items ≡ runs.old.items ++ run_of ends.old.ends offset 0 (option_map (λ row. pos row) row) ∷ [] }
+    ensures items { runs.new.items ≡ runs.old.items ++ run_of ends.old.ends offset 0 (option_map (λ row. pos row) row) ∷
+        [] }
     ensures len { vec_len runs.new ≡ vec_len runs.old + 1 }
     ensures capacity { vec_capacity runs.new ≡ vec_capacity runs.old }
     ensures same { ends.new.ends ≡ ends.old.ends }

@@ -62,7 +62,8 @@ pub fn physical_indices<E: UnsignedPType, T: NativePType, A: Allocator + Copy>(
     ensures picked { let places = optional_indices T.number indices.now (mask_bits mask.now) in (strategy : Strategy)
         × IsPicked places (item_count ends.old.ends) length thresholds strategy
         × IfOk result (λ runs. runs.items ≡ answer_of strategy ends.old.ends offset places)
-        × (ends.new.tests ≤ ends.old.tests + most_tests strategy (valid_count places) (item_count ends.old.ends) length) }
+        × (ends.new.tests ≤ ends.old.tests + most_tests strategy (valid_count places)
+        (item_count ends.old.ends) length) }
     ensures same { ends.new.ends ≡ ends.old.ends }
     ensures untested { OnErr result (ends.new.tests ≡ ends.old.tests) }
 {
@@ -87,7 +88,8 @@ fn prefers_sorted_merge<T: NativePType, A: Allocator>(
     requires masked { item_count (mask_bits mask.now) ≡ item_count indices.now }
     requires counted { count ≡ valid_count (optional_indices T.number indices.now (mask_bits mask.now)) }
     requires in_bounds { AreInBounds (optional_indices T.number indices.now (mask_bits mask.now)) (2 ^ 64) }
-    ensures { IsTrue result ↔ PrefersSortedMerge (optional_indices T.number indices.now (mask_bits mask.now)) runs thresholds }
+    ensures { IsTrue result ↔ PrefersSortedMerge (optional_indices T.number indices.now
+        (mask_bits mask.now)) runs thresholds }
 {
     if !is_within(runs, count, thresholds.sorted_runs_per_index) {
         return false;
@@ -121,10 +123,12 @@ fn physical_indices_by<E: UnsignedPType, T: NativePType, A: Allocator + Copy>(
     requires in_bounds { AreInBounds (optional_indices T.number indices.now (mask_bits mask.now)) length }
     requires sorted { strategy ≡ SortedMerge → AreSorted (optional_indices T.number indices.now (mask_bits mask.now)) }
     ensures only { IsOkUnless result VortexError.OutOfMemory }
-    ensures runs { IfOk result (λ runs. runs.items ≡ answer_of strategy ends.old.ends offset (optional_indices T.number indices.now (mask_bits mask.now))) }
+    ensures runs { IfOk result (λ runs. runs.items ≡
+        answer_of strategy ends.old.ends offset (optional_indices T.number indices.now (mask_bits mask.now))) }
     ensures same { ends.new.ends ≡ ends.old.ends }
     ensures cost { ends.new.tests ≤ ends.old.tests
-        + most_tests strategy (valid_count (optional_indices T.number indices.now (mask_bits mask.now))) (item_count ends.old.ends) length }
+        + most_tests strategy (valid_count (optional_indices T.number indices.now (mask_bits mask.now)))
+        (item_count ends.old.ends) length }
     ensures untested { OnErr result (ends.new.tests ≡ ends.old.tests) }
 {
     match strategy {

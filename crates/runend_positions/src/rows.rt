@@ -16,7 +16,8 @@ pub fn indexed_row<T: NativePType, A: Allocator>(
     requires within { place < length indices.now }
     requires masked { length (mask_bits mask.now) ≡ length indices.now }
     requires in_bounds { AreInBounds (optional_indices T.number indices.now (mask_bits mask.now)) (2 ^ 64) }
-    ensures { slice_get (optional_indices T.number indices.now (mask_bits mask.now)) place ≡ Some (option_map (λ row. pos row) result) }
+    ensures { slice_get (optional_indices T.number indices.now (mask_bits mask.now)) place ≡
+        Some (option_map (λ row. pos row) result) }
 {
     named_row::<false, T, A>(indices, mask, place)
 }
@@ -46,7 +47,7 @@ fn is_valid<const ALL: bool, A: Allocator>(mask: &Mask<A>, place: usize) -> bool
     mask.value(place)
 }
 
-/// The same as `indexed_row`, where `ALL` says that no index is null.
+/// The row that the index at `place` names, as `indexed_row`, where `ALL` says that no index is null.
 #[inline(always)]
 pub(crate) fn named_row<const ALL: bool, T: NativePType, A: Allocator>(
     indices: &[T],
@@ -57,7 +58,8 @@ pub(crate) fn named_row<const ALL: bool, T: NativePType, A: Allocator>(
     requires masked { length (mask_bits mask.now) ≡ length indices.now }
     requires all { ALL ≡ true → All (λ bit. bit ≡ true) (mask_bits mask.now) }
     requires in_bounds { AreInBounds (optional_indices T.number indices.now (mask_bits mask.now)) (2 ^ 64) }
-    ensures { slice_get (optional_indices T.number indices.now (mask_bits mask.now)) place ≡ Some (option_map (λ row. pos row) result) }
+    ensures { slice_get (optional_indices T.number indices.now (mask_bits mask.now)) place ≡
+        Some (option_map (λ row. pos row) result) }
 {
     if is_valid::<ALL, A>(mask, place) {
         Some(indices[place].widen() as usize)
@@ -79,7 +81,7 @@ pub fn are_sorted<T: NativePType, A: Allocator>(indices: &[T], mask: &Mask<A>) -
     }
 }
 
-// The same, where `ALL` says that no index is null.
+// Is no valid index below a valid one before it, where `ALL` says that no index is null?
 fn never_fall<const ALL: bool, T: NativePType, A: Allocator>(indices: &[T], mask: &Mask<A>) -> bool
     requires masked { length (mask_bits mask.now) ≡ length indices.now }
     requires all { ALL ≡ true → All (λ bit. bit ≡ true) (mask_bits mask.now) }

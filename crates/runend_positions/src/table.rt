@@ -39,7 +39,7 @@ fn position_of<P: UnsignedPType>(run: usize) -> P
     P::narrow(run as i128).unwrap()
 }
 
-// The same table, of positions that every run fits.
+// The table of the run of each row, of positions that every run fits.
 fn table_of<P: UnsignedPType, E: UnsignedPType, A: Allocator + Copy>(
     ends: &mut CountedEnds<'_, E>,
     alloc: A,
@@ -76,15 +76,17 @@ pub fn physical_indices_table<T: NativePType, A: Allocator + Copy>(
 ) -> VortexResult<Vec<u64, A>>
     requires some { 0 < item_count table.now }
     requires masked { item_count (mask_bits mask.now) ≡ item_count indices.now }
-    requires in_bounds { AreInBounds (optional_indices T.number indices.now (mask_bits mask.now)) (item_count table.now) }
+    requires in_bounds { AreInBounds (optional_indices T.number indices.now (mask_bits mask.now))
+        (item_count table.now) }
     ensures only { IsOkUnless result VortexError.OutOfMemory }
-    ensures items { IfOk result (λ runs. runs.items ≡ map (item_of table.now) (optional_indices T.number indices.now (mask_bits mask.now))) }
+    ensures items { IfOk result (λ runs. runs.items ≡
+        map (item_of table.now) (optional_indices T.number indices.now (mask_bits mask.now))) }
 {
     let runs = Vec::with_capacity(alloc, indices.len())?;
     Ok(look_up(table, runs, indices, mask))
 }
 
-// The same of a table of positions of any type, put into room that is there.
+// The table's item at each valid index, of a table of positions of any type, put into room that is there.
 fn look_up<P: UnsignedPType, T: NativePType, A: Allocator>(
     table: &[P],
     runs: Vec<u64, A>,
@@ -95,8 +97,10 @@ fn look_up<P: UnsignedPType, T: NativePType, A: Allocator>(
     requires room { item_count indices.now ≤ vec_capacity runs }
     requires some { 0 < item_count table.now }
     requires masked { item_count (mask_bits mask.now) ≡ item_count indices.now }
-    requires in_bounds { AreInBounds (optional_indices T.number indices.now (mask_bits mask.now)) (item_count table.now) }
-    ensures { result.items ≡ map (item_of (map P.natural table.now)) (optional_indices T.number indices.now (mask_bits mask.now)) }
+    requires in_bounds { AreInBounds (optional_indices T.number indices.now (mask_bits mask.now))
+        (item_count table.now) }
+    ensures { result.items ≡ map (item_of (map P.natural table.now)) (optional_indices T.number indices.now
+        (mask_bits mask.now)) }
 {
     if selects_all(mask) {
         looked_up::<true, P, T, A>(table, runs, indices, mask)
@@ -105,7 +109,7 @@ fn look_up<P: UnsignedPType, T: NativePType, A: Allocator>(
     }
 }
 
-// The same, where `ALL` says that no index is null.
+// The table's item at each valid index, put into room that is there, where `ALL` says that no index is null.
 fn looked_up<const ALL: bool, P: UnsignedPType, T: NativePType, A: Allocator>(
     table: &[P],
     mut runs: Vec<u64, A>,
@@ -117,8 +121,10 @@ fn looked_up<const ALL: bool, P: UnsignedPType, T: NativePType, A: Allocator>(
     requires some { 0 < item_count table.now }
     requires masked { item_count (mask_bits mask.now) ≡ item_count indices.now }
     requires all { ALL ≡ true → All (λ bit. bit ≡ true) (mask_bits mask.now) }
-    requires in_bounds { AreInBounds (optional_indices T.number indices.now (mask_bits mask.now)) (item_count table.now) }
-    ensures { result.items ≡ map (item_of (map P.natural table.now)) (optional_indices T.number indices.now (mask_bits mask.now)) }
+    requires in_bounds { AreInBounds (optional_indices T.number indices.now (mask_bits mask.now))
+        (item_count table.now) }
+    ensures { result.items ≡ map (item_of (map P.natural table.now)) (optional_indices T.number indices.now
+        (mask_bits mask.now)) }
 {
     for place in 0..indices.len() {
         let row = named_row::<ALL, T, A>(indices, mask, place).unwrap_or(0);
@@ -143,7 +149,8 @@ fn runs_in_table<P: UnsignedPType, E: UnsignedPType, T: NativePType, A: Allocato
     requires masked { item_count (mask_bits mask.now) ≡ item_count indices.now }
     requires in_bounds { AreInBounds (optional_indices T.number indices.now (mask_bits mask.now)) length }
     ensures only { IsOkUnless result VortexError.OutOfMemory }
-    ensures runs { IfOk result (λ runs. runs.items ≡ runs_of ends.old.ends offset (run_at ends.old.ends offset) (optional_indices T.number indices.now (mask_bits mask.now))) }
+    ensures runs { IfOk result (λ runs. runs.items ≡ runs_of ends.old.ends offset (run_at ends.old.ends offset)
+        (optional_indices T.number indices.now (mask_bits mask.now))) }
     ensures same { ends.new.ends ≡ ends.old.ends }
     ensures cost { ends.new.tests ≤ ends.old.tests + (item_count ends.old.ends - 1 + length) }
     ensures untested { OnErr result (ends.new.tests ≡ ends.old.tests) }
@@ -169,7 +176,8 @@ pub(crate) fn runs_by_table<E: UnsignedPType, T: NativePType, A: Allocator + Cop
     requires masked { item_count (mask_bits mask.now) ≡ item_count indices.now }
     requires in_bounds { AreInBounds (optional_indices T.number indices.now (mask_bits mask.now)) length }
     ensures only { IsOkUnless result VortexError.OutOfMemory }
-    ensures runs { IfOk result (λ runs. runs.items ≡ runs_of ends.old.ends offset (run_at ends.old.ends offset) (optional_indices T.number indices.now (mask_bits mask.now))) }
+    ensures runs { IfOk result (λ runs. runs.items ≡ runs_of ends.old.ends offset (run_at ends.old.ends offset)
+        (optional_indices T.number indices.now (mask_bits mask.now))) }
     ensures same { ends.new.ends ≡ ends.old.ends }
     ensures cost { ends.new.tests ≤ ends.old.tests + (item_count ends.old.ends - 1 + length) }
     ensures untested { OnErr result (ends.new.tests ≡ ends.old.tests) }

@@ -36,9 +36,12 @@ pub fn filter<A: Allocator + Copy>(
     mask: &Mask<A>,
     ctx: &mut ExecutionCtx<A>,
 ) -> VortexResult<ArrayRef<A>>
-    ensures refused { IsRefusedBy (filter_fault (length (mask_bits mask.now)) (length (column_rows (column_of_runs array.now)))) result }
-    ensures first { (error : VortexError) → filter_fault (length (mask_bits mask.now)) (length (column_rows (column_of_runs array.now))) ≡ Some error → IsErrOf result error }
-    ensures rows { IfOk result (λ kept. rows kept ≡ filter_rows (mask_bits mask.now) (column_rows (column_of_runs array.now))) }
+    ensures refused { IsRefusedBy (filter_fault (length (mask_bits mask.now))
+        (length (column_rows (column_of_runs array.now)))) result }
+    ensures first { (error : VortexError) → filter_fault (length (mask_bits mask.now))
+        (length (column_rows (column_of_runs array.now))) ≡ Some error → IsErrOf result error }
+    ensures rows { IfOk result (λ kept. rows kept ≡
+        filter_rows (mask_bits mask.now) (column_rows (column_of_runs array.now))) }
     ensures dtype { IfOk result (λ kept. dtype_of kept ≡ column_dtype array.now.values) }
     ensures form { IfOk result (λ kept. IsFilterForm ctx.old.thresholds array.now mask.now (column_of kept)) }
     ensures session { ctx.new ≡ ctx.old }
@@ -75,7 +78,8 @@ fn taken_directly<A: Allocator + Copy>(
 ) -> VortexResult<Canonical<A>>
     requires masked { length bits.now ≡ array.now.count }
     ensures only { IsOkUnless result VortexError.OutOfMemory }
-    ensures made { IfOk result (λ taken. IsComputedAs (filter_rows bits.now (column_rows (column_of_runs array.now))) (column_dtype array.now.values) (canonical_column taken)) }
+    ensures made { IfOk result (λ taken. IsComputedAs (filter_rows bits.now (column_rows (column_of_runs array.now)))
+        (column_dtype array.now.values) (canonical_column taken)) }
     ensures session { ctx.new ≡ ctx.old }
 {
     let places = set_places(*ctx.allocator(), bits)?;
@@ -94,7 +98,8 @@ fn filter_bits<A: Allocator + Copy>(
     ensures only { IsOkUnless result VortexError.OutOfMemory }
     ensures rows { IfOk result (λ kept. rows kept ≡ filter_rows bits.now (column_rows (column_of_runs array.now))) }
     ensures dtype { IfOk result (λ kept. dtype_of kept ≡ column_dtype array.now.values) }
-    ensures form { IfOk result (λ kept. IsSelectedForm (TakesDirectly (count_by (λ bit. bit) bits.now) (length array.now.ends) ctx.old.thresholds) array.now bits.now (column_of kept)) }
+    ensures form { IfOk result (λ kept. IsSelectedForm (TakesDirectly (count_by (λ bit. bit) bits.now)
+        (length array.now.ends) ctx.old.thresholds) array.now bits.now (column_of kept)) }
     ensures session { ctx.new ≡ ctx.old }
 {
     let alloc = *ctx.allocator();
@@ -108,7 +113,7 @@ fn filter_bits<A: Allocator + Copy>(
     ArrayRef::of_runs(alloc, kept)
 }
 
-// The same column, whose buffers are shared.
+// A copy of the column in its form, whose buffers are shared.
 fn unchanged<A: Allocator + Copy>(
     array: &RunEndArray<A>,
     ctx: &mut ExecutionCtx<A>,
@@ -129,7 +134,8 @@ fn all_rows<A: Allocator + Copy>(
     ensures only { IsOkUnless result VortexError.OutOfMemory }
     ensures rows { IfOk result (λ all. rows all ≡ column_rows (column_of_runs array.now)) }
     ensures dtype { IfOk result (λ all. dtype_of all ≡ column_dtype array.now.values) }
-    ensures form { IfOk result (λ all. IsWholeForm (is_numbers (column_dtype array.now.values)) array.now (column_of all)) }
+    ensures form { IfOk result (λ all. IsWholeForm (is_numbers (column_dtype array.now.values)) array.now
+        (column_of all)) }
     ensures session { ctx.new ≡ ctx.old }
 {
     if is_number_type(array.dtype()) {

@@ -32,9 +32,11 @@ pub(crate) fn selected_runs<A: Allocator + Copy>(
 ) -> VortexResult<RunEndArray<A>>
     requires masked { length bits.now ≡ array.now.count }
     ensures only { IsOkUnless result VortexError.OutOfMemory }
-    ensures rows { IfOk result (λ kept. column_rows (column_of_runs kept) ≡ filter_rows bits.now (column_rows (column_of_runs array.now))) }
+    ensures rows { IfOk result (λ kept. column_rows (column_of_runs kept) ≡
+        filter_rows bits.now (column_rows (column_of_runs array.now))) }
     ensures dtype { IfOk result (λ kept. column_dtype kept.values ≡ column_dtype array.now.values) }
-    ensures form { IfOk result (λ kept. AreLeftRuns (is_numbers (column_dtype array.now.values)) array.now bits.now kept) }
+    ensures form { IfOk result (λ kept. AreLeftRuns (is_numbers (column_dtype array.now.values)) array.now bits.now
+        kept) }
 {
     if is_number_type(array.dtype()) {
         return least_kept(alloc, array, bits);
@@ -65,7 +67,8 @@ fn kept_values<A: Allocator + Copy>(
 ) -> VortexResult<ArrayRef<A>>
     requires masked { length (mask_bits mask.now) ≡ length (rows values.now) }
     ensures only { IsOkUnless result VortexError.OutOfMemory }
-    ensures made { IfOk result (λ kept. IsComputedAs (filter_rows (mask_bits mask.now) (rows values.now)) (dtype_of values.now) (column_of kept)) }
+    ensures made { IfOk result (λ kept. IsComputedAs (filter_rows (mask_bits mask.now) (rows values.now))
+        (dtype_of values.now) (column_of kept)) }
 {
     let kept = select_values(alloc, values, mask)?;
     kept.into_array(alloc)
@@ -79,10 +82,13 @@ fn kept_parts<A: Allocator + Copy>(
 ) -> VortexResult<(PrimitiveArray<A>, ArrayRef<A>)>
     requires masked { length bits.now ≡ array.now.count }
     ensures only { IsOkUnless result VortexError.OutOfMemory }
-    ensures parts { IfOk result (λ parts. AreParts (OfLeaf (OfNumbers parts.0)) (column_of parts.1) 0 (count_by (λ bit. bit) bits.now)) }
-    ensures rows { IfOk result (λ parts. run_rows (ends_of parts.0) (rows parts.1) 0 (count_by (λ bit. bit) bits.now) ≡ filter_rows bits.now (column_rows (column_of_runs array.now))) }
+    ensures parts { IfOk result (λ parts. AreParts (OfLeaf (OfNumbers parts.0)) (column_of parts.1) 0 (count_by (λ bit.
+        bit) bits.now)) }
+    ensures rows { IfOk result (λ parts. run_rows (ends_of parts.0) (rows parts.1) 0 (count_by (λ bit. bit) bits.now) ≡
+        filter_rows bits.now (column_rows (column_of_runs array.now))) }
     ensures dtype { IfOk result (λ parts. dtype_of parts.1 ≡ column_dtype array.now.values) }
-    ensures form { IfOk result (λ parts. AreSelectedRuns array.now bits.now (runs_of (OfLeaf (OfNumbers parts.0)) (column_of parts.1) 0 (count_by (λ bit. bit) bits.now))) }
+    ensures form { IfOk result (λ parts. AreSelectedRuns array.now bits.now (runs_of (OfLeaf (OfNumbers parts.0))
+        (column_of parts.1) 0 (count_by (λ bit. bit) bits.now))) }
     ensures filled { IfOk result (λ parts. AllHaveRows (ends_of parts.0) 0 (count_by (λ bit. bit) bits.now)) }
 {
     let ends = match array.ends() {
@@ -109,7 +115,8 @@ fn kept_column<A: Allocator + Copy>(
 ) -> VortexResult<RunEndArray<A>>
     requires masked { length bits.now ≡ array.now.count }
     ensures only { IsOkUnless result VortexError.OutOfMemory }
-    ensures rows { IfOk result (λ kept. column_rows (column_of_runs kept) ≡ filter_rows bits.now (column_rows (column_of_runs array.now))) }
+    ensures rows { IfOk result (λ kept. column_rows (column_of_runs kept) ≡
+        filter_rows bits.now (column_rows (column_of_runs array.now))) }
     ensures dtype { IfOk result (λ kept. column_dtype kept.values ≡ column_dtype array.now.values) }
     ensures form { IfOk result (λ kept. AreSelectedRuns array.now bits.now kept) }
 {
@@ -140,7 +147,8 @@ fn least_kept<A: Allocator + Copy>(
     requires masked { length bits.now ≡ array.now.count }
     requires numbers { is_numbers (column_dtype array.now.values) ≡ true }
     ensures only { IsOkUnless result VortexError.OutOfMemory }
-    ensures rows { IfOk result (λ kept. column_rows (column_of_runs kept) ≡ filter_rows bits.now (column_rows (column_of_runs array.now))) }
+    ensures rows { IfOk result (λ kept. column_rows (column_of_runs kept) ≡
+        filter_rows bits.now (column_rows (column_of_runs array.now))) }
     ensures dtype { IfOk result (λ kept. column_dtype kept.values ≡ column_dtype array.now.values) }
     ensures form { IfOk result (λ kept. AreLeastRuns array.now.ends_type kept) }
 {

@@ -33,7 +33,8 @@ pub fn filter_run_end_primitive<E: UnsignedPType, A: Allocator + Copy>(
     requires last { 0 < length → offset + length ≤ last_end (map E.natural ends.now) }
     requires masked { item_count mask.now ≡ length }
     ensures only { IsOkUnless result VortexError.OutOfMemory }
-    ensures kept { IfOk result (λ parts. AreKept (map E.natural ends.now) offset mask.now (mask_bits parts.1) (ends_of parts.0)) }
+    ensures kept { IfOk result (λ parts. AreKept (map E.natural ends.now) offset mask.now (mask_bits parts.1)
+        (ends_of parts.0)) }
     ensures typed { IfOk result (λ parts. parts.0.ptype ≡ E.PTYPE) }
     ensures required { IfOk result (λ parts. parts.0.validity ≡ NeverNull) }
     ensures normal { IfOk result (λ parts. IsNormalMask parts.1) }
@@ -47,7 +48,7 @@ pub fn filter_run_end_primitive<E: UnsignedPType, A: Allocator + Copy>(
     parts
 }
 
-/// The same for the ends of a buffer.
+/// The kept runs and their ends, as `filter_run_end_primitive` makes them, for the ends of a buffer.
 pub(crate) fn filter_ends<A: Allocator + Copy>(
     alloc: A,
     ends: &PrimitiveValues<A>,
@@ -60,7 +61,8 @@ pub(crate) fn filter_ends<A: Allocator + Copy>(
     requires last { 0 < count → offset + count ≤ last_end (map unsigned_abs (numbers ends.now)) }
     requires masked { item_count mask.now ≡ count }
     ensures only { IsOkUnless result VortexError.OutOfMemory }
-    ensures kept { IfOk result (λ parts. AreKept (map unsigned_abs (numbers ends.now)) offset mask.now (mask_bits parts.1) (ends_of parts.0)) }
+    ensures kept { IfOk result (λ parts. AreKept (map unsigned_abs (numbers ends.now)) offset mask.now
+        (mask_bits parts.1) (ends_of parts.0)) }
     ensures typed { IfOk result (λ parts. parts.0.ptype ≡ ptype_of ends.now) }
     ensures required { IfOk result (λ parts. parts.0.validity ≡ NeverNull) }
     ensures normal { IfOk result (λ parts. IsNormalMask parts.1) }
@@ -83,7 +85,8 @@ fn filter_stored<E: UnsignedPType, A: Allocator + Copy>(
     requires last { 0 < count → offset + count ≤ last_end (map unsigned_abs (map E.number ends.now)) }
     requires masked { item_count mask.now ≡ count }
     ensures only { IsOkUnless result VortexError.OutOfMemory }
-    ensures kept { IfOk result (λ parts. AreKept (map unsigned_abs (map E.number ends.now)) offset mask.now (mask_bits parts.1) (ends_of parts.0)) }
+    ensures kept { IfOk result (λ parts. AreKept (map unsigned_abs (map E.number ends.now)) offset mask.now
+        (mask_bits parts.1) (ends_of parts.0)) }
     ensures typed { IfOk result (λ parts. parts.0.ptype ≡ E.PTYPE) }
     ensures required { IfOk result (λ parts. parts.0.validity ≡ NeverNull) }
     ensures normal { IfOk result (λ parts. IsNormalMask parts.1) }
@@ -106,7 +109,8 @@ fn kept_runs<E: UnsignedPType, A: Allocator + Copy>(
     requires last { 0 < count → offset + count ≤ last_end (map unsigned_abs (map E.number ends.now)) }
     requires masked { item_count mask.now ≡ count }
     ensures only { IsOkUnless result VortexError.OutOfMemory }
-    ensures kept { IfOk result (λ parts. AreKept (map unsigned_abs (map E.number ends.now)) offset mask.now parts.1 (map unsigned_abs (map E.number parts.0.items))) }
+    ensures kept { IfOk result (λ parts. AreKept (map unsigned_abs (map E.number ends.now)) offset mask.now parts.1
+        (map unsigned_abs (map E.number parts.0.items))) }
 {
     let mut kept_ends = Vec::with_capacity(alloc, ends.len())?;
     let mut kept = BitBufferMut::with_capacity(alloc, ends.len())?;

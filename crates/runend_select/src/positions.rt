@@ -32,7 +32,8 @@ pub fn physical_indices<E: UnsignedPType, T: NativePType, A: Allocator + Copy>(
     ensures picked { let places = optional_indices T.number indices.now (mask_bits mask.now) in (strategy : Strategy)
         × IsPicked places (item_count ends.old.ends) length (picks_of ctx.old.thresholds) strategy
         × IfOk result (λ runs. runs.items ≡ answer_of strategy ends.old.ends offset places)
-        × (ends.new.tests ≤ ends.old.tests + most_tests strategy (valid_count places) (item_count ends.old.ends) length) }
+        × (ends.new.tests ≤ ends.old.tests + most_tests strategy (valid_count places)
+        (item_count ends.old.ends) length) }
     ensures same { ends.new.ends ≡ ends.old.ends }
     ensures untested { OnErr result (ends.new.tests ≡ ends.old.tests) }
     ensures session { ctx.new ≡ ctx.old }

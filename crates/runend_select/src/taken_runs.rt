@@ -35,11 +35,14 @@ pub(crate) fn taken_rows<T: NativePType, A: Allocator + Copy>(
     ctx: &mut ExecutionCtx<A>,
 ) -> VortexResult<Canonical<A>>
     requires fits { HasLength (form_of validity.now) (length indices.now) }
-    requires in_bounds { AreInBounds (optional_indices T.number indices.now (flags (form_of validity.now) (length indices.now))) array.now.count }
+    requires in_bounds { AreInBounds (optional_indices T.number indices.now (flags (form_of validity.now)
+        (length indices.now))) array.now.count }
     ensures only { IsOkUnless result VortexError.OutOfMemory }
     ensures made { IfOk result (λ taken. IsComputedAs
-        (take_rows (column_rows (column_of_runs array.now)) (optional_indices T.number indices.now (flags (form_of validity.now) (length indices.now))))
-        (dtype_with (column_dtype array.now.values) (either_nullable (nullability_of (column_dtype array.now.values)) (nullability_in (form_of validity.now))))
+        (take_rows (column_rows (column_of_runs array.now)) (optional_indices T.number indices.now
+        (flags (form_of validity.now) (length indices.now))))
+        (dtype_with (column_dtype array.now.values) (either_nullable (nullability_of (column_dtype array.now.values))
+        (nullability_in (form_of validity.now))))
         (canonical_column taken)) }
     ensures session { ctx.new ≡ ctx.old }
 {
@@ -85,14 +88,15 @@ fn runs_by<E: UnsignedPType, T: NativePType, A: Allocator + Copy>(
     requires masked { length (mask_bits mask.now) ≡ length indices.now }
     requires in_bounds { AreInBounds (optional_indices T.number indices.now (mask_bits mask.now)) count }
     ensures only { IsOkUnless result VortexError.OutOfMemory }
-    ensures runs { IfOk result (λ runs. AreRunsOf (map unsigned_abs (map E.number ends.now)) offset (optional_indices T.number indices.now (mask_bits mask.now)) runs.items) }
+    ensures runs { IfOk result (λ runs. AreRunsOf (map unsigned_abs (map E.number ends.now)) offset
+        (optional_indices T.number indices.now (mask_bits mask.now)) runs.items) }
     ensures session { ctx.new ≡ ctx.old }
 {
     let mut counted = CountedEnds::new(ends);
     physical_indices(&mut counted, offset, count, indices, mask, ctx)
 }
 
-// The same for the ends of a buffer.
+// The run of each valid index, of indices of `count` rows from position `offset` on, for the ends of a buffer.
 fn runs_among<T: NativePType, A: Allocator + Copy>(
     ends: &PrimitiveValues<A>,
     offset: usize,
@@ -107,10 +111,12 @@ fn runs_among<T: NativePType, A: Allocator + Copy>(
     requires masked { length (mask_bits mask.now) ≡ length indices.now }
     requires in_bounds { AreInBounds (optional_indices T.number indices.now (mask_bits mask.now)) count }
     ensures only { IsOkUnless result VortexError.OutOfMemory }
-    ensures runs { IfOk result (λ runs. AreRunsOf (map unsigned_abs (numbers ends.now)) offset (optional_indices T.number indices.now (mask_bits mask.now)) runs.items) }
+    ensures runs { IfOk result (λ runs. AreRunsOf (map unsigned_abs (numbers ends.now)) offset
+        (optional_indices T.number indices.now (mask_bits mask.now)) runs.items) }
     ensures session { ctx.new ≡ ctx.old }
 {
-    match_each_unsigned!(ends, items => runs_by(items.as_slice(), offset, count, indices, mask, ctx), _ => unreachable!())
+    match_each_unsigned!(ends, items => runs_by(items.as_slice(), offset, count, indices, mask, ctx),
+    _ => unreachable!())
 }
 
 // The run of each valid index.
@@ -121,9 +127,11 @@ fn runs_of_indices<T: NativePType, A: Allocator + Copy>(
     ctx: &mut ExecutionCtx<A>,
 ) -> VortexResult<Vec<u64, A>>
     requires fits { HasLength (form_of validity.now) (length indices.now) }
-    requires in_bounds { AreInBounds (optional_indices T.number indices.now (flags (form_of validity.now) (length indices.now))) array.now.count }
+    requires in_bounds { AreInBounds (optional_indices T.number indices.now (flags (form_of validity.now)
+        (length indices.now))) array.now.count }
     ensures only { IsOkUnless result VortexError.OutOfMemory }
-    ensures runs { IfOk result (λ runs. AreRunsOf array.now.ends array.now.offset (optional_indices T.number indices.now (flags (form_of validity.now) (length indices.now))) runs.items) }
+    ensures runs { IfOk result (λ runs. AreRunsOf array.now.ends array.now.offset (optional_indices T.number indices.now
+        (flags (form_of validity.now) (length indices.now))) runs.items) }
     ensures session { ctx.new ≡ ctx.old }
 {
     let alloc = *ctx.allocator();

@@ -33,11 +33,15 @@ pub fn take_indices_unchecked<T: NativePType, A: Allocator + Copy>(
     ctx: &mut ExecutionCtx<A>,
 ) -> VortexResult<ArrayRef<A>>
     requires fits { HasLength (form_of validity.now) (length indices.now) }
-    requires in_bounds { AreInBounds (optional_indices T.number indices.now (flags (form_of validity.now) (length indices.now))) (length (column_rows (column_of_runs array.now))) }
+    requires in_bounds { AreInBounds (optional_indices T.number indices.now (flags (form_of validity.now)
+        (length indices.now))) (length (column_rows (column_of_runs array.now))) }
     ensures only { IsOkUnless result VortexError.OutOfMemory }
-    ensures rows { IfOk result (λ taken. rows taken ≡ take_rows (column_rows (column_of_runs array.now)) (optional_indices T.number indices.now (flags (form_of validity.now) (length indices.now)))) }
-    ensures dtype { IfOk result (λ taken. dtype_of taken ≡ dtype_with (column_dtype array.now.values) (either_nullable (nullability_of (column_dtype array.now.values)) (nullability_in (form_of validity.now)))) }
-    ensures form { IfOk result (λ taken. IsTakeForm (optional_indices T.number indices.now (flags (form_of validity.now) (length indices.now))) (column_of taken)) }
+    ensures rows { IfOk result (λ taken. rows taken ≡ take_rows (column_rows (column_of_runs array.now))
+        (optional_indices T.number indices.now (flags (form_of validity.now) (length indices.now)))) }
+    ensures dtype { IfOk result (λ taken. dtype_of taken ≡ dtype_with (column_dtype array.now.values)
+        (either_nullable (nullability_of (column_dtype array.now.values)) (nullability_in (form_of validity.now)))) }
+    ensures form { IfOk result (λ taken. IsTakeForm (optional_indices T.number indices.now (flags (form_of validity.now)
+        (length indices.now))) (column_of taken)) }
     ensures session { ctx.new ≡ ctx.old }
 {
     if are_all_null(validity, indices.len()) {
@@ -59,10 +63,14 @@ pub fn take<A: Allocator + Copy>(
     indices: &PrimitiveArray<A>,
     ctx: &mut ExecutionCtx<A>,
 ) -> VortexResult<ArrayRef<A>>
-    ensures refused { IsRefusedBy (take_fault (optional_numbers indices.now) (length (column_rows (column_of_runs array.now)))) result }
-    ensures first { (error : VortexError) → take_fault (optional_numbers indices.now) (length (column_rows (column_of_runs array.now))) ≡ Some error → IsErrOf result error }
-    ensures rows { IfOk result (λ taken. rows taken ≡ take_rows (column_rows (column_of_runs array.now)) (optional_numbers indices.now)) }
-    ensures dtype { IfOk result (λ taken. dtype_of taken ≡ take_dtype (column_dtype array.now.values) (primitive_dtype indices.now)) }
+    ensures refused { IsRefusedBy (take_fault (optional_numbers indices.now)
+        (length (column_rows (column_of_runs array.now)))) result }
+    ensures first { (error : VortexError) → take_fault (optional_numbers indices.now)
+        (length (column_rows (column_of_runs array.now))) ≡ Some error → IsErrOf result error }
+    ensures rows { IfOk result (λ taken. rows taken ≡
+        take_rows (column_rows (column_of_runs array.now)) (optional_numbers indices.now)) }
+    ensures dtype { IfOk result (λ taken. dtype_of taken ≡
+        take_dtype (column_dtype array.now.values) (primitive_dtype indices.now)) }
     ensures form { IfOk result (λ taken. IsTakeForm (optional_numbers indices.now) (column_of taken)) }
     ensures session { ctx.new ≡ ctx.old }
 {
@@ -94,7 +102,8 @@ fn check_place<const ALL: bool, T: NativePType, A: Allocator>(
     requires there { place < length indices.now }
     requires fits { HasLength (form_of validity.now) (length indices.now) }
     requires all { ALL ≡ true → (row : ℕ) → flag_at (form_of validity.now) row ≡ true }
-    ensures { (index : Option ℤ) × (slice_get (optional_indices T.number indices.now (flags (form_of validity.now) (length indices.now))) place ≡ Some index)
+    ensures { (index : Option ℤ) × (slice_get (optional_indices T.number indices.now (flags (form_of validity.now)
+        (length indices.now))) place ≡ Some index)
         × IsToldBy (index_fault count index) result }
 {
     if !is_valid::<ALL, A>(validity, place) {
@@ -115,7 +124,8 @@ fn check_each<const ALL: bool, T: NativePType, A: Allocator>(
 ) -> VortexResult<()>
     requires fits { HasLength (form_of validity.now) (length indices.now) }
     requires all { ALL ≡ true → (row : ℕ) → flag_at (form_of validity.now) row ≡ true }
-    ensures { IsToldBy (take_fault (optional_indices T.number indices.now (flags (form_of validity.now) (length indices.now))) count) result }
+    ensures { IsToldBy (take_fault (optional_indices T.number indices.now (flags (form_of validity.now)
+        (length indices.now))) count) result }
 {
     for place in 0..indices.len() {
         check_place::<ALL, T, A>(indices, validity, place, count)?;
@@ -123,14 +133,16 @@ fn check_each<const ALL: bool, T: NativePType, A: Allocator>(
     Ok(())
 }
 
-// The same, where some may be null.
+// Is each index null, or one of `count` rows, where some may be null? Refused as `OutOfBounds`, with the index and the
+// number of rows, at the first that is not.
 fn check_indices<T: NativePType, A: Allocator>(
     indices: &[T],
     validity: &Validity<A>,
     count: usize,
 ) -> VortexResult<()>
     requires fits { HasLength (form_of validity.now) (length indices.now) }
-    ensures { IsToldBy (take_fault (optional_indices T.number indices.now (flags (form_of validity.now) (length indices.now))) count) result }
+    ensures { IsToldBy (take_fault (optional_indices T.number indices.now (flags (form_of validity.now)
+        (length indices.now))) count) result }
 {
     match validity {
         Validity::NonNullable => check_each::<true, T, A>(indices, validity, count),
@@ -169,11 +181,17 @@ fn take_native<T: NativePType, A: Allocator + Copy>(
     ctx: &mut ExecutionCtx<A>,
 ) -> VortexResult<ArrayRef<A>>
     requires fits { HasLength (form_of validity.now) (length indices.now) }
-    ensures refused { IsRefusedBy (take_fault (optional_numbers (primitive_with T.PTYPE (map T.number indices.now) (form_of validity.now))) (length (column_rows (column_of_runs array.now)))) result }
-    ensures first { (error : VortexError) → take_fault (optional_numbers (primitive_with T.PTYPE (map T.number indices.now) (form_of validity.now))) (length (column_rows (column_of_runs array.now))) ≡ Some error → IsErrOf result error }
-    ensures rows { IfOk result (λ taken. rows taken ≡ take_rows (column_rows (column_of_runs array.now)) (optional_numbers (primitive_with T.PTYPE (map T.number indices.now) (form_of validity.now)))) }
-    ensures dtype { IfOk result (λ taken. dtype_of taken ≡ take_dtype (column_dtype array.now.values) (primitive_dtype (primitive_with T.PTYPE (map T.number indices.now) (form_of validity.now)))) }
-    ensures form { IfOk result (λ taken. IsTakeForm (optional_numbers (primitive_with T.PTYPE (map T.number indices.now) (form_of validity.now))) (column_of taken)) }
+    ensures refused { IsRefusedBy (take_fault (optional_numbers (primitive_with T.PTYPE (map T.number indices.now)
+        (form_of validity.now))) (length (column_rows (column_of_runs array.now)))) result }
+    ensures first { (error : VortexError) → take_fault (optional_numbers (primitive_with T.PTYPE
+        (map T.number indices.now) (form_of validity.now))) (length (column_rows (column_of_runs array.now))) ≡
+        Some error → IsErrOf result error }
+    ensures rows { IfOk result (λ taken. rows taken ≡ take_rows (column_rows (column_of_runs array.now))
+        (optional_numbers (primitive_with T.PTYPE (map T.number indices.now) (form_of validity.now)))) }
+    ensures dtype { IfOk result (λ taken. dtype_of taken ≡ take_dtype (column_dtype array.now.values)
+        (primitive_dtype (primitive_with T.PTYPE (map T.number indices.now) (form_of validity.now)))) }
+    ensures form { IfOk result (λ taken. IsTakeForm (optional_numbers (primitive_with T.PTYPE (map T.number indices.now)
+        (form_of validity.now))) (column_of taken)) }
     ensures session { ctx.new ≡ ctx.old }
 {
     check_indices(indices, validity, array.len())?;

@@ -22,10 +22,12 @@ pub fn merge_of_six_indices<E: UnsignedPType, T: NativePType, A: Allocator + Cop
     requires four { item_count four_runs.old.ends ≡ 4 }
     requires masked { item_count (mask_bits mask.now) ≡ item_count indices.now }
     requires six { valid_count (optional_indices T.number indices.now (mask_bits mask.now)) ≡ 6 }
-    requires in_window { AreInWindow four_runs.old.ends offset (optional_indices T.number indices.now (mask_bits mask.now)) }
+    requires in_window { AreInWindow four_runs.old.ends offset (optional_indices T.number indices.now
+        (mask_bits mask.now)) }
     requires sorted { AreSorted (optional_indices T.number indices.now (mask_bits mask.now)) }
     ensures only { IsOkUnless result VortexError.OutOfMemory }
-    ensures runs { IfOk result (λ runs. runs.items ≡ runs_of four_runs.old.ends offset 0 (optional_indices T.number indices.now (mask_bits mask.now))) }
+    ensures runs { IfOk result (λ runs. runs.items ≡
+        runs_of four_runs.old.ends offset 0 (optional_indices T.number indices.now (mask_bits mask.now))) }
     ensures same { four_runs.new.ends ≡ four_runs.old.ends }
     ensures cost { four_runs.new.tests ≤ four_runs.old.tests + 9 }
 {
@@ -43,9 +45,11 @@ pub fn search_of_six_indices<E: UnsignedPType, T: NativePType, A: Allocator + Co
     requires four { item_count four_runs.old.ends ≡ 4 }
     requires masked { item_count (mask_bits mask.now) ≡ item_count indices.now }
     requires six { valid_count (optional_indices T.number indices.now (mask_bits mask.now)) ≡ 6 }
-    requires in_window { AreInWindow four_runs.old.ends offset (optional_indices T.number indices.now (mask_bits mask.now)) }
+    requires in_window { AreInWindow four_runs.old.ends offset (optional_indices T.number indices.now
+        (mask_bits mask.now)) }
     ensures only { IsOkUnless result VortexError.OutOfMemory }
-    ensures runs { IfOk result (λ runs. runs.items ≡ runs_of four_runs.old.ends offset 0 (optional_indices T.number indices.now (mask_bits mask.now))) }
+    ensures runs { IfOk result (λ runs. runs.items ≡
+        runs_of four_runs.old.ends offset 0 (optional_indices T.number indices.now (mask_bits mask.now))) }
     ensures same { four_runs.new.ends ≡ four_runs.old.ends }
     ensures cost { four_runs.new.tests ≤ four_runs.old.tests + 18 }
 {
@@ -63,9 +67,11 @@ pub fn sort_of_four_indices<E: UnsignedPType, T: NativePType, A: Allocator + Cop
     requires four { item_count four_runs.old.ends ≡ 4 }
     requires masked { item_count (mask_bits mask.now) ≡ item_count indices.now }
     requires four_valid { valid_count (optional_indices T.number indices.now (mask_bits mask.now)) ≡ 4 }
-    requires in_window { AreInWindow four_runs.old.ends offset (optional_indices T.number indices.now (mask_bits mask.now)) }
+    requires in_window { AreInWindow four_runs.old.ends offset (optional_indices T.number indices.now
+        (mask_bits mask.now)) }
     ensures only { IsOkUnless result VortexError.OutOfMemory }
-    ensures runs { IfOk result (λ runs. runs.items ≡ runs_of four_runs.old.ends offset 0 (optional_indices T.number indices.now (mask_bits mask.now))) }
+    ensures runs { IfOk result (λ runs. runs.items ≡
+        runs_of four_runs.old.ends offset 0 (optional_indices T.number indices.now (mask_bits mask.now))) }
     ensures same { four_runs.new.ends ≡ four_runs.old.ends }
     ensures cost { four_runs.new.tests ≤ four_runs.old.tests + 7 }
 {
@@ -83,9 +89,11 @@ pub fn search_of_four_indices<E: UnsignedPType, T: NativePType, A: Allocator + C
     requires four { item_count four_runs.old.ends ≡ 4 }
     requires masked { item_count (mask_bits mask.now) ≡ item_count indices.now }
     requires four_valid { valid_count (optional_indices T.number indices.now (mask_bits mask.now)) ≡ 4 }
-    requires in_window { AreInWindow four_runs.old.ends offset (optional_indices T.number indices.now (mask_bits mask.now)) }
+    requires in_window { AreInWindow four_runs.old.ends offset (optional_indices T.number indices.now
+        (mask_bits mask.now)) }
     ensures only { IsOkUnless result VortexError.OutOfMemory }
-    ensures runs { IfOk result (λ runs. runs.items ≡ runs_of four_runs.old.ends offset 0 (optional_indices T.number indices.now (mask_bits mask.now))) }
+    ensures runs { IfOk result (λ runs. runs.items ≡
+        runs_of four_runs.old.ends offset 0 (optional_indices T.number indices.now (mask_bits mask.now))) }
     ensures same { four_runs.new.ends ≡ four_runs.old.ends }
     ensures cost { four_runs.new.tests ≤ four_runs.old.tests + 12 }
 {
@@ -107,7 +115,8 @@ pub fn physical_indices_by_table<E: UnsignedPType, T: NativePType, A: Allocator 
     requires window { IsWindow four_runs.old.ends offset 12 }
     requires in_bounds { AreInBounds (optional_indices T.number indices.now (mask_bits mask.now)) 12 }
     ensures only { IsOkUnless result VortexError.OutOfMemory }
-    ensures runs { IfOk result (λ runs. (null : ℕ) × (runs.items ≡ runs_of four_runs.old.ends offset null (optional_indices T.number indices.now (mask_bits mask.now)))) }
+    ensures runs { IfOk result (λ runs. (null : ℕ) × (runs.items ≡
+        runs_of four_runs.old.ends offset null (optional_indices T.number indices.now (mask_bits mask.now)))) }
     ensures same { four_runs.new.ends ≡ four_runs.old.ends }
     ensures cost { four_runs.new.tests ≤ four_runs.old.tests + 15 }
 {
@@ -135,7 +144,8 @@ pub fn physical_indices_by_halves<E: UnsignedPType, T: NativePType, A: Allocator
     requires window { IsWindow four_runs.old.ends offset 12 }
     requires in_bounds { AreInBounds (optional_indices T.number indices.now (mask_bits mask.now)) 12 }
     ensures only { IsOkUnless result VortexError.OutOfMemory }
-    ensures runs { IfOk result (λ runs. runs.items ≡ runs_of four_runs.old.ends offset 0 (optional_indices T.number indices.now (mask_bits mask.now))) }
+    ensures runs { IfOk result (λ runs. runs.items ≡
+        runs_of four_runs.old.ends offset 0 (optional_indices T.number indices.now (mask_bits mask.now))) }
     ensures same { four_runs.new.ends ≡ four_runs.old.ends }
     ensures cost { four_runs.new.tests ≤ four_runs.old.tests + 12 }
 {
