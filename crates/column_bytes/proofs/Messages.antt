@@ -1,12 +1,10 @@
 -- Messages are read as they are written, and in no other way.
-use Rattle.std.proofs.Common.{◌≡◌, ℕ, ◌+◌, ◌*◌, ◌^◌, ◌<◌, ◌≤◌, true, List, ◌++◌, length, refl, sym, ap, subst, ◌∙◌, arith}
+use Rattle.std.proofs.Common.{◌≡◌, ℕ, ◌+◌, ◌-◌, ◌*◌, ◌^◌, ◌<◌, ◌≤◌, true, List, ◌++◌, length, refl, sym, ap, subst, ◌∙◌, arith}
 use Rattle.std.proofs.lemmas.List.{length-append}
 use Rattle.column_base.specs.declared.dtype.PType.{PType}
 use Rattle.column_base.specs.declared.dtype.DType.{DType}
 use Rattle.column_base.specs.declared.dtype.DType.TheVariants as dtype
-use Rattle.column_core.specs.DecimalForm.{DecimalForm}
-use Rattle.column_core.specs.VarBinForm.{VarBinForm}
-use Rattle.column_core.specs.Leaf.{OfNumbers, OfTruths, OfDecimals, OfVarBins}
+use Rattle.column_core.specs.Leaf.{Leaf, OfNumbers, OfTruths, OfDecimals, OfVarBins}
 use Rattle.varints.specs.Varint.{varint}
 use Rattle.column_fields.specs.Field.{number_field, bytes_field}
 use Rattle.column_fields.specs.Header.{header_bytes, HasNoHeader}
@@ -17,11 +15,10 @@ use Rattle.column_fields.proofs.EndReading.{lengths_same}
 use Rattle.column_fields.proofs.HeaderLaws.{header_same}
 use Rattle.column_fields.proofs.RunFieldLaws.{runs_same}
 use Rattle.column_fields.proofs.TypeLaws.{type_small}
-use Rattle.runend_array.specs.Column.{Column, Constant, Runs, OfLeaf, OfConstant, OfLists, OfRuns, AreRuns, column_of_runs, runs_with, column_dtype, depth}
-use Rattle.runend_array.specs.Lists.{Lists}
+use Rattle.runend_array.specs.Column.{Column, OfLeaf, OfConstant, OfLists, OfRuns, AreRuns, runs_with, column_dtype, depth}
 use Rattle.column_bytes.specs.Bytes.{kind_number, form_number, column_count, column_header, column_body, column_bytes, leaf_fields}
 use Rattle.column_bytes.specs.Stored.{IsStored}
-use Rattle.column_bytes.specs.Read.{IsWritable, IsMessage, IsNoMessage, IsBody, IsNoBody, HasNoEndsOf, AreRunsOf, AreNoRunsOf}
+use Rattle.column_bytes.specs.Read.{IsMessage, IsNoMessage, IsBody, IsNoBody, HasNoEndsOf, AreRunsOf, AreNoRunsOf}
 use Rattle.column_bytes.proofs.Ends.{ends_rise}
 use Rattle.column_bytes.proofs.Leaves.{leaf_body, numbers_at, truths_at, numbers_one, truths_one}
 
@@ -228,35 +225,3 @@ pub no_ends : (kind rows offset : ℕ) (t : PType) (lengths : List ℕ) (v : Col
 no_ends kind rows offset t lengths v absent = record {
   none = λ c r. absent.none r.ends r.fit (ends_rise t r.ends v offset rows r.fit r.runs) r.spelt;
 }
-
--- ---- flat columns alone
-
-pub no_decimals : (form : DecimalForm) → ¬ IsWritable 0 (OfLeaf (OfDecimals form))
-no_decimals form h = h.stored
-
-pub no_texts : (form : VarBinForm) → ¬ IsWritable 0 (OfLeaf (OfVarBins form))
-no_texts form h = h.stored
-
-pub no_constant : (constant : Constant) → ¬ IsWritable 0 (OfConstant constant)
-no_constant constant h = h.stored
-
-pub no_lists : (lists : Lists) → ¬ IsWritable 0 (OfLists lists)
-no_lists lists h = h.stored
-
-pub no_runs_written : (r : Runs) → ¬ IsWritable 0 (column_of_runs r)
-no_runs_written r h = omega (arith, h.shallow)
-
-no_other_at : (kind form rows : ℕ) (bytes : List ℕ) (c : Column) → (form ≡ 1 → ⊥) → IsBody 0 kind form rows bytes c → ⊥
-no_other_at kind form rows bytes (OfLeaf leaf) ne h = ne (sym h.form_is)
-no_other_at kind form rows bytes (OfRuns ends_type ends values offset count) ne h = omega (arith, h.writable.shallow)
-no_other_at kind form rows bytes (OfConstant constant) ne h = h.writable.stored
-no_other_at kind form rows bytes (OfLists lists) ne h = h.writable.stored
-
-pub no_other : (kind form rows : ℕ) (bytes : List ℕ) → (form ≡ 1 → ⊥) → IsNoBody 0 kind form rows bytes
-no_other kind form rows bytes ne = record { none = λ c h. no_other_at kind form rows bytes c ne h }
-
-pub flat_message : (kind form rows : ℕ) (bytes rest : List ℕ) (c : Column) → form ≡ 1 → bytes ≡ header_bytes kind form rows ++ rest → IsBody 0 kind 1 rows rest c → IsMessage 0 bytes c
-flat_message kind form rows bytes rest c is b h = is_message 0 0 kind 1 rows bytes rest c (omega arith) (b ∙ ap (λ (n : ℕ). header_bytes kind n rows ++ rest) is) h
-
-pub no_flat_body : (kind form rows : ℕ) (bytes rest : List ℕ) → kind < 2 ^ 64 → rows < 2 ^ 64 → form ≡ 1 → bytes ≡ header_bytes kind form rows ++ rest → IsNoBody 0 kind 1 rows rest → IsNoMessage 0 bytes
-no_flat_body kind form rows bytes rest p r is b absent = no_body 0 kind 1 rows bytes rest p (omega arith) r (b ∙ ap (λ (n : ℕ). header_bytes kind n rows ++ rest) is) absent

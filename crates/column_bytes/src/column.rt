@@ -1,4 +1,4 @@
-//! A column, written and read.
+//! A column of any form, written and read.
 ghost use Rattle.std.specs.Prelude.{◌≡◌, ◌++◌, IfOk, IfErr, IsErrOf, OnOk};
 ghost use Rattle.runend_array.specs.Array.{column_of};
 ghost use Rattle.column_bytes.specs.Bytes.{column_bytes};
@@ -6,68 +6,94 @@ ghost use Rattle.column_bytes.specs.Read.{IsMessage, IsNoMessage, IsWritable, Is
 ghost use Rattle.column_fields.specs.Refusal.{IsBadOrMemory};
 
 use crate::flat::{put_numbers, put_truths, read_leaf};
+use crate::runs::{put_runs, read_runs};
 use column_base::{VortexError, VortexResult};
-use column_fields::read_header;
-use runend_array::ArrayRef;
+use column_fields::{read_header, read_run_fields};
+use runend_array::{ArrayRef, RunEndArraySlotsExt};
 use std::alloc::Allocator;
 
+/// How many levels of runs a message has at most.
+pub const MOST_LEVELS: usize = 16;
+
 /// The message of a column, in memory of the allocator `alloc`. Refused as `Unsupported` exactly for a column that
-/// version 1 does not write, which is any but a flat column of whole numbers or of truth values; else as `OutOfMemory`
-/// alone.
-pub fn write_column<A: Allocator, B: Allocator>(
+/// version 1 does not write: one of decimals, texts, bytes or lists, a constant, runs over one of these, or more than
+/// 16 levels of runs; else as `OutOfMemory` alone.
+pub fn write_column<A: Allocator + Copy, B: Allocator + Copy>(
     array: &ArrayRef<A>,
     alloc: B,
 ) -> VortexResult<Vec<u8, B>>
     ensures bytes { IfOk result (λ out. out.items ≡ column_bytes (column_of array.now)) }
-    ensures writable { OnOk result (IsWritable 0 (column_of array.now)) }
-    ensures refused { IsErrOf result VortexError.Unsupported → ¬ IsWritable 0 (column_of array.now) }
+    ensures refused { IsErrOf result VortexError.Unsupported → ¬ IsWritable 16 (column_of array.now) }
+    ensures writable { OnOk result (IsWritable 16 (column_of array.now)) }
     ensures only { IfErr result IsUnsupportedOrMemory }
 {
     let mut out = Vec::new(alloc);
-    put_column(&mut out, array)?;
+    put_column(&mut out, array, MOST_LEVELS, alloc)?;
     Ok(out)
 }
 
 /// The column of which the bytes are the message. Refused as `BadMetadata` exactly where they are the message of no
-/// column that `write_column` accepts, else as `OutOfMemory` alone.
+/// column with at most 16 levels of runs, else as `OutOfMemory` alone.
 pub fn read_column<A: Allocator + Copy>(bytes: &[u8], alloc: A) -> VortexResult<ArrayRef<A>>
-    ensures found { IfOk result (λ array. IsMessage 0 bytes.now (column_of array)) }
-    ensures bad { IsErrOf result VortexError.BadMetadata → IsNoMessage 0 bytes.now }
+    ensures found { IfOk result (λ array. IsMessage 16 bytes.now (column_of array)) }
+    ensures bad { IsErrOf result VortexError.BadMetadata → IsNoMessage 16 bytes.now }
+    ensures only { IfErr result IsBadOrMemory }
+{
+    read_message(alloc, bytes, MOST_LEVELS)
+}
+
+// Writes the message of a column with at most so many levels of runs at the end.
+fn put_column<A: Allocator + Copy, B: Allocator + Copy>(
+    out: &mut Vec<u8, B>,
+    array: &ArrayRef<A>,
+    levels: usize,
+    alloc: B,
+) -> VortexResult<()>
+    ensures ok { OnOk result (out.new.items ≡ out.old.items ++ column_bytes (column_of array.now)) }
+    ensures writable { OnOk result (IsWritable levels (column_of array.now)) }
+    ensures refused { IsErrOf result VortexError.Unsupported → ¬ IsWritable levels (column_of array.now) }
+    ensures only { IfErr result IsUnsupportedOrMemory }
+{
+    match array {
+        ArrayRef::Primitive(numbers) => put_numbers(out, numbers),
+        ArrayRef::Bool(truths) => put_truths(out, truths),
+        ArrayRef::RunEnd(runs) => {
+            if levels == 0 {
+                return Err(VortexError::Unsupported);
+            }
+            let mut values = Vec::new(alloc);
+            put_column(&mut values, runs.values(), levels - 1, alloc)?;
+            put_runs(out, runs, &values, alloc)
+        }
+        _ => Err(VortexError::Unsupported),
+    }
+}
+
+// The column of which the bytes are the message, with at most so many levels of runs.
+fn read_message<A: Allocator + Copy>(
+    alloc: A,
+    bytes: &[u8],
+    levels: usize,
+) -> VortexResult<ArrayRef<A>>
+    ensures found { IfOk result (λ array. IsMessage levels bytes.now (column_of array)) }
+    ensures bad { IsErrOf result VortexError.BadMetadata → IsNoMessage levels bytes.now }
     ensures only { IfErr result IsBadOrMemory }
 {
     let Some((header, body)) = read_header(bytes) else {
         return Err(VortexError::BadMetadata);
     };
-    if header.form != 1 {
+    if header.form == 1 {
+        return read_leaf(alloc, header, body);
+    }
+    if header.form != 2 {
         return Err(VortexError::BadMetadata);
     }
-    read_leaf(alloc, header, body)
-}
-
-// Writes the message of a column at the end.
-#[tactic(auto, using(crate::proofs::Messages::no_decimals, crate::proofs::Messages::no_texts, crate::proofs::Messages::no_constant, crate::proofs::Messages::no_lists, crate::proofs::Messages::no_runs_written))]
-fn put_column<A: Allocator, B: Allocator>(
-    out: &mut Vec<u8, B>,
-    array: &ArrayRef<A>,
-) -> VortexResult<()>
-    ensures ok { OnOk result (out.new.items ≡ out.old.items ++ column_bytes (column_of array.now)) }
-    ensures writable { OnOk result (IsWritable 0 (column_of array.now)) }
-    ensures refused { IsErrOf result VortexError.Unsupported → ¬ IsWritable 0 (column_of array.now) }
-    ensures only { IfErr result IsUnsupportedOrMemory }
-{
-    match array {
-        ArrayRef::Primitive(numbers) => {
-            put_numbers(out, numbers)?;
-            Ok(())
-        }
-        ArrayRef::Bool(truths) => {
-            put_truths(out, truths)?;
-            Ok(())
-        }
-        ArrayRef::Decimal(_) => Err(VortexError::Unsupported),
-        ArrayRef::VarBinView(_) => Err(VortexError::Unsupported),
-        ArrayRef::ListView(_) => Err(VortexError::Unsupported),
-        ArrayRef::Constant(_) => Err(VortexError::Unsupported),
-        ArrayRef::RunEnd(_) => Err(VortexError::Unsupported),
+    if levels == 0 {
+        return Err(VortexError::BadMetadata);
     }
+    let Some(fields) = read_run_fields(body) else {
+        return Err(VortexError::BadMetadata);
+    };
+    let values = read_message(alloc, fields.values, levels - 1)?;
+    read_runs(alloc, header, fields, values)
 }

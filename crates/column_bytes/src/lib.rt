@@ -4,6 +4,7 @@
 mod column;
 mod flat;
 pub mod laws;
+mod runs;
 
-pub use column::{read_column, write_column};
+pub use column::{MOST_LEVELS, read_column, write_column};
 pub use column_base::{VortexError, VortexResult};

@@ -6,5 +6,5 @@ use Rattle.column_bytes.proofs.laws.write_then_read.Goals as goal
 
 pub returns-in-Ok-clause-same : goal.returns-in-Ok-clause-same
 returns-in-Ok-clause-same g c =
-    let written : IsMessage 0 c.deref.result.now (column_of c.args.array.now) = record { writable = c.in_ok-bytes.ensures.writable; spelt = c.deref.ensures.value ∙ c.in_ok-bytes.ensures.bytes } in
-    message_one 0 0 c.deref.result.now (column_of c.in-Ok.read) (column_of c.args.array.now) (omega arith) c.in-Ok.ensures.found written
+    let written : IsMessage 16 c.deref.result.now (column_of c.args.array.now) = record { writable = c.in_ok-bytes.ensures.writable; spelt = c.deref.ensures.value ∙ c.in_ok-bytes.ensures.bytes } in
+    message_one 16 16 c.deref.result.now (column_of c.in-Ok.read) (column_of c.args.array.now) (omega arith) c.in-Ok.ensures.found written

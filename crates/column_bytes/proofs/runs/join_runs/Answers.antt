@@ -1,0 +1,1 @@
+use Rattle.column_bytes.proofs.runs.join_runs.Goals as goal

@@ -1,0 +1,149 @@
+//! Run columns over values that are read and written by themselves.
+ghost use Rattle.std.specs.Prelude.{◌≡◌, ◌++◌, OnOk, IfOk, IfErr, IsErrOf, IsOkUnless};
+ghost use Rattle.column_core.specs.PrimitiveForm.{primitive_dtype};
+ghost use Rattle.runend_codec.specs.Ends.{IsEndsType, ends_of};
+ghost use Rattle.runend_array.specs.Array.{column_of, dtype_of};
+ghost use Rattle.runend_array.specs.Column.{OfRuns, AreRuns, column_of_runs, runs_with};
+ghost use Rattle.column_fields.specs.Lengths.{AreEndsOf};
+ghost use Rattle.column_fields.specs.Refusal.{IsBadOrMemory};
+ghost use Rattle.column_bytes.specs.Bytes.{column_bytes, kind_number};
+ghost use Rattle.column_bytes.specs.Read.{AreRunsOf, AreNoRunsOf, IsEndsColumn, HasNoEndsOf};
+
+use column_base::{DType, PType, Validity, VortexError, VortexResult};
+use column_core::PrimitiveArray;
+use column_fields::{
+    Header, RunFields, ends_values, load_ends, number_of_type, put_header, put_lengths_of,
+    put_run_fields,
+};
+use runend_array::{
+    ArrayRef, RunEnd, RunEndArray, RunEndArrayExt, RunEndArraySlotsExt, validate_parts,
+};
+use std::alloc::Allocator;
+
+/// Writes a run column at the end, where these are the bytes of its values. Refused as `OutOfMemory` alone.
+pub(crate) fn put_runs<A: Allocator + Copy, B: Allocator + Copy>(
+    out: &mut Vec<u8, B>,
+    runs: &RunEndArray<A>,
+    values: &[u8],
+    alloc: B,
+) -> VortexResult<()>
+    requires { values.now ≡ column_bytes runs.now.values }
+    ensures ok { OnOk result (out.new.items ≡ out.old.items ++ column_bytes (column_of_runs runs.now)) }
+    ensures fit { OnOk result (AreEndsOf runs.now.ends_type runs.now.ends) }
+    ensures runs { AreRuns runs.now }
+    ensures only { IsOkUnless result VortexError.OutOfMemory }
+{
+    let ArrayRef::Primitive(ends) = runs.ends() else {
+        unreachable!()
+    };
+    let mut lengths = Vec::new(alloc);
+    put_lengths_of(&mut lengths, ends.values())?;
+    let kind = number_of_kind(runs.dtype());
+    put_header(
+        out,
+        Header {
+            kind,
+            form: 2,
+            rows: runs.len() as u64,
+        },
+    )?;
+    put_run_fields(out, runs.offset() as u64, ends.ptype(), &lengths, values)?;
+    Ok(())
+}
+
+/// The run column behind this header, with these fields and values. Refused as `BadMetadata` exactly where they make
+/// none, else as `OutOfMemory` alone.
+pub(crate) fn read_runs<A: Allocator + Copy>(
+    alloc: A,
+    header: Header,
+    fields: RunFields<'_>,
+    values: ArrayRef<A>,
+) -> VortexResult<ArrayRef<A>>
+    ensures found { IfOk result (λ array. AreRunsOf header.kind header.rows fields.entry.offset
+        fields.entry.ends_type fields.entry.lengths.now (column_of values) (column_of array)) }
+    ensures bad { IsErrOf result VortexError.BadMetadata → AreNoRunsOf header.kind header.rows fields.entry.offset
+        fields.entry.ends_type fields.entry.lengths.now (column_of values) }
+    ensures only { IfErr result IsBadOrMemory }
+{
+    match read_ends(alloc, fields.ends_type, fields.lengths) {
+        Ok(ends) => {
+            let (offset, rows) = (fields.offset as usize, header.rows as usize);
+            match join_runs(alloc, header.kind, ends, values, offset, rows) {
+                Ok(array) => Ok(array),
+                Err(error) => Err(error),
+            }
+        }
+        Err(error) => {
+            drop(values);
+            Err(error)
+        }
+    }
+}
+
+// The ends of that type of which these are the run lengths.
+fn read_ends<A: Allocator + Copy>(
+    alloc: A,
+    ends_type: PType,
+    lengths: &[u8],
+) -> VortexResult<PrimitiveArray<A>>
+    ensures found { IfOk result (λ ends. IsEndsColumn ends_type lengths.now ends) }
+    ensures bad { IsErrOf result VortexError.BadMetadata → HasNoEndsOf ends_type lengths.now }
+    ensures only { IfErr result IsBadOrMemory }
+{
+    let ends = load_ends(alloc, lengths)?;
+    match ends_values(alloc, ends_type, &ends) {
+        Ok(values) => Ok(PrimitiveArray::new_unchecked(values, Validity::NonNullable)),
+        Err(error) => Err(error),
+    }
+}
+
+// The run column of these parts, if the values are of the kind that is stated.
+fn join_runs<A: Allocator + Copy>(
+    alloc: A,
+    kind: u64,
+    ends: PrimitiveArray<A>,
+    values: ArrayRef<A>,
+    offset: usize,
+    rows: usize,
+) -> VortexResult<ArrayRef<A>>
+    requires { IsEndsType (primitive_dtype ends) }
+    ensures form { IfOk result
+        (λ array. column_of array ≡ OfRuns ends.ptype (ends_of ends) (column_of values) offset rows) }
+    ensures runs { OnOk result (AreRuns (runs_with ends.ptype (ends_of ends) (column_of values) offset rows)) }
+    ensures kind { OnOk result (kind_number (dtype_of values) ≡ kind) }
+    ensures bad { IsErrOf result VortexError.BadMetadata → kind_number (dtype_of values) ≡ kind
+        → ¬ AreRuns (runs_with ends.ptype (ends_of ends) (column_of values) offset rows) }
+    ensures only { IfErr result IsBadOrMemory }
+{
+    if number_of_kind(values.dtype()) != kind {
+        drop(values);
+        drop(ends);
+        return Err(VortexError::BadMetadata);
+    }
+    let ends = ArrayRef::Primitive(ends);
+    match validate_parts(&ends, &values, offset, rows) {
+        Ok(()) => {
+            let runs = RunEnd::new_unchecked(ends, values, offset, rows);
+            ArrayRef::of_runs(alloc, runs)
+        }
+        Err(_) => {
+            drop(values);
+            drop(ends);
+            Err(VortexError::BadMetadata)
+        }
+    }
+}
+
+/// The number of a type.
+fn number_of_kind(dtype: DType) -> u64
+    ensures { result ≡ kind_number dtype }
+{
+    match dtype {
+        DType::Primitive(ptype, _) => number_of_type(ptype),
+        DType::Bool(_) => 9,
+        DType::Decimal(_, _) => 10,
+        DType::Utf8(_) => 11,
+        DType::Binary(_) => 12,
+        DType::List(_, _) => 13,
+    }
+}
