@@ -184,6 +184,7 @@ fn prepared_maker<A: Allocator + Copy>(
     match call {
         request::Call::Copy(name) => Ok(Maker::Copy(copy_of(name, columns, ctx)?)),
         request::Call::Encode(name) => Ok(Maker::Encode(copy_of(name, columns, ctx)?)),
+        request::Call::EncodeRows(name) => Ok(Maker::EncodeRows(copy_of(name, columns, ctx)?)),
         request::Call::Runs(runs) => {
             let (ends, values) = prepared_runs(runs, columns, ctx)?;
             Ok(Maker::Runs(ends, values, runs.offset, runs.length))

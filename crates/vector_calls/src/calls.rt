@@ -2,6 +2,7 @@
 use bytes::Bytes;
 use column_base::VortexResult;
 use runend_commands::{Answer, Command, execute};
+use runend_encode_rows::encode_rows;
 use std::alloc::Allocator;
 use std::rc::Rc;
 use vector_answers::{
@@ -32,6 +33,7 @@ pub enum Call<A: Allocator> {
 pub enum Maker<A: Allocator> {
     Copy(ArrayRef<A>),
     Encode(ArrayRef<A>),
+    EncodeRows(ArrayRef<A>),
     /// Of ends and values, with offset and length.
     Runs(ArrayRef<A>, ArrayRef<A>, usize, usize),
     /// Of ends and values.
@@ -143,6 +145,11 @@ impl<A: Allocator + Copy> Maker<A> {
                 Ok(ArrayRef::VarBinView(VarBinViewArray::try_new(views, buffers, kind, validity)?))
             }
             Maker::Encode(array) => boxed_runs(RunEnd::encode(array, ctx), ample),
+            Maker::EncodeRows(array) => {
+                let runs = encode_rows(&array, ctx);
+                drop(array);
+                boxed_runs(runs, ample)
+            }
             Maker::Runs(ends, values, offset, length) => {
                 let runs = RunEnd::try_new_offset_length(ends, values, offset, length, ctx);
                 boxed_runs(runs, ample)

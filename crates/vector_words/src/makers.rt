@@ -82,6 +82,7 @@ fn read_of_column<'a>(maker: &str, words: &'a [&'a str]) -> Option<Call<'a>> {
     match maker {
         "copy" => Some(Call::Copy(name)),
         "encode" => Some(Call::Encode(name)),
+        "encode_rows" => Some(Call::EncodeRows(name)),
         _ => None,
     }
 }

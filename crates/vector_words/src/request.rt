@@ -43,6 +43,8 @@ pub enum Plain<'a> {
 pub enum Call<'a> {
     Copy(&'a str),
     Encode(&'a str),
+    /// As `Encode`, of a column of any form and of any kind.
+    EncodeRows(&'a str),
     Runs(Runs<'a>),
     /// As `Runs`, without its window.
     Whole(Runs<'a>),
@@ -65,7 +67,8 @@ impl<'a> Call<'a> {
     /// Does it make a column? Else it is done to one, or to none.
     pub fn makes(self) -> bool {
         match self {
-            Call::Copy(_) | Call::Encode(_) | Call::Runs(_) | Call::Whole(_) => true,
+            Call::Copy(_) | Call::Encode(_) | Call::EncodeRows(_) => true,
+            Call::Runs(_) | Call::Whole(_) => true,
             Call::Lists(_) | Call::Views(_) | Call::Deserialize(_) => true,
             Call::Command(_) | Call::Run(_) | Call::Row(_) | Call::Probe(_) => false,
             Call::Validity | Call::Meta | Call::Read(_) => false,
