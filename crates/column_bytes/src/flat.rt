@@ -82,7 +82,8 @@ pub(crate) fn read_leaf<A: Allocator + Copy>(
     bytes: &[u8],
 ) -> VortexResult<ArrayRef<A>>
     ensures found { IfOk result (λ array. IsBody 0 header.kind 1 header.rows bytes.now (column_of array)) }
-    ensures bad { IsErrOf result VortexError.BadMetadata → (levels : ℕ) → IsNoBody levels header.kind 1 header.rows bytes.now }
+    ensures bad { IsErrOf result VortexError.BadMetadata → (levels : ℕ) →
+        IsNoBody levels header.kind 1 header.rows bytes.now }
     ensures only { IfErr result IsBadOrMemory }
 {
     let rows = header.rows as usize;

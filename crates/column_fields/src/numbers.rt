@@ -37,7 +37,8 @@ pub fn put_values<A: Allocator, B: Allocator>(
     out: &mut Vec<u8, B>,
     values: &PrimitiveValues<A>,
 ) -> VortexResult<()>
-    ensures ok { OnOk result (out.new.items ≡ out.old.items ++ numbers_bytes (ptype_of values.now) (numbers values.now)) }
+    ensures ok { OnOk result (out.new.items ≡ out.old.items ++ numbers_bytes (ptype_of values.now)
+        (numbers values.now)) }
     ensures fits { OnOk result (All (λ n. HasNumber (ptype_of values.now) n) (numbers values.now)) }
     ensures only { IsOkUnless result VortexError.OutOfMemory }
 {

@@ -37,7 +37,8 @@ pub fn put_run_fields<A: Allocator>(
 /// The fields that the bytes are.
 pub fn read_run_fields(bytes: &[u8]) -> Option<RunFields<'_>>
     ensures found { IfSome result (λ f. bytes.now ≡ run_fields f.offset f.ends_type f.lengths.now f.values.now) }
-    ensures small { IfSome result (λ f. (f.offset < 2 ^ 64) × (length f.lengths.now < 2 ^ 64) × (length f.values.now < 2 ^ 64)) }
+    ensures small { IfSome result (λ f. (f.offset < 2 ^ 64) × (length f.lengths.now < 2 ^ 64) ×
+        (length f.values.now < 2 ^ 64)) }
     ensures none { IfNone result (AreNoRunFields bytes.now) }
 {
     let (offset, after_offset) = read_number(bytes, 8)?;

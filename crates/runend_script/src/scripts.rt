@@ -127,7 +127,7 @@ fn reply_to<A: Allocator + Copy>(
     refusal_as_reply(*ctx.allocator(), outcome)
 }
 
-// The same, with a refusal as its line; refused memory alone stays refused.
+// What comes of a line, with a refusal as its line; refused memory alone stays refused.
 fn refusal_as_reply<A: Allocator + Copy>(
     alloc: A,
     outcome: VortexResult<Reply<A>>,
@@ -218,7 +218,8 @@ fn runs_of_line<A: Allocator + Copy>(
     ctx: &mut ExecutionCtx<A>,
 ) -> VortexResult<Option<ArrayRef<A>>>
     ensures runs { IfOk result (λ made. IfSome made
-        (λ array. AreRunsOf line.entry.ptype line.entry.ends_ptype line.entry.offset line.entry.length (column_of array))) }
+        (λ array. AreRunsOf line.entry.ptype line.entry.ends_ptype line.entry.offset line.entry.length
+        (column_of array))) }
     ensures session { ctx.new ≡ ctx.old }
 {
     let alloc = *ctx.allocator();
@@ -251,8 +252,10 @@ fn runs_of_parts<A: Allocator + Copy>(
     ctx: &mut ExecutionCtx<A>,
 ) -> VortexResult<ArrayRef<A>>
     ensures parts { MatchResult result
-        (λ array. AreParts (column_of ends) (column_of values) offset length × (column_of array ≡ column_of_runs (runs_of (column_of ends) (column_of values) offset length)))
-        (λ error. (error ≡ VortexError.OutOfMemory) ⊎ PartsFault (column_of ends) (column_of values) offset length error) }
+        (λ array. AreParts (column_of ends) (column_of values) offset length ×
+        (column_of array ≡ column_of_runs (runs_of (column_of ends) (column_of values) offset length)))
+        (λ error. (error ≡ VortexError.OutOfMemory) ⊎ PartsFault (column_of ends)
+        (column_of values) offset length error) }
     ensures session { ctx.new ≡ ctx.old }
 {
     let runs = RunEnd::try_new_offset_length(ends, values, offset, length, ctx)?;
@@ -330,7 +333,7 @@ fn reply_of<A: Allocator + Copy>(
     reply
 }
 
-// The same, of a command that its owner drops.
+// Executes a command that its owner drops, and answers by the line of what it was answered.
 fn reply_by<A: Allocator + Copy>(
     command: &ColumnCommand<A>,
     column: &mut ArrayRef<A>,

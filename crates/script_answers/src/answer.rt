@@ -141,7 +141,8 @@ pub fn push_word<A: Allocator + Copy>(
     row: ScalarView<'_, A>,
 ) -> Result<(), AllocError>
     requires { IsNullOrNumber (sees row) }
-    ensures { OnOk result (string_bytes line.new ≡ string_bytes line.old ++ behind_spaces (row_word (sees row.entry) ∷ [])) }
+    ensures { OnOk result (string_bytes line.new ≡
+        string_bytes line.old ++ behind_spaces (row_word (sees row.entry) ∷ [])) }
 {
     line.push_str(" ")?;
     push_row_word(line, row)

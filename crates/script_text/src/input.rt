@@ -34,7 +34,8 @@ pub fn read_input<R: Read + Drop, A: Allocator + Copy>(
     input: &mut LimitedReads<R>,
     alloc: A,
 ) -> Result<Vec<u8, A>, Failure>
-    ensures bytes { IfOk result (λ all. Consumes (R.remaining input.old.reader) (R.remaining input.new.reader) all.items) }
+    ensures bytes { IfOk result (λ all. Consumes (R.remaining input.old.reader)
+        (R.remaining input.new.reader) all.items) }
     ensures end { OnOk result (IsAtEnd (R.remaining input.new.reader)) }
     ensures reads { input.new.left ≤ input.old.left }
 {

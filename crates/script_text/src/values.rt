@@ -37,7 +37,8 @@ pub fn read_values<'a, I: Iterator<Item = &'a str> + Drop, A: Allocator + Copy>(
     requires finite { IsFinite (I.remaining words) }
     ensures only { IsOkUnless result VortexError.OutOfMemory }
     ensures typed { IfOk result (λ read. IfSome read (λ listed. ptype_of listed.numbers ≡ ptype)) }
-    ensures counted { IfOk result (λ read. IfSome read (λ listed. HasLength (form_of listed.validity) (length (numbers listed.numbers)))) }
+    ensures counted { IfOk result (λ read. IfSome read (λ listed.
+        HasLength (form_of listed.validity) (length (numbers listed.numbers)))) }
 {
     match ptype {
         PType::U8 => read_natives::<u8, I, A>(alloc, nullability, words),
@@ -82,7 +83,8 @@ fn read_number<A: Allocator>(ptype: PType, word: &str) -> Option<ScalarValue<A>>
 /// is `1`. `None` where a byte is neither. Refused as `OutOfMemory` alone.
 pub fn read_mask<A: Allocator + Copy>(alloc: A, word: &str) -> VortexResult<Option<Mask<A>>>
     ensures only { IsOkUnless result VortexError.OutOfMemory }
-    ensures bits { IfOk result (λ read. IfSome read (λ mask. (bit_word (mask_bits mask) ≡ word.now) × IsNormalMask mask)) }
+    ensures bits { IfOk result (λ read. IfSome read (λ mask. (bit_word (mask_bits mask) ≡ word.now) ×
+        IsNormalMask mask)) }
     ensures found { IfOk result (λ read. IsSome read ↔ IsBitWord word.now) }
 {
     let Some(bits) = parse_bits(alloc, word)? else {
@@ -122,7 +124,8 @@ fn read_natives<'a, T: NativePType, I: Iterator<Item = &'a str> + Drop, A: Alloc
     requires finite { IsFinite (I.remaining words) }
     ensures only { IsOkUnless result VortexError.OutOfMemory }
     ensures typed { IfOk result (λ read. IfSome read (λ listed. ptype_of listed.numbers ≡ T.PTYPE)) }
-    ensures counted { IfOk result (λ read. IfSome read (λ listed. HasLength (form_of listed.validity) (length (numbers listed.numbers)))) }
+    ensures counted { IfOk result (λ read. IfSome read (λ listed.
+        HasLength (form_of listed.validity) (length (numbers listed.numbers)))) }
 {
     let mut items = Vec::new(alloc);
     let mut valid = BitBufferMut::with_capacity(alloc, 0)?;

@@ -11,6 +11,24 @@ use vortex_runend::{
     PrimitiveValues, RowValidity, Validity,
 };
 
+/// The column of the lists that were made, with memory for its box from `alloc`.
+pub fn boxed_lists<A: Allocator + Copy>(
+    lists: VortexResult<ListViewArray<A>>,
+    alloc: A,
+) -> VortexResult<ArrayRef<A>> {
+    Ok(ArrayRef::ListView(Box::new(alloc, lists?)?))
+}
+
+/// A validity as one that may also be told by runs.
+pub fn row_validity<A: Allocator>(validity: Validity<A>) -> RowValidity<A> {
+    match validity {
+        Validity::NonNullable => RowValidity::NonNullable,
+        Validity::AllValid => RowValidity::AllValid,
+        Validity::AllInvalid => RowValidity::AllInvalid,
+        Validity::Bits(bits) => RowValidity::Bits(bits),
+    }
+}
+
 // The lists of these rows, over elements that lie one behind the other.
 pub(crate) fn lists_of_rows<A: Allocator + Copy>(
     element: ElementDType,
@@ -58,14 +76,6 @@ fn lists_over<A: Allocator + Copy>(
     Ok(boxed_lists(lists, *ctx.allocator())?)
 }
 
-/// The column of the lists that were made, with memory for its box from `alloc`.
-pub fn boxed_lists<A: Allocator + Copy>(
-    lists: VortexResult<ListViewArray<A>>,
-    alloc: A,
-) -> VortexResult<ArrayRef<A>> {
-    Ok(ArrayRef::ListView(Box::new(alloc, lists?)?))
-}
-
 // The elements of all rows, and where those of each row lie. Bad where a row is no list.
 fn listed_rows<'a, A: Allocator + Copy>(alloc: A, rows: &[Row<'a>]) -> LineResult<Listed<'a, A>> {
     let mut listed = Listed {
@@ -105,14 +115,4 @@ impl<'a, A: Allocator + Copy> Listed<'a, A> {
 fn indices_of<A: Allocator + Copy>(numbers: Vec<u64, A>) -> ArrayRef<A> {
     let numbers = PrimitiveValues::from_vec(numbers);
     ArrayRef::Primitive(PrimitiveArray::new_unchecked(numbers, Validity::NonNullable))
-}
-
-/// A validity as one that may also be told by runs.
-pub fn row_validity<A: Allocator>(validity: Validity<A>) -> RowValidity<A> {
-    match validity {
-        Validity::NonNullable => RowValidity::NonNullable,
-        Validity::AllValid => RowValidity::AllValid,
-        Validity::AllInvalid => RowValidity::AllInvalid,
-        Validity::Bits(bits) => RowValidity::Bits(bits),
-    }
 }

@@ -13,7 +13,7 @@ pub enum Request<'a> {
     Make(&'a str, Plain<'a>),
     /// A call is made.
     Call(&'a str, Call<'a>),
-    /// The same, with memory refused in turn first.
+    /// A call is made, with memory refused in turn first.
     Refuse(&'a str, Call<'a>),
     /// A list of commands is run, the one at this place, from 1, refused for memory alone.
     RefuseOne(usize, &'a str, Call<'a>),

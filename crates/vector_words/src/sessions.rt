@@ -4,16 +4,6 @@ use crate::request::{Kernels, Request};
 use column_words::parse_count;
 use runend_array::{Kernel, Thresholds};
 
-pub(crate) fn read_kernels<'a>(words: &'a [&'a str]) -> Option<Kernels<'a>> {
-    match words {
-        ["all"] => Some(Kernels::All),
-        ["none"] => Some(Kernels::These(&words[1..])),
-        [] => None,
-        _ if words.iter().all(|word| read_kernel(word).is_some()) => Some(Kernels::These(words)),
-        _ => None,
-    }
-}
-
 /// The kernel of this name.
 pub fn read_kernel(word: &str) -> Option<Kernel> {
     match word {
@@ -29,6 +19,16 @@ pub fn read_kernel(word: &str) -> Option<Kernel> {
         "min_max" => Some(Kernel::MinMax),
         "is_constant" => Some(Kernel::IsConstant),
         "is_sorted" => Some(Kernel::IsSorted),
+        _ => None,
+    }
+}
+
+pub(crate) fn read_kernels<'a>(words: &'a [&'a str]) -> Option<Kernels<'a>> {
+    match words {
+        ["all"] => Some(Kernels::All),
+        ["none"] => Some(Kernels::These(&words[1..])),
+        [] => None,
+        _ if words.iter().all(|word| read_kernel(word).is_some()) => Some(Kernels::These(words)),
         _ => None,
     }
 }

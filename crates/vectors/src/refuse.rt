@@ -276,7 +276,8 @@ fn tried_list<'a>(
 
 // What became of a run that showed this, and was answered for want of memory or not.
 fn judged<A: Allocator>(shown: &Shown<A>, expected: &Expected<A>, answered: bool) -> Tried
-    ensures wrong { result ≡ Tried.Wrong ↔ (¬ (IsSame shown.now expected.now.refused ⊎ IsSame shown.now expected.now.served)) }
+    ensures wrong { result ≡ Tried.Wrong ↔ (¬ (IsSame shown.now expected.now.refused ⊎ IsSame shown.now
+        expected.now.served)) }
     ensures refused { result ≡ Tried.Refused ↔ (IsSame shown.now expected.now.refused × IsTrue answered) }
 {
     if shown.is(&expected.refused) {
