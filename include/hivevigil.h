@@ -39,6 +39,26 @@
 extern "C" {
 #endif
 
+/* No pointer is null, and an answer is looked at: what a compiler can tell of both, it says. */
+#ifdef __GNUC__
+#define HV_LENT __attribute__((nonnull))
+#define HV_ANSWER __attribute__((nonnull, warn_unused_result))
+#else
+#define HV_LENT
+#define HV_ANSWER
+#endif
+
+/* The version of this header, and the number of its binary interface. hv_version answers the version of the library, as
+ * major * 1000000 + minor * 1000 + patch, and hv_abi its interface: a program runs with a library of its own HV_ABI, and
+ * finds there every call of a header that is no newer than the library. */
+#define HV_VERSION_MAJOR 0
+#define HV_VERSION_MINOR 1
+#define HV_VERSION_PATCH 0
+#define HV_VERSION (HV_VERSION_MAJOR * 1000000 + HV_VERSION_MINOR * 1000 + HV_VERSION_PATCH)
+#define HV_ABI 1
+uint32_t hv_version(void);
+uint32_t hv_abi(void);
+
 /* A handle: a column that the library owns, or none. */
 typedef struct hv_column { void *at; } hv_column;
 #define HV_EMPTY {0}
@@ -102,7 +122,7 @@ typedef struct hv_session {
     size_t prefill_runs, min_run_filter_rows, filter_factor, sorted_runs_per_index, table_len_per_index, unsorted_min_runs, unsorted_runs_per_index;
     uint8_t kernels[12];
 } hv_session;
-void hv_session_initial(hv_session *session);
+HV_LENT void hv_session_initial(hv_session *session);
 
 /* A pointer that is not null, for no items. */
 static inline const void *hv_some(const void *items) { static const uint64_t nothing = 0; return items ? items : &nothing; }
@@ -112,119 +132,140 @@ static inline const void *hv_some(const void *items) { static const uint64_t not
  * is 0. Bit k is bit k % 8 of byte k / 8, as in Arrow. The bits are read under the last alone; refused as 11 (rows, bytes)
  * where they are fewer than the rows. */
 #define HV_VALIDITY uint8_t nulls, const uint8_t *bits, size_t bits_len, size_t first
-int32_t hv_u8(const uint8_t *items, size_t len, HV_VALIDITY, hv_column *out, hv_error *error);
-int32_t hv_u16(const uint16_t *items, size_t len, HV_VALIDITY, hv_column *out, hv_error *error);
-int32_t hv_u32(const uint32_t *items, size_t len, HV_VALIDITY, hv_column *out, hv_error *error);
-int32_t hv_u64(const uint64_t *items, size_t len, HV_VALIDITY, hv_column *out, hv_error *error);
-int32_t hv_i8(const int8_t *items, size_t len, HV_VALIDITY, hv_column *out, hv_error *error);
-int32_t hv_i16(const int16_t *items, size_t len, HV_VALIDITY, hv_column *out, hv_error *error);
-int32_t hv_i32(const int32_t *items, size_t len, HV_VALIDITY, hv_column *out, hv_error *error);
-int32_t hv_i64(const int64_t *items, size_t len, HV_VALIDITY, hv_column *out, hv_error *error);
+HV_ANSWER int32_t hv_u8(const uint8_t *items, size_t len, HV_VALIDITY, hv_column *out, hv_error *error);
+HV_ANSWER int32_t hv_u16(const uint16_t *items, size_t len, HV_VALIDITY, hv_column *out, hv_error *error);
+HV_ANSWER int32_t hv_u32(const uint32_t *items, size_t len, HV_VALIDITY, hv_column *out, hv_error *error);
+HV_ANSWER int32_t hv_u64(const uint64_t *items, size_t len, HV_VALIDITY, hv_column *out, hv_error *error);
+HV_ANSWER int32_t hv_i8(const int8_t *items, size_t len, HV_VALIDITY, hv_column *out, hv_error *error);
+HV_ANSWER int32_t hv_i16(const int16_t *items, size_t len, HV_VALIDITY, hv_column *out, hv_error *error);
+HV_ANSWER int32_t hv_i32(const int32_t *items, size_t len, HV_VALIDITY, hv_column *out, hv_error *error);
+HV_ANSWER int32_t hv_i64(const int64_t *items, size_t len, HV_VALIDITY, hv_column *out, hv_error *error);
 /* `count` truth values, row i by bit `start + i` of `truths`; 11 (rows, bytes) where there are fewer bits */
-int32_t hv_bools(const uint8_t *truths, size_t truths_len, size_t start, size_t count, HV_VALIDITY, hv_column *out, hv_error *error);
-int32_t hv_decimals(const hv_pair *pairs, size_t len, uint8_t precision, int8_t scale, HV_VALIDITY, hv_column *out, hv_error *error);
+HV_ANSWER int32_t hv_bools(const uint8_t *truths, size_t truths_len, size_t start, size_t count, HV_VALIDITY, hv_column *out, hv_error *error);
+HV_ANSWER int32_t hv_decimals(const hv_pair *pairs, size_t len, uint8_t precision, int8_t scale, HV_VALIDITY, hv_column *out, hv_error *error);
 /* Row i is the bytes from offsets[i] to offsets[i + 1] - 1; there is one offset more than rows. 4 for offsets that fall,
  * 8 (row, rows) for a row that is not within the bytes, 12 for a text that is not UTF-8. binary: bytes, not texts. */
-int32_t hv_texts(uint8_t binary, const int32_t *offsets, size_t offsets_len, const uint8_t *bytes, size_t bytes_len, HV_VALIDITY, hv_column *out, hv_error *error);
-int32_t hv_large_texts(uint8_t binary, const int64_t *offsets, size_t offsets_len, const uint8_t *bytes, size_t bytes_len, HV_VALIDITY, hv_column *out, hv_error *error);
+HV_ANSWER int32_t hv_texts(uint8_t binary, const int32_t *offsets, size_t offsets_len, const uint8_t *bytes, size_t bytes_len, HV_VALIDITY, hv_column *out, hv_error *error);
+HV_ANSWER int32_t hv_large_texts(uint8_t binary, const int64_t *offsets, size_t offsets_len, const uint8_t *bytes, size_t bytes_len, HV_VALIDITY, hv_column *out, hv_error *error);
+/* The value, of this type, in each of `count` rows, in memory for one: 15 for null in a type without null, 12 for a value
+ * that is none of the type, or a text that is not UTF-8; 23 where kind names no type, or lists. */
+HV_ANSWER int32_t hv_constant(const hv_kind *kind, const hv_value *value, const uint8_t *text, size_t text_len, size_t count, hv_column *out, hv_error *error);
 /* The run column of these ends and one value for each, of which `count` rows from row `offset` on are shown. Ends are a flat
  * column of an unsigned type without null, each above the one before. Both are shared. Refused by the first fault of 1 to 7
  * in their order, or as 21. */
-int32_t hv_runs(hv_column *ends, hv_column *values, size_t offset, size_t count, hv_column *out, hv_error *error);
+HV_ANSWER int32_t hv_runs(hv_column *ends, hv_column *values, size_t offset, size_t count, hv_column *out, hv_error *error);
 /* The same column in the same form. What holds 32 items or more is shared and not copied. */
-int32_t hv_clone(hv_column *column, hv_column *out, hv_error *error);
+HV_ANSWER int32_t hv_clone(hv_column *column, hv_column *out, hv_error *error);
 /* The same column in the same form, in buffers that no other column shares but for the bytes of texts. A slice of a few
  * rows keeps the whole buffers that it is a part of; of its compact copy they may be freed. */
-int32_t hv_compact(hv_column *column, hv_column *out, hv_error *error);
+HV_ANSWER int32_t hv_compact(hv_column *column, hv_column *out, hv_error *error);
 
 /* ---- Commands: what they leave goes to `out` ----
  * Refused exactly as is said here, with these fields, or as 21. */
 /* as few runs as there can be, with ends of the least type; 20 unless the rows are whole numbers */
-int32_t hv_encode(const hv_session *session, hv_column *column, hv_column *out, hv_error *error);
+HV_ANSWER int32_t hv_encode(const hv_session *session, hv_column *column, hv_column *out, hv_error *error);
 /* the rows written out in a flat form */
-int32_t hv_decode(const hv_session *session, hv_column *column, hv_column *out, hv_error *error);
+HV_ANSWER int32_t hv_decode(const hv_session *session, hv_column *column, hv_column *out, hv_error *error);
 /* the rows from start to stop - 1; 9 (start, stop, length) where start is above stop, or stop above the length */
-int32_t hv_slice(const hv_session *session, hv_column *column, size_t start, size_t stop, hv_column *out, hv_error *error);
+HV_ANSWER int32_t hv_slice(const hv_session *session, hv_column *column, size_t start, size_t stop, hv_column *out, hv_error *error);
 /* each row as the same value of this type: 13 unless both types are of whole numbers or of one kind that is no list; at the
  * first row that is no value of the type 15 for null and 14 for a number; 23 where kind names no type, or lists */
-int32_t hv_cast(const hv_session *session, hv_column *column, const hv_kind *kind, hv_column *out, hv_error *error);
-/* the rows at the indices, a flat column of whole numbers (else 12): null at a null index; 8 (index, length) */
-int32_t hv_take(const hv_session *session, hv_column *column, hv_column *indices, hv_column *out, hv_error *error);
-/* the rows at which the mask, a flat column of truth values (else 12), is true: a null in the mask selects nothing, as in
- * SQL's WHERE; 10 (mask, length) */
-int32_t hv_filter(const hv_session *session, hv_column *column, hv_column *mask, hv_column *out, hv_error *error);
+HV_ANSWER int32_t hv_cast(const hv_session *session, hv_column *column, const hv_kind *kind, hv_column *out, hv_error *error);
+/* the rows at the indices, whole numbers in any form (else 12): null at a null index; 8 (index, length) */
+HV_ANSWER int32_t hv_take(const hv_session *session, hv_column *column, hv_column *indices, hv_column *out, hv_error *error);
+/* the rows at which the mask, truth values in any form (else 12), is true: a null in the mask selects nothing, as in SQL's
+ * WHERE; 10 (mask, length) */
+HV_ANSWER int32_t hv_filter(const hv_session *session, hv_column *column, hv_column *mask, hv_column *out, hv_error *error);
 /* each row of `codes` is replaced by the row of the dictionary that it numbers from 0, null stays null; 12 unless the codes
  * are whole numbers, 8 (code, length of the dictionary) */
-int32_t hv_take_from(const hv_session *session, hv_column *codes, hv_column *dictionary, hv_column *out, hv_error *error);
+HV_ANSWER int32_t hv_take_from(const hv_session *session, hv_column *codes, hv_column *dictionary, hv_column *out, hv_error *error);
 /* row by row whether `left operator right`, null where either is null; 13 for lists, 12 for two types that differ in more
  * than null, 11 (left, right) for another number of rows, 23 for no operator */
 enum { HV_EQ, HV_NE, HV_GT, HV_GE, HV_LT, HV_LE };
-int32_t hv_compare(const hv_session *session, hv_column *column, uint8_t operator_, hv_column *right, hv_column *out, hv_error *error);
+HV_ANSWER int32_t hv_compare(const hv_session *session, hv_column *column, uint8_t operator_, hv_column *right, hv_column *out, hv_error *error);
 /* the same against one value, of the column's type or null; 12 where it is none of that type, or a text that is not UTF-8 */
-int32_t hv_compare_scalar(const hv_session *session, hv_column *column, uint8_t operator_, const hv_value *value, const uint8_t *text, size_t text_len, hv_column *out, hv_error *error);
+HV_ANSWER int32_t hv_compare_scalar(const hv_session *session, hv_column *column, uint8_t operator_, const hv_value *value, const uint8_t *text, size_t text_len, hv_column *out, hv_error *error);
 /* a value in place of each null, after which the type has no null; 12 as above, 13 for lists, 16 for null */
-int32_t hv_fill(const hv_session *session, hv_column *column, const hv_value *value, const uint8_t *text, size_t text_len, hv_column *out, hv_error *error);
+HV_ANSWER int32_t hv_fill(const hv_session *session, hv_column *column, const hv_value *value, const uint8_t *text, size_t text_len, hv_column *out, hv_error *error);
 
 /* ---- Questions ----
  * Refused exactly as is said here, with these fields, or, but for hv_at, as 21. */
 /* the sum of the rows that are not null; 13 unless they are whole numbers */
-int32_t hv_sum(const hv_session *session, hv_column *column, hv_total *total, hv_error *error);
+HV_ANSWER int32_t hv_sum(const hv_session *session, hv_column *column, hv_total *total, hv_error *error);
 /* are any two rows equal, null equal to null? 13 for lists */
-int32_t hv_is_constant(const hv_session *session, hv_column *column, uint8_t *truth, hv_error *error);
+HV_ANSWER int32_t hv_is_constant(const hv_session *session, hv_column *column, uint8_t *truth, hv_error *error);
 /* is no row above the next (strict: is each below it), null below all else? 13 for lists */
-int32_t hv_is_sorted(const hv_session *session, hv_column *column, uint8_t strict, uint8_t *truth, hv_error *error);
+HV_ANSWER int32_t hv_is_sorted(const hv_session *session, hv_column *column, uint8_t strict, uint8_t *truth, hv_error *error);
 /* the least (greatest: the greatest) row that is not null, HV_NULL where all are null; 13 for lists, 11 as with hv_at */
-int32_t hv_extreme(const hv_session *session, hv_column *column, uint8_t greatest, hv_value *value, uint8_t *text, size_t text_len, hv_error *error);
+HV_ANSWER int32_t hv_extreme(const hv_session *session, hv_column *column, uint8_t greatest, hv_value *value, uint8_t *text, size_t text_len, hv_error *error);
+/* both at once, each with a buffer of its own; HV_NULL twice where all rows are null; 13 for lists, 11 for the one that has
+ * no room in its buffer */
+HV_ANSWER int32_t hv_min_max(const hv_session *session, hv_column *column, hv_value *least, uint8_t *least_text, size_t least_text_len, hv_value *greatest, uint8_t *greatest_text, size_t greatest_text_len, hv_error *error);
 /* row `row`, which takes no memory; 13 for lists, then 8 (row, length). A text goes to the front of `text`: 11 (bytes of the
  * text, text_len) where it has no room there. */
-int32_t hv_at(hv_column *column, size_t row, hv_value *value, uint8_t *text, size_t text_len, hv_error *error);
-size_t hv_length(hv_column *column);       /* rows; 0 of no column */
-hv_kind hv_kind_of(hv_column *column);     /* the type; number 255 of no column */
-uint8_t hv_form(hv_column *column);        /* 0 flat, 1 a constant, 2 lists, 3 runs, 255 no column */
-size_t hv_offset(hv_column *column);       /* of runs: how many of their rows lie before the window; else 0 */
+HV_ANSWER int32_t hv_at(hv_column *column, size_t row, hv_value *value, uint8_t *text, size_t text_len, hv_error *error);
+HV_LENT size_t hv_length(hv_column *column);       /* rows; 0 of no column */
+HV_LENT hv_kind hv_kind_of(hv_column *column);     /* the type; number 255 of no column */
+HV_LENT uint8_t hv_form(hv_column *column);        /* 0 flat, 1 a constant, 2 lists, 3 runs, 255 no column */
+HV_LENT size_t hv_offset(hv_column *column);       /* of runs: how many of their rows lie before the window; else 0 */
 
 /* ---- Reading many rows ----
- * Of flat columns: hv_decode writes a column flat. They take no memory. What is stored under null is read as it stands.
+ * Of columns in any form. Of a flat column it takes no memory, and what is stored under null is read as it stands. Rows in
+ * any other form are written flat first, these alone, which may be refused as 21; under null any number may stand.
  * Refused exactly as is said here, with these fields; 9 also where no row is asked for, from a row past the end on, and its
  * stop is 2^64 - 1 where no uint64_t has it. */
-/* as many whole numbers as there is room for, from row `start` on: 13 unless the column is flat and of whole numbers, 12
- * where they are of another type, 9 (start, stop, length) past the end; of decimals 13 unless they are flat decimals, 9 */
-int32_t hv_read_u8(hv_column *column, size_t start, uint8_t *items, size_t len, hv_error *error);
-int32_t hv_read_u16(hv_column *column, size_t start, uint16_t *items, size_t len, hv_error *error);
-int32_t hv_read_u32(hv_column *column, size_t start, uint32_t *items, size_t len, hv_error *error);
-int32_t hv_read_u64(hv_column *column, size_t start, uint64_t *items, size_t len, hv_error *error);
-int32_t hv_read_i8(hv_column *column, size_t start, int8_t *items, size_t len, hv_error *error);
-int32_t hv_read_i16(hv_column *column, size_t start, int16_t *items, size_t len, hv_error *error);
-int32_t hv_read_i32(hv_column *column, size_t start, int32_t *items, size_t len, hv_error *error);
-int32_t hv_read_i64(hv_column *column, size_t start, int64_t *items, size_t len, hv_error *error);
-int32_t hv_read_decimals(hv_column *column, size_t start, hv_pair *pairs, size_t len, hv_error *error);
+/* as many whole numbers as there is room for, from row `start` on: 13 unless the rows are whole numbers, 12 where they are
+ * of another type, 9 (start, stop, length) past the end; of decimals 13 unless they are decimals, 9 */
+HV_ANSWER int32_t hv_read_u8(hv_column *column, size_t start, uint8_t *items, size_t len, hv_error *error);
+HV_ANSWER int32_t hv_read_u16(hv_column *column, size_t start, uint16_t *items, size_t len, hv_error *error);
+HV_ANSWER int32_t hv_read_u32(hv_column *column, size_t start, uint32_t *items, size_t len, hv_error *error);
+HV_ANSWER int32_t hv_read_u64(hv_column *column, size_t start, uint64_t *items, size_t len, hv_error *error);
+HV_ANSWER int32_t hv_read_i8(hv_column *column, size_t start, int8_t *items, size_t len, hv_error *error);
+HV_ANSWER int32_t hv_read_i16(hv_column *column, size_t start, int16_t *items, size_t len, hv_error *error);
+HV_ANSWER int32_t hv_read_i32(hv_column *column, size_t start, int32_t *items, size_t len, hv_error *error);
+HV_ANSWER int32_t hv_read_i64(hv_column *column, size_t start, int64_t *items, size_t len, hv_error *error);
+HV_ANSWER int32_t hv_read_decimals(hv_column *column, size_t start, hv_pair *pairs, size_t len, hv_error *error);
 /* Bits, 64 to a word, all rows of the column, and 0 behind the last: 13 unless they are flat truth values, for validity
- * unless the column is flat; 11 (needed, len) unless len is (length + 63) / 64. On a little-endian machine the words are
- * the bytes of Arrow's bitmaps. */
-int32_t hv_read_bools(hv_column *column, uint64_t *words, size_t len, hv_error *error);
-int32_t hv_read_validity(hv_column *column, uint64_t *words, size_t len, hv_error *error);
-/* Texts and bytes, in two calls: 13 unless they are flat texts or bytes. First the offsets of `len - 1` rows from row
+ * unless the column is flat; 11 (needed, len) unless len is (length + 63) / 64. No memory is taken. On a little-endian
+ * machine the words are the bytes of Arrow's bitmaps. */
+HV_ANSWER int32_t hv_read_bools(hv_column *column, uint64_t *words, size_t len, hv_error *error);
+HV_ANSWER int32_t hv_read_validity(hv_column *column, uint64_t *words, size_t len, hv_error *error);
+/* The same of `rows` rows from row `start` on, in any form, the bit of row `start` first: 13 unless they are truth values,
+ * for validity 13 for lists; 9, then 11 (needed, len) unless len is (rows + 63) / 64, or 21. */
+HV_ANSWER int32_t hv_read_bools_from(hv_column *column, size_t start, size_t rows, uint64_t *words, size_t len, hv_error *error);
+HV_ANSWER int32_t hv_read_validity_from(hv_column *column, size_t start, size_t rows, uint64_t *words, size_t len, hv_error *error);
+/* Texts and bytes, in two calls: 13 unless the rows are texts or bytes. First the offsets of `len - 1` rows from row
  * `start` on, from 0: row k is bytes offsets[k] to offsets[k + 1] - 1, and the last offset is how many bytes there are; a
  * null is no bytes. 9 (start, start, length) where len is 0, 9 past the end, 14 where the type has no such offset. Then the
  * bytes of `rows` rows one after the other: 9, and 11 (needed, len) unless len is their number, for which needed is 2^64 - 1
  * where no uint64_t has it. */
-int32_t hv_read_offsets(hv_column *column, size_t start, int32_t *offsets, size_t len, hv_error *error);
-int32_t hv_read_large_offsets(hv_column *column, size_t start, int64_t *offsets, size_t len, hv_error *error);
-int32_t hv_read_bytes(hv_column *column, size_t start, size_t rows, uint8_t *bytes, size_t len, hv_error *error);
+HV_ANSWER int32_t hv_read_offsets(hv_column *column, size_t start, int32_t *offsets, size_t len, hv_error *error);
+HV_ANSWER int32_t hv_read_large_offsets(hv_column *column, size_t start, int64_t *offsets, size_t len, hv_error *error);
+HV_ANSWER int32_t hv_read_bytes(hv_column *column, size_t start, size_t rows, uint8_t *bytes, size_t len, hv_error *error);
 
 /* ---- Run columns ---- (13 of other forms) */
-int32_t hv_ends(hv_column *column, hv_column *out, hv_error *error);    /* the ends, shared: flat, unsigned, no null */
-int32_t hv_values(hv_column *column, hv_column *out, hv_error *error);  /* the values, shared */
+HV_ANSWER int32_t hv_ends(hv_column *column, hv_column *out, hv_error *error);    /* the ends, shared: flat, unsigned, no null */
+HV_ANSWER int32_t hv_values(hv_column *column, hv_column *out, hv_error *error);  /* the values, shared */
+/* How many runs there are. Runs are counted from 0, as hv_ends and hv_values have them, and rows are those of the column:
+ * run k shows the rows from its start to its stop - 1, and starts where run k - 1 stops. One that the column does not reach
+ * shows none. None of these calls takes memory. */
+HV_ANSWER int32_t hv_run_count(hv_column *column, size_t *count, hv_error *error);
+/* The rows of run `run` and the value that they have; 13 also for lists, 8 (run, runs), 11 as with hv_at. */
+HV_ANSWER int32_t hv_run(hv_column *column, size_t run, size_t *start, size_t *stop, hv_value *value, uint8_t *text, size_t text_len, hv_error *error);
+/* The run of row `row`; 8 (row, length). */
+HV_ANSWER int32_t hv_run_of(hv_column *column, size_t row, size_t *run, hv_error *error);
+/* Where `len` runs stop, from run `first` on; 9 (first, stop, runs) past the last run. */
+HV_ANSWER int32_t hv_read_ends_u64(hv_column *column, size_t first, uint64_t *stops, size_t len, hv_error *error);
 /* The metadata record: it goes to the front of `bytes`, and *size says how many they are; 11 (needed, bytes_len) where it
  * has no room there. */
-int32_t hv_serialize(hv_column *column, uint8_t *bytes, size_t bytes_len, size_t *size, hv_error *error);
+HV_ANSWER int32_t hv_serialize(hv_column *column, uint8_t *bytes, size_t bytes_len, size_t *size, hv_error *error);
 /* The run column of `count` rows of this type by its record, over clones of these ends and values; 17 for bytes that are no
  * record, 18 (number), 12 for ends that are not of the type that it states or values that are not of this one, 19 (stated,
  * found), 23 where kind names no type, or as hv_runs. */
-int32_t hv_deserialize(const hv_kind *kind, size_t count, const uint8_t *bytes, size_t bytes_len, hv_column *ends, hv_column *values, hv_column *out, hv_error *error);
+HV_ANSWER int32_t hv_deserialize(const hv_kind *kind, size_t count, const uint8_t *bytes, size_t bytes_len, hv_column *ends, hv_column *values, hv_column *out, hv_error *error);
 
 /* Frees the column, if there is one; the handle is empty after. */
-void hv_free(hv_column *column);
+HV_LENT void hv_free(hv_column *column);
 
 #ifdef __cplusplus
 }

@@ -21,7 +21,7 @@ from pathlib import Path
 
 ROOT = Path(__file__).resolve().parent.parent
 EXPORT = re.compile(r'^pub extern "C" fn (\w+)\((.*?)\)\s*(?:->\s*(\w+))?\s*(?=ensures|requires|\{)', re.M | re.S)
-INTERNAL = re.compile(r'@"hivevigil::exports::[\w:]+::(hv_\w+)"')
+INTERNAL = re.compile(r'@"hivevigil::[\w:]+::(hv_\w+)"')
 # `rt try` compiles a program of some lines first, to see whether it can
 PROBE_BYTES = 100_000
 CANNOT_RUN = 3
@@ -59,11 +59,11 @@ def reaching_test(exports: list[tuple[str, str, str]]) -> str:
     lines = []
     for name, parameters, _ in exports:
         types = parameter_types(parameters)
-        names = ", ".join(f"argument_{number}" for number in range(len(types)))
+        names = "".join(f"argument_{number}, " for number in range(len(types)))
         lines += [
             "#[cfg(test)]",
-            f"fn reach_{name}(given: Option<({', '.join(types)},)>) {{",
-            f"    if let Some(({names},)) = given {{ let _ = {name}({names}); }}",
+            f"fn reach_{name}(given: Option<({''.join(f'{each}, ' for each in types)})>) {{",
+            f"    if let Some(({names})) = given {{ let _ = {name}({names}); }}",
             "}",
         ]
     calls = "".join(f" reach_{name}(None);" for name, _, _ in exports)
@@ -128,7 +128,7 @@ def with_visible_exports(text: str, exports: list[str], structs: set[str]) -> st
 
 def struct_calls(header: str, exports: list[str]) -> dict[str, tuple[str, str]]:
     """Of each export that returns a struct: the struct, and the parameters, as the header has them."""
-    found = re.findall(r"^(hv_\w+) (hv_\w+)\((.*?)\);", header, re.M)
+    found = re.findall(r"^(?:HV_\w+ )?(hv_\w+) (hv_\w+)\((.*?)\);", header, re.M)
     return {name: (struct, parameters) for struct, name, parameters in found if name in exports}
 
 

@@ -22,6 +22,7 @@
 #define NO_NULLS 1, (const uint8_t *)hv_some(NULL), 0, 0
 #define NULLS_BY(bits, first) 2, bits, sizeof(bits), first
 #define NO_TEXT (const uint8_t *)hv_some(NULL), 0
+#define NO_TEXT_ROOM (uint8_t[1]){0}, 0
 #define COUNT(array) (sizeof(array) / sizeof *(array))
 
 enum { FORM_FLAT = 0, FORM_CONSTANT = 1, FORM_RUNS = 3, FORM_NONE = 255 };

@@ -172,7 +172,7 @@ static void check_number_reads(void) {
     FILL(items), FILL(narrow), FILL(pairs);
     REFUSED(hv_read_i32(&numbers, 0, narrow, 1, &error), HV_TYPE_MISMATCH, 0, 0, 0);
     REFUSED(hv_read_i32(&numbers, 9, narrow, 1, &error), HV_TYPE_MISMATCH, 0, 0, 0);
-    REFUSED(hv_read_i64(&runs, 0, items, 4, &error), HV_UNSUPPORTED, 0, 0, 0);
+    REFUSED(hv_read_i64(&runs, 0, items, 5, &error), HV_BAD_RANGE, 0, 5, 4);
     REFUSED(hv_read_i64(&texts, 0, items, 1, &error), HV_UNSUPPORTED, 0, 0, 0);
     REFUSED(hv_read_i64(&decimals, 0, items, 1, &error), HV_UNSUPPORTED, 0, 0, 0);
     REFUSED(hv_read_i64(&numbers, 2, items, 3, &error), HV_BAD_RANGE, 2, 5, 4);

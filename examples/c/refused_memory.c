@@ -11,8 +11,9 @@ static hv_error error;
 static hv_column flat = HV_EMPTY, runs = HV_EMPTY, part = HV_EMPTY, texts = HV_EMPTY, truths = HV_EMPTY,
                  decimals = HV_EMPTY;
 static hv_column ends = HV_EMPTY, values = HV_EMPTY, places = HV_EMPTY, constant = HV_EMPTY, large_texts = HV_EMPTY;
+static hv_column truth_runs = HV_EMPTY, place_runs = HV_EMPTY, text_runs = HV_EMPTY;
 static hv_column *const lent[] = {&flat, &runs,   &part,   &texts,    &truths,     &decimals,
-                                  &ends, &values, &places, &constant, &large_texts};
+                                  &ends, &values, &places, &constant, &large_texts, &truth_runs, &place_runs, &text_runs};
 static char rows_before[COUNT(lent)][8192];
 static hv_column out = HV_EMPTY;
 static struct ArrowSchema schema, texts_schema, codes_schema;
@@ -26,7 +27,7 @@ static int64_t large_offsets[ROWS + 1];
 static uint8_t letters[BYTES];
 static const uint16_t some_places[5] = {1, 3, 60, 79, 0};
 static const hv_pair pairs[2] = {{5, 0}, {UINT64_MAX, -1}};
-static const hv_kind i32_type = {HV_I32, 1, 0, 0}, i64_type = {HV_I64, 1, 0, 0};
+static const hv_kind i32_type = {HV_I32, 1, 0, 0}, i64_type = {HV_I64, 1, 0, 0}, text_type = {HV_UTF8, 0, 0, 0};
 static const hv_value five = {.kind = HV_SIGNED, .as_signed = 5}, letter = {.kind = HV_TEXT, .as_unsigned = 1};
 
 /* numbers in stretches of three, two of seven null; texts of four letters each */
@@ -40,6 +41,18 @@ static void write_items(void) {
     }
 }
 
+/* truth values, places and texts as runs of 40 and of 40 rows, and the places of five and of four */
+static void make_run_columns(void) {
+    const uint8_t two_ends[2] = {ROWS / 2, ROWS}, place_ends[2] = {5, 9}, truth[1] = {1};
+    hv_column last = HV_EMPTY, two = HV_EMPTY;
+    CHECK(!hv_u8(two_ends, 2, NOT_NULLABLE, &last, &error));
+    CHECK(!hv_bools(truth, 1, 0, 2, NO_NULLS, &two, &error) && !hv_runs(&last, &two, 0, ROWS, &truth_runs, &error));
+    CHECK(!hv_u8(place_ends, 2, NOT_NULLABLE, &last, &error));
+    CHECK(!hv_u16(some_places, 2, NOT_NULLABLE, &two, &error) && !hv_runs(&last, &two, 0, 9, &place_runs, &error));
+    CHECK(!hv_slice(&session, &texts, 0, 2, &two, &error) && !hv_runs(&last, &two, 0, 9, &text_runs, &error));
+    hv_free(&last), hv_free(&two);
+}
+
 static void make_lent(void) {
     hv_session_initial(&session);
     CHECK(!hv_i64(items, ROWS, NULLS_BY(bits, 0), &flat, &error) && !hv_encode(&session, &flat, &runs, &error));
@@ -50,6 +63,7 @@ static void make_lent(void) {
     CHECK(!hv_decimals(pairs, 2, 10, 2, NO_NULLS, &decimals, &error));
     CHECK(!hv_ends(&part, &ends, &error) && !hv_values(&part, &values, &error));
     CHECK(!hv_u16(some_places, 5, NOT_NULLABLE, &places, &error));
+    make_run_columns();
     CHECK(!hv_arrow_export(&session, &texts, "texts", &texts_schema, &texts_array, &error));
     CHECK(!hv_arrow_export_dictionary(&session, &places, &texts, "codes", &codes_schema, &codes_array, &error));
     for (size_t i = 0; i < COUNT(lent); i++) {
@@ -65,10 +79,10 @@ static void check_lent(void) {
 /* ---- A step for each call ---- */
 
 static hv_total total;
-static hv_value value;
-static uint8_t text[64], truth;
+static hv_value value, greatest;
+static uint8_t text[64], letter_room[8], truth;
 static uint64_t words[ROWS + 1];
-static size_t size;
+static size_t size, stop;
 
 #define STEP(name, call) \
     static int32_t name(void) { return call; }
@@ -102,6 +116,8 @@ STEP(take, hv_take(&session, &runs, &places, &out, &error))
 STEP(take_texts, hv_take(&session, &texts, &places, &out, &error))
 STEP(filter, hv_filter(&session, &runs, &truths, &out, &error))
 STEP(filter_texts, hv_filter(&session, &texts, &truths, &out, &error))
+STEP(filter_by_runs, hv_filter(&session, &runs, &truth_runs, &out, &error))
+STEP(take_by_runs, hv_take(&session, &texts, &place_runs, &out, &error))
 STEP(take_from, hv_take_from(&session, &places, &runs, &out, &error))
 STEP(compare, hv_compare(&session, &runs, HV_LE, &flat, &out, &error))
 STEP(compare_scalar, hv_compare_scalar(&session, &runs, HV_GT, &five, NO_TEXT, &out, &error))
@@ -113,6 +129,7 @@ STEP(is_constant, hv_is_constant(&session, &runs, &truth, &error))
 STEP(is_sorted, hv_is_sorted(&session, &runs, 0, &truth, &error))
 STEP(extreme, hv_extreme(&session, &runs, 1, &value, text, sizeof text, &error))
 STEP(extreme_text, hv_extreme(&session, &texts, 1, &value, text, sizeof text, &error))
+STEP(min_max, hv_min_max(&session, &texts, &value, text, sizeof text, &greatest, letter_room, sizeof letter_room, &error))
 STEP(at, hv_at(&texts, 66, &value, text, sizeof text, &error))
 STEP_READ(i64, int64_t)
 STEP(read_decimals, hv_read_decimals(&decimals, 0, (hv_pair *)words, 2, &error))
@@ -122,6 +139,16 @@ STEP(read_no_nulls, hv_read_validity(&large_texts, words, WORDS, &error))
 STEP(read_offsets, hv_read_offsets(&texts, 0, (int32_t *)words, ROWS + 1, &error))
 STEP(read_large_offsets, hv_read_large_offsets(&large_texts, 10, (int64_t *)words, 60, &error))
 STEP(read_bytes, hv_read_bytes(&large_texts, 0, ROWS, (uint8_t *)words, BYTES, &error))
+STEP(window_numbers, hv_read_i64(&part, 3, (int64_t *)words, 40, &error))
+STEP(window_offsets, hv_read_offsets(&text_runs, 3, (int32_t *)words, 6, &error))
+STEP(window_bytes, hv_read_bytes(&text_runs, 0, 9, (uint8_t *)words, 36, &error))
+STEP(window_bools, hv_read_bools_from(&truth_runs, 5, 60, words, 1, &error))
+STEP(window_validity, hv_read_validity_from(&part, 5, 40, words, 1, &error))
+STEP(read_run_count, hv_run_count(&part, &size, &error))
+STEP(read_run, hv_run(&part, 2, &size, &stop, &value, text, sizeof text, &error))
+STEP(read_run_of, hv_run_of(&part, 30, &size, &error))
+STEP(read_ends, hv_read_ends_u64(&part, 0, words, 2, &error))
+STEP(make_constant, hv_constant(&text_type, &letter, letters, 4, 9, &out, &error))
 STEP(run_ends, hv_ends(&part, &out, &error))
 STEP(run_values, hv_values(&part, &out, &error))
 STEP(serialize, hv_serialize(&part, text, sizeof text, &size, &error))
@@ -155,10 +182,12 @@ static const step steps[] = {
     NAMED(make_large_texts), NAMED(make_runs), NAMED(clone_runs), NAMED(clone_texts), NAMED(encode), NAMED(decode),
     NAMED(compact_runs), NAMED(compact_texts),
     NAMED(slice_runs), NAMED(slice_texts), NAMED(cast), NAMED(take), NAMED(take_texts), NAMED(filter),
-    NAMED(filter_texts), NAMED(take_from), NAMED(compare), NAMED(compare_scalar), NAMED(compare_text), NAMED(fill),
+    NAMED(filter_texts), NAMED(filter_by_runs), NAMED(take_by_runs), NAMED(take_from), NAMED(compare), NAMED(compare_scalar), NAMED(compare_text), NAMED(fill),
     NAMED(fill_text), NAMED(sum), NAMED(is_constant), NAMED(is_sorted), NAMED(extreme), NAMED(extreme_text),
-    NAMED(at), NAMED(read_i64), NAMED(read_decimals), NAMED(read_bools), NAMED(read_validity), NAMED(read_no_nulls),
-    NAMED(read_offsets), NAMED(read_large_offsets), NAMED(read_bytes), NAMED(run_ends), NAMED(run_values),
+    NAMED(min_max), NAMED(at), NAMED(read_i64), NAMED(read_decimals), NAMED(read_bools), NAMED(read_validity), NAMED(read_no_nulls),
+    NAMED(read_offsets), NAMED(read_large_offsets), NAMED(read_bytes), NAMED(window_numbers),
+    NAMED(window_offsets), NAMED(window_bytes), NAMED(window_bools), NAMED(window_validity), NAMED(read_run_count),
+    NAMED(read_run), NAMED(read_run_of), NAMED(read_ends), NAMED(make_constant), NAMED(run_ends), NAMED(run_values),
     NAMED(serialize), NAMED(deserialize), NAMED(export_flat), NAMED(export_runs), NAMED(export_constant),
     NAMED(export_texts), NAMED(export_truths), NAMED(export_dictionary), NAMED(import_texts),
     NAMED(import_dictionary), NAMED(export_and_import),

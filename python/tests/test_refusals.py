@@ -130,7 +130,6 @@ def test_refusals_of_the_library():
         (lambda: Column.from_runs(Column.of([-1]), [1], 0, 1), errors.CastOutOfRange, OverflowError, (0, 0, 0)),
         (lambda: column.record(), errors.Unsupported, TypeError, (0, 0, 0)),
         (lambda: Column.of(["a"]).sum(), errors.Unsupported, TypeError, (0, 0, 0)),
-        (lambda: column.encode().to_array(), errors.Unsupported, TypeError, (0, 0, 0)),
     ]
     for call, kind, builtin, fields in due:
         with pytest.raises(kind) as caught:

@@ -7,10 +7,10 @@ use Rattle.column_base.specs.Error.{number_of}
 use Rattle.column_core.specs.Refusal.{IsErrorFor}
 use Rattle.runend_array.specs.Array.{column_of}
 use Rattle.runend_array.specs.declared.array_ref.ArrayRef.{ArrayRef}
-use Rattle.hivevigil.specs.Ending.{EndsAs, EndsOnHeld, EndsOnParts, EndsOnRuns, HasFields, IsShortOr}
-use Rattle.hivevigil.specs.RunParts.{no_runs_fault}
-use Rattle.hivevigil.specs.declared.error_fields.ErrorFields.{ErrorFields}
-use Rattle.hivevigil.proofs.Endings.{ends_done, ends_refused}
+use Rattle.c_columns.specs.Ending.{EndsAs, EndsOnHeld, EndsOnParts, EndsOnRuns, HasFields, IsShortOr}
+use Rattle.c_columns.specs.RunParts.{no_runs_fault}
+use Rattle.c_columns.specs.declared.error_fields.ErrorFields.{ErrorFields}
+use Rattle.c_columns.proofs.Endings.{ends_done, ends_refused}
 
 abbrev Held : Type 0
 Held = Option (ArrayRef Global)

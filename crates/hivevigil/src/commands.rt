@@ -1,98 +1,342 @@
-//! Commands on columns of handles, whose answer is a column.
-ghost use Rattle.std.specs.Prelude.{◌≡◌, ◌≢◌, Some, pos, IfOk, IfErr};
-ghost use Rattle.column_base.specs.Error.{number_of};
-ghost use Rattle.column_core.specs.Refusal.{IsErrorFor};
-ghost use Rattle.runend_commands.specs.Refusal.{refusal};
-ghost use Rattle.runend_commands.specs.Meaning.{plain};
-ghost use Rattle.hivevigil.specs.Calls.{Leaves};
-ghost use Rattle.hivevigil.specs.Ending.{EndsOn, EndsOnGiven, HasFields, LeavesGiven, WhereBoth, fault_given};
+//! Calls of commands whose answer is a column.
+ghost use Rattle.std.specs.Prelude.{◌≡◌, ◌≢◌, IsSomeAnd, MatchOption, Some, pos};
+ghost use Rattle.runend_commands.specs.declared.command.Command.TheVariants.{Slice, Cast, Encode, Decode};
+ghost use Rattle.c_columns.specs.Calls.{Leaves, compare_with_passed, fill_with_passed};
+ghost use Rattle.c_columns.specs.Ending.{EndsOn, EndsOnPassed, LeavesPassed, WhereAll, WhereBoth};
+ghost use Rattle.c_columns.specs.Kinds.{dtype_by, operator_by};
+ghost use Rattle.c_columns.specs.TwoColumns.{EndsOnTwo, LeavesPlain, beside_fault, code_look_up_fault, compared_by, filtered_by, looked_up_by, mask_filter_fault};
 
-use crate::error_fields::{ErrorFields, NO_COLUMN, refuse};
-use crate::flat::{Boxed, boxed};
-use crate::handle::Handle;
-use crate::runs::boxed_copy;
-use crate::sessions::{Session, context};
-use column_core::VortexResult;
-use runend_array::ArrayRef;
-use runend_commands::{Command, Outcome, outcome_of};
+use c_columns::arguments::{compare_scalar_command, fill_command};
+use c_columns::commands::{answer, apply};
+use c_columns::error_fields::{BAD_NUMBER, ErrorFields, NO_COLUMN};
+use c_columns::handle::Handle;
+use c_columns::kinds::{self, Kind};
+use c_columns::row_value::RowValue;
+use c_columns::sessions::Session;
+use c_columns::two_columns;
+use column_order::CompareOperator;
+use runend_commands::Command;
 use std::alloc::Global;
 
-/// A command on the column of a handle, which stays. What it leaves is put into `out`.
-#[tactic(auto, using(crate::proofs::Endings::given_empty, crate::proofs::Endings::given_done, crate::proofs::Endings::given_refused))]
-pub(crate) fn apply(
+/// The column as runs, as few as there can be. Refused as `OnlyPrimitive` unless the rows are whole numbers.
+#[tactic(auto, using(c_columns::proofs::Endings::left_with, c_columns::proofs::Endings::ends_with))]
+#[unsafe(no_mangle)]
+pub extern "C" fn hv_encode(
     alloc: Global,
     session: &Session,
     column: &mut Handle,
-    command: VortexResult<Command<Global>>,
     out: &mut Handle,
     error: &mut ErrorFields,
 ) -> i32
     ensures same { column.new.column ≡ column.old.column }
-    ensures made { result ≡ pos 0 → WhereBoth (LeavesGiven command) column.old.column out.new.column }
+    ensures made { result ≡ pos 0 → WhereBoth (Leaves Encode) column.old.column out.new.column }
     ensures kept { result ≢ pos 0 → out.new.column ≡ out.old.column }
-    ensures ended { EndsOnGiven column.old.column command result error.new }
+    ensures ended { EndsOn column.old.column (Some Encode) result error.new }
 {
-    let Some(array) = column.take(alloc) else {
-        drop(command);
+    apply(alloc, session, column, Ok(Command::Encode), out, error)
+}
+
+/// The rows in a flat form.
+#[tactic(auto, using(c_columns::proofs::Endings::left_with, c_columns::proofs::Endings::ends_with))]
+#[unsafe(no_mangle)]
+pub extern "C" fn hv_decode(
+    alloc: Global,
+    session: &Session,
+    column: &mut Handle,
+    out: &mut Handle,
+    error: &mut ErrorFields,
+) -> i32
+    ensures same { column.new.column ≡ column.old.column }
+    ensures made { result ≡ pos 0 → WhereBoth (Leaves Decode) column.old.column out.new.column }
+    ensures kept { result ≢ pos 0 → out.new.column ≡ out.old.column }
+    ensures ended { EndsOn column.old.column (Some Decode) result error.new }
+{
+    apply(alloc, session, column, Ok(Command::Decode), out, error)
+}
+
+/// The rows from `start` to `stop - 1`. Refused as `BadRange`.
+#[tactic(auto, using(c_columns::proofs::Endings::left_with, c_columns::proofs::Endings::ends_with))]
+#[unsafe(no_mangle)]
+pub extern "C" fn hv_slice(
+    alloc: Global,
+    session: &Session,
+    column: &mut Handle,
+    start: usize,
+    stop: usize,
+    out: &mut Handle,
+    error: &mut ErrorFields,
+) -> i32
+    ensures same { column.new.column ≡ column.old.column }
+    ensures made { result ≡ pos 0
+        → WhereBoth (Leaves (Slice (record { start = start; end = stop }))) column.old.column out.new.column }
+    ensures kept { result ≢ pos 0 → out.new.column ≡ out.old.column }
+    ensures ended { EndsOn column.old.column (Some (Slice (record { start = start; end = stop }))) result error.new }
+{
+    apply(
+        alloc,
+        session,
+        column,
+        Ok(Command::Slice(start..stop)),
+        out,
+        error,
+    )
+}
+
+/// Each row as the same value of this type. Answers 23 where the number is of no type, or of lists.
+#[tactic(auto, using(c_columns::proofs::Endings::left_with, c_columns::proofs::Endings::ends_with))]
+#[unsafe(no_mangle)]
+pub extern "C" fn hv_cast(
+    alloc: Global,
+    session: &Session,
+    column: &mut Handle,
+    kind: &Kind,
+    out: &mut Handle,
+    error: &mut ErrorFields,
+) -> i32
+    ensures same { column.new.column ≡ column.old.column }
+    ensures made { result ≡ pos 0
+        → IsSomeAnd (dtype_by kind.now.number kind.now)
+        (λ dtype. WhereBoth (Leaves (Cast dtype)) column.old.column out.new.column) }
+    ensures kept { result ≢ pos 0 → out.new.column ≡ out.old.column }
+    ensures ended { MatchOption (dtype_by kind.now.number kind.now) (result ≡ pos 23)
+        (λ dtype. EndsOn column.old.column (Some (Cast dtype)) result error.new) }
+{
+    match kinds::dtype_of(kind) {
+        Some(dtype) => apply(alloc, session, column, Ok(Command::Cast(dtype)), out, error),
+        None => BAD_NUMBER,
+    }
+}
+
+/// The rows at the indices, whole numbers in any form: null at a null index.
+#[tactic(auto, using(crate::proofs::TwoColumns::no_first, crate::proofs::TwoColumns::no_second, crate::proofs::TwoColumns::two_done, crate::proofs::TwoColumns::two_refused))]
+#[unsafe(no_mangle)]
+pub extern "C" fn hv_take(
+    alloc: Global,
+    session: &Session,
+    column: &mut Handle,
+    indices: &mut Handle,
+    out: &mut Handle,
+    error: &mut ErrorFields,
+) -> i32
+    ensures same { column.new.column ≡ column.old.column }
+    ensures same_indices { indices.new.column ≡ indices.old.column }
+    ensures made { result ≡ pos 0
+        → WhereAll (LeavesPlain looked_up_by) indices.old.column column.old.column out.new.column }
+    ensures kept { result ≢ pos 0 → out.new.column ≡ out.old.column }
+    ensures ended { EndsOnTwo code_look_up_fault indices.old.column column.old.column result error.new }
+{
+    let Some(lent) = indices.take(alloc) else {
         return NO_COLUMN;
     };
-    let outcome = left_by(alloc, session, &array, command);
+    let Some(array) = column.take(alloc) else {
+        indices.put(lent);
+        return NO_COLUMN;
+    };
+    let outcome = two_columns::taken(alloc, session, &lent, &array);
+    indices.put(lent);
     column.put(array);
     answer(outcome, out, error)
 }
 
-/// Puts a column into `out` and answers 0, or answers the number of an error and writes its fields.
-pub(crate) fn answer(outcome: VortexResult<Boxed>, out: &mut Handle, error: &mut ErrorFields) -> i32
-    ensures ok { IfOk outcome (λ made. (result ≡ pos 0) × (out.new.column ≡ Some made.value)) }
-    ensures err { IfErr outcome (λ why. (result ≡ pos (number_of why)) × (result ≢ pos 0) × (out.new.column ≡ out.old.column) × HasFields why error.new) }
+/// The rows at which the mask, truth values in any form, is true: null selects nothing.
+#[tactic(auto, using(crate::proofs::TwoColumns::no_first, crate::proofs::TwoColumns::no_second, crate::proofs::TwoColumns::two_done, crate::proofs::TwoColumns::two_refused))]
+#[unsafe(no_mangle)]
+pub extern "C" fn hv_filter(
+    alloc: Global,
+    session: &Session,
+    column: &mut Handle,
+    mask: &mut Handle,
+    out: &mut Handle,
+    error: &mut ErrorFields,
+) -> i32
+    ensures same { column.new.column ≡ column.old.column }
+    ensures same_mask { mask.new.column ≡ mask.old.column }
+    ensures made { result ≡ pos 0
+        → WhereAll (LeavesPlain filtered_by) mask.old.column column.old.column out.new.column }
+    ensures kept { result ≢ pos 0 → out.new.column ≡ out.old.column }
+    ensures ended { EndsOnTwo mask_filter_fault mask.old.column column.old.column result error.new }
 {
-    match outcome {
-        Ok(made) => {
-            out.put(made);
-            0
-        }
-        Err(why) => refuse(why, error),
+    let Some(lent) = mask.take(alloc) else {
+        return NO_COLUMN;
+    };
+    let Some(array) = column.take(alloc) else {
+        mask.put(lent);
+        return NO_COLUMN;
+    };
+    let outcome = two_columns::filtered(alloc, session, &lent, &array);
+    mask.put(lent);
+    column.put(array);
+    answer(outcome, out, error)
+}
+
+/// The dictionary's row for each row, which is its number there; null stays null.
+#[tactic(auto, using(crate::proofs::TwoColumns::no_first, crate::proofs::TwoColumns::no_second, crate::proofs::TwoColumns::two_done, crate::proofs::TwoColumns::two_refused))]
+#[unsafe(no_mangle)]
+pub extern "C" fn hv_take_from(
+    alloc: Global,
+    session: &Session,
+    column: &mut Handle,
+    dictionary: &mut Handle,
+    out: &mut Handle,
+    error: &mut ErrorFields,
+) -> i32
+    ensures same { column.new.column ≡ column.old.column }
+    ensures same_dictionary { dictionary.new.column ≡ dictionary.old.column }
+    ensures made { result ≡ pos 0
+        → WhereAll (LeavesPlain looked_up_by) column.old.column dictionary.old.column out.new.column }
+    ensures kept { result ≢ pos 0 → out.new.column ≡ out.old.column }
+    ensures ended { EndsOnTwo code_look_up_fault column.old.column dictionary.old.column result error.new }
+{
+    let Some(codes) = column.take(alloc) else {
+        return NO_COLUMN;
+    };
+    let Some(lent) = dictionary.take(alloc) else {
+        column.put(codes);
+        return NO_COLUMN;
+    };
+    let outcome = two_columns::looked_up(alloc, session, &codes, &lent);
+    column.put(codes);
+    dictionary.put(lent);
+    answer(outcome, out, error)
+}
+
+/// Row by row whether the operator holds, by number: 0 =, 1 not =, 2 >, 3 >=, 4 <, 5 <=; any other answers 23.
+#[unsafe(no_mangle)]
+pub extern "C" fn hv_compare(
+    alloc: Global,
+    session: &Session,
+    column: &mut Handle,
+    operator: u8,
+    right: &mut Handle,
+    out: &mut Handle,
+    error: &mut ErrorFields,
+) -> i32
+    ensures same { column.new.column ≡ column.old.column }
+    ensures same_right { right.new.column ≡ right.old.column }
+    ensures made { result ≡ pos 0
+        → IsSomeAnd (operator_by operator)
+        (λ op. WhereAll (LeavesPlain (compared_by op)) column.old.column right.old.column out.new.column) }
+    ensures kept { result ≢ pos 0 → out.new.column ≡ out.old.column }
+    ensures ended { MatchOption (operator_by operator) (result ≡ pos 23)
+        (λ op. EndsOnTwo beside_fault column.old.column right.old.column result error.new) }
+{
+    match kinds::operator_by(operator) {
+        Some(operator) => compare_columns(alloc, session, column, operator, right, out, error),
+        None => BAD_NUMBER,
     }
 }
 
-// What the command leaves, where there is one.
-fn left_by(
+/// Row by row whether the operator holds of the row and a value of the column's type; operators as to `hv_compare`.
+/// Refused as `TypeMismatch` where the value is none of the type.
+#[unsafe(no_mangle)]
+pub extern "C" fn hv_compare_scalar(
     alloc: Global,
     session: &Session,
-    array: &ArrayRef<Global>,
-    command: VortexResult<Command<Global>>,
-) -> VortexResult<Boxed>
-    ensures left { IfOk result (λ made. LeavesGiven command array.now made.value) }
-    ensures refused { IfErr result (λ error. IsErrorFor (fault_given command array.now) error) }
+    column: &mut Handle,
+    operator: u8,
+    value: &RowValue,
+    text: &[u8],
+    out: &mut Handle,
+    error: &mut ErrorFields,
+) -> i32
+    ensures same { column.new.column ≡ column.old.column }
+    ensures made { result ≡ pos 0
+        → IsSomeAnd (operator_by operator)
+        (λ op. WhereBoth (LeavesPassed (compare_with_passed op value.now text.now)) column.old.column out.new.column) }
+    ensures kept { result ≢ pos 0 → out.new.column ≡ out.old.column }
+    ensures ended { MatchOption (operator_by operator) (result ≡ pos 23)
+        (λ op. EndsOnPassed value.now text.now
+        (compare_with_passed op value.now text.now) column.old.column result error.new) }
 {
-    match command {
-        Ok(command) => {
-            let outcome = left_of(alloc, session, array, &command);
-            drop(command);
-            outcome
+    match kinds::operator_by(operator) {
+        Some(operator) => {
+            compare_with_value(alloc, session, column, operator, value, text, out, error)
         }
-        Err(error) => Err(error),
+        None => BAD_NUMBER,
     }
 }
 
-// What a command leaves of the column. One that only answers leaves it as it is.
-#[tactic(auto, using(crate::proofs::Left::left_new, crate::proofs::Left::left_same))]
-fn left_of(
+/// A value of the column's type in place of each null. Refused as `TypeMismatch` where it is none of the type.
+#[tactic(auto, using(c_columns::proofs::Endings::left_filled, c_columns::proofs::Endings::ends_filled, c_columns::proofs::Endings::passed_empty))]
+#[unsafe(no_mangle)]
+pub extern "C" fn hv_fill(
     alloc: Global,
     session: &Session,
-    array: &ArrayRef<Global>,
-    command: &Command<Global>,
-) -> VortexResult<Boxed>
-    ensures left { IfOk result (λ made. Leaves command.now array.now made.value) }
-    ensures refused { IfErr result (λ error. IsErrorFor (refusal (plain array.now) command.now) error) }
+    column: &mut Handle,
+    value: &RowValue,
+    text: &[u8],
+    out: &mut Handle,
+    error: &mut ErrorFields,
+) -> i32
+    ensures same { column.new.column ≡ column.old.column }
+    ensures made { result ≡ pos 0
+        → WhereBoth (LeavesPassed (fill_with_passed value.now text.now)) column.old.column out.new.column }
+    ensures kept { result ≢ pos 0 → out.new.column ≡ out.old.column }
+    ensures ended { EndsOnPassed value.now text.now
+        (fill_with_passed value.now text.now) column.old.column result error.new }
 {
-    let mut ctx = context(alloc, session);
-    match outcome_of(command, array, &mut ctx)? {
-        Outcome::Becomes(left) => boxed(alloc, left),
-        Outcome::Answers(answer) => {
-            drop(answer);
-            let copy = boxed_copy(alloc, array)?;
-            Ok(copy)
-        }
-    }
+    let Some(array) = column.take(alloc) else {
+        return NO_COLUMN;
+    };
+    let command = fill_command(alloc, &array, value, text);
+    column.put(array);
+    apply(alloc, session, column, command, out, error)
+}
+
+// The comparison with the column of a handle.
+#[tactic(auto, using(crate::proofs::TwoColumns::no_first, crate::proofs::TwoColumns::no_second, crate::proofs::TwoColumns::two_done, crate::proofs::TwoColumns::two_refused))]
+fn compare_columns(
+    alloc: Global,
+    session: &Session,
+    column: &mut Handle,
+    operator: CompareOperator,
+    right: &mut Handle,
+    out: &mut Handle,
+    error: &mut ErrorFields,
+) -> i32
+    ensures same { column.new.column ≡ column.old.column }
+    ensures same_right { right.new.column ≡ right.old.column }
+    ensures made { result ≡ pos 0
+        → WhereAll (LeavesPlain (compared_by operator)) column.old.column right.old.column out.new.column }
+    ensures kept { result ≢ pos 0 → out.new.column ≡ out.old.column }
+    ensures ended { EndsOnTwo beside_fault column.old.column right.old.column result error.new }
+{
+    let Some(array) = column.take(alloc) else {
+        return NO_COLUMN;
+    };
+    let Some(lent) = right.take(alloc) else {
+        column.put(array);
+        return NO_COLUMN;
+    };
+    let outcome = two_columns::compared(alloc, session, &array, operator, &lent);
+    column.put(array);
+    right.put(lent);
+    answer(outcome, out, error)
+}
+
+// The comparison with a value of the column's type.
+#[tactic(auto, using(c_columns::proofs::Endings::left_compared, c_columns::proofs::Endings::ends_compared, c_columns::proofs::Endings::passed_empty))]
+fn compare_with_value(
+    alloc: Global,
+    session: &Session,
+    column: &mut Handle,
+    operator: CompareOperator,
+    value: &RowValue,
+    text: &[u8],
+    out: &mut Handle,
+    error: &mut ErrorFields,
+) -> i32
+    ensures same { column.new.column ≡ column.old.column }
+    ensures made { result ≡ pos 0
+        → WhereBoth (LeavesPassed (compare_with_passed operator value.now text.now)) column.old.column out.new.column }
+    ensures kept { result ≢ pos 0 → out.new.column ≡ out.old.column }
+    ensures ended { EndsOnPassed value.now text.now
+        (compare_with_passed operator value.now text.now) column.old.column result error.new }
+{
+    let Some(array) = column.take(alloc) else {
+        return NO_COLUMN;
+    };
+    let command = compare_scalar_command(alloc, operator, &array, value, text);
+    column.put(array);
+    apply(alloc, session, column, command, out, error)
 }

@@ -1,50 +1,23 @@
-//! Flat columns of the numbers, truth values and decimals that C passes.
-ghost use Rattle.std.specs.Prelude.{◌≡◌, length, map, IfOk, IsOkUnless};
+//! Calls that make flat columns of truth values and of decimals.
+ghost use Rattle.std.specs.Prelude.{◌≡◌, ◌≢◌, IsSomeAnd, length, pos};
 ghost use Rattle.std.specs.Option.{option_or};
-ghost use Rattle.column_base.specs.Validity.{form_of};
-ghost use Rattle.column_core.specs.Refusal.{IsRefusedBy};
-ghost use Rattle.hivevigil.specs.Bits.{bits_fault, bits_in, validity_by, validity_fault};
-ghost use Rattle.hivevigil.specs.Makers.{AreDecimalsOf, AreTruthsOf, IsFlatOf};
+ghost use Rattle.c_columns.specs.Bits.{bits_fault, bits_in, validity_by, validity_fault};
+ghost use Rattle.c_columns.specs.Ending.{EndsBy};
+ghost use Rattle.c_columns.specs.Makers.{AreDecimalsOf, AreTruthsOf};
 
-use crate::bits::{bits_of, validity_of};
-use crate::pairs::{Pair, numbers_of};
-use column_core::{
-    BoolArray, DecimalArray, DecimalDType, NativePType, PrimitiveArray, VortexError, VortexResult,
-};
-use runend_array::ArrayRef;
+use c_columns::commands::answer;
+use c_columns::error_fields::ErrorFields;
+use c_columns::flat;
+use c_columns::handle::Handle;
+use c_columns::pairs::Pair;
+use column_core::DecimalDType;
 use std::alloc::Global;
 
-/// A column on the heap.
-pub(crate) type Boxed = Box<ArrayRef<Global>>;
-
-/// Puts a column on the heap. Refused for want of memory alone.
-pub(crate) fn boxed(alloc: Global, array: ArrayRef<Global>) -> VortexResult<Boxed>
-    ensures only { IsOkUnless result VortexError.OutOfMemory }
-    ensures column { IfOk result (λ made. made.value ≡ array) }
-{
-    Ok(Box::new(alloc, array)?)
-}
-
-/// The flat column of these numbers. Refused as the bits of its validity are.
-pub(crate) fn numbers<T: NativePType>(
-    alloc: Global,
-    items: &[T],
-    nulls: u8,
-    bits: &[u8],
-    first: usize,
-) -> VortexResult<Boxed>
-    ensures column { IfOk result (λ made. IsFlatOf T.PTYPE (map T.number items.now) (validity_by nulls bits.now first (length items.now)) made.value) }
-    ensures refused { IsRefusedBy (validity_fault nulls bits.now first (length items.now)) result }
-{
-    let validity = validity_of(alloc, nulls, bits, first, items.len())?;
-    let values = T::wrap(Vec::from_slice(alloc, items)?);
-    let array = PrimitiveArray::new_unchecked(values, validity);
-    boxed(alloc, ArrayRef::Primitive(array))
-}
-
-/// The flat column of `count` truth values, the first of which is bit `start` of `truths`. Refused as the bits
-/// of its validity are, and then as these bits.
-pub(crate) fn booleans(
+/// The flat column of `count` truth values, the first of which is bit `start` of `truths`. Nulls are told as to
+/// `hv_u8`. Refused as `ColumnLength` where there are fewer bits of either.
+#[tactic(auto, using(c_columns::proofs::Endings::ends_done, c_columns::proofs::Endings::ends_refused))]
+#[unsafe(no_mangle)]
+pub extern "C" fn hv_bools(
     alloc: Global,
     truths: &[u8],
     start: usize,
@@ -52,30 +25,47 @@ pub(crate) fn booleans(
     nulls: u8,
     bits: &[u8],
     first: usize,
-) -> VortexResult<Boxed>
-    ensures column { IfOk result (λ made. AreTruthsOf (bits_in truths.now start count) (validity_by nulls bits.now first count) made.value) }
-    ensures refused { IsRefusedBy (option_or (validity_fault nulls bits.now first count) (bits_fault truths.now start count)) result }
+    out: &mut Handle,
+    error: &mut ErrorFields,
+) -> i32
+    ensures made { result ≡ pos 0
+        → IsSomeAnd out.new.column (λ c. AreTruthsOf (bits_in truths.now start count)
+        (validity_by nulls bits.now first count) c) }
+    ensures kept { result ≢ pos 0 → out.new.column ≡ out.old.column }
+    ensures ended { EndsBy (option_or (validity_fault nulls bits.now first count)
+        (bits_fault truths.now start count)) result error.new }
 {
-    let validity = validity_of(alloc, nulls, bits, first, count)?;
-    let values = bits_of(alloc, truths, start, count)?;
-    let array = BoolArray::new_unchecked(values, validity);
-    boxed(alloc, ArrayRef::Bool(array))
+    answer(
+        flat::booleans(alloc, truths, start, count, nulls, bits, first),
+        out,
+        error,
+    )
 }
 
-/// The flat column of these decimals. Refused as the bits of its validity are.
-pub(crate) fn decimals(
+/// The flat column of these decimals, of this precision and scale. Nulls are told, and refused, as to `hv_u8`.
+#[tactic(auto, using(c_columns::proofs::Endings::ends_done, c_columns::proofs::Endings::ends_refused))]
+#[unsafe(no_mangle)]
+pub extern "C" fn hv_decimals(
     alloc: Global,
     pairs: &[Pair],
-    decimal_dtype: DecimalDType,
+    precision: u8,
+    scale: i8,
     nulls: u8,
     bits: &[u8],
     first: usize,
-) -> VortexResult<Boxed>
-    ensures column { IfOk result (λ made. AreDecimalsOf decimal_dtype pairs.now (validity_by nulls bits.now first (length pairs.now)) made.value) }
-    ensures refused { IsRefusedBy (validity_fault nulls bits.now first (length pairs.now)) result }
+    out: &mut Handle,
+    error: &mut ErrorFields,
+) -> i32
+    ensures made { result ≡ pos 0
+        → IsSomeAnd out.new.column (λ c. AreDecimalsOf (record { precision = precision; scale = scale }) pairs.now
+        (validity_by nulls bits.now first (length pairs.now)) c) }
+    ensures kept { result ≢ pos 0 → out.new.column ≡ out.old.column }
+    ensures ended { EndsBy (validity_fault nulls bits.now first (length pairs.now)) result error.new }
 {
-    let validity = validity_of(alloc, nulls, bits, first, pairs.len())?;
-    let numbers = numbers_of(alloc, pairs)?;
-    let array = DecimalArray::new_unchecked(numbers, decimal_dtype, validity);
-    boxed(alloc, ArrayRef::Decimal(array))
+    let decimal_dtype = DecimalDType { precision, scale };
+    answer(
+        flat::decimals(alloc, pairs, decimal_dtype, nulls, bits, first),
+        out,
+        error,
+    )
 }

@@ -1,24 +1,16 @@
-//! Run-end encoded columns for C, C++, Rust, Python and whatever speaks Arrow: each export is one call of the
-//! proved library, on columns that the caller holds by handles. `include/hivevigil.h` says what each call
-//! answers, who owns what, and what a caller owes.
+//! Run-end encoded columns for C, C++, Rust, Python and whatever speaks Arrow: the calls, by what they are for. Each
+//! takes columns out of the handles that it is lent, asks one function of `c_columns`, and puts them back.
+//! `include/hivevigil.h` says what each call answers, who owns what, and what a caller owes.
 #![tactic(auto)]
 
-mod arguments;
-mod bits;
 mod commands;
-mod error_fields;
-mod exports;
+mod constants;
 mod flat;
-mod handle;
-mod kinds;
-mod pairs;
-mod parked;
+mod numbers;
 mod questions;
-mod row_value;
-mod rows;
+mod reads;
+mod run_reads;
 mod runs;
-mod sessions;
-mod text_rows;
 mod texts;
-mod totals;
-mod words;
+mod versions;
+mod windows;

@@ -1,145 +1,232 @@
-//! Questions about a column, which copy none of it.
-ghost use Rattle.std.specs.Prelude.{◌≡◌, ◌≢◌, length, None, Some, Err, IfOk, IfErr};
-ghost use Rattle.std.specs.Global.{Global};
-ghost use Rattle.column_core.specs.Refusal.{IsErrorFor, IsRefusedBy};
+//! Calls that ask about a column.
+ghost use Rattle.std.specs.Prelude.{◌≡◌, false, true, IsSomeAnd, MatchOption, length, pos, Some};
 ghost use Rattle.column_order.specs.OrderFacts as order;
 ghost use Rattle.runend_array.specs.Array.{column_of, dtype_of, rows};
-ghost use Rattle.runend_array.specs.declared.session.Kernel.TheVariants as kernel;
-ghost use Rattle.runend_commands.specs.declared.command.Command.TheVariants.{At, MinMax, Sum, IsConstant, IsSorted};
+ghost use Rattle.runend_commands.specs.declared.command.Command.TheVariants.{Sum, IsConstant, IsSorted};
 ghost use Rattle.runend_commands.specs.Meaning.{plain};
-ghost use Rattle.column_core.specs.Kinds.{list_fault};
-ghost use Rattle.runend_commands.specs.Refusal.{refusal};
-ghost use Rattle.hivevigil.specs.Flags.{Tells, byte_of as byte_of_truth};
-ghost use Rattle.hivevigil.specs.Sessions.{IsReadInPlaceIn};
-ghost use Rattle.hivevigil.specs.Totals.{IsTotalOf};
-ghost use Rattle.hivevigil.specs.Values.{IsExtremeOf, IsShownAt};
-ghost use Rattle.hivevigil.specs.Ending.{IsExtremeFault, IsLookUpFault};
+ghost use Rattle.c_columns.specs.Ending.{EndsOn, EndsOnEnds, EndsOnExtreme, EndsOnRow};
+ghost use Rattle.c_columns.specs.Flags.{Tells, flag_of};
+ghost use Rattle.c_columns.specs.Kinds.{IsKindOf};
+ghost use Rattle.c_columns.specs.Reads.{form_number, offset_in};
+ghost use Rattle.c_columns.specs.Totals.{IsTotalOf};
+ghost use Rattle.c_columns.specs.Values.{IsExtremeOf, IsShownAt};
 
-use crate::row_value::{self, RowValue, row_value_of};
-use crate::sessions::{Session, context};
-use crate::totals::{Total, total_of};
-use column_core::{DType, VortexError, VortexResult, fault_of_lists};
-use runend_array::ArrayRef;
-use runend_commands::{Answer, Command, Outcome, compute, outcome_of};
+use c_columns::error_fields::{ErrorFields, NO_COLUMN, refuse, tell};
+use c_columns::handle::Handle;
+use c_columns::kinds::{self, Kind};
+use c_columns::row_value::RowValue;
+use c_columns::sessions::Session;
+use c_columns::totals::Total;
+use c_columns::{questions, runs};
 use std::alloc::Global;
 
-/// The sum of the rows. Refused as the command is, and never for want of memory where the rows are read in place.
-pub(crate) fn sum_of(
+/// The sum of the rows that are not null. Refused as `Unsupported` unless they are whole numbers.
+#[tactic(auto, using(c_columns::proofs::Endings::asked_empty, c_columns::proofs::Endings::asked_done, c_columns::proofs::Endings::asked_refused))]
+#[unsafe(no_mangle)]
+pub extern "C" fn hv_sum(
     alloc: Global,
     session: &Session,
-    array: &ArrayRef<Global>,
-) -> VortexResult<Total>
-    ensures told { IfOk result (λ total. IsTotalOf (dtype_of array.now) (rows array.now) total) }
-    ensures refused { IsRefusedBy (refusal {A = Global} (plain array.now) Sum) result }
-    ensures memory { IsReadInPlaceIn session.now kernel.Sum (column_of array.now) → result ≢ Err VortexError.OutOfMemory }
+    column: &mut Handle,
+    total: &mut Total,
+    error: &mut ErrorFields,
+) -> i32
+    ensures same { column.new.column ≡ column.old.column }
+    ensures told { result ≡ pos 0 → IsSomeAnd column.old.column (λ c. IsTotalOf (dtype_of c) (rows c) total.new) }
+    ensures ended { EndsOn column.old.column (Some Sum) result error.new }
 {
-    let mut ctx = context(alloc, session);
-    let sum = compute::sum(array, &mut ctx)?;
-    Ok(total_of(sum))
+    let Some(array) = column.take(alloc) else {
+        return NO_COLUMN;
+    };
+    let outcome = questions::sum_of(alloc, session, &array);
+    column.put(array);
+    tell(outcome, total, error)
 }
 
-/// Whether any two rows are equal, as a byte. Refused as the command is, and never for want of memory where the
-/// rows are read in place.
-#[tactic(auto, using(crate::proofs::Left::tells_of))]
-pub(crate) fn is_constant(
+/// Whether any two rows are equal, null equal to null: 1, or 0. Refused as `Unsupported` for lists.
+#[tactic(auto, using(c_columns::proofs::Endings::asked_empty, c_columns::proofs::Endings::asked_done, c_columns::proofs::Endings::asked_refused, c_columns::proofs::Endings::told_constant))]
+#[unsafe(no_mangle)]
+pub extern "C" fn hv_is_constant(
     alloc: Global,
     session: &Session,
-    array: &ArrayRef<Global>,
-) -> VortexResult<u8>
-    ensures told { IfOk result (λ truth. Tells truth (order.IsConstant (rows array.now))) }
-    ensures refused { IsRefusedBy (refusal {A = Global} (plain array.now) IsConstant) result }
-    ensures memory { IsReadInPlaceIn session.now kernel.IsConstant (column_of array.now) → result ≢ Err VortexError.OutOfMemory }
+    column: &mut Handle,
+    truth: &mut u8,
+    error: &mut ErrorFields,
+) -> i32
+    ensures same { column.new.column ≡ column.old.column }
+    ensures told { result ≡ pos 0 → IsSomeAnd column.old.column (λ c. Tells truth.new (order.IsConstant (rows c))) }
+    ensures ended { EndsOn column.old.column (Some IsConstant) result error.new }
 {
-    let mut ctx = context(alloc, session);
-    let truth = compute::is_constant(array, &mut ctx)?;
-    Ok(byte_of(truth))
+    let Some(array) = column.take(alloc) else {
+        return NO_COLUMN;
+    };
+    let outcome = questions::is_constant(alloc, session, &array);
+    column.put(array);
+    tell(outcome, truth, error)
 }
 
-/// Whether the rows are sorted, as a byte. Refused as the command is, and never for want of memory where the rows
-/// are read in place.
-#[tactic(auto, using(crate::proofs::Left::tells_of))]
-pub(crate) fn is_sorted(
+/// Whether no row is above the next, or, where `strict` is not 0, each below it, null being below all else: 1,
+/// or 0. Refused as `Unsupported` for lists.
+#[tactic(auto, using(c_columns::proofs::Endings::asked_empty, c_columns::proofs::Endings::asked_done, c_columns::proofs::Endings::asked_refused, c_columns::proofs::Endings::told_sorted))]
+#[unsafe(no_mangle)]
+pub extern "C" fn hv_is_sorted(
     alloc: Global,
     session: &Session,
-    array: &ArrayRef<Global>,
-    strict: bool,
-) -> VortexResult<u8>
-    ensures told { IfOk result (λ truth. Tells truth (order.IsSorted strict (rows array.now))) }
-    ensures refused { IsRefusedBy (refusal {A = Global} (plain array.now) (IsSorted strict)) result }
-    ensures memory { IsReadInPlaceIn session.now kernel.IsSorted (column_of array.now) → result ≢ Err VortexError.OutOfMemory }
+    column: &mut Handle,
+    strict: u8,
+    truth: &mut u8,
+    error: &mut ErrorFields,
+) -> i32
+    ensures same { column.new.column ≡ column.old.column }
+    ensures told { result ≡ pos 0
+        → IsSomeAnd column.old.column (λ c. Tells truth.new (order.IsSorted (flag_of strict) (rows c))) }
+    ensures ended { EndsOn column.old.column (Some (IsSorted (flag_of strict))) result error.new }
 {
-    let mut ctx = context(alloc, session);
-    let truth = compute::is_sorted(array, strict, &mut ctx)?;
-    Ok(byte_of(truth))
+    let Some(array) = column.take(alloc) else {
+        return NO_COLUMN;
+    };
+    let outcome = questions::is_sorted(alloc, session, &array, kinds::is_set(strict));
+    column.put(array);
+    tell(outcome, truth, error)
 }
 
-/// The least or the greatest row that is not null, or null where all are. A text or bytes go to the front of
-/// `text`. Refused as the command is, and as `row_value_of`.
-#[tactic(auto, using(crate::proofs::Extremes::refused_extreme, crate::proofs::Extremes::short_extreme, crate::proofs::Told::none_told))]
-pub(crate) fn extreme_of(
+/// The least row that is not null, or the greatest where `greatest` is not 0; null where all are. A text or bytes
+/// go to the front of `text`: 11, with their number and the room, where they have no room there.
+#[tactic(auto, using(c_columns::proofs::Extremes::extreme_empty, c_columns::proofs::Extremes::extreme_done, c_columns::proofs::Extremes::extreme_refused))]
+#[unsafe(no_mangle)]
+pub extern "C" fn hv_extreme(
     alloc: Global,
     session: &Session,
-    array: &ArrayRef<Global>,
-    greatest: bool,
+    column: &mut Handle,
+    greatest: u8,
+    value: &mut RowValue,
     text: &mut [u8],
-) -> VortexResult<RowValue>
-    ensures told { IfOk result (λ value. IsExtremeOf greatest (plain array.now) text.new value) }
-    ensures accepted { IfOk result (λ _. refusal {A = Global} (plain array.now) MinMax ≡ None) }
-    ensures refused { IfErr result (λ error. IsExtremeFault greatest (plain array.now) (length text.old) error) }
-    ensures len { length text.new ≡ length text.old }
+    error: &mut ErrorFields,
+) -> i32
+    ensures same { column.new.column ≡ column.old.column }
+    ensures told { result ≡ pos 0
+        → IsSomeAnd column.old.column (λ c. IsExtremeOf (flag_of greatest) (plain c) text.new value.new) }
+    ensures ended { EndsOnExtreme (flag_of greatest) (length text.old) column.old.column result error.new }
 {
-    let mut ctx = context(alloc, session);
-    match outcome_of(&Command::MinMax, array, &mut ctx)? {
-        Outcome::Answers(Answer::MinMax(Some((least, last)))) => {
-            let found = if greatest {
-                row_value_of(last.view(), text)
-            } else {
-                row_value_of(least.view(), text)
-            };
-            drop(least);
-            drop(last);
-            found
+    let Some(array) = column.take(alloc) else {
+        return NO_COLUMN;
+    };
+    let outcome = questions::extreme_of(alloc, session, &array, kinds::is_set(greatest), text);
+    column.put(array);
+    tell(outcome, value, error)
+}
+
+/// The least and the greatest row that are not null; null twice where all are. A text or bytes of each go to the front
+/// of a buffer of its own: 11, with their number and the room, where they have no room there.
+#[tactic(auto, using(crate::proofs::EndsEndings::ends_empty, crate::proofs::EndsEndings::ends_done, crate::proofs::EndsEndings::ends_refused))]
+#[unsafe(no_mangle)]
+pub extern "C" fn hv_min_max(
+    alloc: Global,
+    session: &Session,
+    column: &mut Handle,
+    least: &mut RowValue,
+    least_text: &mut [u8],
+    greatest: &mut RowValue,
+    greatest_text: &mut [u8],
+    error: &mut ErrorFields,
+) -> i32
+    ensures same { column.new.column ≡ column.old.column }
+    ensures told_least { result ≡ pos 0
+        → IsSomeAnd column.old.column (λ c. IsExtremeOf false (plain c) least_text.new least.new) }
+    ensures told_greatest { result ≡ pos 0
+        → IsSomeAnd column.old.column (λ c. IsExtremeOf true (plain c) greatest_text.new greatest.new) }
+    ensures ended { EndsOnEnds (length least_text.old) (length greatest_text.old) column.old.column result error.new }
+{
+    let Some(array) = column.take(alloc) else {
+        return NO_COLUMN;
+    };
+    let outcome = questions::extremes_of(alloc, session, &array, least_text, greatest_text);
+    column.put(array);
+    match outcome {
+        Ok(ends) => {
+            *least = ends.least;
+            *greatest = ends.greatest;
+            0
         }
-        Outcome::Answers(Answer::MinMax(None)) => Ok(row_value::null()),
-        other => {
-            drop(other);
-            Err(VortexError::OutOfMemory)
-        }
+        Err(why) => refuse(why, error),
     }
 }
 
-/// The row at `row`, which takes no memory. A text or bytes go to the front of `text`. Refused as the look-up
-/// of a row is, and then as `row_value_of`.
-#[tactic(auto, using(crate::proofs::LookUps::refused_lists, crate::proofs::LookUps::outside_fault, crate::proofs::LookUps::room_fault, crate::proofs::LookUps::no_fault, crate::proofs::Told::row_told))]
-pub(crate) fn row_at(
-    array: &ArrayRef<Global>,
+/// The row at `row`, which takes no memory. A text or bytes go to the front of `text`: 11, with their number and
+/// the room, where they have no room there. Refused as `Unsupported` for lists, and then as `OutOfBounds`.
+#[tactic(auto, using(c_columns::proofs::LookUps::row_empty, c_columns::proofs::LookUps::row_done, c_columns::proofs::LookUps::row_refused))]
+#[unsafe(no_mangle)]
+pub extern "C" fn hv_at(
+    alloc: Global,
+    column: &mut Handle,
     row: usize,
+    value: &mut RowValue,
     text: &mut [u8],
-) -> VortexResult<RowValue>
-    ensures shown { IfOk result (λ value. IsShownAt row array.now text.new value) }
-    ensures accepted { IfOk result (λ _. refusal {A = Global} (plain array.now) (At row) ≡ None) }
-    ensures refused { IfErr result (λ error. IsLookUpFault (plain array.now) row (length text.old) error) }
-    ensures len { length text.new ≡ length text.old }
+    error: &mut ErrorFields,
+) -> i32
+    ensures same { column.new.column ≡ column.old.column }
+    ensures told { result ≡ pos 0 → IsSomeAnd column.old.column (λ c. IsShownAt row c text.new value.new) }
+    ensures ended { EndsOnRow row (length text.old) column.old.column result error.new }
 {
-    check_no_lists(array.dtype())?;
-    let view = array.scalar_at(row)?;
-    row_value_of(view, text)
+    let Some(array) = column.take(alloc) else {
+        return NO_COLUMN;
+    };
+    let outcome = questions::row_at(&array, row, text);
+    column.put(array);
+    tell(outcome, value, error)
 }
 
-// Refused as `Unsupported` for lists.
-fn check_no_lists(dtype: DType) -> VortexResult<()>
-    ensures ok { IfOk result (λ _. list_fault dtype ≡ None) }
-    ensures err { IfErr result (λ error. list_fault dtype ≡ Some error) }
+/// How many rows there are; 0 of no column.
+#[unsafe(no_mangle)]
+pub extern "C" fn hv_length(alloc: Global, column: &mut Handle) -> usize
+    ensures same { column.new.column ≡ column.old.column }
+    ensures told { MatchOption column.old.column (result ≡ 0) (λ c. result ≡ length (rows c)) }
 {
-    match fault_of_lists(dtype) {
-        Some(error) => Err(error),
-        None => Ok(()),
-    }
+    let Some(array) = column.take(alloc) else {
+        return 0;
+    };
+    let found = array.len();
+    column.put(array);
+    found
 }
 
-// 1 for true, 0 for false.
-fn byte_of(truth: bool) -> u8
-    ensures { result ≡ byte_of_truth truth }
+/// The type of the rows; the number is 255 of no column.
+#[unsafe(no_mangle)]
+pub extern "C" fn hv_kind_of(alloc: Global, column: &mut Handle) -> Kind
+    ensures same { column.new.column ≡ column.old.column }
+    ensures told { MatchOption column.old.column (result.number ≡ 255) (λ c. IsKindOf (dtype_of c) result) }
 {
-    truth as u8
+    let Some(array) = column.take(alloc) else {
+        return kinds::no_kind();
+    };
+    let found = kinds::kind_of(array.dtype());
+    column.put(array);
+    found
+}
+
+/// 0 flat, 1 a constant, 2 lists, 3 runs, 255 no column.
+#[unsafe(no_mangle)]
+pub extern "C" fn hv_form(alloc: Global, column: &mut Handle) -> u8
+    ensures same { column.new.column ≡ column.old.column }
+    ensures told { MatchOption column.old.column (result ≡ 255) (λ c. result ≡ form_number (column_of c)) }
+{
+    let Some(array) = column.take(alloc) else {
+        return 255;
+    };
+    let found = runs::form_of_array(&array);
+    column.put(array);
+    found
+}
+
+/// How many rows of the runs of a run column lie before its window; 0 of any other.
+#[unsafe(no_mangle)]
+pub extern "C" fn hv_offset(alloc: Global, column: &mut Handle) -> usize
+    ensures same { column.new.column ≡ column.old.column }
+    ensures told { MatchOption column.old.column (result ≡ 0) (λ c. result ≡ offset_in (column_of c)) }
+{
+    let Some(array) = column.take(alloc) else {
+        return 0;
+    };
+    let found = runs::offset_of(&array);
+    column.put(array);
+    found
 }

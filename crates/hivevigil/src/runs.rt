@@ -1,179 +1,222 @@
-//! Run columns of what other handles hold, and what run columns consist of.
-ghost use Rattle.std.specs.Prelude.{◌≡◌, length, IfOk, IfErr, IsOkUnless};
+//! Calls that make run columns of what handles hold, and take them apart; sessions; and the end of a handle.
+ghost use Rattle.std.specs.Prelude.{◌≡◌, ◌≢◌, IsSomeAnd, MatchOption, None, length, pos};
 ghost use Rattle.runend_array.specs.Array.{column_of};
-ghost use Rattle.runend_array.specs.Column.{column_of_runs};
-ghost use Rattle.column_core.specs.Refusal.{IsRefusedBy};
-ghost use Rattle.hivevigil.specs.Makers.{AreRecordedRuns, AreRunsOf, IsCopyOf};
-ghost use Rattle.hivevigil.specs.Ending.{IsShortOr};
-ghost use Rattle.hivevigil.specs.Reads.{AreRunValuesOf, form_number, offset_in};
-ghost use Rattle.hivevigil.specs.RunParts.{AreEndsOf, IsRecordAtFront, RecordedFault, RunsFault, SerializeFault, no_runs_fault};
+ghost use Rattle.runend_array.specs.SessionForm.{crate_thresholds};
+ghost use Rattle.c_columns.specs.Ending.{EndsAlways, EndsOnHeld, EndsOnParts, EndsOnRuns, WhereAll, WhereBoth};
+ghost use Rattle.c_columns.specs.Kinds.{dtype_by};
+ghost use Rattle.c_columns.specs.Makers.{AreRecordedRuns, AreRunsOf, IsCopyOf};
+ghost use Rattle.c_columns.specs.Reads.{AreRunValuesOf};
+ghost use Rattle.c_columns.specs.RunParts.{AreEndsOf, IsRecordAtFront, RecordedFault, RunsFault, SerializeFault};
+ghost use Rattle.c_columns.specs.Sessions.{HasAllKernels, thresholds_in};
 
-use crate::flat::{Boxed, boxed};
-use crate::row_value::put_bytes;
-use crate::sessions::plain_context;
-use column_core::{DType, VortexError, VortexResult};
-use runend_array::{ArrayRef, RunEnd, RunEndArray, RunEndArrayExt, RunEndArraySlotsExt};
-use runend_column::{deserialize, serialize};
+use c_columns::commands::answer;
+use c_columns::error_fields::{BAD_NUMBER, ErrorFields, NO_COLUMN, tell};
+use c_columns::handle::Handle;
+use c_columns::kinds::{self, Kind};
+use c_columns::runs;
+use c_columns::sessions::{self, Session};
 use std::alloc::Global;
 
-/// A copy in the same form. Refused for want of memory alone.
-pub(crate) fn copy(alloc: Global, array: &ArrayRef<Global>) -> VortexResult<ArrayRef<Global>>
-    ensures same { IfOk result (λ made. IsCopyOf array.now made) }
-    ensures only { IsOkUnless result VortexError.OutOfMemory }
-{
-    array.try_clone(&mut plain_context(alloc))
-}
-
-/// A copy in the same form, on the heap. Refused for want of memory alone.
-pub(crate) fn boxed_copy(alloc: Global, array: &ArrayRef<Global>) -> VortexResult<Boxed>
-    ensures same { IfOk result (λ made. IsCopyOf array.now made.value) }
-    ensures only { IsOkUnless result VortexError.OutOfMemory }
-{
-    boxed(alloc, copy(alloc, array)?)
-}
-
-/// The same in the same form, in buffers that no other column shares, on the heap. Refused for want of memory alone.
-pub(crate) fn boxed_compact(alloc: Global, array: &ArrayRef<Global>) -> VortexResult<Boxed>
-    ensures same { IfOk result (λ made. IsCopyOf array.now made.value) }
-    ensures only { IsOkUnless result VortexError.OutOfMemory }
-{
-    boxed(alloc, compact(alloc, array)?)
-}
-
-fn compact(alloc: Global, array: &ArrayRef<Global>) -> VortexResult<ArrayRef<Global>>
-    ensures same { IfOk result (λ made. IsCopyOf array.now made) }
-    ensures only { IsOkUnless result VortexError.OutOfMemory }
-{
-    array.compact(&mut plain_context(alloc))
-}
-
-/// The run column of copies of these parts. Refused as `RunEnd::try_new_offset_length` refuses, or for want
-/// of memory.
-pub(crate) fn run_column(
+/// The run column of these ends and values, of which `count` rows from row `offset` on are shown. Both are copied,
+/// and stay. Refused as the run column of such parts is.
+#[tactic(auto, using(crate::proofs::PartEndings::no_ends, crate::proofs::PartEndings::no_values, crate::proofs::PartEndings::parts_done, crate::proofs::PartEndings::parts_refused))]
+#[unsafe(no_mangle)]
+pub extern "C" fn hv_runs(
     alloc: Global,
-    ends: &ArrayRef<Global>,
-    values: &ArrayRef<Global>,
+    ends: &mut Handle,
+    values: &mut Handle,
     offset: usize,
     count: usize,
-) -> VortexResult<Boxed>
-    ensures made { IfOk result (λ made. AreRunsOf offset count ends.now values.now made.value) }
-    ensures refused { IfErr result (λ error. IsShortOr (RunsFault offset count ends.now values.now) error) }
+    out: &mut Handle,
+    error: &mut ErrorFields,
+) -> i32
+    ensures same { ends.new.column ≡ ends.old.column }
+    ensures same_values { values.new.column ≡ values.old.column }
+    ensures made { result ≡ pos 0 → WhereAll (AreRunsOf offset count) ends.old.column values.old.column out.new.column }
+    ensures kept { result ≢ pos 0 → out.new.column ≡ out.old.column }
+    ensures ended { EndsOnParts (RunsFault offset count) ends.old.column values.old.column result error.new }
 {
-    let (ends, values) = copies(alloc, ends, values)?;
-    let runs = RunEnd::try_new_offset_length(
-        ends,
-        values,
-        offset,
-        count,
-        &mut plain_context(alloc),
-    )?;
-    boxed_runs(alloc, runs)
+    let Some(lent_ends) = ends.take(alloc) else {
+        return NO_COLUMN;
+    };
+    let Some(lent_values) = values.take(alloc) else {
+        ends.put(lent_ends);
+        return NO_COLUMN;
+    };
+    let outcome = runs::run_column(alloc, &lent_ends, &lent_values, offset, count);
+    ends.put(lent_ends);
+    values.put(lent_values);
+    answer(outcome, out, error)
 }
 
-/// The run column of copies of these parts, by its record. Refused as `deserialize` refuses, or for want of
-/// memory.
-pub(crate) fn recorded_column(
+/// The run column of copies of these parts, `count` rows of this type, by its record. Answers 23 where the number
+/// is of no type, or of lists; else refused as the record of such parts is.
+#[tactic(auto, using(crate::proofs::PartEndings::no_ends, crate::proofs::PartEndings::no_values, crate::proofs::PartEndings::parts_done, crate::proofs::PartEndings::parts_refused))]
+#[unsafe(no_mangle)]
+pub extern "C" fn hv_deserialize(
     alloc: Global,
-    dtype: DType,
+    kind: &Kind,
     count: usize,
     bytes: &[u8],
-    ends: &ArrayRef<Global>,
-    values: &ArrayRef<Global>,
-) -> VortexResult<Boxed>
-    ensures made { IfOk result (λ made. AreRecordedRuns bytes.now dtype count ends.now values.now made.value) }
-    ensures refused { IfErr result (λ error. IsShortOr (RecordedFault bytes.now dtype count ends.now values.now) error) }
+    ends: &mut Handle,
+    values: &mut Handle,
+    out: &mut Handle,
+    error: &mut ErrorFields,
+) -> i32
+    ensures same { ends.new.column ≡ ends.old.column }
+    ensures same_values { values.new.column ≡ values.old.column }
+    ensures made { result ≡ pos 0
+        → IsSomeAnd (dtype_by kind.now.number kind.now)
+        (λ dtype. WhereAll (AreRecordedRuns bytes.now dtype count) ends.old.column values.old.column out.new.column) }
+    ensures kept { result ≢ pos 0 → out.new.column ≡ out.old.column }
+    ensures ended { MatchOption (dtype_by kind.now.number kind.now) (result ≡ pos 23)
+        (λ dtype. EndsOnParts (RecordedFault bytes.now dtype count)
+        ends.old.column values.old.column result error.new) }
 {
-    let (ends, values) = copies(alloc, ends, values)?;
-    let runs = deserialize(dtype, count, bytes, ends, values, &mut plain_context(alloc))?;
-    boxed_runs(alloc, runs)
-}
-
-/// A copy of the ends of a run column. Refused as `Unsupported` where it is none, else for want of memory.
-pub(crate) fn ends_of(alloc: Global, array: &ArrayRef<Global>) -> VortexResult<Boxed>
-    ensures made { IfOk result (λ made. AreEndsOf (column_of array.now) (column_of made.value)) }
-    ensures refused { IsRefusedBy (no_runs_fault (column_of array.now)) result }
-{
-    match array {
-        ArrayRef::RunEnd(runs) => boxed_copy(alloc, runs.ends()),
-        _ => Err(VortexError::Unsupported),
-    }
-}
-
-/// A copy of the values of a run column. Refused as `Unsupported` where it is none, else for want of memory.
-pub(crate) fn values_of(alloc: Global, array: &ArrayRef<Global>) -> VortexResult<Boxed>
-    ensures made { IfOk result (λ made. AreRunValuesOf (column_of array.now) (column_of made.value)) }
-    ensures refused { IsRefusedBy (no_runs_fault (column_of array.now)) result }
-{
-    match array {
-        ArrayRef::RunEnd(runs) => boxed_copy(alloc, runs.values()),
-        _ => Err(VortexError::Unsupported),
-    }
-}
-
-/// How many rows of the runs lie before the window; 0 of any other column.
-pub(crate) fn offset_of(array: &ArrayRef<Global>) -> usize
-    ensures { result ≡ offset_in (column_of array.now) }
-{
-    match array {
-        ArrayRef::RunEnd(runs) => runs.offset(),
-        _ => 0,
-    }
-}
-
-/// 0 flat, 1 a constant, 2 lists, 3 runs.
-pub(crate) fn form_of_array(array: &ArrayRef<Global>) -> u8
-    ensures { result ≡ form_number (column_of array.now) }
-{
-    match array {
-        ArrayRef::Constant(_) => 1,
-        ArrayRef::ListView(_) => 2,
-        ArrayRef::RunEnd(_) => 3,
-        _ => 0,
-    }
-}
-
-/// Puts the record of a run column to the front of `room`, and answers how many bytes it has. Refused as
-/// `Unsupported` where it is no run column, and as `ColumnLength`, with that number and the room, where it has
-/// no room there.
-pub(crate) fn put_record(
-    alloc: Global,
-    array: &ArrayRef<Global>,
-    room: &mut [u8],
-) -> VortexResult<usize>
-    ensures put { IfOk result (λ size. IsRecordAtFront (column_of array.now) size room.new) }
-    ensures refused { IfErr result (λ error. IsShortOr (SerializeFault (length room.old) array.now) error) }
-    ensures len { length room.new ≡ length room.old }
-{
-    let ArrayRef::RunEnd(runs) = array else {
-        return Err(VortexError::Unsupported);
+    let Some(dtype) = kinds::dtype_of(kind) else {
+        return BAD_NUMBER;
     };
-    let record = serialize(runs, &mut plain_context(alloc))?;
-    let size = put_bytes(&record, room)?;
-    Ok(size as usize)
+    let Some(lent_ends) = ends.take(alloc) else {
+        return NO_COLUMN;
+    };
+    let Some(lent_values) = values.take(alloc) else {
+        ends.put(lent_ends);
+        return NO_COLUMN;
+    };
+    let outcome = runs::recorded_column(alloc, dtype, count, bytes, &lent_ends, &lent_values);
+    ends.put(lent_ends);
+    values.put(lent_values);
+    answer(outcome, out, error)
 }
 
-// Copies of both. Refused for want of memory alone.
-fn copies(
+/// The record of a run column: its bytes go to the front of `bytes`, and `size` says how many they are. Answers 11,
+/// with their number and the room, where they have no room there.
+#[tactic(auto, using(crate::proofs::PartEndings::held_empty, crate::proofs::PartEndings::held_done, crate::proofs::PartEndings::held_refused))]
+#[unsafe(no_mangle)]
+pub extern "C" fn hv_serialize(
     alloc: Global,
-    ends: &ArrayRef<Global>,
-    values: &ArrayRef<Global>,
-) -> VortexResult<(ArrayRef<Global>, ArrayRef<Global>)>
-    ensures same { IfOk result (λ made. IsCopyOf ends.now made.0 × IsCopyOf values.now made.1) }
-    ensures only { IsOkUnless result VortexError.OutOfMemory }
+    column: &mut Handle,
+    bytes: &mut [u8],
+    size: &mut usize,
+    error: &mut ErrorFields,
+) -> i32
+    ensures same { column.new.column ≡ column.old.column }
+    ensures told { result ≡ pos 0
+        → IsSomeAnd column.old.column (λ c. IsRecordAtFront (column_of c) size.new bytes.new) }
+    ensures ended { EndsOnHeld (SerializeFault (length bytes.old)) column.old.column result error.new }
 {
-    let ends = copy(alloc, ends)?;
-    match copy(alloc, values) {
-        Ok(values) => Ok((ends, values)),
-        Err(error) => {
-            drop(ends);
-            Err(error)
-        }
-    }
+    let Some(array) = column.take(alloc) else {
+        return NO_COLUMN;
+    };
+    let outcome = runs::put_record(alloc, &array, bytes);
+    column.put(array);
+    tell(outcome, size, error)
 }
 
-fn boxed_runs(alloc: Global, runs: RunEndArray<Global>) -> VortexResult<Boxed>
-    ensures column { IfOk result (λ made. column_of made.value ≡ column_of_runs runs) }
-    ensures only { IsOkUnless result VortexError.OutOfMemory }
+/// The ends of a run column, copied.
+#[tactic(auto, using(crate::proofs::PartEndings::runs_empty, crate::proofs::PartEndings::runs_done, crate::proofs::PartEndings::runs_refused))]
+#[unsafe(no_mangle)]
+pub extern "C" fn hv_ends(
+    alloc: Global,
+    column: &mut Handle,
+    out: &mut Handle,
+    error: &mut ErrorFields,
+) -> i32
+    ensures same { column.new.column ≡ column.old.column }
+    ensures made { result ≡ pos 0
+        → WhereBoth (λ c d. AreEndsOf (column_of c) (column_of d)) column.old.column out.new.column }
+    ensures kept { result ≢ pos 0 → out.new.column ≡ out.old.column }
+    ensures ended { EndsOnRuns column.old.column result error.new }
 {
-    boxed(alloc, ArrayRef::of_runs(alloc, runs)?)
+    let Some(array) = column.take(alloc) else {
+        return NO_COLUMN;
+    };
+    let outcome = runs::ends_of(alloc, &array);
+    column.put(array);
+    answer(outcome, out, error)
+}
+
+/// The values of a run column, copied.
+#[tactic(auto, using(crate::proofs::PartEndings::runs_empty, crate::proofs::PartEndings::runs_done, crate::proofs::PartEndings::runs_refused))]
+#[unsafe(no_mangle)]
+pub extern "C" fn hv_values(
+    alloc: Global,
+    column: &mut Handle,
+    out: &mut Handle,
+    error: &mut ErrorFields,
+) -> i32
+    ensures same { column.new.column ≡ column.old.column }
+    ensures made { result ≡ pos 0
+        → WhereBoth (λ c d. AreRunValuesOf (column_of c) (column_of d)) column.old.column out.new.column }
+    ensures kept { result ≢ pos 0 → out.new.column ≡ out.old.column }
+    ensures ended { EndsOnRuns column.old.column result error.new }
+{
+    let Some(array) = column.take(alloc) else {
+        return NO_COLUMN;
+    };
+    let outcome = runs::values_of(alloc, &array);
+    column.put(array);
+    answer(outcome, out, error)
+}
+
+/// A copy in the same form. Refused for want of memory alone.
+#[tactic(auto, using(c_columns::proofs::Extremes::always_empty, c_columns::proofs::Extremes::always_done, c_columns::proofs::Extremes::always_short))]
+#[unsafe(no_mangle)]
+pub extern "C" fn hv_clone(
+    alloc: Global,
+    column: &mut Handle,
+    out: &mut Handle,
+    error: &mut ErrorFields,
+) -> i32
+    ensures same { column.new.column ≡ column.old.column }
+    ensures made { result ≡ pos 0 → WhereBoth IsCopyOf column.old.column out.new.column }
+    ensures kept { result ≢ pos 0 → out.new.column ≡ out.old.column }
+    ensures ended { EndsAlways column.old.column result error.new }
+{
+    let Some(array) = column.take(alloc) else {
+        return NO_COLUMN;
+    };
+    let outcome = runs::boxed_copy(alloc, &array);
+    column.put(array);
+    answer(outcome, out, error)
+}
+
+/// A copy in the same form, in buffers that no other column shares: those that this one shows a part of may then be
+/// freed. Refused for want of memory alone.
+#[tactic(auto, using(c_columns::proofs::Extremes::always_empty, c_columns::proofs::Extremes::always_done, c_columns::proofs::Extremes::always_short))]
+#[unsafe(no_mangle)]
+pub extern "C" fn hv_compact(
+    alloc: Global,
+    column: &mut Handle,
+    out: &mut Handle,
+    error: &mut ErrorFields,
+) -> i32
+    ensures same { column.new.column ≡ column.old.column }
+    ensures made { result ≡ pos 0 → WhereBoth IsCopyOf column.old.column out.new.column }
+    ensures kept { result ≢ pos 0 → out.new.column ≡ out.old.column }
+    ensures ended { EndsAlways column.old.column result error.new }
+{
+    let Some(array) = column.take(alloc) else {
+        return NO_COLUMN;
+    };
+    let outcome = runs::boxed_compact(alloc, &array);
+    column.put(array);
+    answer(outcome, out, error)
+}
+
+/// The session that has every kernel, and the thresholds that the ported crate sets.
+#[unsafe(no_mangle)]
+pub extern "C" fn hv_session_initial(session: &mut Session)
+    ensures thresholds { thresholds_in session.new ≡ crate_thresholds }
+    ensures kernels { HasAllKernels session.new }
+{
+    *session = sessions::initial();
+}
+
+/// Frees the column, if there is one. The handle is empty after.
+#[unsafe(no_mangle)]
+pub extern "C" fn hv_free(alloc: Global, column: &mut Handle)
+    ensures { column.new.column ≡ None }
+{
+    drop(column.take(alloc));
 }

@@ -1,0 +1,16 @@
+pub mod CountedRows
+mod Cuts
+pub mod Endings
+pub mod Extremes
+pub mod FlatParts
+pub mod Left
+pub mod LookUps
+mod MachineValues
+pub mod MaskRows
+pub mod Passed
+pub mod ReadRefusals
+pub mod RunsTold
+pub mod Short
+pub mod TextRows
+pub mod Told
+pub mod TwoColumns

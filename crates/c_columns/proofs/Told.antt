@@ -1,0 +1,127 @@
+-- What C is told of a row, from what its view shows.
+use Rattle.std.proofs.Common.{◌≡◌, ◌∙◌, ◌⊎◌, inl, inr, sym, ap, subst, pos, ℤ, ℕ, Bor, List, length, take}
+use Rattle.std.specs.Prelude.{All, Bool, true, false, Option, Some, None, Result, Ok, Err, IfErr, IfOk, slice_get}
+use Rattle.std.proofs.lemmas.Bool.{false≢true}
+use Rattle.std.specs.Global.{Global}
+use Rattle.column_base.specs.declared.dtype.DType.{DType}
+use Rattle.column_base.specs.declared.error.VortexError.{VortexError}
+use Rattle.column_base.specs.declared.dtype.DType.TheVariants as column
+use Rattle.column_core.specs.Refusal.{IsErrorFor}
+use Rattle.column_core.specs.ScalarForm.{ScalarForm}
+use Rattle.column_core.specs.ScalarView.{IsViewOf, sees}
+use Rattle.column_core.specs.Value.{PlainColumn, Value}
+use Rattle.column_core.specs.declared.view.ScalarView.{ScalarView}
+use Rattle.column_core.specs.declared.view.ScalarView.TheVariants as view
+use Rattle.runend_array.specs.Array.{dtype_of, rows}
+use Rattle.runend_array.specs.declared.array_ref.ArrayRef.{ArrayRef}
+use Rattle.column_order.specs.OrderFacts as order
+use Rattle.runend_commands.specs.Extremes.{AreExtremes, shown}
+use Rattle.runend_commands.specs.Refusal.{refusal}
+use Rattle.runend_commands.specs.declared.command.Command.TheVariants.{MinMax}
+use Rattle.c_columns.specs.Ending.{IsEndsFault}
+use Rattle.c_columns.specs.Flags.{byte_of}
+use Rattle.c_columns.specs.declared.questions.Extremes.{Extremes}
+use Rattle.c_columns.specs.Values.{IsExtremeOf, IsFurthestRow, IsRoomFault, IsScalarTold, IsShownAt, IsTold, TellsView, halves}
+use Rattle.c_columns.specs.declared.row_value.RowValue.{RowValue}
+
+pub null_told : (value : RowValue) (text : List ℕ) → value.kind ≡ 0 → TellsView value text view.Null
+null_told value text kind t of = kind
+
+pub unsigned_told : (value : RowValue) (text : List ℕ) (number : ℕ) → value.kind ≡ 1 → value.as_unsigned ≡ number → TellsView value text (view.Unsigned number)
+unsigned_told value text number kind is (column.Primitive p n) of = record { unsigned = λ _. (kind, ap pos is); signed = λ other. absurd (other of.0) }
+unsigned_told value text number kind is (column.Bool n) of = absurd of
+unsigned_told value text number kind is (column.Decimal d n) of = absurd of
+unsigned_told value text number kind is (column.Utf8 n) of = absurd of
+unsigned_told value text number kind is (column.Binary n) of = absurd of
+unsigned_told value text number kind is (column.List e n) of = absurd of
+
+pub signed_told : (value : RowValue) (text : List ℕ) (number : ℤ) → value.kind ≡ 2 → value.as_signed ≡ number → TellsView value text (view.Signed number)
+signed_told value text number kind is (column.Primitive p n) of = record { unsigned = λ other. absurd (of.0 other); signed = λ _. (kind, is) }
+signed_told value text number kind is (column.Bool n) of = absurd of
+signed_told value text number kind is (column.Decimal d n) of = absurd of
+signed_told value text number kind is (column.Utf8 n) of = absurd of
+signed_told value text number kind is (column.Binary n) of = absurd of
+signed_told value text number kind is (column.List e n) of = absurd of
+
+pub truth_told : (value : RowValue) (text : List ℕ) (truth : Bool) → value.kind ≡ 3 → value.truth ≡ byte_of truth → TellsView value text (view.Bool truth)
+truth_told value text truth kind is t of = (kind, is)
+
+pub decimal_told : (value : RowValue) (text : List ℕ) (number : ℤ) → value.kind ≡ 4 → halves value ≡ number → TellsView value text (view.Decimal number)
+decimal_told value text number kind is t of = (kind, is)
+
+pub text_told : (value : RowValue) (text : List ℕ) (string : Bor (List ℕ)) → value.kind ≡ 5 → value.as_unsigned ≡ length string.now → take value.as_unsigned text ≡ string.now → TellsView value text (view.Utf8 string)
+text_told value text string kind size front t of = (kind, record { size = size; front = sym (ap (λ (n : ℕ). take n text) size) ∙ front })
+
+pub bytes_told : (value : RowValue) (text : List ℕ) (bytes : Bor (List ℕ)) → value.kind ≡ 6 → value.as_unsigned ≡ length bytes.now → take value.as_unsigned text ≡ bytes.now → TellsView value text (view.Binary bytes)
+bytes_told value text bytes kind size front t of = (kind, record { size = size; front = sym (ap (λ (n : ℕ). take n text) size) ∙ front })
+
+-- the row of a number
+pub row_told : (row : ℕ) (c : ArrayRef Global) (text : List ℕ) (value : RowValue) (seen : ScalarView Global) → slice_get (rows c) row ≡ Some (sees seen) → IsViewOf (dtype_of c) seen → TellsView value text seen → IsShownAt row c text value
+row_told row c text value seen there of tells = record { shown = sees seen; there = there; told = tells (dtype_of c) of }
+
+-- the least or the greatest row, as one of the two scalars that the command answers
+least_row : (rows : List (Option Value)) (row : Option Value) → order.IsLeast rows row → IsFurthestRow false rows row
+least_row rows None is = absurd (false≢true is.value)
+least_row rows (Some value) is = is
+
+greatest_row : (rows : List (Option Value)) (row : Option Value) → order.IsGreatest rows row → IsFurthestRow true rows row
+greatest_row rows None is = absurd (false≢true is.value)
+greatest_row rows (Some value) is = is
+
+module _ (before : PlainColumn) (text : List ℕ) (value : RowValue) (scalar : ScalarForm) (seen : ScalarView Global) where
+  told_as : scalar.dtype ≡ before.dtype → sees seen ≡ shown scalar → IsViewOf scalar.dtype seen → TellsView value text seen → IsTold before.dtype (shown scalar) value text
+  told_as typed same of tells = subst (λ (r : Option Value). IsTold before.dtype r value text) same (subst (λ (t : DType). IsTold t (sees seen) value text) typed (tells scalar.dtype of))
+
+  pub least_told : (other : ScalarForm) → AreExtremes before scalar other → sees seen ≡ shown scalar → IsViewOf scalar.dtype seen → TellsView value text seen → IsExtremeOf false before text value
+  least_told other ends same of tells = record { row = shown scalar; furthest = least_row before.rows (shown scalar) ends.least; told = told_as ends.first_dtype same of tells }
+
+  pub greatest_told : (other : ScalarForm) → AreExtremes before other scalar → sees seen ≡ shown scalar → IsViewOf scalar.dtype seen → TellsView value text seen → IsExtremeOf true before text value
+  greatest_told other ends same of tells = record { row = shown scalar; furthest = greatest_row before.rows (shown scalar) ends.greatest; told = told_as ends.last_dtype same of tells }
+
+-- what was told, if there was room
+pub least_of : (before : PlainColumn) (text : List ℕ) (outcome : Result RowValue VortexError) (scalar : ScalarForm) (seen : ScalarView Global) (other : ScalarForm) → AreExtremes before scalar other → sees seen ≡ shown scalar → IsViewOf scalar.dtype seen
+    → IfOk outcome (λ value. TellsView value text seen) → IfOk outcome (λ value. IsExtremeOf false before text value)
+least_of before text (Ok value) scalar seen other ends same of tells = least_told before text value scalar seen other ends same of tells
+least_of before text (Err error) scalar seen other ends same of tells = tt
+
+pub greatest_of : (before : PlainColumn) (text : List ℕ) (outcome : Result RowValue VortexError) (scalar : ScalarForm) (seen : ScalarView Global) (other : ScalarForm) → AreExtremes before other scalar → sees seen ≡ shown scalar → IsViewOf scalar.dtype seen
+    → IfOk outcome (λ value. TellsView value text seen) → IfOk outcome (λ value. IsExtremeOf true before text value)
+greatest_of before text (Ok value) scalar seen other ends same of tells = greatest_told before text value scalar seen other ends same of tells
+greatest_of before text (Err error) scalar seen other ends same of tells = tt
+
+-- all rows are null
+pub none_told : (greatest : Bool) (before : PlainColumn) (text : List ℕ) (value : RowValue) → All (λ row. row ≡ None) before.rows → value.kind ≡ 0 → IsExtremeOf greatest before text value
+none_told greatest before text value nulls kind = record { row = None; furthest = nulls; told = kind }
+
+-- both at once, each told of its scalar
+pub least_of_both : (before : PlainColumn) (text : List ℕ) (outcome : Result Extremes VortexError) (scalar other : ScalarForm) → AreExtremes before scalar other → IfOk outcome (λ ends. IsScalarTold scalar ends.least text) → IfOk outcome (λ ends. IsExtremeOf false before text ends.least)
+least_of_both before text (Ok both) scalar other ends told =
+    record { row = shown scalar; furthest = least_row before.rows (shown scalar) ends.least; told = subst (λ (t : DType). IsTold t (shown scalar) both.least text) ends.first_dtype told }
+least_of_both before text (Err error) scalar other ends told = tt
+
+pub greatest_of_both : (before : PlainColumn) (text : List ℕ) (outcome : Result Extremes VortexError) (scalar other : ScalarForm) → AreExtremes before other scalar → IfOk outcome (λ ends. IsScalarTold scalar ends.greatest text) → IfOk outcome (λ ends. IsExtremeOf true before text ends.greatest)
+greatest_of_both before text (Ok both) scalar other ends told =
+    record { row = shown scalar; furthest = greatest_row before.rows (shown scalar) ends.greatest; told = subst (λ (t : DType). IsTold t (shown scalar) both.greatest text) ends.last_dtype told }
+greatest_of_both before text (Err error) scalar other ends told = tt
+
+-- one of both has no room
+short_ends : (before : PlainColumn) (least_room greatest_room : ℕ) (error : VortexError) (first last : ScalarForm) → refusal {A = Global} before MinMax ≡ None → AreExtremes before first last
+    → IsRoomFault (shown first) least_room error ⊎ IsRoomFault (shown last) greatest_room error → IsEndsFault before least_room greatest_room error
+short_ends before least_room greatest_room error first last accepted ends (inl short) =
+    inl (inr (accepted, record { value = shown first; furthest = least_row before.rows (shown first) ends.least; short = short }))
+short_ends before least_room greatest_room error first last accepted ends (inr short) =
+    inr (inr (accepted, record { value = shown last; furthest = greatest_row before.rows (shown last) ends.greatest; short = short }))
+
+pub both_short : (before : PlainColumn) (least_room greatest_room : ℕ) (outcome : Result Extremes VortexError) (first last : ScalarForm) → refusal {A = Global} before MinMax ≡ None → AreExtremes before first last
+    → IfErr outcome (λ error. IsRoomFault (shown first) least_room error ⊎ IsRoomFault (shown last) greatest_room error) → IfErr outcome (λ error. IsEndsFault before least_room greatest_room error)
+both_short before least_room greatest_room (Ok both) first last accepted ends short = tt
+both_short before least_room greatest_room (Err error) first last accepted ends short = short_ends before least_room greatest_room error first last accepted ends short
+
+-- the question is refused
+pub both_refused : (before : PlainColumn) (least_room greatest_room : ℕ) (error : VortexError) → IsErrorFor (refusal {A = Global} before MinMax) error → IsEndsFault before least_room greatest_room error
+both_refused before least_room greatest_room error why = inl (inl why)
+
+-- it was not
+pub both_accepted : (before : PlainColumn) (outcome : Result Extremes VortexError) → refusal {A = Global} before MinMax ≡ None → IfOk outcome (λ _. refusal {A = Global} before MinMax ≡ None)
+both_accepted before (Ok both) accepted = accepted
+both_accepted before (Err error) accepted = tt

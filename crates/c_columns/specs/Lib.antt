@@ -1,0 +1,16 @@
+pub mod Bits
+pub mod Calls
+pub mod Ending
+pub mod Flags
+pub mod Handle
+pub mod Kinds
+pub mod Makers
+pub mod Pairs
+pub mod ReadFaults
+pub mod Reads
+pub mod RunParts
+pub mod RunReads
+pub mod Sessions
+pub mod Totals
+pub mod TwoColumns
+pub mod Values

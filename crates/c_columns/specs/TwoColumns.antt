@@ -1,0 +1,70 @@
+-- Commands that are made of a second column, which may have any form: why they are refused, and what they leave.
+use Rattle.std.specs.Prelude.{◌≡◌, ◌<◌, ℕ, ℤ, pos, List, Bool, true, false, length, map, slice_index_or, Option, Some, None}
+use Rattle.std.specs.Option.{option_or}
+use Rattle.std.specs.Global.{Global}
+use Rattle.column_base.specs.declared.dtype.DType.{DType}
+use Rattle.column_base.specs.declared.dtype.DType.TheVariants as column
+use Rattle.column_base.specs.declared.error.VortexError.{VortexError}
+use Rattle.column_base.specs.declared.error.VortexError.TheVariants.{TypeMismatch}
+use Rattle.column_core.specs.Value.{PlainColumn, Value, Single, Truth}
+use Rattle.column_ops.specs.Codes.{code_fault, code_rows}
+use Rattle.column_ops.specs.Filter.{filter_fault, filter_rows}
+use Rattle.column_ops.specs.Nullable.{take_dtype}
+use Rattle.column_order.specs.CompareFault.{compare_column_fault}
+use Rattle.column_order.specs.Comparing.{compare_dtype, compare_rows}
+use Rattle.column_order.specs.declared.operator.CompareOperator.{CompareOperator}
+use Rattle.runend_array.specs.Array.{dtype_of, rows}
+use Rattle.runend_array.specs.declared.array_ref.ArrayRef.{ArrayRef}
+use Rattle.runend_commands.specs.Meaning.{plain}
+use Rattle.c_columns.specs.Ending.{EndsBy}
+use Rattle.c_columns.specs.declared.error_fields.ErrorFields.{ErrorFields}
+
+-- is the row true? null is not
+abbrev pub is_true : Option Value → Bool
+is_true (Some (Single (Truth truth))) = truth
+is_true row = false
+
+-- each bit that is true is true in the other list too
+abbrev pub AreWithin : List Bool → List Bool → Type 0
+AreWithin bits others = (i : ℕ) → i < length bits → slice_index_or bits i false ≡ true → slice_index_or others i false ≡ true
+
+-- the rows of a mask are truth values
+abbrev pub mask_fault : DType → Option VortexError
+mask_fault (column.Bool n) = None
+mask_fault t = Some TypeMismatch
+
+-- a filter by the rows of a mask
+abbrev pub mask_filter_fault : ArrayRef Global → ArrayRef Global → Option VortexError
+mask_filter_fault mask c = option_or (mask_fault (dtype_of mask)) (filter_fault (length (map is_true (rows mask))) (length (rows c)))
+
+abbrev pub filtered_by : ArrayRef Global → ArrayRef Global → PlainColumn
+filtered_by mask c = record { dtype = dtype_of c; rows = filter_rows (map is_true (rows mask)) (rows c) }
+
+-- rows of a column, looked up by codes, which number them from 0
+abbrev pub code_look_up_fault : ArrayRef Global → ArrayRef Global → Option VortexError
+code_look_up_fault codes c = code_fault (plain codes) (length (rows c))
+
+abbrev pub looked_up_by : ArrayRef Global → ArrayRef Global → PlainColumn
+looked_up_by codes c = record { dtype = take_dtype (dtype_of c) (dtype_of codes); rows = code_rows (rows c) (rows codes) }
+
+-- a comparison with a column on the right
+abbrev pub beside_fault : ArrayRef Global → ArrayRef Global → Option VortexError
+beside_fault c right = compare_column_fault (dtype_of c) (dtype_of right) (length (rows c)) (length (rows right))
+
+abbrev pub compared_by : CompareOperator → ArrayRef Global → ArrayRef Global → PlainColumn
+compared_by operator c right = record { dtype = compare_dtype (dtype_of c) (dtype_of right); rows = compare_rows operator (rows c) (rows right) }
+
+-- the column has these rows, of this type
+pub record HasPlain (wanted : PlainColumn) (d : ArrayRef Global) : Type 0 where
+  pub rows : rows d ≡ wanted.rows
+  pub dtype : dtype_of d ≡ wanted.dtype
+
+-- the same of what is made of two columns
+abbrev pub LeavesPlain : (ArrayRef Global → ArrayRef Global → PlainColumn) → ArrayRef Global → ArrayRef Global → ArrayRef Global → Type 0
+LeavesPlain wanted c other d = HasPlain (wanted c other) d
+
+-- how a call on two columns ends: with 22 where one of the two handles is empty
+abbrev pub EndsOnTwo : (ArrayRef Global → ArrayRef Global → Option VortexError) → Option (ArrayRef Global) → Option (ArrayRef Global) → ℤ → ErrorFields → Type 0
+EndsOnTwo fault None other code fields = code ≡ pos 22
+EndsOnTwo fault (Some c) None code fields = code ≡ pos 22
+EndsOnTwo fault (Some c) (Some other) code fields = EndsBy (fault c other) code fields

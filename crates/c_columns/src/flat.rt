@@ -1,0 +1,87 @@
+//! Flat columns of the numbers, truth values and decimals that C passes.
+ghost use Rattle.std.specs.Prelude.{◌≡◌, length, map, IfOk, IsOkUnless};
+ghost use Rattle.std.specs.Option.{option_or};
+ghost use Rattle.column_base.specs.Validity.{form_of};
+ghost use Rattle.column_core.specs.Refusal.{IsRefusedBy};
+ghost use Rattle.c_columns.specs.Bits.{bits_fault, bits_in, validity_by, validity_fault};
+ghost use Rattle.c_columns.specs.Makers.{AreDecimalsOf, AreTruthsOf, IsFlatOf};
+
+use crate::bits::{bits_of, validity_of};
+use crate::pairs::{Pair, numbers_of};
+use column_core::{
+    BoolArray, DecimalArray, DecimalDType, NativePType, PrimitiveArray, VortexError, VortexResult,
+};
+use runend_array::ArrayRef;
+use std::alloc::Global;
+
+/// A column on the heap.
+pub type Boxed = Box<ArrayRef<Global>>;
+
+/// Puts a column on the heap. Refused for want of memory alone.
+pub fn boxed(alloc: Global, array: ArrayRef<Global>) -> VortexResult<Boxed>
+    ensures only { IsOkUnless result VortexError.OutOfMemory }
+    ensures column { IfOk result (λ made. made.value ≡ array) }
+{
+    Ok(Box::new(alloc, array)?)
+}
+
+/// The flat column of these numbers. Refused as the bits of its validity are.
+pub fn numbers<T: NativePType>(
+    alloc: Global,
+    items: &[T],
+    nulls: u8,
+    bits: &[u8],
+    first: usize,
+) -> VortexResult<Boxed>
+    ensures column { IfOk result
+        (λ made. IsFlatOf T.PTYPE (map T.number items.now)
+        (validity_by nulls bits.now first (length items.now)) made.value) }
+    ensures refused { IsRefusedBy (validity_fault nulls bits.now first (length items.now)) result }
+{
+    let validity = validity_of(alloc, nulls, bits, first, items.len())?;
+    let values = T::wrap(Vec::from_slice(alloc, items)?);
+    let array = PrimitiveArray::new_unchecked(values, validity);
+    boxed(alloc, ArrayRef::Primitive(array))
+}
+
+/// The flat column of `count` truth values, the first of which is bit `start` of `truths`. Refused as the bits
+/// of its validity are, and then as these bits.
+pub fn booleans(
+    alloc: Global,
+    truths: &[u8],
+    start: usize,
+    count: usize,
+    nulls: u8,
+    bits: &[u8],
+    first: usize,
+) -> VortexResult<Boxed>
+    ensures column { IfOk result
+        (λ made. AreTruthsOf (bits_in truths.now start count) (validity_by nulls bits.now first count) made.value) }
+    ensures refused { IsRefusedBy
+        (option_or (validity_fault nulls bits.now first count) (bits_fault truths.now start count)) result }
+{
+    let validity = validity_of(alloc, nulls, bits, first, count)?;
+    let values = bits_of(alloc, truths, start, count)?;
+    let array = BoolArray::new_unchecked(values, validity);
+    boxed(alloc, ArrayRef::Bool(array))
+}
+
+/// The flat column of these decimals. Refused as the bits of its validity are.
+pub fn decimals(
+    alloc: Global,
+    pairs: &[Pair],
+    decimal_dtype: DecimalDType,
+    nulls: u8,
+    bits: &[u8],
+    first: usize,
+) -> VortexResult<Boxed>
+    ensures column { IfOk result
+        (λ made. AreDecimalsOf decimal_dtype pairs.now
+        (validity_by nulls bits.now first (length pairs.now)) made.value) }
+    ensures refused { IsRefusedBy (validity_fault nulls bits.now first (length pairs.now)) result }
+{
+    let validity = validity_of(alloc, nulls, bits, first, pairs.len())?;
+    let numbers = numbers_of(alloc, pairs)?;
+    let array = DecimalArray::new_unchecked(numbers, decimal_dtype, validity);
+    boxed(alloc, ArrayRef::Decimal(array))
+}

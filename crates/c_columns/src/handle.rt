@@ -1,0 +1,87 @@
+//! A column that the caller holds by a pointer.
+ghost use Rattle.std.specs.Prelude.{◌≡◌, Option, None, Some, MatchOption};
+ghost use Rattle.std.specs.Global.{Global};
+ghost use Rattle.runend_array.specs.declared.array_ref.ArrayRef.{ArrayRef};
+ghost use Rattle.c_columns.specs.Handle.{column_code};
+
+use crate::parked::Parked;
+use runend_array::ArrayRef;
+use std::alloc::Global;
+use std::marker::Model;
+use std::{mem, ptr};
+
+/// No column, or one on the heap. C sees a pointer, null for no column, which it passes on and never follows.
+#[repr(C)]
+pub struct Handle {
+    at: *mut u8,
+    alloc: Global,
+    pub ghost column: { Option (ArrayRef Global) } by { column_code },
+}
+
+impl Model for Handle {
+    ghost use Rattle.c_columns.specs.Handle.{holds};
+
+    ghost also_owns = { λ h. holds h.alloc h.at h.column };
+}
+
+impl Drop for Handle {
+    fn drop(self) {
+        if let Some(parked) = self.into_parked() {
+            drop(parked.unpark());
+        }
+    }
+}
+
+impl Handle {
+    /// Takes the column out, and leaves the handle empty.
+    pub fn take(&mut self, alloc: Global) -> Option<Box<ArrayRef<Global>>>
+        ensures gone { self.new.column ≡ None }
+        ensures found { MatchOption result (self.old.column ≡ None) (λ boxed. self.old.column ≡ Some boxed.value) }
+    {
+        let parked = mem::replace(self, Handle::empty(alloc)).into_parked()?;
+        Some(parked.unpark())
+    }
+
+    /// Puts a column in. The column that was there is freed.
+    pub fn put(&mut self, boxed: Box<ArrayRef<Global>>)
+        ensures { self.new.column ≡ Some boxed.value }
+    {
+        *self = Handle::of(Parked::park(boxed));
+    }
+
+    // A handle of no column.
+    fn empty(alloc: Global) -> Handle
+        ensures { result.column ≡ None }
+    {
+        Handle {
+            at: ptr::null_mut(),
+            alloc,
+        }
+    }
+
+    // The handle of a column.
+    fn of(parked: Parked<ArrayRef<Global>, Global>) -> Handle
+        ensures { result.column ≡ Some parked.value }
+    {
+        let Parked { at, alloc } = parked;
+        Handle {
+            at: at.cast(),
+            alloc,
+        }
+    }
+
+    // What the handle holds.
+    fn into_parked(self) -> Option<Parked<ArrayRef<Global>, Global>>
+        ensures { MatchOption result (self.column ≡ None) (λ parked. self.column ≡ Some parked.value) }
+    {
+        let Handle { at, alloc } = self;
+        if at.is_null() {
+            None
+        } else {
+            Some(Parked {
+                at: at.cast(),
+                alloc,
+            })
+        }
+    }
+}

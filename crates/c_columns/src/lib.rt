@@ -1,0 +1,27 @@
+//! Columns as C holds, makes, asks and reads them: what stands behind the calls of the library for C. A function here
+//! has the exact result and the refusals; a call takes columns out of its handles, and writes number and fields.
+#![tactic(auto)]
+
+pub mod arguments;
+mod bits;
+pub mod commands;
+pub mod constants;
+pub mod error_fields;
+pub mod flat;
+pub mod handle;
+pub mod kinds;
+mod masks;
+pub mod pairs;
+mod parked;
+pub mod questions;
+pub mod row_value;
+mod rows;
+pub mod run_reads;
+pub mod runs;
+pub mod sessions;
+mod text_rows;
+pub mod texts;
+pub mod totals;
+pub mod two_columns;
+pub mod windows;
+mod words;

@@ -1,0 +1,157 @@
+//! Masks: the rows of a column of truth values, whatever its form, that are true.
+ghost use Rattle.std.specs.Prelude.{◌≡◌, length, map, IfOk, IsOkUnless, IsTrue, None};
+ghost use Rattle.column_base.specs.Mask.{mask_bits};
+ghost use Rattle.column_base.specs.ValidityForm.{ByBits};
+ghost use Rattle.column_core.specs.Leaf.{OfTruths, single_rows};
+ghost use Rattle.column_core.specs.Refusal.{IsRefusedBy};
+ghost use Rattle.column_core.specs.ScalarView.{sees};
+ghost use Rattle.runend_array.specs.Array.{dtype_of, rows};
+ghost use Rattle.runend_array.specs.Canonical.{canonical_column};
+ghost use Rattle.runend_array.specs.Column.{OfConstant, column_dtype, column_rows};
+ghost use Rattle.c_columns.specs.TwoColumns.{AreWithin, is_true, mask_fault};
+
+use crate::sessions::plain_context;
+use column_core::{
+    BitBuffer, BitBufferMut, BoolArray, DType, FlatColumn, Mask, ScalarView, Validity, VortexError,
+    VortexResult,
+};
+use runend_array::{ArrayRef, Canonical, ConstantArray};
+use std::alloc::Global;
+
+/// Which rows are true; null is not. A constant takes no memory, and stored bits are shared where they say it. Refused as
+/// `TypeMismatch` unless the rows are truth values, else for want of memory alone.
+pub fn mask_of(alloc: Global, array: &ArrayRef<Global>) -> VortexResult<Mask<Global>>
+    ensures mask { IfOk result (λ mask. mask_bits mask ≡ map is_true (rows array.now)) }
+    ensures refused { IsRefusedBy (mask_fault (dtype_of array.now)) result }
+{
+    match array.dtype() {
+        DType::Bool(_) => mask_of_truths(alloc, array),
+        _ => Err(VortexError::TypeMismatch),
+    }
+}
+
+// The same of truth values.
+fn mask_of_truths(alloc: Global, array: &ArrayRef<Global>) -> VortexResult<Mask<Global>>
+    requires { mask_fault (dtype_of array.now) ≡ None }
+    ensures mask { IfOk result (λ mask. mask_bits mask ≡ map is_true (rows array.now)) }
+    ensures refused { IsRefusedBy (mask_fault (dtype_of array.now)) result }
+{
+    match array {
+        ArrayRef::Bool(truths) => mask_of_flat(alloc, truths),
+        ArrayRef::Constant(constant) => Ok(mask_of_constant(constant)),
+        _ => mask_of_decoded(alloc, array),
+    }
+}
+
+// The rows of a flat column that are true. Refused for want of memory alone.
+#[tactic(auto, using(crate::proofs::MaskRows::never_null, crate::proofs::MaskRows::none_null, crate::proofs::MaskRows::all_null))]
+fn mask_of_flat(alloc: Global, truths: &BoolArray<Global>) -> VortexResult<Mask<Global>>
+    ensures mask { IfOk result (λ mask. mask_bits mask ≡ map is_true (single_rows (OfTruths truths.now))) }
+    ensures only { IsOkUnless result VortexError.OutOfMemory }
+{
+    match truths.validity() {
+        Validity::NonNullable => mask_of_bits(alloc, truths),
+        Validity::AllValid => mask_of_bits(alloc, truths),
+        Validity::AllInvalid => Ok(Mask::AllFalse(truths.len())),
+        Validity::Bits(valid) => mask_of_valid(alloc, truths, valid),
+    }
+}
+
+// The same where the stored bits say it, which are shared as `BitBuffer::try_clone` shares them.
+fn mask_of_bits(alloc: Global, truths: &BoolArray<Global>) -> VortexResult<Mask<Global>>
+    requires { truths.now.bits ≡ map is_true (single_rows (OfTruths truths.now)) }
+    ensures mask { IfOk result (λ mask. mask_bits mask ≡ map is_true (single_rows (OfTruths truths.now))) }
+    ensures only { IsOkUnless result VortexError.OutOfMemory }
+{
+    let bits = truths.values().try_clone(alloc)?;
+    Ok(Mask::from_buffer(bits))
+}
+
+// The same where `valid` says which rows are there. Computed columns store false under null, as comparisons leave them.
+#[tactic(auto, using(crate::proofs::MaskRows::bits_within))]
+fn mask_of_valid(
+    alloc: Global,
+    truths: &BoolArray<Global>,
+    valid: &BitBuffer<Global>,
+) -> VortexResult<Mask<Global>>
+    requires by_bits { truths.now.validity ≡ ByBits valid.now }
+    requires counted { length valid.now ≡ length truths.now.bits }
+    ensures mask { IfOk result (λ mask. mask_bits mask ≡ map is_true (single_rows (OfTruths truths.now))) }
+    ensures only { IsOkUnless result VortexError.OutOfMemory }
+{
+    if are_within(truths.values(), valid) {
+        mask_of_bits(alloc, truths)
+    } else {
+        mask_by_rows(alloc, truths)
+    }
+}
+
+// Is each bit that is true one that `others` has true too? A word of 64 at a time.
+#[tactic(auto, using(crate::proofs::MaskRows::one_word_more, crate::proofs::MaskRows::all_words))]
+fn are_within(bits: &BitBuffer<Global>, others: &BitBuffer<Global>) -> bool
+    requires { length others.now ≡ length bits.now }
+    ensures { IsTrue result → AreWithin bits.now others.now }
+{
+    let words = bits.words();
+    let limits = others.words();
+    for index in 0..words.len() {
+        if words[index] & limits[index] != words[index] {
+            return false;
+        }
+    }
+    true
+}
+
+// The rows of a flat column that are true, one by one.
+fn mask_by_rows(alloc: Global, truths: &BoolArray<Global>) -> VortexResult<Mask<Global>>
+    ensures mask { IfOk result (λ mask. mask_bits mask ≡ map is_true (single_rows (OfTruths truths.now))) }
+    ensures only { IsOkUnless result VortexError.OutOfMemory }
+{
+    let mut bits = BitBufferMut::with_capacity(alloc, truths.len())?;
+    for row in 0..truths.len() {
+        bits.append(is_selected(truths.get(row)))?;
+    }
+    Ok(Mask::from_buffer(bits.freeze()))
+}
+
+// The same of rows in another form, which are written flat first.
+fn mask_of_decoded(alloc: Global, array: &ArrayRef<Global>) -> VortexResult<Mask<Global>>
+    ensures mask { IfOk result (λ mask. mask_bits mask ≡ map is_true (rows array.now)) }
+    ensures refused { IsRefusedBy (mask_fault (dtype_of array.now)) result }
+{
+    let flat = array.to_canonical(&mut plain_context(alloc))?;
+    let mask = mask_of_canonical(alloc, &flat);
+    drop(flat);
+    mask
+}
+
+fn mask_of_canonical(alloc: Global, flat: &Canonical<Global>) -> VortexResult<Mask<Global>>
+    ensures mask { IfOk result (λ mask. mask_bits mask ≡ map is_true (column_rows (canonical_column flat.now))) }
+    ensures refused { IsRefusedBy (mask_fault (column_dtype (canonical_column flat.now))) result }
+{
+    match flat {
+        Canonical::Flat(FlatColumn::Bool(truths)) => mask_of_flat(alloc, truths),
+        _ => Err(VortexError::TypeMismatch),
+    }
+}
+
+// A constant is true in each row, or in none.
+#[tactic(auto, using(crate::proofs::TwoColumns::true_in_each))]
+fn mask_of_constant(constant: &ConstantArray<Global>) -> Mask<Global>
+    ensures { mask_bits result ≡ map is_true (column_rows (OfConstant constant.now)) }
+{
+    if is_selected(constant.scalar().view()) {
+        Mask::AllTrue(constant.len())
+    } else {
+        Mask::AllFalse(constant.len())
+    }
+}
+
+fn is_selected(row: ScalarView<'_, Global>) -> bool
+    ensures { result ≡ is_true (sees row.entry) }
+{
+    match row {
+        ScalarView::Bool(truth) => truth,
+        _ => false,
+    }
+}

@@ -1,0 +1,205 @@
+//! Questions about a column, which copy none of it.
+ghost use Rattle.std.specs.Prelude.{◌≡◌, ◌≢◌, ◌⊎◌, false, true, length, None, Some, Err, IfOk, IfErr};
+ghost use Rattle.std.specs.Global.{Global};
+ghost use Rattle.column_core.specs.Refusal.{IsErrorFor, IsRefusedBy};
+ghost use Rattle.column_order.specs.OrderFacts as order;
+ghost use Rattle.runend_array.specs.Array.{column_of, dtype_of, rows};
+ghost use Rattle.runend_array.specs.declared.session.Kernel.TheVariants as kernel;
+ghost use Rattle.runend_commands.specs.declared.command.Command.TheVariants.{At, MinMax, Sum, IsConstant, IsSorted};
+ghost use Rattle.runend_commands.specs.Meaning.{plain};
+ghost use Rattle.column_core.specs.Kinds.{list_fault};
+ghost use Rattle.runend_commands.specs.Refusal.{refusal};
+ghost use Rattle.c_columns.specs.Flags.{Tells, byte_of as byte_of_truth};
+ghost use Rattle.c_columns.specs.Sessions.{IsReadInPlaceIn};
+ghost use Rattle.c_columns.specs.Totals.{IsTotalOf};
+ghost use Rattle.runend_commands.specs.Extremes.{shown as shown_by};
+ghost use Rattle.c_columns.specs.Values.{IsExtremeOf, IsRoomFault, IsScalarTold, IsShownAt};
+ghost use Rattle.c_columns.specs.Ending.{IsEndsFault, IsExtremeFault, IsLookUpFault};
+
+use crate::row_value::{self, RowValue, row_value_of};
+use crate::sessions::{Session, context};
+use crate::totals::{Total, total_of};
+use column_core::{DType, Scalar, VortexError, VortexResult, fault_of_lists};
+use runend_array::ArrayRef;
+use runend_commands::{Answer, Command, Outcome, compute, outcome_of};
+use std::alloc::Global;
+
+/// The least and the greatest row.
+#[derive(Clone, Copy)]
+pub struct Extremes {
+    pub least: RowValue,
+    pub greatest: RowValue,
+}
+
+/// The sum of the rows. Refused as the command is, and never for want of memory where the rows are read in place.
+pub fn sum_of(alloc: Global, session: &Session, array: &ArrayRef<Global>) -> VortexResult<Total>
+    ensures told { IfOk result (λ total. IsTotalOf (dtype_of array.now) (rows array.now) total) }
+    ensures refused { IsRefusedBy (refusal {A = Global} (plain array.now) Sum) result }
+    ensures memory { IsReadInPlaceIn session.now kernel.Sum (column_of array.now)
+        → result ≢ Err VortexError.OutOfMemory }
+{
+    let mut ctx = context(alloc, session);
+    let sum = compute::sum(array, &mut ctx)?;
+    Ok(total_of(sum))
+}
+
+/// Whether any two rows are equal, as a byte. Refused as the command is, and never for want of memory where the
+/// rows are read in place.
+#[tactic(auto, using(crate::proofs::Left::tells_of))]
+pub fn is_constant(alloc: Global, session: &Session, array: &ArrayRef<Global>) -> VortexResult<u8>
+    ensures told { IfOk result (λ truth. Tells truth (order.IsConstant (rows array.now))) }
+    ensures refused { IsRefusedBy (refusal {A = Global} (plain array.now) IsConstant) result }
+    ensures memory { IsReadInPlaceIn session.now kernel.IsConstant (column_of array.now)
+        → result ≢ Err VortexError.OutOfMemory }
+{
+    let mut ctx = context(alloc, session);
+    let truth = compute::is_constant(array, &mut ctx)?;
+    Ok(byte_of(truth))
+}
+
+/// Whether the rows are sorted, as a byte. Refused as the command is, and never for want of memory where the rows
+/// are read in place.
+#[tactic(auto, using(crate::proofs::Left::tells_of))]
+pub fn is_sorted(
+    alloc: Global,
+    session: &Session,
+    array: &ArrayRef<Global>,
+    strict: bool,
+) -> VortexResult<u8>
+    ensures told { IfOk result (λ truth. Tells truth (order.IsSorted strict (rows array.now))) }
+    ensures refused { IsRefusedBy (refusal {A = Global} (plain array.now) (IsSorted strict)) result }
+    ensures memory { IsReadInPlaceIn session.now kernel.IsSorted (column_of array.now)
+        → result ≢ Err VortexError.OutOfMemory }
+{
+    let mut ctx = context(alloc, session);
+    let truth = compute::is_sorted(array, strict, &mut ctx)?;
+    Ok(byte_of(truth))
+}
+
+/// The least or the greatest row that is not null, or null where all are. A text or bytes go to the front of
+/// `text`. Refused as the command is, and as `row_value_of`.
+#[tactic(auto, using(crate::proofs::Extremes::refused_extreme, crate::proofs::Extremes::short_extreme, crate::proofs::Told::none_told))]
+pub fn extreme_of(
+    alloc: Global,
+    session: &Session,
+    array: &ArrayRef<Global>,
+    greatest: bool,
+    text: &mut [u8],
+) -> VortexResult<RowValue>
+    ensures told { IfOk result (λ value. IsExtremeOf greatest (plain array.now) text.new value) }
+    ensures accepted { IfOk result (λ _. refusal {A = Global} (plain array.now) MinMax ≡ None) }
+    ensures refused { IfErr result (λ error. IsExtremeFault greatest (plain array.now) (length text.old) error) }
+    ensures len { length text.new ≡ length text.old }
+{
+    let mut ctx = context(alloc, session);
+    match outcome_of(&Command::MinMax, array, &mut ctx)? {
+        Outcome::Answers(Answer::MinMax(Some((least, last)))) => {
+            let found = if greatest {
+                row_value_of(last.view(), text)
+            } else {
+                row_value_of(least.view(), text)
+            };
+            drop(least);
+            drop(last);
+            found
+        }
+        Outcome::Answers(Answer::MinMax(None)) => Ok(row_value::null()),
+        other => {
+            drop(other);
+            Err(VortexError::OutOfMemory)
+        }
+    }
+}
+
+/// The least and the greatest row that are not null, or null twice where all are. A text or bytes of each go to the
+/// front of a buffer of its own. Refused as `Unsupported` for lists, and as `row_value_of`.
+#[tactic(auto, using(crate::proofs::Told::least_of_both, crate::proofs::Told::greatest_of_both, crate::proofs::Told::both_short, crate::proofs::Told::both_refused, crate::proofs::Told::both_accepted, crate::proofs::Told::none_told))]
+pub fn extremes_of(
+    alloc: Global,
+    session: &Session,
+    array: &ArrayRef<Global>,
+    least_text: &mut [u8],
+    greatest_text: &mut [u8],
+) -> VortexResult<Extremes>
+    ensures least { IfOk result (λ ends. IsExtremeOf false (plain array.now) least_text.new ends.least) }
+    ensures greatest { IfOk result (λ ends. IsExtremeOf true (plain array.now) greatest_text.new ends.greatest) }
+    ensures accepted { IfOk result (λ _. refusal {A = Global} (plain array.now) MinMax ≡ None) }
+    ensures refused { IfErr result
+        (λ error. IsEndsFault (plain array.now) (length least_text.old) (length greatest_text.old) error) }
+    ensures least_len { length least_text.new ≡ length least_text.old }
+    ensures greatest_len { length greatest_text.new ≡ length greatest_text.old }
+{
+    let mut ctx = context(alloc, session);
+    match compute::min_max(array, &mut ctx)? {
+        Some((least, greatest)) => {
+            let told = both_told(&least, &greatest, least_text, greatest_text);
+            drop(least);
+            drop(greatest);
+            told
+        }
+        None => Ok(Extremes {
+            least: row_value::null(),
+            greatest: row_value::null(),
+        }),
+    }
+}
+
+/// The row at `row`, which takes no memory. A text or bytes go to the front of `text`. Refused as the look-up
+/// of a row is, and then as `row_value_of`.
+#[tactic(auto, using(crate::proofs::LookUps::refused_lists, crate::proofs::LookUps::outside_fault, crate::proofs::LookUps::room_fault, crate::proofs::LookUps::no_fault, crate::proofs::Told::row_told))]
+pub fn row_at(array: &ArrayRef<Global>, row: usize, text: &mut [u8]) -> VortexResult<RowValue>
+    ensures shown { IfOk result (λ value. IsShownAt row array.now text.new value) }
+    ensures accepted { IfOk result (λ _. refusal {A = Global} (plain array.now) (At row) ≡ None) }
+    ensures refused { IfErr result (λ error. IsLookUpFault (plain array.now) row (length text.old) error) }
+    ensures len { length text.new ≡ length text.old }
+{
+    check_no_lists(array.dtype())?;
+    let view = array.scalar_at(row)?;
+    row_value_of(view, text)
+}
+
+// Both scalars, each with a buffer of its own.
+fn both_told(
+    least: &Scalar<Global>,
+    greatest: &Scalar<Global>,
+    least_text: &mut [u8],
+    greatest_text: &mut [u8],
+) -> VortexResult<Extremes>
+    ensures least { IfOk result (λ ends. IsScalarTold least.now ends.least least_text.new) }
+    ensures greatest { IfOk result (λ ends. IsScalarTold greatest.now ends.greatest greatest_text.new) }
+    ensures refused { IfErr result
+        (λ error. IsRoomFault (shown_by least.now) (length least_text.old) error
+        ⊎ IsRoomFault (shown_by greatest.now) (length greatest_text.old) error) }
+    ensures least_len { length least_text.new ≡ length least_text.old }
+    ensures greatest_len { length greatest_text.new ≡ length greatest_text.old }
+{
+    let least = scalar_told(least, least_text)?;
+    let greatest = scalar_told(greatest, greatest_text)?;
+    Ok(Extremes { least, greatest })
+}
+
+fn scalar_told(scalar: &Scalar<Global>, text: &mut [u8]) -> VortexResult<RowValue>
+    ensures told { IfOk result (λ value. IsScalarTold scalar.now value text.new) }
+    ensures room { IfErr result (λ error. IsRoomFault (shown_by scalar.now) (length text.old) error) }
+    ensures len { length text.new ≡ length text.old }
+{
+    row_value_of(scalar.view(), text)
+}
+
+// Refused as `Unsupported` for lists.
+fn check_no_lists(dtype: DType) -> VortexResult<()>
+    ensures ok { IfOk result (λ _. list_fault dtype ≡ None) }
+    ensures err { IfErr result (λ error. list_fault dtype ≡ Some error) }
+{
+    match fault_of_lists(dtype) {
+        Some(error) => Err(error),
+        None => Ok(()),
+    }
+}
+
+// 1 for true, 0 for false.
+fn byte_of(truth: bool) -> u8
+    ensures { result ≡ byte_of_truth truth }
+{
+    truth as u8
+}

@@ -1,0 +1,176 @@
+//! Run columns of what other handles hold, and what run columns consist of.
+ghost use Rattle.std.specs.Prelude.{◌≡◌, length, IfOk, IfErr, IsOkUnless};
+ghost use Rattle.runend_array.specs.Array.{column_of};
+ghost use Rattle.runend_array.specs.Column.{column_of_runs};
+ghost use Rattle.column_core.specs.Refusal.{IsRefusedBy};
+ghost use Rattle.c_columns.specs.Makers.{AreRecordedRuns, AreRunsOf, IsCopyOf};
+ghost use Rattle.c_columns.specs.Ending.{IsShortOr};
+ghost use Rattle.c_columns.specs.Reads.{AreRunValuesOf, form_number, offset_in};
+ghost use Rattle.c_columns.specs.RunParts.{AreEndsOf, IsRecordAtFront, RecordedFault, RunsFault, SerializeFault, no_runs_fault};
+
+use crate::flat::{Boxed, boxed};
+use crate::row_value::put_bytes;
+use crate::sessions::plain_context;
+use column_core::{DType, VortexError, VortexResult};
+use runend_array::{ArrayRef, RunEnd, RunEndArray, RunEndArrayExt, RunEndArraySlotsExt};
+use runend_column::{deserialize, serialize};
+use std::alloc::Global;
+
+/// A copy in the same form. Refused for want of memory alone.
+pub fn copy(alloc: Global, array: &ArrayRef<Global>) -> VortexResult<ArrayRef<Global>>
+    ensures same { IfOk result (λ made. IsCopyOf array.now made) }
+    ensures only { IsOkUnless result VortexError.OutOfMemory }
+{
+    array.try_clone(&mut plain_context(alloc))
+}
+
+/// A copy in the same form, on the heap. Refused for want of memory alone.
+pub fn boxed_copy(alloc: Global, array: &ArrayRef<Global>) -> VortexResult<Boxed>
+    ensures same { IfOk result (λ made. IsCopyOf array.now made.value) }
+    ensures only { IsOkUnless result VortexError.OutOfMemory }
+{
+    boxed(alloc, copy(alloc, array)?)
+}
+
+/// The same in the same form, in buffers that no other column shares, on the heap. Refused for want of memory alone.
+pub fn boxed_compact(alloc: Global, array: &ArrayRef<Global>) -> VortexResult<Boxed>
+    ensures same { IfOk result (λ made. IsCopyOf array.now made.value) }
+    ensures only { IsOkUnless result VortexError.OutOfMemory }
+{
+    boxed(alloc, compact(alloc, array)?)
+}
+
+fn compact(alloc: Global, array: &ArrayRef<Global>) -> VortexResult<ArrayRef<Global>>
+    ensures same { IfOk result (λ made. IsCopyOf array.now made) }
+    ensures only { IsOkUnless result VortexError.OutOfMemory }
+{
+    array.compact(&mut plain_context(alloc))
+}
+
+/// The run column of copies of these parts. Refused as `RunEnd::try_new_offset_length` refuses, or for want
+/// of memory.
+pub fn run_column(
+    alloc: Global,
+    ends: &ArrayRef<Global>,
+    values: &ArrayRef<Global>,
+    offset: usize,
+    count: usize,
+) -> VortexResult<Boxed>
+    ensures made { IfOk result (λ made. AreRunsOf offset count ends.now values.now made.value) }
+    ensures refused { IfErr result (λ error. IsShortOr (RunsFault offset count ends.now values.now) error) }
+{
+    let (ends, values) = copies(alloc, ends, values)?;
+    let runs = RunEnd::try_new_offset_length(
+        ends,
+        values,
+        offset,
+        count,
+        &mut plain_context(alloc),
+    )?;
+    boxed_runs(alloc, runs)
+}
+
+/// The run column of copies of these parts, by its record. Refused as `deserialize` refuses, or for want of
+/// memory.
+pub fn recorded_column(
+    alloc: Global,
+    dtype: DType,
+    count: usize,
+    bytes: &[u8],
+    ends: &ArrayRef<Global>,
+    values: &ArrayRef<Global>,
+) -> VortexResult<Boxed>
+    ensures made { IfOk result (λ made. AreRecordedRuns bytes.now dtype count ends.now values.now made.value) }
+    ensures refused { IfErr result
+        (λ error. IsShortOr (RecordedFault bytes.now dtype count ends.now values.now) error) }
+{
+    let (ends, values) = copies(alloc, ends, values)?;
+    let runs = deserialize(dtype, count, bytes, ends, values, &mut plain_context(alloc))?;
+    boxed_runs(alloc, runs)
+}
+
+/// A copy of the ends of a run column. Refused as `Unsupported` where it is none, else for want of memory.
+pub fn ends_of(alloc: Global, array: &ArrayRef<Global>) -> VortexResult<Boxed>
+    ensures made { IfOk result (λ made. AreEndsOf (column_of array.now) (column_of made.value)) }
+    ensures refused { IsRefusedBy (no_runs_fault (column_of array.now)) result }
+{
+    match array {
+        ArrayRef::RunEnd(runs) => boxed_copy(alloc, runs.ends()),
+        _ => Err(VortexError::Unsupported),
+    }
+}
+
+/// A copy of the values of a run column. Refused as `Unsupported` where it is none, else for want of memory.
+pub fn values_of(alloc: Global, array: &ArrayRef<Global>) -> VortexResult<Boxed>
+    ensures made { IfOk result (λ made. AreRunValuesOf (column_of array.now) (column_of made.value)) }
+    ensures refused { IsRefusedBy (no_runs_fault (column_of array.now)) result }
+{
+    match array {
+        ArrayRef::RunEnd(runs) => boxed_copy(alloc, runs.values()),
+        _ => Err(VortexError::Unsupported),
+    }
+}
+
+/// How many rows of the runs lie before the window; 0 of any other column.
+pub fn offset_of(array: &ArrayRef<Global>) -> usize
+    ensures { result ≡ offset_in (column_of array.now) }
+{
+    match array {
+        ArrayRef::RunEnd(runs) => runs.offset(),
+        _ => 0,
+    }
+}
+
+/// 0 flat, 1 a constant, 2 lists, 3 runs.
+pub fn form_of_array(array: &ArrayRef<Global>) -> u8
+    ensures { result ≡ form_number (column_of array.now) }
+{
+    match array {
+        ArrayRef::Constant(_) => 1,
+        ArrayRef::ListView(_) => 2,
+        ArrayRef::RunEnd(_) => 3,
+        _ => 0,
+    }
+}
+
+/// Puts the record of a run column to the front of `room`, and answers how many bytes it has. Refused as
+/// `Unsupported` where it is no run column, and as `ColumnLength`, with that number and the room, where it has
+/// no room there.
+pub fn put_record(alloc: Global, array: &ArrayRef<Global>, room: &mut [u8]) -> VortexResult<usize>
+    ensures put { IfOk result (λ size. IsRecordAtFront (column_of array.now) size room.new) }
+    ensures refused { IfErr result (λ error. IsShortOr (SerializeFault (length room.old) array.now) error) }
+    ensures len { length room.new ≡ length room.old }
+{
+    let ArrayRef::RunEnd(runs) = array else {
+        return Err(VortexError::Unsupported);
+    };
+    let record = serialize(runs, &mut plain_context(alloc))?;
+    let size = put_bytes(&record, room)?;
+    Ok(size as usize)
+}
+
+/// Copies of both. Refused for want of memory alone.
+pub(crate) fn copies(
+    alloc: Global,
+    ends: &ArrayRef<Global>,
+    values: &ArrayRef<Global>,
+) -> VortexResult<(ArrayRef<Global>, ArrayRef<Global>)>
+    ensures same { IfOk result (λ made. IsCopyOf ends.now made.0 × IsCopyOf values.now made.1) }
+    ensures only { IsOkUnless result VortexError.OutOfMemory }
+{
+    let ends = copy(alloc, ends)?;
+    match copy(alloc, values) {
+        Ok(values) => Ok((ends, values)),
+        Err(error) => {
+            drop(ends);
+            Err(error)
+        }
+    }
+}
+
+fn boxed_runs(alloc: Global, runs: RunEndArray<Global>) -> VortexResult<Boxed>
+    ensures column { IfOk result (λ made. column_of made.value ≡ column_of_runs runs) }
+    ensures only { IsOkUnless result VortexError.OutOfMemory }
+{
+    boxed(alloc, ArrayRef::of_runs(alloc, runs)?)
+}

@@ -1,0 +1,87 @@
+//! Commands that are made of a second column, which may have any form. Neither column is copied.
+ghost use Rattle.std.specs.Prelude.{IfOk};
+ghost use Rattle.column_core.specs.Refusal.{IsRefusedBy};
+ghost use Rattle.c_columns.specs.TwoColumns.{HasPlain, beside_fault, code_look_up_fault, compared_by, filtered_by, looked_up_by, mask_filter_fault};
+
+use crate::flat::{Boxed, boxed};
+use crate::masks::mask_of;
+use crate::sessions::{Session, context};
+use column_core::VortexResult;
+use column_order::CompareOperator;
+use runend_array::ArrayRef;
+use runend_commands::compute;
+use std::alloc::Global;
+
+/// The rows at which the mask is true: null selects nothing. Refused as `TypeMismatch` unless the mask is of truth
+/// values, and then as `MaskLength` where it has not a row for each row.
+#[tactic(auto, using(crate::proofs::TwoColumns::mask_refused, crate::proofs::TwoColumns::filter_refused, crate::proofs::TwoColumns::filter_done, crate::proofs::TwoColumns::filter_left))]
+pub fn filtered(
+    alloc: Global,
+    session: &Session,
+    mask: &ArrayRef<Global>,
+    array: &ArrayRef<Global>,
+) -> VortexResult<Boxed>
+    ensures left { IfOk result (λ made. HasPlain (filtered_by mask.now array.now) made.value) }
+    ensures refused { IsRefusedBy (mask_filter_fault mask.now array.now) result }
+{
+    let selected = mask_of(alloc, mask)?;
+    let mut ctx = context(alloc, session);
+    let kept = compute::filter(array, &selected, &mut ctx);
+    drop(selected);
+    boxed(alloc, kept?)
+}
+
+/// The row at each index, null at a null index. Refused as `TypeMismatch` unless the indices are whole numbers, and
+/// then as `OutOfBounds`, with the index and the number of rows, at the first that is negative or of no row.
+#[tactic(auto, using(crate::proofs::TwoColumns::same_codes))]
+pub fn taken(
+    alloc: Global,
+    session: &Session,
+    indices: &ArrayRef<Global>,
+    array: &ArrayRef<Global>,
+) -> VortexResult<Boxed>
+    ensures left { IfOk result (λ made. HasPlain (looked_up_by indices.now array.now) made.value) }
+    ensures refused { IsRefusedBy (code_look_up_fault indices.now array.now) result }
+{
+    match indices {
+        ArrayRef::Primitive(numbers) => {
+            let mut ctx = context(alloc, session);
+            let taken = compute::take(array, numbers, &mut ctx)?;
+            boxed(alloc, taken)
+        }
+        _ => looked_up(alloc, session, indices, array),
+    }
+}
+
+/// The dictionary's row for each code, null for null. Refused as `TypeMismatch` unless the codes are whole numbers,
+/// and then as `OutOfBounds`, with the code and the dictionary's rows, at the first that is negative or of no row.
+pub fn looked_up(
+    alloc: Global,
+    session: &Session,
+    codes: &ArrayRef<Global>,
+    dictionary: &ArrayRef<Global>,
+) -> VortexResult<Boxed>
+    ensures left { IfOk result (λ made. HasPlain (looked_up_by codes.now dictionary.now) made.value) }
+    ensures refused { IsRefusedBy (code_look_up_fault codes.now dictionary.now) result }
+{
+    let mut ctx = context(alloc, session);
+    let taken = compute::take_from(codes, dictionary, &mut ctx)?;
+    boxed(alloc, taken)
+}
+
+/// Whether the operator holds of each row and the row of `right` beside it, null where either is. Refused as
+/// `Unsupported` for lists, then as `TypeMismatch` for two kinds, then as `ColumnLength` for two numbers of rows.
+pub fn compared(
+    alloc: Global,
+    session: &Session,
+    array: &ArrayRef<Global>,
+    operator: CompareOperator,
+    right: &ArrayRef<Global>,
+) -> VortexResult<Boxed>
+    ensures left { IfOk result (λ made. HasPlain (compared_by operator array.now right.now) made.value) }
+    ensures refused { IsRefusedBy (beside_fault array.now right.now) result }
+{
+    let mut ctx = context(alloc, session);
+    let truths = compute::compare(array, operator, right, &mut ctx)?;
+    boxed(alloc, truths)
+}

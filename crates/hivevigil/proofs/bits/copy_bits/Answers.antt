@@ -1,7 +1,0 @@
-use Rattle.std.proofs.Common.{◌+◌}
-use Rattle.hivevigil.specs.Bits.{bit_in}
-use Rattle.hivevigil.proofs.CountedRows.{one_more}
-use Rattle.hivevigil.proofs.bits.copy_bits.Goals as goal
-
-pub loop-row-preserved : goal.loop-row-preserved
-loop-row-preserved c = one_more (λ k. bit_in c.args.bytes.now (c.args.first + k)) c.loop-row.row c.loop-row.bits c.append.new.self c.bit_of.result c.loop-row.invariant c.in_ok-append.ensures.ok c.bit_of.ensures

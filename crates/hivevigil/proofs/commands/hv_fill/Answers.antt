@@ -1,0 +1,15 @@
+use Rattle.std.proofs.Common.{◌∙◌, ap, sym, subst, ℤ, w32}
+use Rattle.std.specs.Prelude.{Some}
+use Rattle.std.proofs.lemmas.Int.{to_z-of_z}
+use Rattle.c_columns.specs.Calls.{fill_with_passed}
+use Rattle.c_columns.specs.Ending.{EndsOnGiven, EndsOnPassed}
+use Rattle.c_columns.proofs.Endings.{ends_filled}
+use Rattle.hivevigil.proofs.commands.hv_fill.Goals as goal
+
+pub returns-clause-ended : goal.returns-clause-ended
+returns-clause-ended c =
+    let back = to_z-of_z w32 c.apply.result (record { sfits = c.apply.type_inv }) in
+    let here = c.put.ensures ∙ sym c.in-Some.ensures.found in
+    let ended = subst (λ h. EndsOnGiven h c.fill_command-command.result c.apply.result c.apply.new.error) here c.apply.ensures.ended in
+    subst (λ (code : ℤ). EndsOnPassed c.args.value.now c.args.text.now (fill_with_passed c.args.value.now c.args.text.now) c.args.column.now.column code c.apply.new.error) (sym back)
+    (ends_filled c.args.value.now c.args.text.now c.fill_command-command.result c.args.column.now.column c.deref.result.now c.apply.result c.apply.new.error (c.in-Some.ensures.found ∙ ap Some (sym c.deref.ensures)) c.fill_command-command.ensures ended)

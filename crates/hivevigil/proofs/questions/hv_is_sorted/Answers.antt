@@ -1,0 +1,14 @@
+use Rattle.std.proofs.Common.{◌∙◌, ap, sym, subst, w32}
+use Rattle.std.specs.Prelude.{IfOk, Some}
+use Rattle.std.proofs.lemmas.Int.{to_z-of_z}
+use Rattle.column_order.specs.OrderFacts as order
+use Rattle.runend_array.specs.Array.{rows}
+use Rattle.c_columns.specs.Flags.{Tells, flag_of}
+use Rattle.c_columns.proofs.Endings.{told_sorted}
+use Rattle.hivevigil.proofs.questions.hv_is_sorted.Goals as goal
+
+pub returns-clause-told : goal.returns-clause-told
+returns-clause-told c = λ zero.
+    let back = to_z-of_z w32 c.tell.result (record { sfits = c.tell.type_inv }) in
+    let told = subst (λ strict. IfOk c.is_sorted-outcome.result (λ truth. Tells truth (order.IsSorted strict (rows c.deref.result.now)))) c.is_set.ensures c.is_sorted-outcome.ensures.told in
+    told_sorted (flag_of c.args.strict) c.args.column.now.column c.deref.result.now c.is_sorted-outcome.result c.tell.result _ _ (c.in-Some.ensures.found ∙ ap Some (sym c.deref.ensures)) told c.tell.ensures.ok c.tell.ensures.err (sym back ∙ zero)
