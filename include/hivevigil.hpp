@@ -95,6 +95,13 @@ public:
             return hv_deserialize(&kind, rows, some.data(), record.size(), &ends.handle, other, out, error);
         });
     }
+    // The value in each of `rows` rows of a type, in memory for one.
+    static Column constant(hv_kind kind, const Value &value, size_t rows) {
+        const detail::Passed passed(value);
+        return made([&](auto *out, auto *error) {
+            return hv_constant(&kind, &passed.value, passed.text, passed.size, rows, out, error);
+        });
+    }
     Column clone() const {
         return made([&](auto *out, auto *error) { return hv_clone(&handle, out, error); });
     }
@@ -185,11 +192,39 @@ public:
     detail::Walk<Column> begin() const { return {this, 0}; }
     detail::Walk<Column> end() const { return {this, size()}; }
     Value item(size_t row) const { return at(row); }
-    // The runs as they are stored, cut to the window. A constant is one run, and each row of other forms is one.
-    Runs runs() const;
+    // The runs as they are stored, cut to the window, and copied nowhere: they are looked up in this column, which has
+    // to live as long. A constant is one run, and each row of other forms is one.
+    Runs runs() const &;
+    Runs runs() &&; // which has the column
+    // The run of row `row` of a run column, counted as in ends() and values(); refused as HV_OUT_OF_BOUNDS.
+    size_t run_of(size_t row) const {
+        size_t run = 0;
+        detail::ask([&](auto *error) { return hv_run_of(&handle, row, &run, error); });
+        return run;
+    }
+    // Run `index`, counted so; it has no row where the window does not reach it.
+    Run run(size_t index) const {
+        Run found{};
+        found.value = shown([&](auto *value, auto *text, size_t room, auto *error) {
+            return hv_run(&handle, index, &found.start, &found.stop, value, text, room, error);
+        });
+        return found;
+    }
     // The least row that is not null; Null where there is none.
     Value least(const hv_session &session = initial_session()) const { return extreme(0, session); }
     Value greatest(const hv_session &session = initial_session()) const { return extreme(1, session); }
+    // Both at once.
+    std::pair<Value, Value> least_and_greatest(const hv_session &session = initial_session()) const {
+        hv_error fields{};
+        for (size_t room = 64;; room = fields.first) {
+            Bytes low(room), high(room);
+            hv_value least{}, greatest{};
+            const int32_t answer = hv_min_max(&session, &handle, &least, low.data(), low.size(), &greatest, high.data(),
+                                              high.size(), &fields);
+            if (!answer) return {detail::value_of(least, low), detail::value_of(greatest, high)};
+            if (answer != HV_COLUMN_LENGTH) throw Error(answer, fields);
+        }
+    }
     Sum sum(const hv_session &session = initial_session()) const {
         hv_total total{};
         detail::ask([&](auto *error) { return hv_sum(&session, &handle, &total, error); });
@@ -211,7 +246,7 @@ public:
 
     // ---- Read out ----
 
-    // The stored numbers of a flat column, where a row is null too.
+    // The numbers of all rows, in any form; where a row is null any number may stand.
     template <class T> std::vector<T> numbers() const {
         if (!*this) return {};
         std::vector<T> items(size());
@@ -225,16 +260,15 @@ public:
             return detail::Native<T>::read(&handle, start, count ? items : &none, count, error);
         });
     }
-    // The rows as T (as get has them), none where a row is null; whole numbers of a flat column by one call for all.
+    // The rows as T (as get has them), none where a row is null; whole numbers by one call for all.
     template <class T> std::vector<std::optional<T>> optionals() const {
-        if constexpr (detail::is_number<T>)
-            if (form() == Form::flat) return flat_optionals<T>();
+        if constexpr (detail::is_number<T>) return number_optionals<T>();
         std::vector<std::optional<T>> rows;
         for (const Value &row : *this) rows.push_back(detail::optional_of<T>(row));
         return rows;
     }
-    std::vector<bool> truths() const { return flags(hv_read_bools); }
-    std::vector<bool> validity() const { return flags(hv_read_validity); }
+    std::vector<bool> truths() const { return flags(hv_read_bools_from); }
+    std::vector<bool> validity() const { return flags(hv_read_validity_from); }
     // Of runs, copied.
     Column ends() const {
         return made([&](auto *out, auto *error) { return hv_ends(&handle, out, error); });
@@ -295,7 +329,7 @@ private:
         else if constexpr (detail::is_text<Item>) return texts(items, flags);
         else return of(items.data(), items.size(), flags);
     }
-    template <class T> std::vector<std::optional<T>> flat_optionals() const {
+    template <class T> std::vector<std::optional<T>> number_optionals() const {
         const std::vector<T> items = numbers<T>();
         const std::vector<bool> valid = validity();
         std::vector<std::optional<T>> rows(items.size());
@@ -334,26 +368,16 @@ private:
         if (!*this) return {};
         const size_t rows = size(), count = rows / 64 + (rows % 64 != 0);
         std::vector<uint64_t> words(count + 1);
-        detail::ask([&](auto *error) { return call(&handle, words.data(), count, error); });
+        detail::ask([&](auto *error) { return call(&handle, 0, rows, words.data(), count, error); });
         return detail::flags_of(words, rows);
     }
 };
 
-// The runs of a column, each cut to the window. Ends and values are the run column's, copied.
+// The runs of a column, each cut to the window, and looked up where they are.
 class Runs {
 public:
-    explicit Runs(const Column &column) : rows(column.size()), form(column.form()) {
-        if (form == Form::runs) {
-            read_ends(column.ends());
-            values = column.values();
-            offset = column.offset();
-            first = position_of(offset);
-            count = rows ? position_of(offset + rows - 1) + 1 - first : 0;
-        } else if (form != Form::none) {
-            values = column.clone();
-            count = form == Form::constant && rows ? 1 : rows;
-        }
-    }
+    explicit Runs(const Column &column) : borrowed(&column) { count_runs(); }
+    explicit Runs(Column &&column) : owned(std::move(column)) { count_runs(); }
     size_t size() const { return count; }
     bool empty() const { return count == 0; }
     detail::Walk<Runs> begin() const { return {this, 0}; }
@@ -365,37 +389,30 @@ public:
     }
     Run operator[](size_t index) const { return at(index); }
     Run item(size_t index) const {
-        if (form == Form::constant) return {0, rows, values.at(0)};
-        if (form != Form::runs) return {index, index + 1, values.at(index)};
-        const size_t run = first + index;
-        const size_t start = index ? static_cast<size_t>(ends[run - 1]) - offset : 0;
-        return {start, std::min(static_cast<size_t>(ends[run]) - offset, rows), values.at(run)};
+        if (form == Form::runs) return column().run(first + index);
+        if (form == Form::constant) return {0, column().size(), column().at(0)};
+        return {index, index + 1, column().at(index)};
     }
 
 private:
-    std::vector<uint64_t> ends;
-    Column values;
-    size_t rows, offset = 0, first = 0, count = 0;
-    Form form;
+    Column owned;
+    const Column *borrowed = nullptr;
+    size_t first = 0, count = 0;
+    Form form = Form::none;
 
-    // The run that stores this row, counted before the window is cut: the first whose end is past it.
-    size_t position_of(size_t row) const {
-        return static_cast<size_t>(std::upper_bound(ends.begin(), ends.end(), row) - ends.begin());
-    }
-    template <class T> void widen(const Column &column) {
-        for (T end : column.numbers<T>()) ends.push_back(end);
-    }
-    void read_ends(const Column &column) {
-        switch (column.kind().number) {
-        case HV_U8: return widen<uint8_t>(column);
-        case HV_U16: return widen<uint16_t>(column);
-        case HV_U32: return widen<uint32_t>(column);
-        default: return widen<uint64_t>(column);
-        }
+    const Column &column() const { return borrowed ? *borrowed : owned; }
+    void count_runs() {
+        const size_t rows = column().size();
+        form = column().form();
+        count = form == Form::constant && rows ? 1 : rows;
+        if (form != Form::runs || !rows) return;
+        first = column().run_of(0);
+        count = column().run_of(rows - 1) + 1 - first;
     }
 };
 
-inline Runs Column::runs() const { return Runs(*this); }
+inline Runs Column::runs() const & { return Runs(*this); }
+inline Runs Column::runs() && { return Runs(std::move(*this)); }
 
 } // namespace hv
 #endif

@@ -254,6 +254,25 @@ impl Column {
         truth != 0
     }
 
+    pub fn least_and_greatest(&self, session: &Session) -> Option<(i128, i128)> {
+        let (mut least, mut greatest) = (RawValue::default(), RawValue::default());
+        done(|fields| unsafe {
+            let (column, low, high) = (self.0.get(), [0].as_mut_ptr(), [0].as_mut_ptr());
+            raw::hv_min_max(
+                session,
+                column,
+                &mut least,
+                low,
+                0,
+                &mut greatest,
+                high,
+                0,
+                fields,
+            )
+        });
+        number_of(least).zip(number_of(greatest))
+    }
+
     pub fn extreme(&self, session: &Session, greatest: bool) -> Option<i128> {
         let mut value = RawValue::default();
         done(|fields| unsafe {
@@ -314,7 +333,10 @@ impl Column {
     fn flags(&self) -> Option<Bits> {
         let mut bits = Bits::filled(false, self.len());
         let (words, len) = (bits.words.as_mut_ptr(), bits.words.len());
-        done(|fields| unsafe { raw::hv_read_validity(self.0.get(), words, len, fields) });
+        let rows = self.len();
+        done(|fields| unsafe {
+            raw::hv_read_validity_from(self.0.get(), 0, rows, words, len, fields)
+        });
         Some(bits)
     }
 

@@ -114,6 +114,28 @@ static void check_iteration() {
     CHECK(rows == 10 && nulls == 4);
 }
 
+static void check_runs_and_constants() {
+    const Column runs = made().encode(), part = runs.slice(3, 7);
+    CHECK(runs.run_of(7) == 3 && runs.run(3).start == 5 && runs.run(3).stop == 8 && runs.run(3).value == number(3));
+    CHECK(part.run_of(0) == 0 && part.run(part.run_of(3)).stop == 4);
+    hv::Runs taken = made().encode().runs(); // has the column, which nothing else does
+    CHECK(taken.size() == 5 && taken.at(4).start == 8);
+    const hv::Runs moved = std::move(taken);
+    CHECK(moved.at(3).value == number(3));
+    CHECK(runs.numbers<int32_t>()[5] == 3 && part.optionals<int32_t>()[1] == 2 && !part.optionals<int32_t>()[0]);
+    CHECK((runs.validity() == std::vector<bool>{true, true, false, false, true, true, true, true, false, false}));
+    const Column same = Column::constant({HV_UTF8, 0, 0, 0}, std::string("Oslo"), size_t{1} << 60);
+    CHECK(same.size() == size_t{1} << 60 && same.form() == hv::Form::constant && same.runs().size() == 1);
+    CHECK(same.get<std::string>(7) == "Oslo" && same.runs().at(0).stop == size_t{1} << 60);
+    CHECK(rows_of(Column::constant({HV_I8, 1, 0, 0}, Null{}, 2)) == (std::vector<Value>{Null{}, Null{}}));
+    CHECK(runs.least_and_greatest() == std::pair(number(1), number(3)));
+    const std::string longer(300, 'z');
+    CHECK(Column::texts({"b", longer, "a"}).least_and_greatest() == std::pair(Value("a"), Value(longer)));
+    CHECK(runs.filter(runs.compare(Operator::greater, number(1))).size() == 4); // a mask in the form that it has
+    const Column places = Column::of<uint8_t>({9, 9, 4}).encode();
+    CHECK(rows_of(runs.take(places)) == (std::vector<Value>{Null{}, Null{}, number(2)}));
+}
+
 static void check_views_and_optionals() {
     const std::array<int16_t, 3> items = {5, 5, -6};
     const uint8_t bytes[] = {1, 2};
@@ -216,6 +238,7 @@ static void check_arrow() {
 int main() {
     check_runs();
     check_own_runs();
+    check_runs_and_constants();
     check_other_types();
     check_iteration();
     check_views_and_optionals();

@@ -38,23 +38,23 @@ def _sliced(column: Column, key: slice) -> Column:
 
 
 def mask_of(column: Column, mask: Any) -> Column:
-    """A flat column of truth values, from a column in any form, a list, or an array of another library."""
+    """A column of truth values in any form, of a list, or of an array of another library."""
     beside = _column_of(column, mask)
     if beside is None:
         return column.of(list(mask), "bool")
     if beside.type.rstrip("?") != "bool":
         raise TypeMismatch()
-    return beside._flat()
+    return beside
 
 
 def indices_of(column: Column, indices: Any) -> Column:
-    """A flat column of whole numbers. Of a list or an array negative ones count from the end, as Python's do."""
+    """A column of whole numbers in any form. Of a list or an array negative ones count from the end, as Python's do."""
     beside = _column_of(column, indices)
     if beside is None:
         return column.of(_rows(list(indices), column._length), "u64")
     if beside.type.rstrip("?") not in WHOLE_NUMBERS:
         raise TypeMismatch()
-    return beside._flat()
+    return beside
 
 
 def _column_of(column: Column, key: Any) -> Optional[Column]:

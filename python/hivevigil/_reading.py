@@ -1,4 +1,4 @@
-"""Rows of flat columns as lists, arrays and bitmaps: a window of many rows by each call, never a call a row."""
+"""Rows of columns in any form as lists, arrays and bitmaps: a window of many rows by each call, never a call a row."""
 from __future__ import annotations
 
 import array
@@ -14,7 +14,7 @@ from .errors import Unsupported
 if TYPE_CHECKING:
     from .column import Column
 
-BLOCK = 65536  # rows; a multiple of 8, so that a block begins with a byte of the bitmaps
+BLOCK = 65536  # rows
 _LETTERS = bytes.maketrans(b"01", b"\0\1")
 _OTHER = bytes.maketrans(b"\0\1", b"\1\0")
 
@@ -27,16 +27,26 @@ def flags_of(bits: bytes, rows: int) -> bytes:
     return f"{number:0{rows}b}".encode().translate(_LETTERS)[::-1]
 
 
-def bitmap(column: Column, read: Any) -> bytes:
-    """All rows of a flat column as bits, the first the least of the first byte."""
-    rows = len(column)
+def bitmap(column: Column, read: Any, start: int, stop: int) -> bytes:
+    """Rows as bits, the first the least of the first byte."""
+    rows = stop - start
     words = (ctypes.c_uint64 * max(1, (rows + 63) // 64))()
-    ask(read, column, words, (rows + 63) // 64)
+    ask(read, column, start, rows, words, (rows + 63) // 64)
     return bytes(words)[: (rows + 7) // 8]
 
 
+def validity(column: Column, start: int, stop: int) -> bytes:
+    """A bit for each of these rows, 1 where it is not null."""
+    return bitmap(column, calls.hv_read_validity_from, start, stop)
+
+
+def truths(column: Column, start: int, stop: int) -> bytes:
+    """The truth values of rows as bits."""
+    return bitmap(column, calls.hv_read_bools_from, start, stop)
+
+
 def numbers(column: Column, start: int, stop: int) -> array.array[int]:
-    """The stored numbers of rows of a flat column."""
+    """The numbers of rows; where one is null any number may stand."""
     name, rows = TYPES[column._kind.number], stop - start
     items = array.array(LETTERS[name], bytes(WIDTHS[name] * rows))
     passed = (NUMBERS[name] * rows).from_buffer(items) if rows else (NUMBERS[name] * 1)()
@@ -45,7 +55,7 @@ def numbers(column: Column, start: int, stop: int) -> array.array[int]:
 
 
 def decimals(column: Column, start: int, stop: int) -> bytes:
-    """The stored decimals of rows of a flat column, 16 bytes each."""
+    """The decimals of rows, 16 bytes each."""
     rows = stop - start
     pairs = (Pair * max(1, rows))()
     ask(calls.hv_read_decimals, column, start, pairs, rows)
@@ -53,7 +63,7 @@ def decimals(column: Column, start: int, stop: int) -> bytes:
 
 
 def texts(column: Column, start: int, stop: int) -> tuple[array.array[int], bytes]:
-    """The offsets and the bytes of rows of a flat column of texts or bytes."""
+    """The offsets and the bytes of rows of texts or bytes."""
     rows = stop - start
     offsets = array.array("q", bytes(8 * (rows + 1)))
     passed = (ctypes.c_int64 * (rows + 1)).from_buffer(offsets)
@@ -73,46 +83,41 @@ def _split(offsets: array.array[int], data: bytes, is_text: bool) -> list[Any]:
     return [data[start:stop].decode() for start, stop in bounds]
 
 
-class Rows:
-    """The rows of a flat column, whose bitmaps are read once."""
+def window(column: Column, start: int, stop: int) -> list[Scalar]:
+    """The rows from `start` to `stop` - 1."""
+    stored = _stored(column, start, stop)
+    if not column.nullable:
+        return stored
+    flags = flags_of(validity(column, start, stop), stop - start)
+    return stored if 0 not in flags else [item if flag else None for item, flag in zip(stored, flags)]
 
-    def __init__(self, column: Column) -> None:
-        kind = column._kind
-        self.column, self.name, self.scale = column, TYPES[kind.number], kind.scale
-        self.valid = bitmap(column, calls.hv_read_validity) if kind.nullable else None
-        self.truths = bitmap(column, calls.hv_read_bools) if self.name == "bool" else b""
 
-    def window(self, start: int, stop: int) -> list[Scalar]:
-        """Rows from `start`, a multiple of 8, to `stop` - 1."""
-        stored = self._stored(start, stop)
-        if self.valid is None:
-            return stored
-        flags = flags_of(self.valid[start // 8 : (stop + 7) // 8], stop - start)
-        return stored if 0 not in flags else [item if flag else None for item, flag in zip(stored, flags)]
-
-    def _stored(self, start: int, stop: int) -> list[Any]:
-        if self.name in LETTERS:
-            return numbers(self.column, start, stop).tolist()
-        if self.name == "bool":
-            return list(map(bool, flags_of(self.truths[start // 8 : (stop + 7) // 8], stop - start)))
-        if self.name == "decimal":
-            data = memoryview(decimals(self.column, start, stop))
-            wide = (int.from_bytes(data[at : at + 16], "little", signed=True) for at in range(0, len(data), 16))
-            return [decimal_of(number, self.scale) for number in wide]
-        if self.name == "list":
-            raise Unsupported().about("to_list", self.column)
-        return _split(*texts(self.column, start, stop), self.name == "utf8")
+def _stored(column: Column, start: int, stop: int) -> list[Any]:
+    kind = column._kind
+    name = TYPES[kind.number]
+    if name in LETTERS:
+        return numbers(column, start, stop).tolist()
+    if name == "bool":
+        return list(map(bool, flags_of(truths(column, start, stop), stop - start)))
+    if name == "decimal":
+        data = memoryview(decimals(column, start, stop))
+        wide = (int.from_bytes(data[at : at + 16], "little", signed=True) for at in range(0, len(data), 16))
+        return [decimal_of(number, kind.scale) for number in wide]
+    if name == "list":
+        raise Unsupported().about("to_list", column)
+    return _split(*texts(column, start, stop), name == "utf8")
 
 
 def blocks(column: Column) -> Iterator[list[Scalar]]:
-    """The rows of a flat column, a list for each block."""
-    rows, length = Rows(column), len(column)
+    """The rows, a list for each block, of which one is there at a time."""
+    length = column._length
     for start in range(0, length, BLOCK):
-        yield rows.window(start, min(start + BLOCK, length))
+        yield window(column, start, min(start + BLOCK, length))
 
 
 def null_flags(column: Column) -> bytes:
-    """Row by row of a flat column 1 where it is null, else 0."""
-    if not column._kind.nullable:
-        return bytes(len(column))
-    return flags_of(bitmap(column, calls.hv_read_validity), len(column)).translate(_OTHER)
+    """Row by row 1 where it is null, else 0."""
+    rows = len(column)
+    if not column.nullable:
+        return bytes(rows)
+    return flags_of(validity(column, 0, rows), rows).translate(_OTHER)

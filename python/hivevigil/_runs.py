@@ -2,14 +2,14 @@
 from __future__ import annotations
 
 import array
+import ctypes
 import sys
-from bisect import bisect_left, bisect_right
 from collections.abc import Iterator
 from itertools import chain, compress, repeat
-from typing import TYPE_CHECKING, Any, NamedTuple, Optional
+from typing import TYPE_CHECKING, NamedTuple, Optional
 
 from . import _reading
-from ._library import calls
+from ._library import ask, calls
 from ._making import numbers_of, truths_of, validity_of
 from ._types import WHOLE_NUMBERS
 from ._values import Scalar
@@ -34,14 +34,26 @@ class Visible(NamedTuple):
     values: Column
 
 
+def _run_of(column: Column, row: int) -> int:
+    """The stored run of a row."""
+    run = ctypes.c_size_t()
+    ask(calls.hv_run_of, column, row, run)
+    return run.value
+
+
+def span(column: Column) -> range:
+    """Which of its stored runs a run column shows."""
+    rows = column._length
+    return range(_run_of(column, 0), _run_of(column, rows - 1) + 1) if rows else range(0)
+
+
 def visible(column: Column, most: Optional[int] = None) -> Visible:
     """The visible runs of a run column, or as many of the first."""
-    ends, offset, rows = column.ends().to_array(), column.offset, column._length
-    first = bisect_right(ends, offset)
-    count = bisect_left(ends, offset + rows) + 1 - first if rows else 0
-    behind = first + (count if most is None else min(count, most))
-    stops = [min(end - offset, rows) for end in ends[first:behind]]
-    return Visible(count, stops, column.values().slice(first, behind))
+    shown = span(column)
+    some = shown if most is None else shown[:most]
+    stops = (ctypes.c_uint64 * max(1, len(some)))()
+    ask(calls.hv_read_ends_u64, column, some.start, stops, len(some))
+    return Visible(len(shown), stops[: len(some)], column.values().slice(some.start, some.stop))
 
 
 def lengths(stops: list[int]) -> list[int]:
@@ -59,8 +71,8 @@ def rows(column: Column) -> Iterator[Scalar]:
 
 
 def _flat_rows(column: Column) -> Iterator[Scalar]:
-    """Row by row, written out first where the column is not flat."""
-    return chain.from_iterable(_reading.blocks(column._flat()))
+    """Row by row; of a column that is not flat a block at a time is written out."""
+    return chain.from_iterable(_reading.blocks(column))
 
 
 def _repeated(value: Scalar, count: int) -> Iterator[Scalar]:
@@ -83,7 +95,7 @@ def null_count(column: Column) -> int:
         return column._length if column._length and column[0] is None else 0
     if column.form == "runs":
         shown = visible(column)
-        return sum(compress(lengths(shown.stops), _reading.null_flags(shown.values._flat())))
+        return sum(compress(lengths(shown.stops), _reading.null_flags(shown.values)))
     return _reading.null_flags(column).count(1)
 
 
@@ -106,13 +118,9 @@ def _ends_of_runs(flat: Column) -> bytes:
     """A bit for each row: 1 where the next row differs, and behind the last."""
     length = len(flat)
     pairs = (1 << (length - 1)) - 1
-    equal = flat.slice(0, length - 1).eq(flat.slice(1, length))._flat()
-    same = _bits(equal, calls.hv_read_bools)
+    equal = flat.slice(0, length - 1).eq(flat.slice(1, length))
+    same = int.from_bytes(_reading.truths(equal, 0, length - 1), "little")
     if flat.nullable:
-        valid = _bits(flat, calls.hv_read_validity)
+        valid = int.from_bytes(_reading.validity(flat, 0, length), "little")
         same = same & valid & (valid >> 1) | ~valid & ~(valid >> 1)
     return (~same & pairs | 1 << (length - 1)).to_bytes(length // 8 + 1, "little")
-
-
-def _bits(column: Column, read: Any) -> int:
-    return int.from_bytes(_reading.bitmap(column, read), "little")

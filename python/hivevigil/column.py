@@ -147,6 +147,13 @@ class Column:
         return cls._made(calls.hv_runs, end_column, end_column._beside(value_column), start, count)
 
     @classmethod
+    def constant(cls, value: Scalar, rows: int, type: Any = None) -> Column:
+        """The value in each of so many rows, in memory for one. The type is that of the value where none is given."""
+        kind = _making.inferred([value]) if type is None else kind_of(type)
+        kind.nullable = kind.nullable or value is None
+        return cls._made(calls.hv_constant, kind, *passed(kind, value), size_of(rows, "the number of rows"))
+
+    @classmethod
     def from_record(cls, type: Any, rows: int, record: bytes, ends: Column, values: Column) -> Column:
         """The run column of this many rows that a metadata record describes, over copies of ends and values."""
         count, data = size_of(rows, "the number of rows"), bytes(record)
@@ -319,6 +326,18 @@ class Column:
         """The greatest row that is not null; None where all are null."""
         return self._shown(calls.hv_extreme, session, self, 1)
 
+    def min_max(self) -> tuple[Scalar, Scalar]:
+        """Both at once."""
+        room = 64
+        while True:
+            least, greatest = Value(), Value()
+            low, high = ctypes.create_string_buffer(room), ctypes.create_string_buffer(room)
+            try:
+                ask(calls.hv_min_max, session, self, least, low, room, greatest, high, room)
+                return shown(least, self._kind, low), shown(greatest, self._kind, high)
+            except ColumnLength as short:
+                room = short.fields[0]
+
     def __getitem__(self, key: Any) -> Any:
         """A row by its number, from the end where it is negative; else a column: of a slice, of a mask's rows (a
         column, a list, or an array of truth values), or of the rows at indices."""
@@ -377,18 +396,19 @@ class Column:
         return _copying.to_pandas(self)
 
     def to_array(self) -> array.array[int]:
-        """The stored numbers of a flat column of whole numbers, which NumPy reads without a copy."""
-        if TYPES[self._kind.number] not in LETTERS or self.form != "flat":
+        """The numbers of a column of whole numbers in any form, which NumPy reads without a copy; where a row is null
+        any number may stand."""
+        if TYPES[self._kind.number] not in LETTERS:
             raise Unsupported().about("to_array", self)
         return _reading.numbers(self, 0, len(self))
 
     def validity(self) -> bytes:
-        """Arrow's bitmap of a flat column: row i is valid where bit i % 8 of byte i // 8 is 1."""
-        return _reading.bitmap(self, calls.hv_read_validity)
+        """Arrow's bitmap: row i is valid where bit i % 8 of byte i // 8 is 1."""
+        return _reading.validity(self, 0, len(self))
 
     def truths(self) -> bytes:
-        """The stored truth values of a flat column, as a bitmap."""
-        return _reading.bitmap(self, calls.hv_read_bools)
+        """The truth values as a bitmap; where a row is null any may stand."""
+        return _reading.truths(self, 0, len(self))
 
     def runs(self) -> Iterator[Run]:
         """The runs that the column shows, each as (start, stop, value), counted from its first row. Of runs and
@@ -399,7 +419,7 @@ class Column:
         """How many runs runs() gives."""
         if self.form == "constant":
             return min(1, self._length)
-        return _runs.visible(self if self.form == "runs" else self.to_runs(), most=0).runs
+        return len(_runs.span(self if self.form == "runs" else self.to_runs()))
 
     def ends(self) -> Column:
         """The stored ends of a run column, before its window too; of a constant the end of its one run."""

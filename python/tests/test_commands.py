@@ -22,6 +22,20 @@ def compared(left, sign, right):
     return None if left is None or right is None else SIGNS[sign](comparable(left), comparable(right))
 
 
+@given(samples(), samples(types=("bool",)))
+def test_masks_in_any_form(sample, mask):
+    rows = min(len(sample.rows), len(mask.rows))
+    kept = [row for row, flag in zip(sample.rows, mask.rows) if flag]
+    assert sample.column[:rows].filter(mask.column[:rows]).to_list() == kept
+
+
+@given(samples(least_rows=1), samples(types=("u8", "i64")))
+def test_indices_in_any_form(sample, places):
+    inside = [None if place is None else place % len(sample.rows) for place in places.rows]
+    wanted = [None if place is None else sample.rows[place] for place in inside]
+    assert sample.column.take(Column.of(inside, "u64?").encode()).to_list() == wanted
+
+
 @given(samples(types=tuple(BITS)))
 def test_encode(sample):
     runs = sample.column.encode()

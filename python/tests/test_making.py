@@ -7,6 +7,9 @@ import numpy
 import pandas
 import pytest
 from hivevigil import Column
+from hypothesis import given
+from hypothesis import strategies as st
+from rows import TYPES, values
 
 
 @pytest.mark.parametrize(
@@ -213,3 +216,18 @@ def test_runs_by_their_ends():
     assert Column.from_runs([], Column.of([], "i8")).to_list() == []
     same = Column.of([1, 2], "u8")
     assert Column.from_runs(same, same).to_list() == [1, 2]
+
+
+@given(st.sampled_from(TYPES), st.data(), st.integers(0, 40))
+def test_a_constant(name, data, count):
+    value = data.draw(st.none() | values(name))
+    column = Column.constant(value, count, name)
+    assert column.to_list() == [value] * count
+    assert column.type == name + "?" * (value is None) and column.form == "constant"
+
+
+def test_a_constant_takes_no_room():
+    column = Column.constant("Oslo", 2**60)
+    assert (column._length, column.type, column[2**59], column.run_count()) == (2**60, "utf8", "Oslo", 1)
+    assert column[2**59 : 2**59 + 2].to_list() == ["Oslo", "Oslo"]
+    assert Column.constant(2**63, 1).type == "u64" and Column.constant(None, 2, "i8?").to_list() == [None, None]

@@ -130,6 +130,8 @@ def test_refusals_of_the_library():
         (lambda: Column.from_runs(Column.of([-1]), [1], 0, 1), errors.CastOutOfRange, OverflowError, (0, 0, 0)),
         (lambda: column.record(), errors.Unsupported, TypeError, (0, 0, 0)),
         (lambda: Column.of(["a"]).sum(), errors.Unsupported, TypeError, (0, 0, 0)),
+        (lambda: Column.of(["a"]).to_array(), errors.Unsupported, TypeError, (0, 0, 0)),
+        (lambda: Column.of([1]).truths(), errors.Unsupported, TypeError, (0, 0, 0)),
     ]
     for call, kind, builtin, fields in due:
         with pytest.raises(kind) as caught:
@@ -168,6 +170,21 @@ def test_columns_have_no_order():
             call()
     with pytest.raises(ValueError, match="at least one"):
         concat([])
+
+
+def test_constants_that_are_none():
+    due = [
+        (lambda: Column.constant(300, 2, "u8"), OverflowError),
+        (lambda: Column.constant("a", 2, "u8"), TypeError),
+        (lambda: Column.constant(1.5, 2), TypeError),
+        (lambda: Column.constant(1, -2), ValueError),
+        (lambda: Column.constant(1, 2**64), OverflowError),
+        (lambda: Column.constant(None, 2), ValueError),
+        (lambda: Column.constant(1, 2, "list"), TypeError),
+    ]
+    for call, kind in due:
+        with pytest.raises(kind):
+            call()
 
 
 def test_records_that_are_none():
@@ -212,7 +229,7 @@ ARGUMENTS = {
     **{name: (1,) for name in ("eq", "ne", "gt", "ge", "lt", "le", "__lt__", "__le__", "__gt__", "__ge__")},
 }
 STAY = {"free", "freed", "__repr__", "__exit__", "__del__", "_repr_html_"}
-MAKERS = {"of", "from_buffer", "from_runs", "from_record", "from_arrow", "from_arrow_structs"}
+MAKERS = {"of", "constant", "from_buffer", "from_runs", "from_record", "from_arrow", "from_arrow_structs"}
 
 
 def calls_of_a_column():

@@ -103,3 +103,31 @@ def test_numpy_of_objects(sample):
     items = sample.column.to_numpy()
     assert items.dtype == object and items.tolist() == sample.rows == numpy.asarray(sample.column).tolist()
     assert sample.column.to_numpy(null="none").tolist() == ["none" if row is None else row for row in sample.rows]
+
+
+@given(samples())
+def test_bitmaps_and_numbers_of_any_form(sample):
+    column, rows = sample.column, sample.rows
+    valid = column.validity()
+    assert [bool(valid[row // 8] >> row % 8 & 1) for row in range(len(rows))] == [row is not None for row in rows]
+    if sample.type in DTYPES and sample.type != "bool":
+        numbers = column.to_array()
+        assert [number if row is not None else None for number, row in zip(numbers, rows)] == rows
+    if sample.type == "bool":
+        truths = column.truths()
+        assert all(bool(truths[at // 8] >> at % 8 & 1) == row for at, row in enumerate(rows) if row is not None)
+
+
+@given(samples())
+def test_least_and_greatest_at_once(sample):
+    present = [row.encode() if isinstance(row, str) else row for row in sample.rows if row is not None]
+    wanted = (min(present), max(present)) if present else (None, None)
+    found = sample.column.min_max()
+    assert tuple(row.encode() if isinstance(row, str) else row for row in found) == wanted
+    assert found == (sample.column.min(), sample.column.max())
+
+
+def test_least_and_greatest_of_long_texts():
+    long = "b" * 5000
+    assert Column.of(["c", long, "a" * 70, None]).min_max() == ("a" * 70, "c")
+    assert Column.of([long]).min_max() == (long, long)

@@ -1,6 +1,6 @@
 //! Columns, and how they are made of rows.
 use crate::raw::{self, Handle};
-use crate::{ask, Error, Fields, Kind, Native};
+use crate::{ask, Error, Fields, Kind, Native, Value};
 use std::cell::UnsafeCell;
 use std::ptr;
 
@@ -171,6 +171,22 @@ impl Column {
                 out,
                 fields,
             )
+        })
+    }
+
+    /// The value in each of `rows` rows of a type, in memory for one; refused as `NullNotAllowed` for null in a type
+    /// without null, and as `TypeMismatch` for a value of another type.
+    ///
+    /// ```
+    /// use hivevigil::{Column, Kind, Value};
+    /// let column = Column::constant(Kind::U8, &Value::Unsigned(7), 1 << 60)?;
+    /// assert_eq!((column.len(), column.at(5)?), (1 << 60, Value::Unsigned(7)));
+    /// # Ok::<(), hivevigil::Error>(())
+    /// ```
+    pub fn constant(kind: Kind, value: &Value, rows: usize) -> Result<Column, Error> {
+        let (passed, text) = value.passed();
+        Column::made(|out, fields| unsafe {
+            raw::hv_constant(&kind, &passed, text.as_ptr(), text.len(), rows, out, fields)
         })
     }
 

@@ -44,7 +44,7 @@ impl Column {
         })
     }
 
-    /// The rows at the indices, a flat column of whole numbers: null at a null index; refused as `OutOfBounds`.
+    /// The rows at the indices, whole numbers in any form: null at a null index; refused as `OutOfBounds`.
     pub fn take(&self, indices: &Column) -> Result<Column, Error> {
         let (session, column) = (Session::initial(), self.handle.get());
         self.beside(indices, |indices, out, fields| unsafe {
@@ -52,7 +52,7 @@ impl Column {
         })
     }
 
-    /// The rows at which the mask, a flat column of truth values, is true: a null in the mask selects nothing.
+    /// The rows at which the mask, truth values in any form, is true: a null in the mask selects nothing.
     pub fn filter(&self, mask: &Column) -> Result<Column, Error> {
         let (session, column) = (Session::initial(), self.handle.get());
         self.beside(mask, |mask, out, fields| unsafe {

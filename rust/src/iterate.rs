@@ -1,5 +1,5 @@
 //! Columns row by row, and run by run.
-use crate::{Column, Error, Form, Kind, Value};
+use crate::{Column, Error, Form, Value};
 use std::iter::FusedIterator;
 use std::ops::Range;
 
@@ -53,51 +53,25 @@ pub struct Run {
     pub value: Value,
 }
 
-/// The runs of a column, as `Column::runs` has them.
-#[derive(Debug)]
-pub struct Runs {
-    values: Column,
-    ends: Ends,
+/// The runs of a column, as `Column::runs` has them, each looked up where it is.
+#[derive(Clone, Debug)]
+pub struct Runs<'a> {
+    column: &'a Column,
+    form: Form,
     left: Range<usize>,
 }
 
-/// Where each run ends, counted from the column's first row.
-#[derive(Debug)]
-enum Ends {
-    /// One run of all rows.
-    Constant(usize),
-    /// Each row is a run.
-    Rows,
-    /// The stored ends, before which the window's offset lies, and the window's length.
-    Stored {
-        ends: Vec<u64>,
-        offset: usize,
-        rows: usize,
-    },
-}
-
-impl Ends {
-    /// The rows of run `run`, counted over all that are stored.
-    fn rows_of(&self, run: usize) -> Range<usize> {
-        match self {
-            Ends::Constant(rows) => 0..*rows,
-            Ends::Rows => run..run + 1,
-            Ends::Stored { ends, offset, rows } => {
-                let end = |run: usize| (ends[run] as usize).saturating_sub(*offset).min(*rows);
-                let start = if run == 0 { 0 } else { end(run - 1) };
-                start..end(run)
-            }
-        }
-    }
-}
-
-impl Iterator for Runs {
+impl Iterator for Runs<'_> {
     type Item = Result<Run, Error>;
 
     fn next(&mut self) -> Option<Self::Item> {
         let run = self.left.next()?;
-        let rows = self.ends.rows_of(run);
-        Some(self.values.at(run).map(|value| Run { rows, value }))
+        let rows = match self.form {
+            Form::Runs => return Some(self.column.run(run)),
+            Form::Constant => 0..self.column.len(),
+            Form::Flat | Form::Lists => run..run + 1,
+        };
+        Some(self.column.at(run).map(|value| Run { rows, value }))
     }
 
     fn size_hint(&self) -> (usize, Option<usize>) {
@@ -105,8 +79,8 @@ impl Iterator for Runs {
     }
 }
 
-impl ExactSizeIterator for Runs {}
-impl FusedIterator for Runs {}
+impl ExactSizeIterator for Runs<'_> {}
+impl FusedIterator for Runs<'_> {}
 
 impl Column {
     /// The rows in turn.
@@ -115,8 +89,8 @@ impl Column {
         Rows { column: self, left }
     }
 
-    /// The runs as they are stored, cut to the window: ends and values of a run column are copied. A constant is one
-    /// run, and of other columns each row is one. Each value is looked up when it is asked for.
+    /// The runs as they are stored, cut to the window, and copied nowhere: each is looked up when it is asked for. A
+    /// constant is one run, and of other columns each row is one.
     ///
     /// ```
     /// use hivevigil::{Column, Run, Value};
@@ -126,48 +100,17 @@ impl Column {
     /// assert_eq!(runs[1], Run { rows: 2..3, value: Value::Signed(7) });
     /// # Ok::<(), hivevigil::Error>(())
     /// ```
-    pub fn runs(&self) -> Result<Runs, Error> {
-        let rows = self.len();
-        match self.form() {
-            Form::Runs => self.stored_runs(),
-            Form::Constant => Ok(Runs {
-                values: self.try_clone()?,
-                ends: Ends::Constant(rows),
-                left: 0..rows.min(1),
-            }),
-            Form::Flat | Form::Lists => Ok(Runs {
-                values: self.try_clone()?,
-                ends: Ends::Rows,
-                left: 0..rows,
-            }),
-        }
-    }
-
-    fn stored_runs(&self) -> Result<Runs, Error> {
-        let (offset, rows) = (self.offset(), self.len());
-        let ends = wide_ends(&self.ends()?)?;
-        let run_of = |row: usize| ends.partition_point(|end| *end <= row as u64);
-        let left = match rows {
-            0 => 0..0,
-            _ => run_of(offset)..run_of(offset + rows - 1) + 1,
+    pub fn runs(&self) -> Result<Runs<'_>, Error> {
+        let (rows, form) = (self.len(), self.form());
+        let left = match form {
+            Form::Runs if rows > 0 => self.run_of(0)?..self.run_of(rows - 1)? + 1,
+            Form::Constant => 0..rows.min(1),
+            _ => 0..rows,
         };
         Ok(Runs {
-            values: self.values()?,
-            ends: Ends::Stored { ends, offset, rows },
+            column: self,
+            form,
             left,
         })
-    }
-}
-
-/// Ends of any width as 64 bits.
-fn wide_ends(ends: &Column) -> Result<Vec<u64>, Error> {
-    fn widened<T: Into<u64>>(ends: Vec<T>) -> Vec<u64> {
-        ends.into_iter().map(Into::into).collect()
-    }
-    match ends.kind() {
-        Kind::U8 => ends.numbers::<u8>().map(widened),
-        Kind::U16 => ends.numbers::<u16>().map(widened),
-        Kind::U32 => ends.numbers::<u32>().map(widened),
-        _ => ends.numbers::<u64>(),
     }
 }

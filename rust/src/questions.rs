@@ -1,6 +1,6 @@
 //! Questions to columns, and what is read out of them.
 use crate::raw::{self, RawTotal, RawValue};
-use crate::{ask, Column, Error, ErrorKind, Fields, Form, Kind, Native, Session, Sum, Value};
+use crate::{ask, Column, Error, ErrorKind, Fields, Form, Kind, Native, Run, Session, Sum, Value};
 
 /// Questions.
 impl Column {
@@ -83,6 +83,37 @@ impl Column {
         self.extreme(1)
     }
 
+    /// Both at once.
+    pub fn least_and_greatest(&self) -> Result<(Value, Value), Error> {
+        let (session, mut room) = (Session::initial(), 64);
+        loop {
+            let (mut least, mut greatest) = (RawValue::default(), RawValue::default());
+            let (mut low, mut high) = (vec![0u8; room], vec![0u8; room]);
+            let answer = ask(|fields| unsafe {
+                let (left, right) = (low.as_mut_ptr(), high.as_mut_ptr());
+                let column = self.handle.get();
+                raw::hv_min_max(
+                    &session,
+                    column,
+                    &mut least,
+                    left,
+                    room,
+                    &mut greatest,
+                    right,
+                    room,
+                    fields,
+                )
+            });
+            match answer {
+                Ok(()) => return Ok((Value::of(least, low), Value::of(greatest, high))),
+                Err(error) if error.kind() == Some(ErrorKind::ColumnLength) => {
+                    room = error.fields.first as usize
+                }
+                Err(error) => return Err(error),
+            }
+        }
+    }
+
     fn extreme(&self, greatest: u8) -> Result<Value, Error> {
         let session = Session::initial();
         shown(|value, text, fields| unsafe {
@@ -131,7 +162,7 @@ impl Column {
         }
     }
 
-    /// The stored numbers of a flat column, where a row is null too.
+    /// The numbers of all rows, in any form; where a row is null any number may stand.
     pub fn numbers<T: Native>(&self) -> Result<Vec<T>, Error> {
         let mut items = vec![T::default(); self.len()];
         self.read(0, &mut items)?;
@@ -143,17 +174,18 @@ impl Column {
         ask(|fields| unsafe { T::read(self.handle.get(), start, items, fields) })
     }
 
-    /// The rows of a flat column of whole numbers, `None` where a row is null.
+    /// The rows of a column of whole numbers, `None` where a row is null.
     pub fn options<T: Native>(&self) -> Result<Vec<Option<T>>, Error> {
         let rows = self.numbers()?.into_iter().zip(self.validity()?);
         Ok(rows.map(|(item, valid)| valid.then_some(item)).collect())
     }
 
-    /// Whether each row of a flat column is not null.
+    /// Whether each row is not null; refused as `Unsupported` for lists.
     pub fn validity(&self) -> Result<Vec<bool>, Error> {
         let mut words = vec![0u64; (self.len() + 63) / 64];
         ask(|fields| unsafe {
-            raw::hv_read_validity(self.handle.get(), words.as_mut_ptr(), words.len(), fields)
+            let (column, rows) = (self.handle.get(), self.len());
+            raw::hv_read_validity_from(column, 0, rows, words.as_mut_ptr(), words.len(), fields)
         })?;
         Ok((0..self.len())
             .map(|row| words[row / 64] >> (row % 64) & 1 == 1)
@@ -184,6 +216,38 @@ impl Column {
         })?;
         bytes.truncate(size);
         Ok(bytes)
+    }
+}
+
+/// Runs of a run column, counted from 0 as `ends` and `values` have them.
+impl Column {
+    /// The run of row `row`; refused as `OutOfBounds` past the end, and as `Unsupported` of other forms.
+    pub fn run_of(&self, row: usize) -> Result<usize, Error> {
+        let mut run = 0;
+        ask(|fields| unsafe { raw::hv_run_of(self.handle.get(), row, &mut run, fields) })?;
+        Ok(run)
+    }
+
+    /// The rows of a run, none where the window does not reach it, and their value.
+    pub fn run(&self, run: usize) -> Result<Run, Error> {
+        let (mut start, mut stop) = (0, 0);
+        let value = shown(|value, text, fields| unsafe {
+            let (room, len) = (text.as_mut_ptr(), text.len());
+            raw::hv_run(
+                self.handle.get(),
+                run,
+                &mut start,
+                &mut stop,
+                value,
+                room,
+                len,
+                fields,
+            )
+        })?;
+        Ok(Run {
+            rows: start..stop,
+            value,
+        })
     }
 }
 

@@ -108,6 +108,15 @@ extern "C" {
         out: *mut Handle,
         error: *mut Fields,
     ) -> i32;
+    pub fn hv_constant(
+        kind: *const Kind,
+        value: *const RawValue,
+        text: *const u8,
+        text_len: usize,
+        count: usize,
+        out: *mut Handle,
+        error: *mut Fields,
+    ) -> i32;
     pub fn hv_clone(column: *mut Handle, out: *mut Handle, error: *mut Fields) -> i32;
     pub fn hv_compact(column: *mut Handle, out: *mut Handle, error: *mut Fields) -> i32;
     pub fn hv_encode(
@@ -213,6 +222,17 @@ extern "C" {
         text_len: usize,
         error: *mut Fields,
     ) -> i32;
+    pub fn hv_min_max(
+        session: *const Session,
+        column: *mut Handle,
+        least: *mut RawValue,
+        least_text: *mut u8,
+        least_text_len: usize,
+        greatest: *mut RawValue,
+        greatest_text: *mut u8,
+        greatest_text_len: usize,
+        error: *mut Fields,
+    ) -> i32;
     pub fn hv_at(
         column: *mut Handle,
         row: usize,
@@ -225,12 +245,25 @@ extern "C" {
     pub fn hv_kind_of(column: *mut Handle) -> Kind;
     pub fn hv_form(column: *mut Handle) -> u8;
     pub fn hv_offset(column: *mut Handle) -> usize;
-    pub fn hv_read_validity(
+    pub fn hv_read_validity_from(
         column: *mut Handle,
+        start: usize,
+        rows: usize,
         words: *mut u64,
         len: usize,
         error: *mut Fields,
     ) -> i32;
+    pub fn hv_run(
+        column: *mut Handle,
+        run: usize,
+        start: *mut usize,
+        stop: *mut usize,
+        value: *mut RawValue,
+        text: *mut u8,
+        text_len: usize,
+        error: *mut Fields,
+    ) -> i32;
+    pub fn hv_run_of(column: *mut Handle, row: usize, run: *mut usize, error: *mut Fields) -> i32;
     pub fn hv_ends(column: *mut Handle, out: *mut Handle, error: *mut Fields) -> i32;
     pub fn hv_values(column: *mut Handle, out: *mut Handle, error: *mut Fields) -> i32;
     pub fn hv_serialize(

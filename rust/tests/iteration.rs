@@ -49,6 +49,48 @@ fn runs_are_cut_to_the_window() -> Result<(), Error> {
 }
 
 #[test]
+fn runs_are_found_where_they_are() -> Result<(), Error> {
+    let part = Column::try_from(&rows()[..])?.encode()?.slice(3..7)?;
+    let found = part.run(part.run_of(2)?)?;
+    assert_eq!((found.rows, found.value), (2..4, Value::Signed(3)));
+    let beyond = part.run_of(4).unwrap_err();
+    assert_eq!(
+        (beyond.kind(), beyond.fields.first),
+        (Some(ErrorKind::OutOfBounds), 4)
+    );
+    let flat = Column::new(&[7u8])?.run_of(0).unwrap_err();
+    assert_eq!(flat.kind(), Some(ErrorKind::Unsupported));
+    assert_eq!(part.options::<i32>()?, [None, Some(2), Some(3), Some(3)]);
+    Ok(())
+}
+
+#[test]
+fn a_constant_is_one_run() -> Result<(), Error> {
+    let text = Value::Text("Oslo".to_string());
+    let column = Column::constant(Kind::UTF8, &text, 1 << 60)?;
+    assert_eq!((column.len(), column.form()), (1 << 60, Form::Constant));
+    assert_eq!(runs_of(&column)?, [run(0, 1 << 60, "\"Oslo\"")]);
+    assert_eq!(column.at(1 << 59)?, text);
+    let null = Column::constant(Kind::I8, &Value::Null, 3).unwrap_err();
+    assert_eq!(null.kind(), Some(ErrorKind::NullNotAllowed));
+    Ok(())
+}
+
+#[test]
+fn least_and_greatest_come_together() -> Result<(), Error> {
+    let longer = "z".repeat(300);
+    let texts = Column::texts(&["b", &longer, "a"], None)?;
+    let (least, greatest) = texts.least_and_greatest()?;
+    assert_eq!(
+        (least, greatest),
+        (Value::Text("a".to_string()), Value::Text(longer))
+    );
+    let none = Column::try_from(&[None::<u8>][..])?.least_and_greatest()?;
+    assert_eq!(none, (Value::Null, Value::Null));
+    Ok(())
+}
+
+#[test]
 fn other_forms_have_runs_too() -> Result<(), Error> {
     let flat = Column::new(&[7u8, 7])?;
     assert_eq!(runs_of(&flat)?, [run(0, 1, "7"), run(1, 2, "7")]);

@@ -54,6 +54,24 @@ pub fn least<T: Addend>(values: &Flat<T>) -> Option<T> {
     }
 }
 
+#[inline(never)]
+pub fn least_and_greatest<T: Addend>(values: &Flat<T>) -> Option<(T, T)> {
+    let lower = |found: T, item: T| if item < found { item } else { found };
+    let higher = |found: T, item: T| if item > found { item } else { found };
+    let (first, items) = (*values.items.first()?, &values.items);
+    let Some(flags) = &values.flags else {
+        let both = |(low, high): (T, T), item: &T| (lower(low, *item), higher(high, *item));
+        return Some(items.iter().fold((first, first), both));
+    };
+    let mut found = None;
+    flags.for_each_one(|at| {
+        let item = items[at];
+        let (low, high) = found.unwrap_or((item, item));
+        found = Some((lower(low, item), higher(high, item)));
+    });
+    found
+}
+
 /// 256 values are compared at once, without a branch.
 #[inline(never)]
 pub fn is_constant<T: Addend>(items: &[T]) -> bool {

@@ -11,7 +11,7 @@ mod map;
 mod shared;
 mod take;
 
-pub use aggregate::{is_constant, is_sorted, least, sum, Addend};
+pub use aggregate::{is_constant, is_sorted, least, least_and_greatest, sum, Addend};
 pub use compare::{less_by_runs, less_by_turns};
 pub use decode::{decode, decode_truths, decode_truths_by_turns};
 pub use encode::{encode, encode_by_words};

@@ -1,13 +1,16 @@
 //! Questions over all runs.
 use super::{session, shape, Number};
 use crate::data::{Flat, Runs};
-use crate::kernels::{is_constant, is_sorted, least, sum, Addend};
+use crate::kernels::{is_constant, is_sorted, least, least_and_greatest, sum, Addend};
 use crate::library::Column;
 use crate::line::Bench;
 use crate::load::Load;
 
 pub fn lines<T: Number>(bench: &mut Bench, load: &Load) {
-    if !["sum", "least", "is_"].iter().any(|call| bench.wants(call)) {
+    if !["sum", "least", "min_max", "is_"]
+        .iter()
+        .any(|call| bench.wants(call))
+    {
         return;
     }
     let (session, runs, units) = (session(), load.runs(T::of), (load.ends.len(), "run"));
@@ -25,6 +28,13 @@ pub fn lines<T: Number>(bench: &mut Bench, load: &Load) {
         || column.extreme(&session, false),
         || least(&runs.values),
         |ours, rust| *ours == rust.map(Addend::wide),
+    );
+    bench.line(
+        shape(load, "min_max", T::NAME),
+        units,
+        || column.least_and_greatest(&session),
+        || least_and_greatest(&runs.values),
+        |ours, rust| *ours == rust.map(|(low, high)| (low.wide(), high.wide())),
     );
     if load.flags.is_none() {
         orders(bench, load, &runs);
