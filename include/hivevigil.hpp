@@ -95,7 +95,11 @@ public:
             return hv_deserialize(&kind, rows, some.data(), record.size(), &ends.handle, other, out, error);
         });
     }
-    // The value in each of `rows` rows of a type, in memory for one.
+    // The value in each of `rows` rows of a type, in memory for one; of a whole number or a text as it is written.
+    template <class T, class = std::enable_if_t<detail::is_number<T> || detail::is_text<T>>>
+    static Column constant(hv_kind kind, const T &value, size_t rows) {
+        return constant(kind, detail::written(value, kind), rows);
+    }
     static Column constant(hv_kind kind, const Value &value, size_t rows) {
         const detail::Passed passed(value);
         return made([&](auto *out, auto *error) {

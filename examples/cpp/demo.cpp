@@ -127,6 +127,8 @@ static void check_runs_and_constants() {
     const Column same = Column::constant({HV_UTF8, 0, 0, 0}, std::string("Oslo"), size_t{1} << 60);
     CHECK(same.size() == size_t{1} << 60 && same.form() == hv::Form::constant && same.runs().size() == 1);
     CHECK(same.get<std::string>(7) == "Oslo" && same.runs().at(0).stop == size_t{1} << 60);
+    CHECK(Column::constant(hv::kinds::u16, 7, 3).get<uint16_t>(2) == uint16_t{7});
+    CHECK(Column::constant(hv::kinds::utf8, "Oslo", 3).get<std::string>(2) == "Oslo");
     CHECK(rows_of(Column::constant({HV_I8, 1, 0, 0}, Null{}, 2)) == (std::vector<Value>{Null{}, Null{}}));
     CHECK(runs.least_and_greatest() == std::pair(number(1), number(3)));
     const std::string longer(300, 'z');

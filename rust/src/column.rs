@@ -179,11 +179,12 @@ impl Column {
     ///
     /// ```
     /// use hivevigil::{Column, Kind, Value};
-    /// let column = Column::constant(Kind::U8, &Value::Unsigned(7), 1 << 60)?;
+    /// let column = Column::constant(Kind::U8, 7, 1 << 60)?;
     /// assert_eq!((column.len(), column.at(5)?), (1 << 60, Value::Unsigned(7)));
     /// # Ok::<(), hivevigil::Error>(())
     /// ```
-    pub fn constant(kind: Kind, value: &Value, rows: usize) -> Result<Column, Error> {
+    pub fn constant(kind: Kind, value: impl Into<Value>, rows: usize) -> Result<Column, Error> {
+        let value = value.into().beside(kind);
         let (passed, text) = value.passed();
         Column::made(|out, fields| unsafe {
             raw::hv_constant(&kind, &passed, text.as_ptr(), text.len(), rows, out, fields)
