@@ -4,6 +4,7 @@ use crate::data::{Flat, Runs, Truths};
 use crate::raw::{self, Handle, Pair, RawTotal, RawValue};
 use hivevigil::{Fields, Form, Kind, Session};
 use std::cell::UnsafeCell;
+use std::ops::Range;
 use std::ptr;
 
 /// A column of the library, freed when it is dropped.
@@ -45,6 +46,11 @@ pub trait Item: Copy + PartialEq + Default + std::fmt::Debug + 'static {
     fn read(column: &Column) -> Vec<Self>;
 }
 
+/// Numbers that are read window by window.
+pub trait Windows: Item {
+    fn window(column: &Column, rows: Range<usize>) -> Vec<Self>;
+}
+
 macro_rules! items {
     ($($type:ty, $make:ident, $read:ident;)*) => { $(
         impl Item for $type {
@@ -57,6 +63,14 @@ macro_rules! items {
                 let mut items = vec![<$type>::default(); column.len()];
                 let (room, count) = (items.as_mut_ptr(), items.len());
                 done(|fields| unsafe { raw::$read(column.0.get(), 0, room, count, fields) });
+                items
+            }
+        }
+        impl Windows for $type {
+            fn window(column: &Column, rows: Range<usize>) -> Vec<$type> {
+                let mut items = vec![<$type>::default(); rows.len()];
+                let (room, count) = (items.as_mut_ptr(), items.len());
+                done(|fields| unsafe { raw::$read(column.0.get(), rows.start, room, count, fields) });
                 items
             }
         }
@@ -280,6 +294,12 @@ impl Column {
             raw::hv_extreme(session, self.0.get(), greatest, &mut value, text, 0, fields)
         });
         number_of(value)
+    }
+
+    pub fn run_of(&self, row: usize) -> usize {
+        let mut run = 0;
+        done(|fields| unsafe { raw::hv_run_of(self.0.get(), row, &mut run, fields) });
+        run
     }
 
     pub fn at(&self, row: usize) -> Option<i128> {

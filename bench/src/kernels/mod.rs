@@ -16,7 +16,7 @@ pub use compare::{less_by_runs, less_by_turns};
 pub use decode::{decode, decode_truths, decode_truths_by_turns};
 pub use encode::{encode, encode_by_words};
 pub use filter::{filter, filter_joined, filter_truths, Kept};
-pub use look::{look_up, look_up_by_halves, slice, Slice};
+pub use look::{look_up, look_up_by_halves, run_of, slice, window, Slice};
 pub use map::{cast, fill, take_from};
 pub use shared::{cast_shared, fill_shared, take_from_shared, SharedRuns, SharedSlice};
 pub use take::{take, take_by_blocks, take_by_fours, take_truths};

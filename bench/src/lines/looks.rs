@@ -1,8 +1,10 @@
 //! Single rows, ranges and copies.
 use super::{again, session};
 use crate::data::Runs;
-use crate::kernels::{look_up, look_up_by_halves, slice, SharedRuns, SharedSlice, Slice};
-use crate::library::{Column, Item};
+use crate::kernels::{
+    look_up, look_up_by_halves, run_of, slice, window, SharedRuns, SharedSlice, Slice,
+};
+use crate::library::{Column, Item, Windows};
 use crate::line::{Bench, Shape};
 use crate::load::{Load, Random};
 use std::ops::Range;
@@ -10,7 +12,7 @@ use std::ops::Range;
 const LOOKS: usize = 1_000_000;
 
 pub fn lines(bench: &mut Bench) {
-    if !["scalar_at", "slice", "clone"]
+    if !["scalar_at", "slice", "clone", "read", "run"]
         .iter()
         .any(|call| bench.wants(call))
     {
@@ -22,6 +24,7 @@ pub fn lines(bench: &mut Bench) {
         }
         ranges(bench, nulls);
     }
+    windows(bench);
 }
 
 fn shape(call: &str, nulls: bool, size: String) -> Shape {
@@ -68,6 +71,43 @@ fn rows(bench: &mut Bench, runs: usize, nulls: bool) {
             |ours, rust| ours == rust,
         );
     }
+}
+
+/// A thousand rows at a time, read out of runs into memory of the caller's; and which run has a row.
+fn windows(bench: &mut Bench) {
+    let load = Load::new(bench.rows, 16, false);
+    let (runs, mut random) = (load.runs(|number| number), Random::new(41));
+    let (column, width) = (Column::of_runs(&runs), 1000.min(load.rows()));
+    let starts: Vec<usize> = (0..TIMES)
+        .map(|_| random.below((load.rows() - width + 1) as u64) as usize)
+        .collect();
+    let shape = |call: &str| shape(call, false, format!("{} runs", load.ends.len()));
+    let ours = |start: &usize| u64::window(&column, *start..start + width);
+    let rust = |start: &usize| window(&runs, *start..start + width);
+    bench.line(
+        shape("read of a window"),
+        (TIMES * width, "row"),
+        || starts.iter().map(ours).collect::<Vec<_>>(),
+        || starts.iter().map(rust).collect::<Vec<_>>(),
+        |ours, rust| ours == rust,
+    );
+    bench.line(
+        shape("run of a row"),
+        (TIMES, "row"),
+        || {
+            starts
+                .iter()
+                .map(|row| column.run_of(*row))
+                .collect::<Vec<_>>()
+        },
+        || {
+            starts
+                .iter()
+                .map(|row| run_of(&runs, *row))
+                .collect::<Vec<_>>()
+        },
+        |ours, rust| ours == rust,
+    );
 }
 
 const TIMES: usize = 1000;
