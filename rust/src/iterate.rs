@@ -61,21 +61,36 @@ pub struct Runs<'a> {
     left: Range<usize>,
 }
 
+impl Runs<'_> {
+    fn run(&self, run: usize) -> Result<Run, Error> {
+        let rows = match self.form {
+            Form::Runs => return self.column.run(run),
+            Form::Constant => 0..self.column.len(),
+            Form::Flat | Form::Lists => run..run + 1,
+        };
+        self.column.at(run).map(|value| Run { rows, value })
+    }
+}
+
 impl Iterator for Runs<'_> {
     type Item = Result<Run, Error>;
 
     fn next(&mut self) -> Option<Self::Item> {
-        let run = self.left.next()?;
-        let rows = match self.form {
-            Form::Runs => return Some(self.column.run(run)),
-            Form::Constant => 0..self.column.len(),
-            Form::Flat | Form::Lists => run..run + 1,
-        };
-        Some(self.column.at(run).map(|value| Run { rows, value }))
+        self.left.next().map(|run| self.run(run))
     }
 
     fn size_hint(&self) -> (usize, Option<usize>) {
         self.left.size_hint()
+    }
+
+    fn nth(&mut self, count: usize) -> Option<Self::Item> {
+        self.left.nth(count).map(|run| self.run(run))
+    }
+}
+
+impl DoubleEndedIterator for Runs<'_> {
+    fn next_back(&mut self) -> Option<Self::Item> {
+        self.left.next_back().map(|run| self.run(run))
     }
 }
 

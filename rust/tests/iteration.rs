@@ -101,6 +101,40 @@ fn other_forms_have_runs_too() -> Result<(), Error> {
 }
 
 #[test]
+fn runs_go_both_ways() -> Result<(), Error> {
+    let runs = Column::try_from(&rows()[..])?.encode()?.slice(3..9)?;
+    let shown = |run: Run| (run.rows.start, run.rows.end, run.value.to_string());
+    let back: Vec<_> = runs
+        .runs()?
+        .rev()
+        .map(|run| run.map(shown))
+        .collect::<Result<_, _>>()?;
+    assert_eq!(
+        back,
+        [
+            run(5, 6, "null"),
+            run(2, 5, "3"),
+            run(1, 2, "2"),
+            run(0, 1, "null")
+        ]
+    );
+    assert_eq!(
+        runs.runs()?.nth(2).transpose()?.map(shown),
+        Some(run(2, 5, "3"))
+    );
+    let constant = runs.slice(2..4)?;
+    assert_eq!(
+        constant.runs()?.next_back().transpose()?.map(shown),
+        Some(run(0, 2, "3"))
+    );
+    let mut both = runs.runs()?;
+    both.next();
+    both.next_back();
+    assert_eq!(both.len(), 2);
+    Ok(())
+}
+
+#[test]
 fn rows_go_both_ways() -> Result<(), Error> {
     let column = Column::try_from(&rows()[3..6])?;
     assert_eq!(column.rows().len(), 3);
