@@ -59,15 +59,13 @@ fn runs_answer_as_rows() -> Result<(), Error> {
         rows(&runs.take(&Column::new(&[9u32, 4])?)?)?,
         [Value::Null, Value::Signed(2)]
     );
-    let above = runs
-        .compare_value(Operator::Greater, &Value::Signed(1))?
-        .decode()?;
+    let above = runs.compare_value(Operator::Greater, 1)?.decode()?;
     assert_eq!(runs.filter(&above)?.len(), 4);
     assert_eq!(
         rows(&runs.compare(Operator::Equal, &runs)?)?[1..3],
         [Value::Truth(true), Value::Null]
     );
-    assert_eq!(runs.fill(&Value::Signed(7))?.at(9)?, Value::Signed(7));
+    assert_eq!(runs.fill(7)?.at(9)?, Value::Signed(7));
     assert_eq!(runs.ends()?.numbers::<u8>()?, [2, 4, 5, 8, 10]);
     assert_eq!(runs.decode()?.validity()?[..3], [true, true, false]);
     assert_eq!(
@@ -139,9 +137,7 @@ fn other_types() -> Result<(), Error> {
     let texts = Column::texts(&["one", "", long], Some(&[true, true, true]))?;
     assert_eq!(texts.at(2)?, Value::Text(long.to_string()));
     assert_eq!(
-        texts
-            .compare_value(Operator::Equal, &Value::Text("one".to_string()))?
-            .at(0)?,
+        texts.compare_value(Operator::Equal, "one")?.at(0)?,
         Value::Truth(true)
     );
     assert_eq!(
