@@ -13,7 +13,8 @@ use std::fmt::Write;
 const POWERS: [u32; 5] = [3, 4, 5, 6, 7];
 const RUN_ROWS: u64 = 3;
 
-/// A table of nanoseconds, and the slopes: 1 where costs are as many times more as there are more runs, 0 where they stay.
+/// A table of nanoseconds, and the slopes: 1 where costs are as many times more as there are more runs, 0 where they
+/// stay.
 pub fn growth(bench: &mut Bench) -> String {
     for power in POWERS {
         step(bench, 10usize.pow(power));
