@@ -92,7 +92,7 @@ run "c/arrow_memory.c" built "$cc" "$c_flags -O0 $wraps" examples/c/arrow_memory
 
 under_valgrind() {
     $cc $c_flags -O1 -g ${2:-} "examples/c/$1.c" lib/libhivevigil.a -o "$work/program" &&
-        timeout 90 valgrind --quiet --error-exitcode=1 --leak-check=full --show-leak-kinds=all "$work/program"
+        timeout 300 valgrind --quiet --error-exitcode=1 --leak-check=full --show-leak-kinds=all "$work/program"
 }
 if has valgrind; then
     for test in answers refusals arrow_arrays; do run "c/$test.c under valgrind" under_valgrind "$test"; done
@@ -175,7 +175,7 @@ for library in pyarrow polars duckdb; do
 done
 if found=$(python_with osgeo.gdal,numpy,sqlite3); then
     "$found" examples/gdal_csv/make_readings.py 20000 >"$work/readings.csv"
-    summary="timeout 60 $found examples/gdal_csv/summary.py $work/readings.csv"
+    summary="timeout 200 $found examples/gdal_csv/summary.py $work/readings.csv"
     run "gdal_csv/summary.py" $summary --batch 4096 --where status '>' 0
     run "gdal_csv/summary.py by a text" $summary --where station = Dakar
     run "gdal_csv/edge_cases.py" timeout 200 "$found" examples/gdal_csv/edge_cases.py
@@ -183,7 +183,7 @@ else
     skip "gdal_csv/summary.py" "GDAL for Python"
 fi
 if found=$(python_with dask.array,distributed,numpy); then
-    run "dask_chunks/chunks.py" timeout 60 "$found" examples/dask_chunks/chunks.py --rows 100000 --chunks 1 7 100
+    run "dask_chunks/chunks.py" timeout 200 "$found" examples/dask_chunks/chunks.py --rows 100000 --chunks 1 7 100
     # a cluster that starts workers anew may take minutes on a busy machine: no answer in time is no wrong answer
     timeout -k 10 200 "$found" examples/dask_chunks/dying_workers.py >"$work/dying" 2>&1 </dev/null
     status=$?
