@@ -187,8 +187,10 @@ SELECT refused('SELECT hv_column(i) FROM generate_series(1, 1000000000::bigint) 
 RESET statement_timeout;
 -- a new process of the server, whose memory has no room that was freed before
 \connect
-CREATE FUNCTION resident_pages() RETURNS int LANGUAGE sql AS
-    $$ SELECT split_part(pg_read_file('/proc/self/statm'), ' ', 2)::int $$;
+-- its own pages that are in memory: neither those of files, which the system takes back, nor those that servers share
+CREATE FUNCTION own_pages() RETURNS int LANGUAGE sql AS
+    $$ SELECT split_part(pg_read_file('/proc/self/statm'), ' ', 2)::int -
+              split_part(pg_read_file('/proc/self/statm'), ' ', 3)::int $$;
 CREATE PROCEDURE fail_often(times int) LANGUAGE plpgsql AS $$
 DECLARE c hvcolumn; d hvcolumn;
 BEGIN
@@ -209,9 +211,9 @@ BEGIN
     END LOOP;
 END $$;
 CALL fail_often(5000);
-SELECT resident_pages() AS before \gset
+SELECT own_pages() AS before \gset
 CALL fail_often(:count);
-SELECT resident_pages() AS after \gset
+SELECT own_pages() AS after \gset
 SELECT CASE WHEN :after - :before > 100 THEN 1 / 0 END \g /dev/null
 SELECT format('PostgreSQL %s: random tables as rows and as runs, parallel plans, and %s calls that fail take %s KiB',
     current_setting('server_version'), :count, (:after - :before) * 4);
