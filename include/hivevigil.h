@@ -264,6 +264,16 @@ HV_ANSWER int32_t hv_serialize(hv_column *column, uint8_t *bytes, size_t bytes_l
  * found), 23 where kind names no type, or as hv_runs. */
 HV_ANSWER int32_t hv_deserialize(const hv_kind *kind, size_t count, const uint8_t *bytes, size_t bytes_len, hv_column *ends, hv_column *values, hv_column *out, hv_error *error);
 
+/* A column as bytes, in any form, to keep or to send: a message of the Protocol Buffers encoding (docs/column.proto), in the
+ * form that the column has, with its window. Equal forms have equal bytes. 13 where it has no message: docs/BYTES.md says of
+ * which columns there is one. */
+/* How many bytes they are. */
+HV_ANSWER int32_t hv_write_size(hv_column *column, size_t *size, hv_error *error);
+/* They go to the front of `bytes`, and *size says how many they are; 11 (needed, bytes_len) where they have no room there. */
+HV_ANSWER int32_t hv_write(hv_column *column, uint8_t *bytes, size_t bytes_len, size_t *size, hv_error *error);
+/* The column that was written so; 17 for bytes that are the message of no column. */
+HV_ANSWER int32_t hv_read_column(const uint8_t *bytes, size_t bytes_len, hv_column *out, hv_error *error);
+
 /* Frees the column, if there is one; the handle is empty after. */
 HV_LENT void hv_free(hv_column *column);
 

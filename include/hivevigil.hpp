@@ -106,6 +106,13 @@ public:
             return hv_constant(&kind, &passed.value, passed.text, passed.size, rows, out, error);
         });
     }
+    // The column that to_bytes wrote.
+    static Column from_bytes(const Bytes &message) {
+        const Bytes some = message.empty() ? Bytes(1) : message;
+        return made([&](auto *out, auto *error) {
+            return hv_read_column(some.data(), message.size(), out, error);
+        });
+    }
     Column clone() const {
         return made([&](auto *out, auto *error) { return hv_clone(&handle, out, error); });
     }
@@ -286,6 +293,15 @@ public:
         detail::ask([&](auto *error) { return hv_serialize(&handle, record.data(), record.size(), &size, error); });
         record.resize(size);
         return record;
+    }
+
+    // The column as bytes, in the form that it has, to keep or to send: a message of the Protocol Buffers encoding.
+    Bytes to_bytes() const {
+        size_t size = 0;
+        detail::ask([&](auto *error) { return hv_write_size(&handle, &size, error); });
+        Bytes message(size);
+        detail::ask([&](auto *error) { return hv_write(&handle, message.data(), message.size(), &size, error); });
+        return message;
     }
 
     // The handle, for calls of hivevigil.h and hivevigil_arrow.h; it stays this column's.

@@ -57,6 +57,9 @@ static void check_own_runs() {
     const hv::Bytes record = runs.serialize();
     CHECK(record == (hv::Bytes{0x08, 0x01, 0x10, 0x03, 0x18, 0x01}));
     CHECK(rows_of(Column::deserialize(runs.kind(), 4, record, ends, values)) == rows_of(runs));
+    const hv::Bytes message = runs.to_bytes();
+    const Column read = Column::from_bytes(message);
+    CHECK(rows_of(read) == rows_of(runs) && read.offset() == 1 && read.to_bytes() == message);
     const Column moved = std::move(runs);
     CHECK(moved.size() == 4 && runs.size() == 0 && runs.form() == hv::Form::none);
 }

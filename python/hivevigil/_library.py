@@ -91,6 +91,7 @@ _MAKERS: dict[str, list[Any]] = {
     "hv_ends": [_HANDLE],
     "hv_values": [_HANDLE],
     "hv_deserialize": [POINTER(Kind), c_size_t, c_char_p, c_size_t, _HANDLE, _HANDLE],
+    "hv_read_column": [c_char_p, c_size_t],
     "hv_import_array": [_SESSION, c_void_p, c_void_p],
     "hv_import_child": [_SESSION, c_void_p, c_void_p, c_int64],
     "hv_concat_columns": [_SESSION, _HANDLE, c_size_t],
@@ -110,6 +111,8 @@ _QUESTIONS: dict[str, list[Any]] = {
     "hv_read_large_offsets": [_HANDLE, c_size_t, POINTER(c_int64), c_size_t],
     "hv_read_bytes": [_HANDLE, c_size_t, c_size_t, c_char_p, c_size_t],
     "hv_serialize": [_HANDLE, c_char_p, c_size_t, POINTER(c_size_t)],
+    "hv_write_size": [_HANDLE, POINTER(c_size_t)],
+    "hv_write": [_HANDLE, c_char_p, c_size_t, POINTER(c_size_t)],
     "hv_export_with": [*_COMMAND, c_char_p, POINTER(ArrowOptions), POINTER(ArrowSchema), POINTER(ArrowArray)],
     "hv_export_stream": [
         *_COMMAND, POINTER(c_char_p), c_size_t, c_size_t, POINTER(ArrowOptions), POINTER(ArrowArrayStream),

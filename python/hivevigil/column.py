@@ -161,6 +161,12 @@ class Column:
         return cls._made(calls.hv_deserialize, *passed_record, _column(ends), ends._beside(values))
 
     @classmethod
+    def from_bytes(cls, message: bytes) -> Column:
+        """The column that `to_bytes` wrote, in the form that it had. `BadMetadata` for bytes that are no message."""
+        data = bytes(message)
+        return cls._made(calls.hv_read_column, data or b"\0", len(data))
+
+    @classmethod
     def from_arrow(cls, source: Any) -> Column:
         """A copy of what an object of any Arrow library holds, by its capsules (`__arrow_c_array__`, else
         `__arrow_c_stream__`, whose chunks become one column): an array, or a batch or table of one column."""
@@ -438,6 +444,15 @@ class Column:
         data, size = ctypes.create_string_buffer(64), ctypes.c_size_t()
         ask(calls.hv_serialize, self, data, len(data), size)
         return data.raw[: size.value]
+
+    def to_bytes(self) -> bytes:
+        """The column as bytes, in the form that it has, to keep or to send: a message of the Protocol Buffers encoding.
+        `Unsupported` where the version writes none of it: texts, bytes, decimals, constants."""
+        size = ctypes.c_size_t()
+        ask(calls.hv_write_size, self, size)
+        data = ctypes.create_string_buffer(size.value)
+        ask(calls.hv_write, self, data, len(data), size)
+        return data.raw
 
     @property
     def nbytes(self) -> int:

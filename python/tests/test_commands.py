@@ -2,7 +2,7 @@
 import operator
 
 import pytest
-from hivevigil import Column, concat
+from hivevigil import Column, concat, errors
 from hypothesis import assume, given
 from hypothesis import strategies as st
 from rows import BITS, TYPES, least_and_greatest, runs_of, samples, stretches, values
@@ -172,6 +172,22 @@ def test_records(sample):
         return
     again = Column.from_record(runs.type, len(runs), runs.record(), runs.ends(), runs.values())
     assert again.to_list() == sample.rows
+
+
+@given(samples())
+def test_bytes(sample):
+    column = sample.column
+    kept = column.form in ("flat", "runs") and column.type.rstrip("?") not in ("utf8", "binary") and "decimal" not in column.type
+    if not kept:
+        with pytest.raises(errors.Unsupported):
+            column.to_bytes()
+        return
+    message = column.to_bytes()
+    again = Column.from_bytes(message)
+    assert again.to_list() == sample.rows
+    assert (again.form, again.type, again.to_bytes()) == (column.form, column.type, message)
+    with pytest.raises(errors.BadMetadata):
+        Column.from_bytes(message[:-1])
 
 
 @given(st.data(), st.sampled_from(TYPES))

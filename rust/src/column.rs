@@ -225,6 +225,13 @@ impl Column {
         })
     }
 
+    /// The column that [`Column::to_bytes`] wrote; `BadMetadata` for bytes that are the message of no column.
+    pub fn from_bytes(message: &[u8]) -> Result<Column, Error> {
+        Column::made(|out, fields| unsafe {
+            raw::hv_read_column(message.as_ptr(), message.len(), out, fields)
+        })
+    }
+
     /// The same column in the same form. What holds 32 items or more is shared and not copied.
     pub fn try_clone(&self) -> Result<Column, Error> {
         Column::made(|out, fields| unsafe { raw::hv_clone(self.handle.get(), out, fields) })

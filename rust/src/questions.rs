@@ -217,6 +217,24 @@ impl Column {
         bytes.truncate(size);
         Ok(bytes)
     }
+
+    /// The column as bytes, in the form that it has, to keep or to send: a message of the Protocol Buffers encoding.
+    /// `Unsupported` where the version writes none of it.
+    pub fn to_bytes(&self) -> Result<Vec<u8>, Error> {
+        let mut size = 0;
+        ask(|fields| unsafe { raw::hv_write_size(self.handle.get(), &mut size, fields) })?;
+        let mut message = vec![0u8; size];
+        ask(|fields| unsafe {
+            raw::hv_write(
+                self.handle.get(),
+                message.as_mut_ptr(),
+                message.len(),
+                &mut size,
+                fields,
+            )
+        })?;
+        Ok(message)
+    }
 }
 
 /// Runs of a run column, counted from 0 as `ends` and `values` have them.

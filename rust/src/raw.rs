@@ -283,5 +283,19 @@ extern "C" {
         out: *mut Handle,
         error: *mut Fields,
     ) -> i32;
+    pub fn hv_write_size(column: *mut Handle, size: *mut usize, error: *mut Fields) -> i32;
+    pub fn hv_write(
+        column: *mut Handle,
+        bytes: *mut u8,
+        bytes_len: usize,
+        size: *mut usize,
+        error: *mut Fields,
+    ) -> i32;
+    pub fn hv_read_column(
+        bytes: *const u8,
+        bytes_len: usize,
+        out: *mut Handle,
+        error: *mut Fields,
+    ) -> i32;
     pub fn hv_free(column: *mut Handle);
 }

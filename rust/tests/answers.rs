@@ -132,6 +132,27 @@ fn parts_of_runs() -> Result<(), Error> {
 }
 
 #[test]
+fn columns_as_bytes() -> Result<(), Error> {
+    let (ends, values) = (Column::new(&[2u16, 3, 5])?, Column::new(&[7i8, 8, 9])?);
+    let own = Column::from_runs(&ends, &values, 1, 4)?;
+    let message = own.to_bytes()?;
+    // version 1, type i8, form runs, four rows; offset 1, ends u16, lengths 2, 1, 2; three values without null
+    let due = [
+        8, 1, 16, 5, 24, 2, 32, 4, 64, 1, 72, 2, 82, 3, 2, 1, 2, 90, 15, 8, 1, 16, 5, 24, 1, 32, 3, 40, 1,
+        58, 3, 7, 8, 9,
+    ];
+    assert_eq!(message, due);
+    let again = Column::from_bytes(&message)?;
+    assert_eq!((rows(&again)?, again.offset()), (rows(&own)?, 1));
+    assert_eq!(again.to_bytes()?, message);
+    for kept in 0..message.len() {
+        assert!(Column::from_bytes(&message[..kept]).is_err());
+    }
+    assert!(Column::texts(&["a"], None)?.to_bytes().is_err());
+    Ok(())
+}
+
+#[test]
 fn other_types() -> Result<(), Error> {
     let long = "a text that is longer than the room that it is given at first, so that it is asked for again";
     let texts = Column::texts(&["one", "", long], Some(&[true, true, true]))?;

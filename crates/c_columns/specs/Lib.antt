@@ -5,6 +5,7 @@ pub mod Flags
 pub mod Handle
 pub mod Kinds
 pub mod Makers
+pub mod Messages
 pub mod Pairs
 pub mod ReadFaults
 pub mod Reads

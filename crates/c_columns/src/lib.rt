@@ -11,6 +11,7 @@ pub mod flat;
 pub mod handle;
 pub mod kinds;
 mod masks;
+pub mod messages;
 pub mod pairs;
 mod parked;
 pub mod questions;

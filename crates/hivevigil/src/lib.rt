@@ -6,6 +6,7 @@
 mod commands;
 mod constants;
 mod flat;
+mod messages;
 mod numbers;
 mod questions;
 mod reads;

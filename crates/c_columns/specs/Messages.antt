@@ -1,0 +1,47 @@
+-- The message of a column: where it goes, why it is not written, and why bytes are none.
+use Rattle.std.specs.Prelude.{◌≡◌, ◌<◌, ◌⊎◌, ℕ, List, length, take}
+use Rattle.std.specs.Global.{Global}
+use Rattle.column_base.specs.declared.error.VortexError.{VortexError}
+use Rattle.column_base.specs.declared.error.VortexError.TheVariants.{BadMetadata, ColumnLength, Unsupported}
+use Rattle.column_bytes.specs.Bytes.{column_bytes}
+use Rattle.column_bytes.specs.Read.{IsMessage, IsNoMessage, IsWritable}
+use Rattle.runend_array.specs.Array.{column_of}
+use Rattle.runend_array.specs.Column.{Column}
+use Rattle.runend_array.specs.declared.array_ref.ArrayRef.{ArrayRef}
+
+-- the column has a message of so many bytes
+pub record HasMessage (column : Column) (size : ℕ) : Type 0 where
+  pub writable : IsWritable 16 column
+  pub size_is : size ≡ length (column_bytes column)
+
+-- the message stands at the front of the buffer, and has so many bytes
+pub record IsMessageAtFront (column : Column) (size : ℕ) (bytes : List ℕ) : Type 0 where
+  pub has : HasMessage column size
+  pub front : take size bytes ≡ column_bytes column
+
+-- the column has no message
+pub record IsUnwritable (column : Column) (error : VortexError) : Type 0 where
+  pub told : error ≡ Unsupported
+  pub none : ¬ IsWritable 16 column
+
+-- the message has no room, told with its number of bytes and the room
+pub record HasNoMessageRoom (column : Column) (room : ℕ) (error : VortexError) : Type 0 where
+  pub writable : IsWritable 16 column
+  pub told : error ≡ ColumnLength (length (column_bytes column)) room
+  pub short : room < length (column_bytes column)
+
+-- why no message is told or written
+abbrev pub SizeFault : ArrayRef Global → VortexError → Type 0
+SizeFault c error = IsUnwritable (column_of c) error
+
+abbrev pub MessageFault : ℕ → ArrayRef Global → VortexError → Type 0
+MessageFault room c error = IsUnwritable (column_of c) error ⊎ HasNoMessageRoom (column_of c) room error
+
+-- the bytes are the message of no column
+pub record IsUnreadable (bytes : List ℕ) (error : VortexError) : Type 0 where
+  pub told : error ≡ BadMetadata
+  pub none : IsNoMessage 16 bytes
+
+-- the handle's column is that of the message
+abbrev pub IsColumnOfMessage : List ℕ → ArrayRef Global → Type 0
+IsColumnOfMessage bytes c = IsMessage 16 bytes (column_of c)

@@ -1,0 +1,44 @@
+//! Columns as messages, and columns of messages.
+ghost use Rattle.std.specs.Prelude.{◌≡◌, length, IfOk, IfErr};
+ghost use Rattle.runend_array.specs.Array.{column_of};
+ghost use Rattle.c_columns.specs.Ending.{IsShortOr};
+ghost use Rattle.c_columns.specs.Messages.{HasMessage, IsColumnOfMessage, IsMessageAtFront, IsUnreadable, MessageFault, SizeFault};
+
+use crate::flat::{Boxed, boxed};
+use crate::row_value::put_bytes;
+use column_bytes::{read_column, write_column};
+use column_core::VortexResult;
+use runend_array::ArrayRef;
+use std::alloc::Global;
+
+/// How many bytes the message of a column has. Refused as `Unsupported` where the version writes no message of it,
+/// else for want of memory.
+pub fn message_size(alloc: Global, array: &ArrayRef<Global>) -> VortexResult<usize>
+    ensures told { IfOk result (λ size. HasMessage (column_of array.now) size) }
+    ensures refused { IfErr result (λ error. IsShortOr (SizeFault array.now) error) }
+{
+    let message = write_column(array, alloc)?;
+    Ok(message.len())
+}
+
+/// Puts the message of a column to the front of `room`, and answers how many bytes it has. Refused as `Unsupported`
+/// where the version writes no message of it, and as `ColumnLength`, with that number and the room, where it has no
+/// room there.
+pub fn put_message(alloc: Global, array: &ArrayRef<Global>, room: &mut [u8]) -> VortexResult<usize>
+    ensures put { IfOk result (λ size. IsMessageAtFront (column_of array.now) size room.new) }
+    ensures refused { IfErr result (λ error. IsShortOr (MessageFault (length room.old) array.now) error) }
+    ensures len { length room.new ≡ length room.old }
+{
+    let message = write_column(array, alloc)?;
+    let size = put_bytes(&message, room)?;
+    Ok(size as usize)
+}
+
+/// The column of which the bytes are the message, on the heap. Refused as `BadMetadata` exactly where they are the
+/// message of no column, else for want of memory.
+pub fn column_of_message(alloc: Global, bytes: &[u8]) -> VortexResult<Boxed>
+    ensures made { IfOk result (λ made. IsColumnOfMessage bytes.now made.value) }
+    ensures refused { IfErr result (λ error. IsShortOr (IsUnreadable bytes.now) error) }
+{
+    boxed(alloc, read_column(bytes, alloc)?)
+}

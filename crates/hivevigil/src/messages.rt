@@ -1,0 +1,73 @@
+//! Calls that write columns as messages, and read messages.
+ghost use Rattle.std.specs.Prelude.{◌≡◌, ◌≢◌, IsSomeAnd, length, pos};
+ghost use Rattle.runend_array.specs.Array.{column_of};
+ghost use Rattle.c_columns.specs.Ending.{EndsAs, EndsOnHeld};
+ghost use Rattle.c_columns.specs.Messages.{HasMessage, IsColumnOfMessage, IsMessageAtFront, IsUnreadable, MessageFault, SizeFault};
+
+use c_columns::commands::answer;
+use c_columns::error_fields::{ErrorFields, NO_COLUMN, tell};
+use c_columns::handle::Handle;
+use c_columns::messages;
+use std::alloc::Global;
+
+/// How many bytes the message of a column has: `size` says it. Refused as `Unsupported` where there is none.
+#[tactic(auto, using(crate::proofs::PartEndings::held_empty, crate::proofs::PartEndings::held_done, crate::proofs::PartEndings::held_refused))]
+#[unsafe(no_mangle)]
+pub extern "C" fn hv_write_size(
+    alloc: Global,
+    column: &mut Handle,
+    size: &mut usize,
+    error: &mut ErrorFields,
+) -> i32
+    ensures same { column.new.column ≡ column.old.column }
+    ensures told { result ≡ pos 0 → IsSomeAnd column.old.column (λ c. HasMessage (column_of c) size.new) }
+    ensures ended { EndsOnHeld SizeFault column.old.column result error.new }
+{
+    let Some(array) = column.take(alloc) else {
+        return NO_COLUMN;
+    };
+    let outcome = messages::message_size(alloc, &array);
+    column.put(array);
+    tell(outcome, size, error)
+}
+
+/// The message of a column: its bytes go to the front of `bytes`, and `size` says how many they are. Refused as
+/// `Unsupported` where there is none; answers 11, with their number and the room, where they have no room there.
+#[tactic(auto, using(crate::proofs::PartEndings::held_empty, crate::proofs::PartEndings::held_done, crate::proofs::PartEndings::held_refused))]
+#[unsafe(no_mangle)]
+pub extern "C" fn hv_write(
+    alloc: Global,
+    column: &mut Handle,
+    bytes: &mut [u8],
+    size: &mut usize,
+    error: &mut ErrorFields,
+) -> i32
+    ensures same { column.new.column ≡ column.old.column }
+    ensures told { result ≡ pos 0
+        → IsSomeAnd column.old.column (λ c. IsMessageAtFront (column_of c) size.new bytes.new) }
+    ensures ended { EndsOnHeld (MessageFault (length bytes.old)) column.old.column result error.new }
+{
+    let Some(array) = column.take(alloc) else {
+        return NO_COLUMN;
+    };
+    let outcome = messages::put_message(alloc, &array, bytes);
+    column.put(array);
+    tell(outcome, size, error)
+}
+
+/// The column of which the bytes are the message. Refused as `BadMetadata` exactly where they are the message of no
+/// column.
+#[tactic(auto, using(crate::proofs::PartEndings::as_done, crate::proofs::PartEndings::as_refused))]
+#[unsafe(no_mangle)]
+pub extern "C" fn hv_read_column(
+    alloc: Global,
+    bytes: &[u8],
+    out: &mut Handle,
+    error: &mut ErrorFields,
+) -> i32
+    ensures made { result ≡ pos 0 → IsSomeAnd out.new.column (IsColumnOfMessage bytes.now) }
+    ensures kept { result ≢ pos 0 → out.new.column ≡ out.old.column }
+    ensures ended { EndsAs (IsUnreadable bytes.now) result error.new }
+{
+    answer(messages::column_of_message(alloc, bytes), out, error)
+}

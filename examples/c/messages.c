@@ -1,0 +1,100 @@
+/* Columns as bytes, and back. What each message has to be stands here byte by byte, from the page on bytes. */
+#include "check.h"
+
+static hv_session session;
+static hv_error error;
+
+/* 7, null over a stored 0, of i16, with a bit for each row */
+static const uint8_t flat_message[] = {0x08, 1, 0x10, 6, 0x18, 1, 0x20, 2, 0x28, 4, 0x32, 1, 1, 0x3a, 4, 7, 0, 0, 0};
+/* 7, 7, 7, null, null: runs over them, with ends of u8 */
+static const uint8_t runs_message[] = {0x08, 1, 0x10, 6, 0x18, 2, 0x20, 5, 0x40, 0, 0x48, 1, 0x52, 2, 3, 2, 0x5a, 19,
+                                       0x08, 1, 0x10, 6, 0x18, 1, 0x20, 2, 0x28, 4, 0x32, 1, 1, 0x3a, 4, 7, 0, 0, 0};
+/* 7, null: rows 2 and 3 of these, whose first run has three rows; the window of two rows is kept */
+static const uint8_t window_message[] = {0x08, 1, 0x10, 6, 0x18, 2, 0x20, 2, 0x40, 2, 0x48, 1, 0x52, 2, 3, 2, 0x5a, 19,
+                                         0x08, 1, 0x10, 6, 0x18, 1, 0x20, 2, 0x28, 4, 0x32, 1, 1, 0x3a, 4, 7, 0, 0, 0};
+
+static hv_column flat = HV_EMPTY, runs = HV_EMPTY, window = HV_EMPTY;
+
+static void make_columns(void) {
+    const int16_t two[2] = {7, 0};
+    const uint8_t first[1] = {1}, two_ends[2] = {3, 5};
+    hv_column ends = HV_EMPTY;
+    CHECK(!hv_i16(two, 2, NULLS_BY(first, 0), &flat, &error) && !hv_u8(two_ends, 2, NOT_NULLABLE, &ends, &error));
+    CHECK(!hv_runs(&ends, &flat, 0, 5, &runs, &error) && !hv_slice(&session, &runs, 2, 4, &window, &error));
+    hv_free(&ends);
+}
+
+/* The message of a column is these bytes; with room for one less there is none; what is read of it has these rows. */
+static void check_message(hv_column *column, const uint8_t *message, size_t len, const char *rows) {
+    uint8_t written[64];
+    size_t size;
+    FILL(size);
+    CHECK(!hv_write_size(column, &size, &error) && size == len);
+    FILL(size);
+    CHECK(!hv_write(column, written, len, &size, &error) && size == len && memcmp(written, message, len) == 0);
+    CHECK_REFUSED(hv_write(column, written, len - 1, &size, &error), 11, len, len - 1, 0);
+    CHECK_ROWS(column, rows);
+
+    hv_column read = HV_EMPTY;
+    uint8_t form, read_form;
+    CHECK(!hv_read_column(message, len, &read, &error));
+    CHECK_ROWS(&read, rows);
+    form = hv_form(column), read_form = hv_form(&read);
+    CHECK(form == read_form && hv_offset(column) == hv_offset(&read));
+    hv_free(&read);
+}
+
+/* What is cut short or goes on is none, and leaves what the handle holds; each changed byte has an answer. */
+static void check_damaged(const uint8_t *message, size_t len) {
+    uint8_t damaged[64];
+    hv_column out = HV_EMPTY;
+    CHECK(!hv_clone(&flat, &out, &error));
+    for (size_t kept = 0; kept < len; kept++) {
+        memcpy(damaged, message, len);
+        CHECK_REFUSED(hv_read_column(damaged, kept, &out, &error), 17, 0, 0, 0);
+    }
+    damaged[len] = 0;
+    CHECK_REFUSED(hv_read_column(damaged, len + 1, &out, &error), 17, 0, 0, 0);
+    CHECK_ROWS(&out, "7 null");
+    for (size_t at = 0; at < len; at++)
+        for (int bit = 0; bit < 8; bit++) {
+            memcpy(damaged, message, len);
+            damaged[at] = (uint8_t)(damaged[at] ^ 1 << bit);
+            int32_t answer = hv_read_column(damaged, len, &out, &error);
+            CHECK(answer == 0 || answer == 17);
+            if (answer) continue;
+            /* what was read has these bytes, and no others */
+            uint8_t again[64];
+            size_t size;
+            CHECK(!hv_write(&out, again, sizeof again, &size, &error) && size == len && !memcmp(again, damaged, len));
+        }
+    hv_free(&out);
+}
+
+/* Texts have no message, and an empty handle no column. */
+static void check_none(void) {
+    const int32_t offsets[2] = {0, 1};
+    hv_column text = HV_EMPTY, none = HV_EMPTY;
+    uint8_t room[64];
+    size_t size;
+    CHECK(!hv_texts(0, offsets, 2, (const uint8_t *)"a", 1, NOT_NULLABLE, &text, &error));
+    CHECK_REFUSED(hv_write_size(&text, &size, &error), 13, 0, 0, 0);
+    CHECK_REFUSED(hv_write(&text, room, sizeof room, &size, &error), 13, 0, 0, 0);
+    CHECK(hv_write_size(&none, &size, &error) == 22 && hv_write(&none, room, sizeof room, &size, &error) == 22);
+    hv_free(&text);
+}
+
+int main(void) {
+    hv_session_initial(&session);
+    make_columns();
+    check_message(&flat, flat_message, sizeof flat_message, "7 null");
+    check_message(&runs, runs_message, sizeof runs_message, "7 7 7 null null");
+    check_message(&window, window_message, sizeof window_message, "7 null");
+    check_damaged(flat_message, sizeof flat_message);
+    check_damaged(runs_message, sizeof runs_message);
+    check_damaged(window_message, sizeof window_message);
+    check_none();
+    hv_free(&flat), hv_free(&runs), hv_free(&window);
+    puts("columns and their bytes agree");
+    return 0;
+}
