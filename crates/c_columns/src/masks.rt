@@ -18,8 +18,8 @@ use column_core::{
 use runend_array::{ArrayRef, Canonical, ConstantArray};
 use std::alloc::Global;
 
-/// Which rows are true; null is not. A constant takes no memory, and stored bits are shared where they say it. Refused as
-/// `TypeMismatch` unless the rows are truth values, else for want of memory alone.
+/// Which rows are true; null is not. A constant takes no memory, and stored bits are shared where they say it. Refused
+/// as `TypeMismatch` unless the rows are truth values, else for want of memory alone.
 pub fn mask_of(alloc: Global, array: &ArrayRef<Global>) -> VortexResult<Mask<Global>>
     ensures mask { IfOk result (λ mask. mask_bits mask ≡ map is_true (rows array.now)) }
     ensures refused { IsRefusedBy (mask_fault (dtype_of array.now)) result }
@@ -30,7 +30,7 @@ pub fn mask_of(alloc: Global, array: &ArrayRef<Global>) -> VortexResult<Mask<Glo
     }
 }
 
-// The same of truth values.
+// Which rows of a column of truth values are true.
 fn mask_of_truths(alloc: Global, array: &ArrayRef<Global>) -> VortexResult<Mask<Global>>
     requires { mask_fault (dtype_of array.now) ≡ None }
     ensures mask { IfOk result (λ mask. mask_bits mask ≡ map is_true (rows array.now)) }
@@ -57,7 +57,7 @@ fn mask_of_flat(alloc: Global, truths: &BoolArray<Global>) -> VortexResult<Mask<
     }
 }
 
-// The same where the stored bits say it, which are shared as `BitBuffer::try_clone` shares them.
+// The rows that are true where the stored bits say it: these are shared as `BitBuffer::try_clone` shares them.
 fn mask_of_bits(alloc: Global, truths: &BoolArray<Global>) -> VortexResult<Mask<Global>>
     requires { truths.now.bits ≡ map is_true (single_rows (OfTruths truths.now)) }
     ensures mask { IfOk result (λ mask. mask_bits mask ≡ map is_true (single_rows (OfTruths truths.now))) }
@@ -67,7 +67,8 @@ fn mask_of_bits(alloc: Global, truths: &BoolArray<Global>) -> VortexResult<Mask<
     Ok(Mask::from_buffer(bits))
 }
 
-// The same where `valid` says which rows are there. Computed columns store false under null, as comparisons leave them.
+// The rows that are true where `valid` says which are there. Computed columns store false under null, as comparisons
+// leave them.
 #[tactic(auto, using(crate::proofs::MaskRows::bits_within))]
 fn mask_of_valid(
     alloc: Global,
@@ -114,7 +115,7 @@ fn mask_by_rows(alloc: Global, truths: &BoolArray<Global>) -> VortexResult<Mask<
     Ok(Mask::from_buffer(bits.freeze()))
 }
 
-// The same of rows in another form, which are written flat first.
+// The rows that are true of a column in another form, which is written flat first.
 fn mask_of_decoded(alloc: Global, array: &ArrayRef<Global>) -> VortexResult<Mask<Global>>
     ensures mask { IfOk result (λ mask. mask_bits mask ≡ map is_true (rows array.now)) }
     ensures refused { IsRefusedBy (mask_fault (dtype_of array.now)) result }

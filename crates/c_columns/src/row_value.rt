@@ -75,8 +75,8 @@ pub fn put_bytes(bytes: &[u8], room: &mut [u8]) -> VortexResult<u64>
     Ok(size as u64)
 }
 
-/// The scalar that C passes, of the type of a column, nullable for null alone. `text` has the bytes of a text. Refused as
-/// `TypeMismatch` where it is no value of the type, or the bytes are not UTF-8.
+/// The scalar that C passes, of the type of a column, nullable for null alone. `text` has the bytes of a text. Refused
+/// as `TypeMismatch` where it is no value of the type, or the bytes are not UTF-8.
 pub fn scalar_of(
     alloc: Global,
     array: &ArrayRef<Global>,

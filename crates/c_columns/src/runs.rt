@@ -32,7 +32,7 @@ pub fn boxed_copy(alloc: Global, array: &ArrayRef<Global>) -> VortexResult<Boxed
     boxed(alloc, copy(alloc, array)?)
 }
 
-/// The same in the same form, in buffers that no other column shares, on the heap. Refused for want of memory alone.
+/// A copy in the same form, in buffers that no other column shares, on the heap. Refused for want of memory alone.
 pub fn boxed_compact(alloc: Global, array: &ArrayRef<Global>) -> VortexResult<Boxed>
     ensures same { IfOk result (λ made. IsCopyOf array.now made.value) }
     ensures only { IsOkUnless result VortexError.OutOfMemory }

@@ -26,7 +26,7 @@ const NO_NULL: [u8; 16] = [
     0x08, 1, 0x10, 6, 0x18, 1, 0x20, 2, 0x28, 2, 0x3A, 4, 7, 0, 0, 0,
 ];
 
-// The same, each time with one fault.
+// These columns with one fault each time.
 const FAULTY: [&[u8]; 8] = [
     // Version 2.
     &[

@@ -246,7 +246,8 @@ pub extern "C" fn hv_read_bools(
     tell_done(outcome, error)
 }
 
-/// A bit for each row of a flat column, 64 to a word: whether it is valid. Refused as `windows::read_all_validity` says.
+/// A bit for each row of a flat column, 64 to a word: whether it is valid. Refused as `windows::read_all_validity`
+/// says.
 #[unsafe(no_mangle)]
 pub extern "C" fn hv_read_validity(
     alloc: Global,
