@@ -5,7 +5,7 @@
 
 Sources (.rt) have at most 500 lines, their functions 40 from brace to brace, documents (.md) lines of 120 characters
 outside of tables and of indented text. How many lines of sources are past 120, and how many past 140, may only fall:
-LONG_LINES has what stands. Imports don't count, since `rt fmt` writes each as one line.
+LONG_LINES has what stands. Imports and attributes don't count, since `rt fmt` writes each as one line.
 """
 
 import re
@@ -16,8 +16,8 @@ from pathlib import Path
 ROOT = Path(__file__).resolve().parent.parent
 FILE, FUNCTION, PROSE = 500, 40, 120
 # Lines of sources that may be longer than so many characters. Lower the numbers when lines become shorter.
-LONG_LINES = {120: 590, 140: 270}
-IMPORT = re.compile(r"\s*(?:pub )?(?:ghost )?use ")
+LONG_LINES = {120: 5, 140: 1}
+ONE_LINE = re.compile(r"\s*(?:(?:pub )?(?:ghost )?use |#!?\[)")
 HEAD = re.compile(r"^(\s*)(?:pub(?:\(crate\))? )?(?:const )?(?:unsafe )?(?:extern \"C\" )?fn (\w+)")
 
 
@@ -55,7 +55,7 @@ def faults_of(path: str, text: str) -> list[str]:
 
 def too_many(sources: list[str]) -> list[str]:
     """Which numbers of long lines have risen."""
-    lengths = [len(line) for text in sources for line in text.split("\n") if not IMPORT.match(line)]
+    lengths = [len(line) for text in sources for line in text.split("\n") if not ONE_LINE.match(line)]
     counts = {limit: sum(length > limit for length in lengths) for limit in LONG_LINES}
     return [
         f"{counts[limit]} lines of sources past {limit} characters, and {most} may be"
