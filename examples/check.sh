@@ -228,6 +228,17 @@ else
     skip "sqlite" "sqlite3ext.h (libsqlite3-dev)"
 fi
 
+# columns as bytes: random messages of Protocol Buffers' own library, and what the library has to answer to each
+messages_agree() {
+    $cc $c_flags -O2 examples/bytes/reader.c lib/libhivevigil.a -o "$work/reader" &&
+        timeout 200 "$1" examples/bytes/messages.py try "$work/reader" 20000 1
+}
+if has protoc && found=$(python_with google.protobuf); then
+    run "bytes/messages.py" messages_agree "$found"
+else
+    skip "bytes/messages.py" "protoc and protobuf for Python (protobuf-compiler, python3-protobuf)"
+fi
+
 # PostgreSQL: a server of its own, which does not run as root
 if has pg_config && has make && [ -e "$(pg_config --includedir-server)/postgres.h" ] &&
     [ -x "$(pg_config --bindir)/postgres" ] && { [ "$(id -u)" != 0 ] || has runuser; }; then

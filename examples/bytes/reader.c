@@ -1,0 +1,77 @@
+/* Reads columns as bytes, a line of hexadecimal digits each, and answers a line each: "refused", or the rows, at most a
+ * hundred of them, and the bytes that the column is written as again.
+ *
+ *     cc reader.c $(pkg-config --cflags --libs hivevigil) -o reader */
+#include "hivevigil.h"
+#include <inttypes.h>
+#include <stdio.h>
+#include <stdlib.h>
+#include <string.h>
+
+enum { LINE = 1 << 20, SHOWN = 100 };
+
+static void *some(void *block) {
+    if (block) return block;
+    fprintf(stderr, "no memory\n");
+    exit(1);
+}
+
+static void expect(int32_t answer, int32_t due, const char *call) {
+    if (answer == due) return;
+    fprintf(stderr, "%s answers %" PRId32 "\n", call, answer);
+    exit(1);
+}
+
+static void print_row(hv_column *column, size_t row) {
+    hv_value value;
+    hv_error error;
+    uint8_t no_text[1];
+    expect(hv_at(column, row, &value, no_text, 0, &error), 0, "hv_at");
+    switch (value.kind) {
+    case HV_UNSIGNED: printf(" %" PRIu64, value.as_unsigned); break;
+    case HV_SIGNED: printf(" %" PRId64, value.as_signed); break;
+    case HV_TRUTH: printf(" %s", value.truth ? "true" : "false"); break;
+    default: printf(" null");
+    }
+}
+
+static void print_written(hv_column *column) {
+    hv_error error;
+    size_t size, written;
+    expect(hv_write_size(column, &size, &error), 0, "hv_write_size");
+    uint8_t *bytes = some(malloc(size));
+    expect(hv_write(column, bytes, size, &written, &error), 0, "hv_write");
+    expect(written == size, 1, "the size");
+    printf(" = ");
+    for (size_t at = 0; at < size; at++) printf("%02x", bytes[at]);
+    free(bytes);
+}
+
+static void answer(const uint8_t *bytes, size_t len) {
+    hv_column column = HV_EMPTY;
+    hv_error error;
+    int32_t read = hv_read_column(bytes, len, &column, &error);
+    if (read != 0) {
+        expect(read, HV_BAD_METADATA, "hv_read_column");
+        puts("refused");
+        return;
+    }
+    size_t rows = hv_length(&column);
+    printf("%zu rows:", rows);
+    for (size_t row = 0; row < rows && row < SHOWN; row++) print_row(&column, row);
+    print_written(&column);
+    putchar('\n');
+    hv_free(&column);
+}
+
+int main(void) {
+    char *line = some(malloc(LINE));
+    uint8_t *bytes = some(malloc(LINE / 2));
+    while (fgets(line, LINE, stdin)) {
+        size_t len = strcspn(line, "\n") / 2;
+        for (size_t at = 0; at < len; at++) sscanf(line + 2 * at, "%2" SCNx8, &bytes[at]);
+        answer(bytes, len);
+    }
+    free(line), free(bytes);
+    return 0;
+}
