@@ -158,7 +158,7 @@ STEP(serialize, hv_serialize(&part, text, sizeof text, &size, &error))
 STEP(deserialize, hv_deserialize(&i64_type, 50, text, size, &ends, &values, &out, &error))
 STEP(size_of_message, hv_write_size(&part, &size, &error))
 STEP(write_message, hv_write(&part, message, sizeof message, &size, &error))
-STEP(read_message, hv_read_column(kept_message, message_size, &out, &error))
+STEP(column_of_message, hv_read_column(kept_message, message_size, &out, &error))
 STEP(export_flat, hv_arrow_export(&session, &flat, "flat", &schema, &array, &error))
 STEP(export_runs, hv_arrow_export(&session, &part, "runs", &schema, &array, &error))
 STEP(export_constant, hv_arrow_export(&session, &constant, "constant", &schema, &array, &error))
@@ -194,7 +194,8 @@ static const step steps[] = {
     NAMED(read_offsets), NAMED(read_large_offsets), NAMED(read_bytes), NAMED(window_numbers),
     NAMED(window_offsets), NAMED(window_bytes), NAMED(window_bools), NAMED(window_validity), NAMED(read_run_count),
     NAMED(read_run), NAMED(read_run_of), NAMED(read_ends), NAMED(make_constant), NAMED(run_ends), NAMED(run_values),
-    NAMED(serialize), NAMED(deserialize), NAMED(size_of_message), NAMED(write_message), NAMED(read_message), NAMED(export_flat), NAMED(export_runs), NAMED(export_constant),
+    NAMED(serialize), NAMED(deserialize), NAMED(size_of_message), NAMED(write_message), NAMED(column_of_message),
+    NAMED(export_flat), NAMED(export_runs), NAMED(export_constant),
     NAMED(export_texts), NAMED(export_truths), NAMED(export_dictionary), NAMED(import_texts),
     NAMED(import_dictionary), NAMED(export_and_import),
 };
