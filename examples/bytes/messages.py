@@ -218,6 +218,7 @@ def answer(data: bytes) -> str:
         message.ParseFromString(data)
     except Exception:  # the two ways in which Protocol Buffers refuses bytes have no class in common
         return "refused"
+    message.DiscardUnknownFields()  # Protocol Buffers keep them, and would write them again
     if not is_column(message) or written(message) != data:
         return "refused"
     rows = [row(message, index) for index in range(min(message.rows, SHOWN))]
