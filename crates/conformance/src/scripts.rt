@@ -214,8 +214,7 @@ fn a_write_that_fails(rt: HostRuntime) {
 // Lines of each kind, on runs and on a flat column.
 const SERVED: &[u8] =
     b"col u8? 7 7 null\nencode\nshow\nrows\nat 3\nfilter 011\ncast i16?\nfill 9\ndecode\nsum\nthresholds zero\n\
-    runs i8 u8 0 5 1 2 5 / 4 5 6\nfilter 01111\ntake 1 0 3 0\nkernels
-    none\nencode\nsum\nminmax\nconstant\nsorted\nstrict\n\
+    runs i8 u8 0 5 1 2 5 / 4 5 6\nfilter 01111\ntake 1 0 3 0\nkernels none\nencode\nsum\nminmax\nconstant\nsorted\nstrict\n\
     cast i16\nencode\ntake 0 null\nfill 0\nkernels all\nthresholds crate\nencode\nslice 0 1\nshow\nmeta\nread 08 01\n\
     runs i8 u8 1 3 2 4 / 4 5\nmeta\nsum\nminmax\nconstant\nsorted\nstrict\n";
 
