@@ -31,7 +31,7 @@ extern "C" {
     X(HV_CAST_OUT_OF_RANGE, "a row is no value of the type") \
     X(HV_NULL_NOT_ALLOWED, "a row is null, and the type has no null") \
     X(HV_NULL_FILL, "nulls are filled by a value, and null is none") \
-    X(HV_BAD_METADATA, "the bytes are no metadata record") \
+    X(HV_BAD_METADATA, "the bytes are no metadata record, or no column") \
     X(HV_ENDS_TYPE_NUMBER, "%1 is the number of no type of ends") \
     X(HV_RUN_COUNT, "the record says %1 runs, and there are %2") \
     X(HV_ONLY_PRIMITIVE, "whole numbers alone are encoded") \

@@ -109,7 +109,7 @@ class NullFill(HivevigilError, ValueError):
 
 
 class BadMetadata(HivevigilError, ValueError):
-    number, sentence = 17, "the bytes are no metadata record"
+    number, sentence = 17, "the bytes are no metadata record, or no column"
 
 
 class EndsTypeNumber(HivevigilError, ValueError):

@@ -70,7 +70,7 @@ errors! {
     CastOutOfRange = 14, "a row is no value of the type";
     NullNotAllowed = 15, "a row is null, and the type has no null";
     NullFill = 16, "nulls are filled by a value, and null is none";
-    BadMetadata = 17, "the bytes are no metadata record";
+    BadMetadata = 17, "the bytes are no metadata record, or no column";
     EndsTypeNumber = 18, "%1 is the number of no type of ends";
     RunCount = 19, "the record says %1 runs, and there are %2";
     OnlyPrimitive = 20, "whole numbers alone are encoded";
