@@ -9,16 +9,16 @@ use Rattle.runend_array.specs.Array.{column_of}
 use Rattle.runend_array.specs.Column.{AreRuns, Column, Runs, column_dtype, column_rows, plain_of}
 use Rattle.runend_array.specs.declared.array_ref.ArrayRef.{ArrayRef}
 use Rattle.runend_commands.specs.Meaning.{plain}
-use Rattle.runend_codec.proofs.RunAt.{runs_of_rows}
-use Rattle.runend_codec.specs.Trimmed.{trimmed_ends}
+use Rattle.runend_windows.proofs.RunAt.{runs_of_rows}
+use Rattle.runend_windows.specs.Trimmed.{trimmed_ends}
 use Rattle.c_columns.specs.Ending.{IsLookUpFault}
-use Rattle.c_columns.specs.RunReads.{IsRun, start_of, stop_of}
+use Rattle.c_columns.specs.RunReads.{IsExecution, start_of, stop_of}
 use Rattle.c_columns.specs.Values.{IsShownAt, IsTold}
 use Rattle.c_columns.specs.declared.row_value.RowValue.{RowValue}
 
 -- the value of the run is the row of this number of the values
 pub run_told : (r : Runs) (values : ArrayRef Global) (run start stop : ℕ) (text : List ℕ) (value : RowValue) → column_of values ≡ r.values → IsShownAt run values text value → start ≡ start_of r run → stop ≡ stop_of r run
-    → IsRun r run start stop text value
+    → IsExecution r run start stop text value
 run_told r values run start stop text value same told starts stops = record {
   starts = starts;
   stops = stops;

@@ -8,8 +8,8 @@ use Rattle.column_core.specs.Value.{Value}
 use Rattle.runend_array.specs.Array.{column_of}
 use Rattle.runend_array.specs.Column.{Column, OfRuns, Runs, column_dtype, column_rows, plain_of, runs_with}
 use Rattle.runend_array.specs.declared.array_ref.ArrayRef.{ArrayRef}
-use Rattle.runend_codec.specs.Trimmed.{trimmed_ends}
-use Rattle.runend_codec.specs.Window.{run_at}
+use Rattle.runend_windows.specs.Trimmed.{trimmed_ends}
+use Rattle.runend_windows.specs.Window.{run_at}
 use Rattle.c_columns.specs.Ending.{IsLookUpFault, IsRefusedAs}
 use Rattle.c_columns.specs.ReadFaults.{past_fault}
 use Rattle.c_columns.specs.Values.{IsTold}
@@ -43,7 +43,7 @@ run_of_row_fault row (OfRuns ends_type ends values offset count) = row_fault row
 run_of_row_fault row c = Some Unsupported
 
 -- the rows that a run shows, and the value that it shows in them
-pub record IsRun (r : Runs) (run start stop : ℕ) (text : List ℕ) (value : RowValue) : Type 0 where
+pub record IsExecution (r : Runs) (run start stop : ℕ) (text : List ℕ) (value : RowValue) : Type 0 where
   pub starts : start ≡ start_of r run
   pub stops : stop ≡ stop_of r run
   pub shown : Option Value
@@ -51,7 +51,7 @@ pub record IsRun (r : Runs) (run start stop : ℕ) (text : List ℕ) (value : Ro
   pub told : IsTold (column_dtype r.values) shown value text
 
 abbrev pub IsRunTold : ℕ → ℕ → ℕ → List ℕ → RowValue → Column → Type 0
-IsRunTold run start stop text value c = OfItsRuns (λ r. IsRun r run start stop text value) c
+IsRunTold run start stop text value c = OfItsRuns (λ r. IsExecution r run start stop text value) c
 
 -- why a run is not told: the column has no runs, or its value is not told
 abbrev pub RunFault : ℕ → ℕ → Column → VortexError → Type 0

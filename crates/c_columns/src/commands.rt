@@ -14,7 +14,7 @@ use crate::runs::boxed_copy;
 use crate::sessions::{Session, context};
 use column_core::VortexResult;
 use runend_array::ArrayRef;
-use runend_commands::{Command, Outcome, outcome_of};
+use runend_commands::{Command, StepResult, outcome_of};
 use std::alloc::Global;
 
 /// A command on the column of a handle, which stays. What it leaves is put into `out`.
@@ -90,8 +90,8 @@ fn left_of(
 {
     let mut ctx = context(alloc, session);
     match outcome_of(command, array, &mut ctx)? {
-        Outcome::Becomes(left) => boxed(alloc, left),
-        Outcome::Answers(answer) => {
+        StepResult::Becomes(left) => boxed(alloc, left),
+        StepResult::Answers(answer) => {
             drop(answer);
             let copy = boxed_copy(alloc, array)?;
             Ok(copy)

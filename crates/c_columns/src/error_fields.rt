@@ -31,7 +31,11 @@ pub fn refuse(error: VortexError, fields: &mut ErrorFields) -> i32
 }
 
 /// 0 and what was found, or the number of an error, whose fields are written.
-pub fn tell<T: Drop>(outcome: VortexResult<T>, place: &mut T, fields: &mut ErrorFields) -> i32
+pub fn write_answer<T: Drop>(
+    outcome: VortexResult<T>,
+    place: &mut T,
+    fields: &mut ErrorFields,
+) -> i32
     ensures ok { IfOk outcome (λ found. (result ≡ pos 0) × (place.new ≡ found)) }
     ensures err { IfErr outcome
         (λ error. (result ≡ pos (number_of error)) × (result ≢ pos 0) × HasFields error fields.new) }
@@ -46,7 +50,7 @@ pub fn tell<T: Drop>(outcome: VortexResult<T>, place: &mut T, fields: &mut Error
 }
 
 /// 0, or the number of an error, whose fields are written.
-pub fn tell_done(outcome: VortexResult<()>, fields: &mut ErrorFields) -> i32
+pub fn write_status(outcome: VortexResult<()>, fields: &mut ErrorFields) -> i32
     ensures ok { IfOk outcome (λ _. result ≡ pos 0) }
     ensures err { IfErr outcome
         (λ error. (result ≡ pos (number_of error)) × (result ≢ pos 0) × HasFields error fields.new) }

@@ -1,4 +1,4 @@
-//! Flat columns of the numbers, truth values and decimals that C passes.
+//! Flat columns of the numbers, booleans and decimals that C passes.
 ghost use Rattle.std.specs.Prelude.{◌≡◌, length, map, IfOk, IsOkUnless};
 ghost use Rattle.std.specs.Option.{option_or};
 ghost use Rattle.column_base.specs.Validity.{form_of};
@@ -44,7 +44,7 @@ pub fn numbers<T: NativePType>(
     boxed(alloc, ArrayRef::Primitive(array))
 }
 
-/// The flat column of `count` truth values, the first of which is bit `start` of `truths`. Refused as the bits
+/// The flat column of `count` booleans, the first of which is bit `start` of `truths`. Refused as the bits
 /// of its validity are, and then as these bits.
 pub fn booleans(
     alloc: Global,

@@ -4,7 +4,7 @@ ghost use Rattle.std.specs.Global.{Global};
 ghost use Rattle.runend_array.specs.declared.array_ref.ArrayRef.{ArrayRef};
 ghost use Rattle.c_columns.specs.Handle.{column_code};
 
-use crate::parked::Parked;
+use crate::raw_box::RawBox;
 use runend_array::ArrayRef;
 use std::alloc::Global;
 use std::marker::Model;
@@ -27,7 +27,7 @@ impl Model for Handle {
 impl Drop for Handle {
     fn drop(self) {
         if let Some(parked) = self.into_parked() {
-            drop(parked.unpark());
+            drop(parked.from_raw());
         }
     }
 }
@@ -39,14 +39,14 @@ impl Handle {
         ensures found { MatchOption result (self.old.column ≡ None) (λ boxed. self.old.column ≡ Some boxed.value) }
     {
         let parked = mem::replace(self, Handle::empty(alloc)).into_parked()?;
-        Some(parked.unpark())
+        Some(parked.from_raw())
     }
 
     /// Puts a column in. The column that was there is freed.
     pub fn put(&mut self, boxed: Box<ArrayRef<Global>>)
         ensures { self.new.column ≡ Some boxed.value }
     {
-        *self = Handle::of(Parked::park(boxed));
+        *self = Handle::of(RawBox::into_raw(boxed));
     }
 
     // A handle of no column.
@@ -60,10 +60,10 @@ impl Handle {
     }
 
     // The handle of a column.
-    fn of(parked: Parked<ArrayRef<Global>, Global>) -> Handle
+    fn of(parked: RawBox<ArrayRef<Global>, Global>) -> Handle
         ensures { result.column ≡ Some parked.value }
     {
-        let Parked { at, alloc } = parked;
+        let RawBox { at, alloc } = parked;
         Handle {
             at: at.cast(),
             alloc,
@@ -71,14 +71,14 @@ impl Handle {
     }
 
     // What the handle holds.
-    fn into_parked(self) -> Option<Parked<ArrayRef<Global>, Global>>
+    fn into_parked(self) -> Option<RawBox<ArrayRef<Global>, Global>>
         ensures { MatchOption result (self.column ≡ None) (λ parked. self.column ≡ Some parked.value) }
     {
         let Handle { at, alloc } = self;
         if at.is_null() {
             None
         } else {
-            Some(Parked {
+            Some(RawBox {
                 at: at.cast(),
                 alloc,
             })

@@ -1,4 +1,4 @@
-//! Masks: the rows of a column of truth values, whatever its form, that are true.
+//! Masks: the rows of a column of booleans, whatever its form, that are true.
 ghost use Rattle.std.specs.Prelude.{◌≡◌, length, map, IfOk, IsOkUnless, IsTrue, None};
 ghost use Rattle.column_base.specs.Mask.{mask_bits};
 ghost use Rattle.column_base.specs.ValidityForm.{ByBits};
@@ -19,7 +19,7 @@ use runend_array::{ArrayRef, Canonical, ConstantArray};
 use std::alloc::Global;
 
 /// Which rows are true; null is not. A constant takes no memory, and stored bits are shared where they say it. Refused
-/// as `TypeMismatch` unless the rows are truth values, else for want of memory alone.
+/// as `TypeMismatch` unless the rows are booleans, else for want of memory alone.
 pub fn mask_of(alloc: Global, array: &ArrayRef<Global>) -> VortexResult<Mask<Global>>
     ensures mask { IfOk result (λ mask. mask_bits mask ≡ map is_true (rows array.now)) }
     ensures refused { IsRefusedBy (mask_fault (dtype_of array.now)) result }
@@ -30,7 +30,7 @@ pub fn mask_of(alloc: Global, array: &ArrayRef<Global>) -> VortexResult<Mask<Glo
     }
 }
 
-// Which rows of a column of truth values are true.
+// Which rows of a column of booleans are true.
 fn mask_of_truths(alloc: Global, array: &ArrayRef<Global>) -> VortexResult<Mask<Global>>
     requires { mask_fault (dtype_of array.now) ≡ None }
     ensures mask { IfOk result (λ mask. mask_bits mask ≡ map is_true (rows array.now)) }

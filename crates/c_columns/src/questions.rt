@@ -21,7 +21,7 @@ use crate::sessions::{Session, context};
 use crate::totals::{Total, total_of};
 use column_core::{DType, Scalar, VortexError, VortexResult, fault_of_lists};
 use runend_array::ArrayRef;
-use runend_commands::{Answer, Command, Outcome, compute, outcome_of};
+use runend_commands::{Answer, Command, StepResult, compute, outcome_of};
 use std::alloc::Global;
 
 /// The least and the greatest row.
@@ -93,7 +93,7 @@ pub fn extreme_of(
 {
     let mut ctx = context(alloc, session);
     match outcome_of(&Command::MinMax, array, &mut ctx)? {
-        Outcome::Answers(Answer::MinMax(Some((least, last)))) => {
+        StepResult::Answers(Answer::MinMax(Some((least, last)))) => {
             let found = if greatest {
                 row_value_of(last.view(), text)
             } else {
@@ -103,7 +103,7 @@ pub fn extreme_of(
             drop(last);
             found
         }
-        Outcome::Answers(Answer::MinMax(None)) => Ok(row_value::null()),
+        StepResult::Answers(Answer::MinMax(None)) => Ok(row_value::null()),
         other => {
             drop(other);
             Err(VortexError::OutOfMemory)

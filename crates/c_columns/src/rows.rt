@@ -15,7 +15,7 @@ use column_core::{FlatView, NativePType, Validity, VortexError, VortexResult};
 use std::alloc::Global;
 
 /// The numbers that a flat column stores, from `start` on, as many as there are `items`. Refused as
-/// `Unsupported` where it is no flat column of whole numbers, as `TypeMismatch` where it is one of another type,
+/// `Unsupported` where it is no flat column of integers, as `TypeMismatch` where it is one of another type,
 /// and as `BadRange` where the rows do not reach.
 #[tactic(auto, using(crate::proofs::ReadRefusals::numbers_of_type, crate::proofs::ReadRefusals::numbers_of_other))]
 pub fn read_numbers<T: NativePType>(
@@ -59,8 +59,8 @@ pub fn read_decimals(
     Ok(())
 }
 
-/// The bits of the truth values that a flat column stores, 64 to a word. Refused as `Unsupported` where it is
-/// no flat column of truth values, and as `ColumnLength` for another number of words.
+/// The bits of the booleans that a flat column stores, 64 to a word. Refused as `Unsupported` where it is
+/// no flat column of booleans, and as `ColumnLength` for another number of words.
 pub fn read_booleans(flat: FlatView<'_, Global>, words: &mut [u64]) -> VortexResult<()>
     ensures words { IfOk result (λ _. AreLeafTruths (leaf_in flat.entry) words.new) }
     ensures refused { IsRefusedOnlyBy (stored_truths_fault (length words.old) (leaf_in flat.entry)) result }

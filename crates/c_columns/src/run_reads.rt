@@ -5,8 +5,8 @@ ghost use Rattle.column_base.specs.Numbers.{numbers, ptype_of};
 ghost use Rattle.column_base.specs.Types.{IsUnsigned};
 ghost use Rattle.column_core.specs.PrimitiveForm.{primitive_dtype};
 ghost use Rattle.runend_array.specs.Array.{column_of};
-ghost use Rattle.runend_codec.specs.Ends.{IsEndsType, ends_of};
-ghost use Rattle.runend_codec.specs.Trimmed.{trimmed_ends};
+ghost use Rattle.runend_windows.specs.Ends.{IsEndsType, ends_of};
+ghost use Rattle.runend_windows.specs.Trimmed.{trimmed_ends};
 ghost use Rattle.c_columns.specs.ReadFaults.{IsRefusedOnlyBy};
 ghost use Rattle.c_columns.specs.RunParts.{no_runs_fault};
 ghost use Rattle.c_columns.specs.RunReads.{AreStopsFrom, IsRunCount, IsRunOfRow, IsRunTold, RunFault, run_of_row_fault, start_of, stop_of, stops_fault};
@@ -132,7 +132,7 @@ fn stop_of_run(runs: &RunEndArray<Global>, run: usize) -> usize
 }
 
 // Where a run stops in a window of `count` rows from row `offset` on.
-#[tactic(auto, using(runend_codec::proofs::Ends::length_ends_of))]
+#[tactic(auto, using(runend_windows::proofs::Ends::length_ends_of))]
 fn stop_in(ends: &PrimitiveArray<Global>, run: usize, offset: usize, count: usize) -> usize
     requires plain { IsEndsType (primitive_dtype ends.now) }
     requires there { run < length (ends_of ends.now) }
@@ -141,7 +141,7 @@ fn stop_in(ends: &PrimitiveArray<Global>, run: usize, offset: usize, count: usiz
     stop_among(ends.values(), run, offset, count)
 }
 
-#[tactic(auto, using(runend_codec::proofs::Ends::ends_stored))]
+#[tactic(auto, using(runend_windows::proofs::Ends::ends_stored))]
 fn stop_among(ends: &PrimitiveValues<Global>, run: usize, offset: usize, count: usize) -> usize
     requires unsigned { IsUnsigned (ptype_of ends.now) }
     requires there { run < length (numbers ends.now) }

@@ -12,8 +12,8 @@ use runend_array::ArrayRef;
 use runend_commands::compute;
 use std::alloc::Global;
 
-/// The rows at which the mask is true: null selects nothing. Refused as `TypeMismatch` unless the mask is of truth
-/// values, and then as `MaskLength` where it has not a row for each row.
+/// The rows at which the mask is true: null selects nothing. Refused as `TypeMismatch` unless the mask is of booleans,
+/// and then as `MaskLength` where it has not a row for each row.
 #[tactic(auto, using(crate::proofs::TwoColumns::mask_refused, crate::proofs::TwoColumns::filter_refused, crate::proofs::TwoColumns::filter_done, crate::proofs::TwoColumns::filter_left))]
 pub fn filtered(
     alloc: Global,
@@ -31,7 +31,7 @@ pub fn filtered(
     boxed(alloc, kept?)
 }
 
-/// The row at each index, null at a null index. Refused as `TypeMismatch` unless the indices are whole numbers, and
+/// The row at each index, null at a null index. Refused as `TypeMismatch` unless the indices are integers, and
 /// then as `OutOfBounds`, with the index and the number of rows, at the first that is negative or of no row.
 #[tactic(auto, using(crate::proofs::TwoColumns::same_codes))]
 pub fn taken(
@@ -53,7 +53,7 @@ pub fn taken(
     }
 }
 
-/// The dictionary's row for each code, null for null. Refused as `TypeMismatch` unless the codes are whole numbers,
+/// The dictionary's row for each code, null for null. Refused as `TypeMismatch` unless the codes are integers,
 /// and then as `OutOfBounds`, with the code and the dictionary's rows, at the first that is negative or of no row.
 pub fn looked_up(
     alloc: Global,

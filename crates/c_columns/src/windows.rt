@@ -21,7 +21,7 @@ use runend_array::{ArrayRef, Canonical};
 use std::alloc::Global;
 
 /// The numbers of the rows from `start` on, as many as there are `items`; under null of rows that are not flat any
-/// number. Refused as `Unsupported` unless they are whole numbers, as `TypeMismatch` for another type of them, as
+/// number. Refused as `Unsupported` unless they are integers, as `TypeMismatch` for another type of them, as
 /// `BadRange` where the rows do not reach, and for want of memory unless the column is flat.
 #[tactic(auto, using(crate::proofs::FlatParts::flat_numbers, crate::proofs::FlatParts::flat_numbers_refused, crate::proofs::FlatParts::other_numbers, crate::proofs::FlatParts::other_numbers_refused))]
 pub fn read_numbers<T: NativePType>(
@@ -61,8 +61,8 @@ pub fn read_decimals(
     }
 }
 
-/// The truth values of `count` rows from `start` on, 64 to a word. Refused as `Unsupported` unless they are truth
-/// values, as `BadRange` where the rows do not reach, as `ColumnLength` for another number of words, and for want of
+/// The booleans of `count` rows from `start` on, 64 to a word. Refused as `Unsupported` unless they are booleans,
+/// as `BadRange` where the rows do not reach, as `ColumnLength` for another number of words, and for want of
 /// memory.
 #[tactic(auto, using(crate::proofs::FlatParts::truths_are_single, crate::proofs::FlatParts::or_first, crate::proofs::FlatParts::or_second, crate::proofs::FlatParts::accepted, crate::proofs::FlatParts::read_flat, crate::proofs::FlatParts::never, crate::proofs::FlatParts::truths_there))]
 pub fn read_booleans(
@@ -153,8 +153,8 @@ pub fn read_bytes(
     }
 }
 
-/// The bits of all truth values that a flat column stores, 64 to a word. Refused as `Unsupported` where it is no flat
-/// column of truth values, and as `ColumnLength` for another number of words.
+/// The bits of all booleans that a flat column stores, 64 to a word. Refused as `Unsupported` where it is no flat
+/// column of booleans, and as `ColumnLength` for another number of words.
 pub fn read_all_booleans(array: &ArrayRef<Global>, words: &mut [u64]) -> VortexResult<()>
     ensures words { IfOk result (λ _. AreTruthWords (column_of array.now) words.new) }
     ensures refused { IsRefusedOnlyBy (truths_fault (length words.old) (column_of array.now)) result }
@@ -317,7 +317,7 @@ fn stored_rows(flat: &FlatColumn<Global>) -> usize
     }
 }
 
-// Refused as `Unsupported` unless it is a type of whole numbers, and as `TypeMismatch` for another one.
+// Refused as `Unsupported` unless it is a type of integers, and as `TypeMismatch` for another one.
 fn check_numbers(dtype: DType, ptype: PType) -> VortexResult<()>
     ensures { IsRefusedOnlyBy (numbers_type_fault ptype dtype) result }
 {
@@ -348,7 +348,7 @@ fn check_decimals(dtype: DType) -> VortexResult<()>
     }
 }
 
-// Refused as `Unsupported` unless it is the type of truth values.
+// Refused as `Unsupported` unless it is the type of booleans.
 fn check_truths(dtype: DType) -> VortexResult<()>
     ensures { IsRefusedOnlyBy (truths_type_fault dtype) result }
 {

@@ -56,13 +56,13 @@ pub fn put_same(bit: bool, count: usize, words: &mut [u64]) -> VortexResult<()>
     ensures len { length words.new ≡ length words.old }
 {
     check_room(count.div_ceil(64), words.len())?;
-    words.fill(word_of(bit));
+    words.fill(splat(bit));
     clear_from(words, count);
     Ok(())
 }
 
 // 64 times the same bit.
-fn word_of(bit: bool) -> u64
+fn splat(bit: bool) -> u64
     ensures { (j : ℕ) → j < 64 → bit_at result j ≡ one_if bit }
 {
     if bit { u64::MAX } else { 0 }

@@ -5,10 +5,10 @@ use Rattle.std.proofs.lemmas.Bool.{cases_lt}
 use Rattle.std.proofs.lemmas.List.{length-append}
 use native.Mathlib.Numerals.{unary_clauses}
 use Rattle.column_core.specs.Value.{Value}
-use Rattle.runend_codec.specs.Cover.{IsTightCover}
-use Rattle.runend_codec.proofs.Grow.{IsTightCover-from_Tiles}
-use Rattle.runend_codec.proofs.ShownRuns.{shown_at, shown_at-here, shown_at-past}
-use Rattle.runend_codec.proofs.Tiles.{Differs, Tiles, Tiles-from_IsTightCover, Tiles-le, shown-from_IsTightCover}
+use Rattle.runend_windows.specs.Cover.{IsTightCover}
+use Rattle.runend_windows.proofs.Grow.{IsTightCover-from_Tiles}
+use Rattle.runend_windows.proofs.ShownRuns.{shown_at, shown_at-here, shown_at-past}
+use Rattle.runend_windows.proofs.Tiles.{Differs, Tiles, Tiles-from_IsTightCover, Tiles-le, shown-from_IsTightCover}
 use Rattle.chunk_laws.specs.Encodings.{AtSeam, EncodingOfJoined, behind, without_last}
 
 -- the last item of a list, and all but the last, go by the rest of the list

@@ -1,7 +1,7 @@
 -- The encoding of joined rows: tight exact covers, joined at the seam.
 use Rattle.std.specs.Prelude.{◌≡◌, ◌≢◌, ◌+◌, ◌-◌, ◌^◌, ◌<◌, ◌++◌, ℕ, List, Option, Some, length, map, slice_get, take}
 use Rattle.column_core.specs.Value.{Value}
-use Rattle.runend_codec.specs.Cover.{IsTightCover}
+use Rattle.runend_windows.specs.Cover.{IsTightCover}
 
 -- all but the last item
 abbrev pub without_last : {X : Type 0} → List X → List X

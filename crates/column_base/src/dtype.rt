@@ -2,7 +2,7 @@
 ghost use Rattle.std.specs.Prelude.{◌≡◌, ◌↔◌, IsTrue};
 ghost use Rattle.column_base.specs.Types.{IsUnsigned, nullability_of, with_nullability as dtype_with};
 
-/// The native types of whole numbers.
+/// The native types of integers.
 #[derive(Clone, Copy, Debug, PartialEq, Eq)]
 pub enum PType {
     U8,

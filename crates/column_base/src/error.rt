@@ -101,7 +101,7 @@ pub enum VortexError {
         stated: u64,
         found: usize,
     },
-    /// 20: only a plain column of whole numbers can be encoded.
+    /// 20: only a plain column of integers can be encoded.
     #[error("OnlyPrimitive")]
     OnlyPrimitive,
     /// 21: a growth of memory was refused.

@@ -1,4 +1,4 @@
-//! Native whole numbers: what generic code may rely on, and the eight types that meet it.
+//! Native integers: what generic code may rely on, and the eight types that meet it.
 ghost use Rattle.std.specs.Prelude.{◌≡◌, ◌↔◌, ℤ, ℕ, pos, [], map, IsSome, IfSome};
 ghost use Rattle.column_base.specs.Number.{IsNumbered, Narrows};
 ghost use Rattle.column_base.specs.Numbers.{numbers, ptype_of};
@@ -13,7 +13,7 @@ use crate::values::PrimitiveValues;
 use shared_buffer::Buffer;
 use std::alloc::Allocator;
 
-/// A native type of whole numbers. Equality and order are those of the numbers, a number has at
+/// A native type of integers. Equality and order are those of the numbers, a number has at
 /// most one value, and the default is 0.
 pub trait NativePType: Copy + Default + Eq + Ord + Drop {
     const PTYPE: PType;

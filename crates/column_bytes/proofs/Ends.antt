@@ -11,7 +11,7 @@ use Rattle.column_base.specs.declared.error.VortexError.{VortexError}
 use Rattle.column_base.specs.declared.error.VortexError.TheVariants.{EndsNotUnsigned, LengthsDiffer, NoRunsWindow, EndsNotStrict, WindowOverflow, FirstEndBelowOffset, LastEndBelowWindow, OutOfBounds, BadRange, MaskLength, ColumnLength, TypeMismatch, Unsupported, CastOutOfRange, NullNotAllowed, NullFill, BadMetadata, EndsTypeNumber, RunCount, OnlyPrimitive, OutOfMemory}
 use Rattle.column_base.specs.Types.{HasNumber, IsUnsigned}
 use Rattle.column_fields.specs.Lengths.{Rises, AreEndsOf}
-use Rattle.runend_codec.proofs.RunAt.{IsStrictlyIncreasing-tail}
+use Rattle.runend_windows.proofs.RunAt.{IsStrictlyIncreasing-tail}
 use Rattle.runend_array.specs.Column.{Column, AreRuns, AreParts, runs_with}
 use Rattle.runend_array.specs.Fault.{PartsFault}
 

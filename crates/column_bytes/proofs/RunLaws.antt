@@ -8,8 +8,8 @@ use Rattle.column_base.specs.Types.{HasNumber, IsUnsigned}
 use Rattle.column_core.specs.PrimitiveForm.{PrimitiveForm, primitive_with}
 use Rattle.column_fields.specs.Lengths.{lengths_bytes, Rises, AreEndsOf, HasNoEnds, AreNoEndsOf}
 use Rattle.column_fields.proofs.EndReading.{lengths_same}
-use Rattle.runend_codec.specs.Ends.{ends_of}
-use Rattle.runend_codec.proofs.StoredNumbers.{naturals-of_pos}
+use Rattle.runend_windows.specs.Ends.{ends_of}
+use Rattle.runend_windows.proofs.StoredNumbers.{naturals-of_pos}
 use Rattle.runend_array.specs.Column.{Column, OfRuns, AreRuns, runs_with, column_dtype}
 use Rattle.column_bytes.specs.Bytes.{kind_number}
 use Rattle.column_fields.specs.Header.{header_bytes}

@@ -7,7 +7,7 @@ use Rattle.column_core.specs.Leaf.{OfNumbers, OfTruths}
 use Rattle.column_core.specs.PrimitiveForm.{PrimitiveForm, primitive_dtype}
 use Rattle.column_core.specs.BoolForm.{BoolForm}
 use Rattle.column_fields.specs.Lengths.{lengths_bytes, Rises, AreEndsOf}
-use Rattle.runend_codec.specs.Ends.{IsEndsType, ends_of}
+use Rattle.runend_windows.specs.Ends.{IsEndsType, ends_of}
 use Rattle.runend_array.specs.Column.{Column, OfRuns, AreRuns, runs_with, column_dtype, depth}
 use Rattle.column_bytes.specs.Bytes.{kind_number, form_number, column_count, leaf_fields, column_body, column_bytes}
 use Rattle.column_bytes.specs.Stored.{IsStored, AreNumbers, AreTruths}

@@ -1,4 +1,4 @@
-//! Flat columns of whole numbers and of truth values.
+//! Flat columns of integers and of booleans.
 ghost use Rattle.std.specs.Prelude.{◌≡◌, ◌*◌, ◌↔◌, ◌++◌, IsTrue, ℕ, length, OnOk, IfOk, IfErr, IsErrOf, IsOkUnless};
 ghost use Rattle.column_core.specs.Leaf.{OfNumbers, OfTruths};
 ghost use Rattle.runend_array.specs.Column.{OfLeaf};
@@ -17,10 +17,10 @@ use column_fields::{
 use runend_array::ArrayRef;
 use std::alloc::Allocator;
 
-/// The number of the type of truth values.
+/// The number of the type of booleans.
 const TRUTHS: u64 = 9;
 
-/// Writes a flat column of whole numbers at the end. Refused as `OutOfMemory` alone.
+/// Writes a flat column of integers at the end. Refused as `OutOfMemory` alone.
 pub(crate) fn put_numbers<A: Allocator, B: Allocator>(
     out: &mut Vec<u8, B>,
     array: &PrimitiveArray<A>,
@@ -50,7 +50,7 @@ pub(crate) fn put_numbers<A: Allocator, B: Allocator>(
     Ok(())
 }
 
-/// Writes a flat column of truth values at the end. Refused as `OutOfMemory` alone.
+/// Writes a flat column of booleans at the end. Refused as `OutOfMemory` alone.
 pub(crate) fn put_truths<A: Allocator, B: Allocator>(
     out: &mut Vec<u8, B>,
     array: &BoolArray<A>,

@@ -1,7 +1,7 @@
 //! Run columns over values that are read and written by themselves.
 ghost use Rattle.std.specs.Prelude.{◌≡◌, ◌++◌, OnOk, IfOk, IfErr, IsErrOf, IsOkUnless};
 ghost use Rattle.column_core.specs.PrimitiveForm.{primitive_dtype};
-ghost use Rattle.runend_codec.specs.Ends.{IsEndsType, ends_of};
+ghost use Rattle.runend_windows.specs.Ends.{IsEndsType, ends_of};
 ghost use Rattle.runend_array.specs.Array.{column_of, dtype_of};
 ghost use Rattle.runend_array.specs.Column.{OfRuns, AreRuns, column_of_runs, runs_with};
 ghost use Rattle.column_fields.specs.Lengths.{AreEndsOf};

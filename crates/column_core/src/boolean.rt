@@ -1,4 +1,4 @@
-//! Flat columns of truth values.
+//! Flat columns of booleans.
 ghost use Rattle.std.specs.Prelude.{◌≡◌, ◌<◌, ◌↔◌, IsErrOf, slice_range, Some, length, map, option_map, slice_get, IfOk, IfErr, IsOk, IsOkUnless, IsSomeAnd, IsTrue, []};
 ghost use Rattle.column_base.specs.ValidityForm.{AllNull, HasLength, IsNormal, length_of};
 ghost use Rattle.column_base.specs.Validity.{form_of};
@@ -14,7 +14,7 @@ use std::alloc::Allocator;
 use std::marker::Model;
 use std::ops::Range;
 
-/// Truth values, of which some rows may be null. Under null a bit is stored that no row shows.
+/// Booleans, of which some rows may be null. Under null a bit is stored that no row shows.
 #[derive(Drop)]
 pub struct BoolArray<A: Allocator> {
     bits: BitBuffer<A>,

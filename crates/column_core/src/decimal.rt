@@ -17,8 +17,8 @@ use std::alloc::Allocator;
 use std::marker::Model;
 use std::ops::Range;
 
-/// Decimals of one precision and scale, of which some rows may be null. Each is stored as the whole
-/// number that it is times 10 to the power of the scale, and that number is not tested against the
+/// Decimals of one precision and scale, of which some rows may be null. Each is stored as the integer
+/// that it is times 10 to the power of the scale, and that number is not tested against the
 /// precision. Under null a number is stored that no row shows.
 #[derive(Drop)]
 pub struct DecimalArray<A: Allocator> {
@@ -41,7 +41,7 @@ impl<A: Allocator> Model for DecimalArray<A> {
 }
 
 impl<A: Allocator + Copy> DecimalArray<A> {
-    /// The column of these whole numbers of decimals, null where the validity says so. Refused as `ColumnLength`, with
+    /// The column of these integers of decimals, null where the validity says so. Refused as `ColumnLength`, with
     /// both lengths, where the validity is of another number of rows. Want of memory refuses nothing.
     pub fn try_new(
         values: Vec<i128, A>,
@@ -115,7 +115,7 @@ impl<A: Allocator> DecimalArray<A> {
         DType::Decimal(self.decimal, self.validity.nullability())
     }
 
-    /// The whole numbers of the decimals as they are stored, under null too.
+    /// The integers of the decimals as they are stored, under null too.
     pub fn values(&self) -> &[i128]
         ensures { result.now ≡ self.now.numbers }
     {
@@ -130,7 +130,7 @@ impl<A: Allocator> DecimalArray<A> {
         &self.validity
     }
 
-    /// The whole numbers of the decimals, their precision and scale, and the validity.
+    /// The integers of the decimals, their precision and scale, and the validity.
     pub fn into_parts(self) -> (Buffer<i128, A>, DecimalDType, Validity<A>)
         ensures whole { self ≡ decimal_with result.1 result.0.items (form_of result.2) }
         ensures counted { HasLength (form_of result.2) (length result.0.items) }

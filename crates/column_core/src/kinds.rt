@@ -26,7 +26,7 @@ pub fn fault_of_lists(dtype: DType) -> Option<VortexError>
     None
 }
 
-/// Is it a type of whole numbers?
+/// Is it a type of integers?
 pub fn is_number_type(dtype: DType) -> bool
     ensures { result ≡ is_numbers dtype }
 {

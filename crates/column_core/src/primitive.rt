@@ -1,4 +1,4 @@
-//! Flat columns of whole numbers.
+//! Flat columns of integers.
 ghost use Rattle.std.specs.Prelude.{◌≡◌, ◌≢◌, ◌<◌, ◌↔◌, IsErrOf, slice_range, Some, length, map, option_map, slice_get, IfOk, IfErr, IsOk, IsOkUnless, IsSomeAnd, IsTrue, [], pos};
 ghost use Rattle.column_base.specs.Numbers.{numbers, ptype_of};
 ghost use Rattle.column_base.specs.declared.dtype.Nullability.{Nullability};
@@ -20,7 +20,7 @@ use std::alloc::Allocator;
 use std::marker::Model;
 use std::ops::Range;
 
-/// Whole numbers of one native type, of which some rows may be null. Under null a number is stored
+/// Integers of one native type, of which some rows may be null. Under null a number is stored
 /// that no row shows.
 #[derive(Drop)]
 pub struct PrimitiveArray<A: Allocator> {

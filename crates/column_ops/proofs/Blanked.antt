@@ -7,7 +7,7 @@ use Rattle.column_core.specs.Optionals.{optionals, AreBlankAtNulls}
 use Rattle.column_base.specs.declared.dtype.Nullability.{Nullability}
 use Rattle.column_base.specs.declared.dtype.Nullability.TheVariants.{NonNullable}
 use Rattle.column_ops.specs.Fill.{fill_rows}
-use Rattle.column_ops.specs.Written.{AreWritten, IsValidityOf}
+use Rattle.column_ops.specs.Written.{AreStoredAs, IsValidityOf}
 use Rattle.column_core.proofs.OptionalRows.{length-optionals, null-at, optionals-at}
 use Rattle.column_ops.proofs.Passed.{take_more}
 
@@ -48,9 +48,9 @@ map-both g f [] = refl
 map-both g f (x ∷ xs) = ap (λ ys. g (f x) ∷ ys) (map-both g f xs)
 
 -- filled items without null are the rows with the value in place of each null
-pub AreWritten-filled : {B : Type 0} (blank value : B) (rows : List (Option B)) (filled : List B) → filled ≡ map (λ row. unwrap_or row value) rows
-    → AreWritten blank (fill_rows rows value) NonNullable filled NeverNull
-AreWritten-filled blank value rows filled same = record {
+pub AreStoredAs-filled : {B : Type 0} (blank value : B) (rows : List (Option B)) (filled : List B) → filled ≡ map (λ row. unwrap_or row value) rows
+    → AreStoredAs blank (fill_rows rows value) NonNullable filled NeverNull
+AreStoredAs-filled blank value rows filled same = record {
   shown = optionals-valid filled ∙ ap (map (λ x. Some x)) same ∙ map-both (λ x. Some x) (λ row. unwrap_or row value) rows;
   fits = tt;
   computed = record { blanked = blank-valid blank filled (length filled); normal = tt; some = λ wrong. cc };
@@ -76,9 +76,9 @@ blanked-items_or (x ∷ items) (true ∷ bits) blank = ((λ wrong. cc), blanked-
 blanked-items_or (x ∷ items) (false ∷ bits) blank = ((λ null. refl), blanked-items_or items bits blank)
 
 -- items with the blank one under null, and a validity of their flags, are the rows as a call computes them
-pub AreWritten-kept : {B : Type 0} (blank : B) (items : List B) (bits : List Bool) (wanted : Nullability) (kept : List B) (count : ℕ) (form : ValidityForm)
-    → length bits ≡ length items → count ≡ length items → kept ≡ items_or items bits blank → IsValidityOf bits wanted count form → AreWritten blank (optionals items bits) wanted kept form
-AreWritten-kept blank items bits wanted kept count form long counted same is =
+pub AreStoredAs-kept : {B : Type 0} (blank : B) (items : List B) (bits : List Bool) (wanted : Nullability) (kept : List B) (count : ℕ) (form : ValidityForm)
+    → length bits ≡ length items → count ≡ length items → kept ≡ items_or items bits blank → IsValidityOf bits wanted count form → AreStoredAs blank (optionals items bits) wanted kept form
+AreStoredAs-kept blank items bits wanted kept count form long counted same is =
     let sized : length kept ≡ count = ap length same ∙ length-items_or items bits blank long ∙ sym counted in
     let told : flags form (length kept) ≡ bits = ap (flags form) sized ∙ is.shown in
     record {

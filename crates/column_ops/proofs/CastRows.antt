@@ -20,7 +20,7 @@ use Rattle.column_ops.specs.Cast.{can_cast, cast_row_fault, is_numbers, null_fau
 use Rattle.column_ops.specs.Computed.{IsMade}
 use Rattle.column_ops.specs.Fault.{first_fault}
 use Rattle.column_ops.specs.Fill.{is_list, same_kind}
-use Rattle.column_ops.specs.Written.{AreWritten}
+use Rattle.column_ops.specs.Written.{AreStoredAs}
 
 -- the row of an optional number, as a value
 pub single_number-at : (form : PrimitiveForm) (k : ℕ) (o : Option ℤ) → slice_get (optional_numbers form) k ≡ Some o
@@ -36,7 +36,7 @@ single_numbers_all form k all =
     take_all k (single_rows (OfNumbers form)) (omega (arith, rows, rows_within_numbers form))
 
 -- written numbers are a column of these rows, in the type that was asked for
-pub IsMade-cast_numbers : (ptype : PType) (rows : List (Option ℤ)) (wanted : Nullability) (numbers : List ℤ) (form : ValidityForm) → AreWritten (pos 0) rows wanted numbers form
+pub IsMade-cast_numbers : (ptype : PType) (rows : List (Option ℤ)) (wanted : Nullability) (numbers : List ℤ) (form : ValidityForm) → AreStoredAs (pos 0) rows wanted numbers form
     → IsMade (map (option_map Number) rows) (column.Primitive ptype wanted) (OfNumbers (primitive_with ptype numbers form))
 IsMade-cast_numbers ptype rows wanted numbers form written = record {
   rows = ap (map (option_map (λ (n : ℤ). Number n))) written.shown;

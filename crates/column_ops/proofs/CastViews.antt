@@ -14,7 +14,7 @@ use Rattle.column_core.specs.VarBinForm.{AreVarBins, VarBinForm, kind_dtype, var
 use Rattle.column_ops.specs.Cast.{can_cast, cast_row_fault, is_numbers, null_row_fault}
 use Rattle.column_ops.specs.Computed.{IsMade}
 use Rattle.column_ops.specs.Fault.{first_fault}
-use Rattle.column_ops.specs.Written.{AreWritten}
+use Rattle.column_ops.specs.Written.{AreStoredAs}
 use Rattle.column_ops.proofs.CastRows.{dtype-of_cast, first_fault-kept, first_fault-mapped}
 use Rattle.column_ops.proofs.Columns.{AreVarBins-sound, IsMade-varbins, optional_views, sound_views, varbin_rows-of_views}
 
@@ -34,7 +34,7 @@ first_fault-views own dtype =
 
 -- kept views are sound, and show the rows of the column
 pub kept_views_sound : (own : VarBinForm) (wanted : Nullability) (items : List View) (form : ValidityForm) → AreVarBins own
-    → AreWritten zero_view (optional_views own) wanted items form → AreVarBins (varbin_with own.kind items own.buffers form)
+    → AreStoredAs zero_view (optional_views own) wanted items form → AreVarBins (varbin_with own.kind items own.buffers form)
 kept_views_sound own wanted items form are written =
     AreVarBins-sound own.kind own.buffers items form written.fits (rw (written.shown) (sound_views own.kind own.buffers own.views own.validity are))
 
@@ -49,7 +49,7 @@ kind_dtype-with Utf8 n m = refl
 kind_dtype-with Binary n m = refl
 
 pub IsMade-kept_views : (own : VarBinForm) (dtype : DType) (items : List View) (form : ValidityForm) → can_cast (varbin_dtype own) dtype ≡ true
-    → AreWritten zero_view (optional_views own) (nullability_of dtype) items form → IsMade (varbin_rows own) dtype (OfVarBins (varbin_with own.kind items own.buffers form))
+    → AreStoredAs zero_view (optional_views own) (nullability_of dtype) items form → IsMade (varbin_rows own) dtype (OfVarBins (varbin_with own.kind items own.buffers form))
 IsMade-kept_views own dtype items form can written =
     let made = IsMade-varbins own.kind own.buffers (optional_views own) (nullability_of dtype) items form written in
     let nullability = nullability_in own.validity in

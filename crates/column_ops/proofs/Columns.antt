@@ -23,11 +23,11 @@ use Rattle.column_ops.specs.Fill.{fill_rows}
 use Rattle.column_ops.specs.Filter.{filter_rows}
 use Rattle.column_ops.specs.Nullable.{either_nullable}
 use Rattle.column_ops.specs.Take.{take_rows, taken_row}
-use Rattle.column_ops.specs.Written.{AreWritten}
+use Rattle.column_ops.specs.Written.{AreStoredAs}
 use Rattle.column_ops.proofs.IndexPositions.{optionals-map}
 
 -- written truth values are a column of these rows
-pub IsMade-truths : (rows : List (Option Bool)) (wanted : Nullability) (items : List Bool) (form : ValidityForm) → AreWritten false rows wanted items form
+pub IsMade-truths : (rows : List (Option Bool)) (wanted : Nullability) (items : List Bool) (form : ValidityForm) → AreStoredAs false rows wanted items form
     → IsMade (map (option_map Truth) rows) (column.Bool wanted) (OfTruths (bool_with items form))
 IsMade-truths rows wanted items form written = record {
   rows = ap (map (option_map (λ (b : Bool). Truth b))) written.shown;
@@ -36,7 +36,7 @@ IsMade-truths rows wanted items form written = record {
 }
 
 -- written numbers of decimals are a column of these rows
-pub IsMade-decimals : (decimal : DecimalDType) (rows : List (Option ℤ)) (wanted : Nullability) (items : List ℤ) (form : ValidityForm) → AreWritten (pos 0) rows wanted items form
+pub IsMade-decimals : (decimal : DecimalDType) (rows : List (Option ℤ)) (wanted : Nullability) (items : List ℤ) (form : ValidityForm) → AreStoredAs (pos 0) rows wanted items form
     → IsMade (map (option_map DecimalNumber) rows) (column.Decimal decimal wanted) (OfDecimals (decimal_with decimal items form))
 IsMade-decimals decimal rows wanted items form written = record {
   rows = ap (map (option_map (λ (n : ℤ). DecimalNumber n))) written.shown;
@@ -45,7 +45,7 @@ IsMade-decimals decimal rows wanted items form written = record {
 }
 
 -- written views are a column of the bytes that they cut
-pub IsMade-varbins : (kind : VarBinKind) (buffers : List (List ℕ)) (rows : List (Option View)) (wanted : Nullability) (items : List View) (form : ValidityForm) → AreWritten zero_view rows wanted items form
+pub IsMade-varbins : (kind : VarBinKind) (buffers : List (List ℕ)) (rows : List (Option View)) (wanted : Nullability) (items : List View) (form : ValidityForm) → AreStoredAs zero_view rows wanted items form
     → IsMade (map (option_map (varbin_value kind)) (map (option_map (view_bytes buffers)) rows)) (kind_dtype kind wanted) (OfVarBins (varbin_with kind items buffers form))
 IsMade-varbins kind buffers rows wanted items form written = record {
   rows = ap (map (option_map (varbin_value kind))) (optionals-map (view_bytes buffers) items (flags form (length items)) ∙ ap (map (option_map (view_bytes buffers))) written.shown);
@@ -130,13 +130,13 @@ varbin_rows-of_views form = ap (map (option_map (varbin_value form.kind))) (opti
 
 -- taken views are sound, and show the rows that are taken
 pub taken_views_sound : (own : VarBinForm) (indices : List (Option ℤ)) (wanted : Nullability) (items : List View) (form : ValidityForm) → AreVarBins own
-    → AreWritten zero_view (take_rows (optional_views own) indices) wanted items form → AreVarBins (varbin_with own.kind items own.buffers form)
+    → AreStoredAs zero_view (take_rows (optional_views own) indices) wanted items form → AreVarBins (varbin_with own.kind items own.buffers form)
 taken_views_sound own indices wanted items form are written =
     let sound = EachValid-take (IsSound own.kind own.buffers) (optional_views own) indices (sound_views own.kind own.buffers own.views own.validity are) in
     AreVarBins-sound own.kind own.buffers items form written.fits (rw (written.shown) sound)
 
 pub IsMade-taken_views : (own : VarBinForm) (indices : List (Option ℤ)) (other wanted : Nullability) (items : List View) (form : ValidityForm) → wanted ≡ either_nullable (nullability_in own.validity) other
-    → AreWritten zero_view (take_rows (optional_views own) indices) wanted items form
+    → AreStoredAs zero_view (take_rows (optional_views own) indices) wanted items form
     → IsMade (take_rows (varbin_rows own) indices) (with_nullability (varbin_dtype own) (either_nullable (nullability_of (varbin_dtype own)) other)) (OfVarBins (varbin_with own.kind items own.buffers form))
 IsMade-taken_views own indices other wanted items form same written =
     rw (
@@ -150,12 +150,12 @@ IsMade-taken_views own indices other wanted items form same written =
 
 -- selected views are sound, and show the rows that are selected
 pub filtered_views_sound : (own : VarBinForm) (mask : List Bool) (wanted : Nullability) (items : List View) (form : ValidityForm) → AreVarBins own
-    → AreWritten zero_view (filter_rows mask (optional_views own)) wanted items form → AreVarBins (varbin_with own.kind items own.buffers form)
+    → AreStoredAs zero_view (filter_rows mask (optional_views own)) wanted items form → AreVarBins (varbin_with own.kind items own.buffers form)
 filtered_views_sound own mask wanted items form are written =
     let sound = EachValid-filter (IsSound own.kind own.buffers) mask (optional_views own) (sound_views own.kind own.buffers own.views own.validity are) in
     AreVarBins-sound own.kind own.buffers items form written.fits (rw (written.shown) sound)
 
-pub IsMade-filtered_views : (own : VarBinForm) (mask : List Bool) (items : List View) (form : ValidityForm) → AreWritten zero_view (filter_rows mask (optional_views own)) (nullability_in own.validity) items form
+pub IsMade-filtered_views : (own : VarBinForm) (mask : List Bool) (items : List View) (form : ValidityForm) → AreStoredAs zero_view (filter_rows mask (optional_views own)) (nullability_in own.validity) items form
     → IsMade (filter_rows mask (varbin_rows own)) (varbin_dtype own) (OfVarBins (varbin_with own.kind items own.buffers form))
 IsMade-filtered_views own mask items form written =
     rw (varbin_rows-of_views own, filter_rows-map (option_map (varbin_value own.kind)) mask (map (option_map (view_bytes own.buffers)) (optional_views own)), filter_rows-map (option_map (view_bytes own.buffers)) mask (optional_views own))
@@ -222,7 +222,7 @@ filled_bytes kind buffers bytes (Some view ∷ views) each =
 
 -- filled views are sound, and show the rows that are filled
 pub filled_views_sound : (own : VarBinForm) (bytes : List ℕ) (wanted : Nullability) (items : List View) (form : ValidityForm) → AreVarBins own → IsOfKind own.kind bytes
-    → AreWritten zero_view (fill_rows (optional_views own) (whole_view own.buffers bytes)) wanted items form → AreVarBins (varbin_with own.kind items (own.buffers ++ bytes ∷ []) form)
+    → AreStoredAs zero_view (fill_rows (optional_views own) (whole_view own.buffers bytes)) wanted items form → AreVarBins (varbin_with own.kind items (own.buffers ++ bytes ∷ []) form)
 filled_views_sound own bytes wanted items form are text written =
     let more = own.buffers ++ bytes ∷ [] in
     let old = EachValid-then (IsSound own.kind own.buffers) (IsSound own.kind more) (optional_views own) (IsSound-more own.kind own.buffers bytes) (sound_views own.kind own.buffers own.views own.validity are) in
@@ -230,7 +230,7 @@ filled_views_sound own bytes wanted items form are text written =
     AreVarBins-sound own.kind more items form written.fits (rw (written.shown) sound)
 
 pub IsMade-filled_views : (own : VarBinForm) (bytes : List ℕ) (wanted : Nullability) (items : List View) (form : ValidityForm) → AreVarBins own
-    → AreWritten zero_view (fill_rows (optional_views own) (whole_view own.buffers bytes)) wanted items form
+    → AreStoredAs zero_view (fill_rows (optional_views own) (whole_view own.buffers bytes)) wanted items form
     → IsMade (fill_rows (varbin_rows own) (varbin_value own.kind bytes)) (kind_dtype own.kind wanted) (OfVarBins (varbin_with own.kind items (own.buffers ++ bytes ∷ []) form))
 IsMade-filled_views own bytes wanted items form are written =
     rw (

@@ -14,7 +14,7 @@ use Rattle.column_ops.specs.Computed.{IsMade}
 use Rattle.column_ops.specs.Fill.{fill_rows}
 use Rattle.column_ops.specs.Filter.{filter_rows}
 use Rattle.column_ops.specs.Take.{take_rows, taken_row}
-use Rattle.column_ops.specs.Written.{AreWritten}
+use Rattle.column_ops.specs.Written.{AreStoredAs}
 use Rattle.column_ops.proofs.IndexPositions.{optionals-map}
 
 -- the mapped blank item is stored under null
@@ -24,9 +24,9 @@ AreBlankAtNulls-map f blank (x ∷ items) [] h = tt
 AreBlankAtNulls-map f blank (x ∷ items) (b ∷ bits) h = ((λ null. ap f (h.0 null)), AreBlankAtNulls-map f blank items bits h.1)
 
 -- mapped items under the same validity
-pub AreWritten-map : {B C : Type 0} (f : B → C) (blank : B) (rows : List (Option B)) (wanted : Nullability) (items : List B) (form : ValidityForm)
-    → AreWritten blank rows wanted items form → AreWritten (f blank) (map (option_map f) rows) wanted (map f items) form
-AreWritten-map f blank rows wanted items form w =
+pub AreStoredAs-map : {B C : Type 0} (f : B → C) (blank : B) (rows : List (Option B)) (wanted : Nullability) (items : List B) (form : ValidityForm)
+    → AreStoredAs blank rows wanted items form → AreStoredAs (f blank) (map (option_map f) rows) wanted (map f items) form
+AreStoredAs-map f blank rows wanted items form w =
     let long = length-map items f in
     record {
       shown = rw (long, optionals-map f items (flags form (length items))) (ap (map (option_map f)) w.shown);
@@ -70,10 +70,10 @@ number_rows-stored ptype number items form = rw (length-map items number) (ap (m
 
 -- written numbers are a column of these rows
 pub IsMade-numbers : {S : Type 0} (ptype : PType) (number : S → ℤ) (blank : S) (rows : List (Option S)) (wanted : Nullability) (items : List S) (form : ValidityForm)
-    → number blank ≡ pos 0 → AreWritten blank rows wanted items form
+    → number blank ≡ pos 0 → AreStoredAs blank rows wanted items form
     → IsMade (map (option_map Number) (map (option_map number) rows)) (column.Primitive ptype wanted) (OfNumbers (primitive_with ptype (map number items) form))
 IsMade-numbers ptype number blank rows wanted items form zeroth written =
-    let w = AreWritten-map number blank rows wanted items form written in
+    let w = AreStoredAs-map number blank rows wanted items form written in
     record {
       rows = ap (map (option_map (λ (n : ℤ). Number n))) w.shown;
       dtype = ap (column.Primitive ptype) w.nullability;
@@ -81,7 +81,7 @@ IsMade-numbers ptype number blank rows wanted items form zeroth written =
     }
 
 pub IsMade-taken_numbers : {S : Type 0} (ptype : PType) (number : S → ℤ) (blank : S) (own : List S) (own_form : ValidityForm) (indices : List (Option ℤ)) (wanted : Nullability) (items : List S) (form : ValidityForm)
-    → number blank ≡ pos 0 → AreWritten blank (take_rows (optionals own (flags own_form (length own))) indices) wanted items form
+    → number blank ≡ pos 0 → AreStoredAs blank (take_rows (optionals own (flags own_form (length own))) indices) wanted items form
     → IsMade (take_rows (primitive_rows (primitive_with ptype (map number own) own_form)) indices) (column.Primitive ptype wanted) (OfNumbers (primitive_with ptype (map number items) form))
 IsMade-taken_numbers ptype number blank own own_form indices wanted items form zeroth written =
     let rows = optionals own (flags own_form (length own)) in
@@ -89,7 +89,7 @@ IsMade-taken_numbers ptype number blank own own_form indices wanted items form z
     (IsMade-numbers ptype number blank (take_rows rows indices) wanted items form zeroth written)
 
 pub IsMade-filtered_numbers : {S : Type 0} (ptype : PType) (number : S → ℤ) (blank : S) (own : List S) (own_form : ValidityForm) (mask : List Bool) (wanted : Nullability) (items : List S) (form : ValidityForm)
-    → number blank ≡ pos 0 → AreWritten blank (filter_rows mask (optionals own (flags own_form (length own)))) wanted items form
+    → number blank ≡ pos 0 → AreStoredAs blank (filter_rows mask (optionals own (flags own_form (length own)))) wanted items form
     → IsMade (filter_rows mask (primitive_rows (primitive_with ptype (map number own) own_form))) (column.Primitive ptype wanted) (OfNumbers (primitive_with ptype (map number items) form))
 IsMade-filtered_numbers ptype number blank own own_form mask wanted items form zeroth written =
     let rows = optionals own (flags own_form (length own)) in
@@ -103,7 +103,7 @@ fill_rows-map f (None ∷ rows) value = ap (λ filled. Some (f value) ∷ filled
 fill_rows-map f (Some x ∷ rows) value = ap (λ filled. Some (f x) ∷ filled) (fill_rows-map f rows value)
 
 pub IsMade-filled_numbers : {S : Type 0} (ptype : PType) (number : S → ℤ) (blank value : S) (n : ℤ) (own : List S) (own_form : ValidityForm) (wanted : Nullability) (items : List S) (form : ValidityForm)
-    → number blank ≡ pos 0 → number value ≡ n → AreWritten blank (fill_rows (optionals own (flags own_form (length own))) value) wanted items form
+    → number blank ≡ pos 0 → number value ≡ n → AreStoredAs blank (fill_rows (optionals own (flags own_form (length own))) value) wanted items form
     → IsMade (fill_rows (primitive_rows (primitive_with ptype (map number own) own_form)) (Number n)) (column.Primitive ptype wanted) (OfNumbers (primitive_with ptype (map number items) form))
 IsMade-filled_numbers ptype number blank value n own own_form wanted items form zeroth same written =
     let rows = optionals own (flags own_form (length own)) in

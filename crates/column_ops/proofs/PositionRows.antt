@@ -12,7 +12,7 @@ use Rattle.column_base.specs.ValidityForm.{ValidityForm, flags}
 use Rattle.column_core.specs.Optionals.{optionals}
 use Rattle.column_ops.specs.Fault.{first_fault}
 use Rattle.column_ops.specs.Take.{ArePositions, ArePositionsFor, index_fault, position_numbers, take_fault}
-use Rattle.column_ops.specs.Written.{AreWritten}
+use Rattle.column_ops.specs.Written.{AreStoredAs}
 use Rattle.column_ops.proofs.IndexPositions.{neither, optionals-map}
 use Rattle.column_ops.proofs.Passed.{take_more}
 use Rattle.std.proofs.lemmas.Option.{slice_get-get_or, slice_get-map}
@@ -31,7 +31,7 @@ positions-sound (Some k ∷ positions) count sound =
 
 -- positions with 0 for null, and a validity, are those of the indices
 pub ArePositionsFor-kept : (indices : List (Option ℤ)) (wanted : Nullability) (count : ℕ) (items : List ℕ) (form : ValidityForm) → take_fault indices count ≡ None
-    → AreWritten (pos 0) indices wanted (map pos items) form → ArePositionsFor indices wanted count items form
+    → AreStoredAs (pos 0) indices wanted (map pos items) form → ArePositionsFor indices wanted count items form
 ArePositionsFor-kept indices wanted count items form sound written =
     let long = length-map items pos in
     let told : optionals (map pos items) (flags form (length items)) ≡ indices = rw long at written.shown in

@@ -11,7 +11,7 @@ use Rattle.column_core.specs.Optionals.{optionals, AreBlankAtNulls}
 use Rattle.column_core.proofs.OptionalRows.{length-optionals}
 use Rattle.column_ops.specs.Nullable.{either_nullable}
 use Rattle.column_ops.specs.Take.{ArePositions, position_numbers, take_rows, taken_row}
-use Rattle.column_ops.specs.Written.{AreWritten, IsValidityOf}
+use Rattle.column_ops.specs.Written.{AreStoredAs, IsValidityOf}
 use Rattle.column_ops.proofs.Blanked.{items_or, optionals-valid}
 use Rattle.column_ops.proofs.Passed.{take_rows-more}
 use Rattle.std.specs.Prelude.{◌↔◌}
@@ -33,9 +33,9 @@ blanked-rows blank (None ∷ rows) = ((λ null. refl), blanked-rows blank rows)
 blanked-rows blank (Some x ∷ rows) = ((λ wrong. cc), blanked-rows blank rows)
 
 -- the items of rows, with the blank one for null, and a validity of their flags, are the rows as a call computes them
-pub AreWritten-rows : {B : Type 0} (blank : B) (rows : List (Option B)) (wanted : Nullability) (items : List B) (count : ℕ) (form : ValidityForm)
-    → count ≡ length rows → items ≡ map (λ row. unwrap_or row blank) rows → IsValidityOf (map is_some rows) wanted count form → AreWritten blank rows wanted items form
-AreWritten-rows blank rows wanted items count form counted same is =
+pub AreStoredAs-rows : {B : Type 0} (blank : B) (rows : List (Option B)) (wanted : Nullability) (items : List B) (count : ℕ) (form : ValidityForm)
+    → count ≡ length rows → items ≡ map (λ row. unwrap_or row blank) rows → IsValidityOf (map is_some rows) wanted count form → AreStoredAs blank rows wanted items form
+AreStoredAs-rows blank rows wanted items count form counted same is =
     let sized : length items ≡ count = ap length same ∙ length-map rows (λ row. unwrap_or row blank) ∙ sym counted in
     let told : flags form (length items) ≡ map is_some rows = ap (flags form) sized ∙ is.shown in
     record {

@@ -6,7 +6,7 @@ use Rattle.column_core.specs.Optionals.{optionals}
 use Rattle.column_core.specs.Computed.{AreComputed, HasRowIfAllNull}
 
 -- items and a validity that show these rows, as a call computes them
-pub record AreWritten {T : Type 0} (blank : T) (rows : List (Option T)) (wanted : Nullability) (items : List T) (validity : ValidityForm) : Type 0 where
+pub record AreStoredAs {T : Type 0} (blank : T) (rows : List (Option T)) (wanted : Nullability) (items : List T) (validity : ValidityForm) : Type 0 where
   pub shown : optionals items (flags validity (length items)) ≡ rows
   pub fits : HasLength validity (length items)
   pub computed : AreComputed blank items validity

@@ -1,4 +1,4 @@
-//! Whole numbers cast to another native type.
+//! Integers cast to another native type.
 ghost use Rattle.std.specs.Prelude.{◌≡◌, ◌≢◌, pos, true, Err, None, Some, IfOk, IsSome, cond, length, map, option_map, unwrap_or};
 ghost use Rattle.column_base.specs.declared.dtype.DType.TheVariants as column;
 ghost use Rattle.column_base.specs.declared.dtype.Nullability.TheVariants.{NonNullable};
@@ -12,11 +12,11 @@ ghost use Rattle.column_core.specs.Value.{Number, Single};
 ghost use Rattle.column_ops.specs.Cast.{cast_row_fault, number_fault};
 ghost use Rattle.column_ops.specs.Computed.{IsMade};
 ghost use Rattle.column_ops.specs.Fault.{first_fault};
-ghost use Rattle.column_ops.specs.Written.{AreWritten};
+ghost use Rattle.column_ops.specs.Written.{AreStoredAs};
 
+use crate::computed_validity::computed_validity;
 use crate::items_or::{items_by_bits, with_item_at_nulls};
 use crate::keep_items::null_row;
-use crate::kept_validity::kept_validity;
 use crate::rows::item_at;
 use column_base::match_each_native;
 use column_core::{
@@ -97,12 +97,12 @@ fn cast_items<S: NativePType, T: NativePType, A: Allocator + Copy>(
     requires { HasLength (form_of validity.now) (length items.now) }
     ensures refused { IsRefusedBy (first_fault (cast_row_fault (column.Primitive T.PTYPE nullability))
         (single_rows (OfNumbers (primitive_with S.PTYPE (map S.number items.now) (form_of validity.now))))) result }
-    ensures cast { IfOk result (λ parts. AreWritten (pos 0)
+    ensures cast { IfOk result (λ parts. AreStoredAs (pos 0)
         (optional_numbers (primitive_with S.PTYPE (map S.number items.now) (form_of validity.now)))
         nullability (map T.number parts.0.items) (form_of parts.1)) }
 {
     let cast = cast_all::<S, T, A>(alloc, items, validity, nullability)?;
-    match kept_validity(alloc, validity, items.len(), nullability) {
+    match computed_validity(alloc, validity, items.len(), nullability) {
         Ok(rows) => Ok((cast, rows)),
         Err(error) => {
             drop(cast);

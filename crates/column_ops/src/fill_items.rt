@@ -7,7 +7,7 @@ ghost use Rattle.column_core.specs.Optionals.{optionals};
 ghost use Rattle.column_core.specs.Scalar.{flat_of, IsOwnedOf};
 ghost use Rattle.column_core.specs.Refusal.{IsRefusedBy};
 ghost use Rattle.column_ops.specs.Fill.{fill_fault, fill_rows};
-ghost use Rattle.column_ops.specs.Written.{AreWritten};
+ghost use Rattle.column_ops.specs.Written.{AreStoredAs};
 
 use crate::items_or::items_or;
 use column_core::{
@@ -25,7 +25,7 @@ pub(crate) fn fill_items<T: Copy + Drop, A: Allocator + Copy>(
 ) -> VortexResult<(Vec<T, A>, Validity<A>)>
     requires { HasLength (form_of validity.now) (length items.now) }
     ensures only { IsOkUnless result VortexError.OutOfMemory }
-    ensures filled { IfOk result (λ parts. AreWritten blank
+    ensures filled { IfOk result (λ parts. AreStoredAs blank
         (fill_rows (optionals items.now (flags (form_of validity.now) (length items.now))) value)
         NonNullable parts.0.items (form_of parts.1)) }
 {

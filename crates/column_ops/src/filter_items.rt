@@ -6,10 +6,10 @@ ghost use Rattle.column_base.specs.ValidityForm.{HasLength, flags, nullability_i
 ghost use Rattle.column_base.specs.Validity.{form_of};
 ghost use Rattle.column_core.specs.Optionals.{optionals};
 ghost use Rattle.column_ops.specs.Filter.{filter_rows};
-ghost use Rattle.column_ops.specs.Written.{AreWritten, IsValidityOf};
+ghost use Rattle.column_ops.specs.Written.{AreStoredAs, IsValidityOf};
 
+use crate::computed_validity::is_all_valid;
 use crate::items_or::{items_or, with_item_at_nulls};
-use crate::kept_validity::is_all_valid;
 use crate::rows::item_at;
 use column_core::{BitBuffer, BitBufferMut, Mask, Validity, VortexError, VortexResult};
 use std::alloc::Allocator;
@@ -26,7 +26,7 @@ pub(crate) fn filter_items<T: Copy + Drop, A: Allocator + Copy>(
     requires fits { HasLength (form_of validity.now) (length items.now) }
     requires masked { length (mask_bits mask.now) ≡ length items.now }
     ensures only { IsOkUnless result VortexError.OutOfMemory }
-    ensures filtered { IfOk result (λ parts. AreWritten blank
+    ensures filtered { IfOk result (λ parts. AreStoredAs blank
         (filter_rows (mask_bits mask.now) (optionals items.now (flags (form_of validity.now) (length items.now))))
         (nullability_in (form_of validity.now)) parts.0.items (form_of parts.1)) }
 {
@@ -50,7 +50,7 @@ fn filter_marked<T: Copy + Drop, A: Allocator + Copy>(
     requires marked { length marks.now ≡ length items.now }
     requires masked { length bits.now ≡ length items.now }
     ensures only { IsOkUnless result VortexError.OutOfMemory }
-    ensures filtered { IfOk result (λ parts. AreWritten blank
+    ensures filtered { IfOk result (λ parts. AreStoredAs blank
         (filter_rows bits.now (optionals items.now marks.now)) Nullable parts.0.items (form_of parts.1)) }
 {
     let flags = selected_marks(alloc, marks, bits)?;
@@ -94,7 +94,7 @@ fn filter_parts<T: Copy + Drop, A: Allocator + Copy>(
     requires fits { HasLength (form_of validity.now) (length items.now) }
     requires masked { length (mask_bits mask.now) ≡ length items.now }
     ensures only { IsOkUnless result VortexError.OutOfMemory }
-    ensures filtered { IfOk result (λ parts. AreWritten blank
+    ensures filtered { IfOk result (λ parts. AreStoredAs blank
         (filter_rows (mask_bits mask.now) (optionals items.now (flags (form_of validity.now) (length items.now))))
         (nullability_in (form_of validity.now)) parts.0.items (form_of parts.1)) }
 {

@@ -23,13 +23,13 @@ pub(crate) fn items_or<T: Copy + Drop, A: Allocator + Copy>(
     match validity {
         Validity::NonNullable => Ok(Vec::from_slice(alloc, items)?),
         Validity::AllValid => Ok(Vec::from_slice(alloc, items)?),
-        Validity::AllInvalid => copies_of(alloc, instead, items.len()),
+        Validity::AllInvalid => filled_vec(alloc, instead, items.len()),
         Validity::Bits(bits) => items_by_bits(alloc, items, bits, instead),
     }
 }
 
 /// So many copies of the item. Refused as `OutOfMemory` alone.
-pub(crate) fn copies_of<T: Copy + Drop, A: Allocator>(
+pub(crate) fn filled_vec<T: Copy + Drop, A: Allocator>(
     alloc: A,
     item: T,
     count: usize,

@@ -7,10 +7,10 @@ ghost use Rattle.column_core.specs.Optionals.{optionals};
 ghost use Rattle.column_core.specs.Refusal.{IsRefusedBy};
 ghost use Rattle.column_ops.specs.Cast.{null_fault, null_row_fault};
 ghost use Rattle.column_ops.specs.Fault.{first_fault};
-ghost use Rattle.column_ops.specs.Written.{AreWritten};
+ghost use Rattle.column_ops.specs.Written.{AreStoredAs};
 
+use crate::computed_validity::{check_nulls, computed_validity};
 use crate::items_or::items_or;
-use crate::kept_validity::{check_nulls, kept_validity};
 use column_core::{Nullability, Validity, VortexError, VortexResult};
 use std::alloc::Allocator;
 
@@ -40,13 +40,13 @@ pub(crate) fn keep_items<T: Copy + Drop, A: Allocator + Copy>(
     requires { HasLength (form_of validity.now) (length items.now) }
     ensures refused { IsRefusedBy (first_fault (null_row_fault nullability) (optionals items.now
         (flags (form_of validity.now) (length items.now)))) result }
-    ensures kept { IfOk result (λ parts. AreWritten blank
+    ensures kept { IfOk result (λ parts. AreStoredAs blank
         (optionals items.now (flags (form_of validity.now) (length items.now)))
         nullability parts.0.items (form_of parts.1)) }
 {
     check_nulls(items, validity, nullability)?;
     let kept = items_or(alloc, items, validity, blank)?;
-    match kept_validity(alloc, validity, items.len(), nullability) {
+    match computed_validity(alloc, validity, items.len(), nullability) {
         Ok(rows) => Ok((kept, rows)),
         Err(error) => {
             drop(kept);

@@ -3,13 +3,13 @@
 
 mod blanks;
 mod cast_numbers;
+mod computed_validity;
 mod decimals;
 mod fill_items;
 mod filter_items;
 mod flat_ops;
 mod items_or;
 mod keep_items;
-mod kept_validity;
 mod kinds;
 mod numbers;
 mod ops;

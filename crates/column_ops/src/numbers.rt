@@ -1,4 +1,4 @@
-//! Operations on columns of whole numbers.
+//! Operations on columns of integers.
 ghost use Rattle.std.specs.Prelude.{◌≡◌, IfOk, IsOkUnless, length, map};
 ghost use Rattle.column_base.specs.declared.dtype.DType.TheVariants as column;
 ghost use Rattle.column_base.specs.declared.dtype.Nullability.TheVariants.{NonNullable};

@@ -74,7 +74,7 @@ pub trait ColumnOps<A: Allocator + Copy>: Sized {
     }
 
     /// The rows of this dictionary at the codes, null for null. The type has null where the dictionary's
-    /// or the codes' has. Refused as `TypeMismatch` unless the codes are whole numbers; then as
+    /// or the codes' has. Refused as `TypeMismatch` unless the codes are integers; then as
     /// `OutOfBounds`, with the code and the number of rows, at the first code that is no null and is
     /// negative or not below that number; else as `OutOfMemory` alone.
     fn take_codes(&self, alloc: A, codes: &FlatColumn<A>) -> VortexResult<Self>
@@ -131,7 +131,7 @@ pub trait ColumnOps<A: Allocator + Copy>: Sized {
         ensures refused { IsRefusedBy (first_fault (cast_row_fault dtype) (single_rows (leaf self.now))) result }
         ensures made { IfOk result (λ column. IsMade (leaf_rows (leaf self.now)) dtype (leaf column)) };
 
-    /// The rows in the type, which may be any. Refused as `Unsupported` unless both types are of whole numbers, or
+    /// The rows in the type, which may be any. Refused as `Unsupported` unless both types are of integers, or
     /// both of one kind; then, at the first row that is no value of the type, as `NullNotAllowed` for
     /// null and as `CastOutOfRange` for a number; else as `OutOfMemory` alone.
     fn cast(&self, alloc: A, dtype: DType) -> VortexResult<Self>

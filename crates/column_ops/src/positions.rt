@@ -8,8 +8,8 @@ ghost use Rattle.column_core.specs.Refusal.{IsRefusedBy};
 ghost use Rattle.column_ops.specs.Fault.{first_fault};
 ghost use Rattle.column_ops.specs.Take.{ArePositionsFor, index_fault, take_fault};
 
-use crate::items_or::{copies_of, with_item_at_nulls};
-use crate::kept_validity::kept_validity;
+use crate::computed_validity::computed_validity;
+use crate::items_or::{filled_vec, with_item_at_nulls};
 use column_base::match_each_native;
 use column_core::{BitBuffer, NativePType, PrimitiveArray, Validity, VortexError, VortexResult};
 use std::alloc::Allocator;
@@ -62,7 +62,7 @@ fn native_positions<T: NativePType, A: Allocator + Copy>(
         (nullability_in (form_of validity.now)) count parts.0.items (form_of parts.1)) }
 {
     let positions = position_items(alloc, indices, validity, count)?;
-    match kept_validity(alloc, validity, indices.len(), validity.nullability()) {
+    match computed_validity(alloc, validity, indices.len(), validity.nullability()) {
         Ok(places) => Ok((positions, places)),
         Err(error) => {
             drop(positions);
@@ -87,7 +87,7 @@ fn position_items<T: NativePType, A: Allocator + Copy>(
     match validity {
         Validity::NonNullable => valid_positions(alloc, indices, count),
         Validity::AllValid => valid_positions(alloc, indices, count),
-        Validity::AllInvalid => copies_of(alloc, 0, indices.len()),
+        Validity::AllInvalid => filled_vec(alloc, 0, indices.len()),
         Validity::Bits(marks) => marked_positions(alloc, indices, marks, count),
     }
 }

@@ -6,10 +6,10 @@ ghost use Rattle.column_base.specs.Validity.{form_of};
 ghost use Rattle.column_core.specs.Optionals.{optionals};
 ghost use Rattle.column_ops.specs.Nullable.{either_nullable};
 ghost use Rattle.column_ops.specs.Take.{ArePositions, position_numbers, take_rows, taken_row};
-ghost use Rattle.column_ops.specs.Written.{AreWritten, IsValidityOf};
+ghost use Rattle.column_ops.specs.Written.{AreStoredAs, IsValidityOf};
 
+use crate::computed_validity::{computed_validity, is_all_valid};
 use crate::items_or::with_item_at_nulls;
-use crate::kept_validity::{is_all_valid, kept_validity};
 use crate::rows::item_at;
 use column_core::{BitBuffer, BitBufferMut, Nullability, Validity, VortexError, VortexResult};
 use std::alloc::Allocator;
@@ -29,7 +29,7 @@ pub(crate) fn take_items<T: Copy + Drop, A: Allocator + Copy>(
     requires within { ArePositions (optionals positions.now (flags (form_of places.now) (length positions.now)))
         (length items.now) }
     ensures only { IsOkUnless result VortexError.OutOfMemory }
-    ensures taken { IfOk result (λ parts. AreWritten blank
+    ensures taken { IfOk result (λ parts. AreStoredAs blank
         (take_rows (optionals items.now (flags (form_of validity.now) (length items.now)))
         (position_numbers (optionals positions.now (flags (form_of places.now) (length positions.now)))))
         (either_nullable (nullability_in (form_of validity.now)) (nullability_in (form_of places.now)))
@@ -201,7 +201,7 @@ fn taken_validity<T: Copy + Drop, A: Allocator + Copy>(
         nullability (length positions.now) (form_of rows)) }
 {
     if is_all_valid(validity) {
-        return kept_validity(alloc, places, positions.len(), nullability);
+        return computed_validity(alloc, places, positions.len(), nullability);
     }
     let flags = taken_flags(alloc, items, validity, positions, places)?;
     Ok(Validity::from_bits(flags))

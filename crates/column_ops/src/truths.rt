@@ -1,4 +1,4 @@
-//! Operations on columns of truth values.
+//! Operations on columns of booleans.
 ghost use Rattle.std.specs.Prelude.{◌≡◌, IfOk, IsOkUnless, length};
 ghost use Rattle.column_base.specs.ValidityForm.{HasLength};
 ghost use Rattle.column_base.specs.Validity.{form_of};

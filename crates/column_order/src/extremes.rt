@@ -56,7 +56,7 @@ fn ends_in<'a, A: Allocator + Copy>(
     }
 }
 
-// The least and the greatest of whole numbers, by their native type.
+// The least and the greatest of integers, by their native type.
 fn ends_of_numbers<'a, A: Allocator + Copy>(
     array: &'a PrimitiveArray<A>,
     range: Range<usize>,

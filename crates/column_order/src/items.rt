@@ -1,4 +1,4 @@
-//! Items that a flat column stores as they are: whole numbers of each native type, and those of decimals.
+//! Items that a flat column stores as they are: integers of each native type, and those of decimals.
 ghost use Rattle.std.specs.Prelude.{◌≡◌, pos, refl};
 ghost use Rattle.column_base.specs.Number.{unsigned_numbered};
 ghost use Rattle.column_base.specs.declared.dtype.DType.{DType};

@@ -1,4 +1,4 @@
-//! Columns whose rows are looked up one by one: truth values, texts and bytes.
+//! Columns whose rows are looked up one by one: booleans, texts and bytes.
 ghost use Rattle.std.specs.Prelude.{◌≡◌, ◌<◌, Some, length, slice_get};
 ghost use Rattle.column_core.specs.Leaf.{Leaf, leaf_dtype, leaf_rows, single_rows, OfTruths, OfVarBins};
 ghost use Rattle.column_core.specs.ScalarView.{sees, IsViewOf};

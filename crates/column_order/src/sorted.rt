@@ -29,7 +29,7 @@ pub fn is_constant<A: Allocator + Copy>(column: FlatView<'_, A>, range: Range<us
     }
 }
 
-// Are any two of these rows of whole numbers equal, by their native type?
+// Are any two of these rows of integers equal, by their native type?
 fn are_constant_numbers<A: Allocator + Copy>(array: &PrimitiveArray<A>, range: Range<usize>) -> bool
     requires ordered { range.start ≤ range.end }
     requires in_bounds { range.end ≤ length (leaf_rows (OfNumbers array.now)) }
@@ -81,7 +81,7 @@ pub fn is_sorted<A: Allocator + Copy>(
     }
 }
 
-// Are these rows of whole numbers in order, by their native type?
+// Are these rows of integers in order, by their native type?
 fn are_sorted_numbers<A: Allocator + Copy>(
     array: &PrimitiveArray<A>,
     range: Range<usize>,

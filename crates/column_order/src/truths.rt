@@ -1,4 +1,4 @@
-//! Columns of truth values that a comparison writes, and which of its answers are valid.
+//! Columns of booleans that a comparison writes, and which of its answers are valid.
 ghost use Rattle.std.specs.Prelude.{◌≡◌, ◌<◌, ◌++◌, ◌∷◌, [], All, length, replicate, true, false, is_some, option_map, unwrap_or, IfOk, OnOk, IsOkUnless};
 ghost use Rattle.column_base.specs.Validity.{form_of};
 ghost use Rattle.column_base.specs.ValidityForm.{AllNull, HasLength, IsNormal, flags, nullability_in};
@@ -32,7 +32,7 @@ pub(crate) fn truth_of<A: Allocator>(
     }
 }
 
-/// Writes one more optional truth value: its bit, false for null, and whether it is no null. Refused
+/// Writes one more optional boolean: its bit, false for null, and whether it is no null. Refused
 /// as `OutOfMemory` alone, and then a bit may be written without its flag.
 pub(crate) fn push_truth<A: Allocator + Copy>(
     bits: &mut BitBufferMut<A>,

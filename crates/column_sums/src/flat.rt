@@ -19,7 +19,7 @@ use crate::unsigned_runs::{UnsignedRuns, sum_unsigned_in_runs};
 use column_core::{FlatColumn, FlatView, PrimitiveArray, VortexError, VortexResult};
 use std::alloc::Allocator;
 
-/// The sum of the rows of a flat column of whole numbers, added one at a time. Refused as
+/// The sum of the rows of a flat column of integers, added one at a time. Refused as
 /// `Unsupported` exactly for columns of other types. It takes no memory.
 pub fn sum_flat<A: Allocator>(column: &FlatColumn<A>) -> VortexResult<SumAnswer>
     ensures refused { IsRefusedBy (sum_fault (leaf_dtype (leaf_of column.now))) result }
@@ -29,7 +29,7 @@ pub fn sum_flat<A: Allocator>(column: &FlatColumn<A>) -> VortexResult<SumAnswer>
     sum_view(column.view())
 }
 
-/// The sum of the rows of a borrowed flat column of whole numbers, added one at a time. Refused as `Unsupported`
+/// The sum of the rows of a borrowed flat column of integers, added one at a time. Refused as `Unsupported`
 /// exactly for columns of other types. It takes no memory.
 pub fn sum_view<A: Allocator>(column: FlatView<'_, A>) -> VortexResult<SumAnswer>
     ensures refused { IsRefusedBy (sum_fault (leaf_dtype (leaf_in column.entry))) result }

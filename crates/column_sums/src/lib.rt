@@ -1,4 +1,4 @@
-//! Sums of whole numbers: of runs, each added at once, and of flat columns.
+//! Sums of integers: of runs, each added at once, and of flat columns.
 #![tactic(auto)]
 
 mod answer;

@@ -1,4 +1,4 @@
-//! Whole numbers as words.
+//! Integers as words.
 ghost use Rattle.std.specs.Prelude.{◌<◌, ◌^◌, FitsSigned};
 ghost use Rattle.std.specs.Int.{w128};
 ghost use Rattle.std.specs.Option.{SomeIff};

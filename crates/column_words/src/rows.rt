@@ -1,4 +1,4 @@
-//! Rows that are null or whole numbers, and totals, as words.
+//! Rows that are null or integers, and totals, as words.
 ghost use Rattle.std.specs.Prelude.{◌≡◌, ◌↔◌, ◌++◌, IsTrue, OnOk};
 ghost use Rattle.std.specs.String.{string_bytes};
 ghost use Rattle.column_core.specs.ScalarView.{sees};
@@ -8,7 +8,7 @@ use column_core::ScalarView;
 use column_sums::SumValue;
 use std::alloc::{AllocError, Allocator};
 
-/// Is it null, or a whole number?
+/// Is it null, or an integer?
 pub fn is_null_or_number<A: Allocator>(row: ScalarView<'_, A>) -> bool
     ensures { IsTrue result ↔ IsNullOrNumber (sees row.entry) }
 {
@@ -18,7 +18,7 @@ pub fn is_null_or_number<A: Allocator>(row: ScalarView<'_, A>) -> bool
     }
 }
 
-/// Puts the word of the row, which is null or a whole number, right behind the text.
+/// Puts the word of the row, which is null or an integer, right behind the text.
 pub fn push_row_word<A: Allocator + Copy>(
     text: &mut String<A>,
     row: ScalarView<'_, A>,

@@ -1,9 +1,9 @@
 //! Columns made of slices, and what they are compared with.
 ghost use Rattle.std.specs.Prelude.{IfOk};
 ghost use Rattle.column_core.specs.PrimitiveForm.{primitive_dtype};
-ghost use Rattle.runend_codec.specs.Ends.{IsEndsType};
+ghost use Rattle.runend_windows.specs.Ends.{IsEndsType};
 
-use runend_codec::validate_ends;
+use runend_windows::validate_ends;
 use std::alloc::Allocator;
 use std::fmt::Debug;
 use std::process::Abort;

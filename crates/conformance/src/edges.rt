@@ -1,7 +1,7 @@
 //! Columns of as many rows as there can be, windows behind the last of them, and a null index that no row has.
 ghost use Rattle.std.specs.Prelude.{IfOk};
 ghost use Rattle.column_core.specs.PrimitiveForm.{primitive_dtype};
-ghost use Rattle.runend_codec.specs.Ends.{IsEndsType};
+ghost use Rattle.runend_windows.specs.Ends.{IsEndsType};
 
 use crate::columns::{
     assert_rows, context, decoded, ends_column, full_context, nullable, required,

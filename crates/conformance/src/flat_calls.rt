@@ -56,7 +56,7 @@ fn are_rows<A: Allocator + Copy>(
     }
 }
 
-// Are the last two of three truth values null and true?
+// Are the last two of three booleans null and true?
 fn are_null_and_true<A: Allocator + Copy>(made: VortexResult<BoolArray<A>>) -> VortexResult<bool> {
     match made {
         Ok(truths) => {

@@ -1,13 +1,13 @@
-//! Runs of truth values and of decimals.
+//! Runs of booleans and of decimals.
 ghost use Rattle.std.specs.Prelude.{◌≡◌, length, IfOk};
 ghost use Rattle.column_core.specs.PrimitiveForm.{primitive_dtype};
-ghost use Rattle.runend_codec.specs.Ends.{IsEndsType};
+ghost use Rattle.runend_windows.specs.Ends.{IsEndsType};
 
 use crate::columns::{context, ends_column};
 use crate::parts::{bits, nullable_truths};
 use crate::shown::{assert_bits, assert_shown};
 use crate::trials::{Trial, refused_in_turn};
-use runend_codec::validate_ends;
+use runend_windows::validate_ends;
 use std::alloc::Allocator;
 use std::process::Abort;
 use std::test::Fail;
@@ -161,7 +161,7 @@ fn decode_of_decimals_refused_at_each_request(rt: HostRuntime) -> Result<(), Fai
     Ok(())
 }
 
-// Truth values of runs that an iterator ends.
+// Booleans of runs that an iterator ends.
 struct EndedTruths {}
 
 impl Trial for EndedTruths {

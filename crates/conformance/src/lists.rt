@@ -1,12 +1,12 @@
 //! Runs of lists.
 ghost use Rattle.column_core.specs.PrimitiveForm.{primitive_dtype};
-ghost use Rattle.runend_codec.specs.Ends.{IsEndsType};
+ghost use Rattle.runend_windows.specs.Ends.{IsEndsType};
 
 use crate::columns::{context, ends_column, required};
 use crate::parts::{bits, texts};
 use crate::shown::{Shown, are_shown, assert_shown};
 use crate::trials::{Calls, Trial, each_refused_in_turn, refused_in_turn};
-use runend_codec::validate_ends;
+use runend_windows::validate_ends;
 use std::alloc::Allocator;
 use std::process::Abort;
 use std::rc::Rc;
@@ -170,7 +170,7 @@ fn are_repeated<S: Shown, A: Allocator + Copy>(
     are_shown(rows, &due)
 }
 
-// Lists of numbers, of truth values and of texts.
+// Lists of numbers, of booleans and of texts.
 struct ListsOfEachKind {}
 
 impl Calls for ListsOfEachKind {

@@ -16,7 +16,7 @@ const TWO_NUMBERS: [u8; 19] = [
     0x08, 1, 0x10, 6, 0x18, 1, 0x20, 2, 0x28, 4, 0x32, 1, 0x01, 0x3A, 4, 7, 0, 0, 0,
 ];
 
-// Nine truth values, all true but those of rows 1 and 8, where rows 7 and 8 are null.
+// Nine booleans, all true but those of rows 1 and 8, where rows 7 and 8 are null.
 const NINE_TRUTHS: [u8; 18] = [
     0x08, 1, 0x10, 9, 0x18, 1, 0x20, 9, 0x28, 4, 0x32, 2, 0x7F, 0x00, 0x3A, 2, 0xFD, 0x00,
 ];
@@ -121,7 +121,7 @@ fn has_bytes<A: Allocator + Copy>(
     Ok(written.as_slice() == bytes)
 }
 
-// Numbers and truth values, written.
+// Numbers and booleans, written.
 struct Written {}
 
 impl Calls for Written {
@@ -147,7 +147,7 @@ fn columns_have_the_bytes_of_the_schema(rt: HostRuntime) -> Result<(), Fail> {
     Ok(())
 }
 
-// The truth values, read: the row at each index, null as none.
+// The booleans, read: the row at each index, null as none.
 fn truth_at<A: Allocator + Copy>(column: &ArrayRef<A>, index: usize) -> Option<Option<bool>> {
     if index >= column.len() {
         return None;

@@ -1,4 +1,4 @@
-//! Columns of which run columns are made: truth values and texts.
+//! Columns of which run columns are made: booleans and texts.
 use bytes::Bytes;
 use std::alloc::Allocator;
 use vortex_runend::{
@@ -14,7 +14,7 @@ pub(crate) fn bits<A: Allocator + Copy>(alloc: A, flags: &[bool]) -> VortexResul
     Ok(bits.freeze())
 }
 
-/// Truth values, null where the flag is false.
+/// Booleans, null where the flag is false.
 pub(crate) fn nullable_truths<A: Allocator + Copy>(
     alloc: A,
     items: &[bool],

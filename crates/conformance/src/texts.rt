@@ -1,12 +1,12 @@
 //! Runs of texts and of bytes.
 ghost use Rattle.column_core.specs.PrimitiveForm.{primitive_dtype};
-ghost use Rattle.runend_codec.specs.Ends.{IsEndsType};
+ghost use Rattle.runend_windows.specs.Ends.{IsEndsType};
 
 use crate::columns::{context, ends_column};
 use crate::parts::texts;
 use crate::shown::assert_shown;
 use crate::trials::{Trial, refused_in_turn};
-use runend_codec::validate_ends;
+use runend_windows::validate_ends;
 use std::alloc::Allocator;
 use std::process::Abort;
 use std::test::Fail;

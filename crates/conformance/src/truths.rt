@@ -1,4 +1,4 @@
-//! Six truth values by both decoders of them, each in both of its ways: run by run below the threshold of runs, and
+//! Six booleans by both decoders of them, each in both of its ways: run by run below the threshold of runs, and
 //! over rows that are filled before from it on.
 use crate::columns::{context, ends_column, full_context};
 use crate::kinds::{decoded_truths, three_bits};

@@ -123,7 +123,7 @@ fn operations_serve_arrays_of_any_form(rt: HostRuntime) -> Result<(), Fail> {
     Ok(())
 }
 
-// The truth value in a row, or `None` for null.
+// The boolean in a row, or `None` for null.
 fn truth_of(row: ScalarView<'_, Global>) -> Option<bool> {
     match row {
         ScalarView::Bool(truth) => Some(truth),

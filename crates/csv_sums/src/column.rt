@@ -1,4 +1,4 @@
-//! A column of a CSV file as a flat column of whole numbers.
+//! A column of a CSV file as a flat column of integers.
 use anyhow::{Context, Result};
 use csv::{Reader, StringRecord};
 use std::alloc::Global;

@@ -1,4 +1,4 @@
-//! Sums a column of whole numbers of a CSV file over its runs.
+//! Sums a column of integers of a CSV file over its runs.
 #![tactic(auto)]
 
 mod column;

@@ -18,7 +18,7 @@ use column_order::CompareOperator;
 use runend_commands::Command;
 use std::alloc::Global;
 
-/// The column as runs, as few as there can be. Refused as `OnlyPrimitive` unless the rows are whole numbers.
+/// The column as runs, as few as there can be. Refused as `OnlyPrimitive` unless the rows are integers.
 #[tactic(auto, using(c_columns::proofs::Endings::left_with, c_columns::proofs::Endings::ends_with))]
 #[unsafe(no_mangle)]
 pub extern "C" fn hv_encode(
@@ -107,7 +107,7 @@ pub extern "C" fn hv_cast(
     }
 }
 
-/// The rows at the indices, whole numbers in any form: null at a null index.
+/// The rows at the indices, integers in any form: null at a null index.
 #[tactic(auto, using(crate::proofs::TwoColumns::no_first, crate::proofs::TwoColumns::no_second, crate::proofs::TwoColumns::two_done, crate::proofs::TwoColumns::two_refused))]
 #[unsafe(no_mangle)]
 pub extern "C" fn hv_take(
@@ -138,7 +138,7 @@ pub extern "C" fn hv_take(
     answer(outcome, out, error)
 }
 
-/// The rows at which the mask, truth values in any form, is true: null selects nothing.
+/// The rows at which the mask, booleans in any form, is true: null selects nothing.
 #[tactic(auto, using(crate::proofs::TwoColumns::no_first, crate::proofs::TwoColumns::no_second, crate::proofs::TwoColumns::two_done, crate::proofs::TwoColumns::two_refused))]
 #[unsafe(no_mangle)]
 pub extern "C" fn hv_filter(

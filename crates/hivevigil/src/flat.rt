@@ -1,4 +1,4 @@
-//! Calls that make flat columns of truth values and of decimals.
+//! Calls that make flat columns of booleans and of decimals.
 ghost use Rattle.std.specs.Prelude.{◌≡◌, ◌≢◌, IsSomeAnd, length, pos};
 ghost use Rattle.std.specs.Option.{option_or};
 ghost use Rattle.c_columns.specs.Bits.{bits_fault, bits_in, validity_by, validity_fault};
@@ -13,7 +13,7 @@ use c_columns::pairs::Pair;
 use column_core::DecimalDType;
 use std::alloc::Global;
 
-/// The flat column of `count` truth values, the first of which is bit `start` of `truths`. Nulls are told as to
+/// The flat column of `count` booleans, the first of which is bit `start` of `truths`. Nulls are told as to
 /// `hv_u8`. Refused as `ColumnLength` where there are fewer bits of either.
 #[tactic(auto, using(c_columns::proofs::Endings::ends_done, c_columns::proofs::Endings::ends_refused))]
 #[unsafe(no_mangle)]

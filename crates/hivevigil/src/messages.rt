@@ -5,7 +5,7 @@ ghost use Rattle.c_columns.specs.Ending.{EndsAs, EndsOnHeld};
 ghost use Rattle.c_columns.specs.Messages.{HasMessage, IsColumnOfMessage, IsMessageAtFront, IsUnreadable, MessageFault, SizeFault};
 
 use c_columns::commands::answer;
-use c_columns::error_fields::{ErrorFields, NO_COLUMN, tell};
+use c_columns::error_fields::{ErrorFields, NO_COLUMN, write_answer};
 use c_columns::handle::Handle;
 use c_columns::messages;
 use std::alloc::Global;
@@ -28,7 +28,7 @@ pub extern "C" fn hv_write_size(
     };
     let outcome = messages::message_size(alloc, &array);
     column.put(array);
-    tell(outcome, size, error)
+    write_answer(outcome, size, error)
 }
 
 /// The message of a column: its bytes go to the front of `bytes`, and `size` says how many they are. Refused as
@@ -52,7 +52,7 @@ pub extern "C" fn hv_write(
     };
     let outcome = messages::put_message(alloc, &array, bytes);
     column.put(array);
-    tell(outcome, size, error)
+    write_answer(outcome, size, error)
 }
 
 /// The column of which the bytes are the message. Refused as `BadMetadata` exactly where they are the message of no

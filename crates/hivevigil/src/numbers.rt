@@ -1,4 +1,4 @@
-//! Calls that make flat columns of whole numbers.
+//! Calls that make flat columns of integers.
 ghost use Rattle.std.specs.Prelude.{◌≡◌, ◌≢◌, IsSomeAnd, length, map, pos};
 ghost use Rattle.column_base.specs.declared.dtype.PType.TheVariants.{U8, U16, U32, U64, I8, I16, I32, I64};
 ghost use Rattle.c_columns.specs.Bits.{validity_by, validity_fault};

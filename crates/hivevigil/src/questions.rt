@@ -11,7 +11,7 @@ ghost use Rattle.c_columns.specs.Reads.{form_number, offset_in};
 ghost use Rattle.c_columns.specs.Totals.{IsTotalOf};
 ghost use Rattle.c_columns.specs.Values.{IsExtremeOf, IsShownAt};
 
-use c_columns::error_fields::{ErrorFields, NO_COLUMN, refuse, tell};
+use c_columns::error_fields::{ErrorFields, NO_COLUMN, refuse, write_answer};
 use c_columns::handle::Handle;
 use c_columns::kinds::{self, Kind};
 use c_columns::row_value::RowValue;
@@ -20,7 +20,7 @@ use c_columns::totals::Total;
 use c_columns::{questions, runs};
 use std::alloc::Global;
 
-/// The sum of the rows that are not null. Refused as `Unsupported` unless they are whole numbers.
+/// The sum of the rows that are not null. Refused as `Unsupported` unless they are integers.
 #[tactic(auto, using(c_columns::proofs::Endings::asked_empty, c_columns::proofs::Endings::asked_done, c_columns::proofs::Endings::asked_refused))]
 #[unsafe(no_mangle)]
 pub extern "C" fn hv_sum(
@@ -39,7 +39,7 @@ pub extern "C" fn hv_sum(
     };
     let outcome = questions::sum_of(alloc, session, &array);
     column.put(array);
-    tell(outcome, total, error)
+    write_answer(outcome, total, error)
 }
 
 /// Whether any two rows are equal, null equal to null: 1, or 0. Refused as `Unsupported` for lists.
@@ -61,7 +61,7 @@ pub extern "C" fn hv_is_constant(
     };
     let outcome = questions::is_constant(alloc, session, &array);
     column.put(array);
-    tell(outcome, truth, error)
+    write_answer(outcome, truth, error)
 }
 
 /// Whether no row is above the next, or, where `strict` is not 0, each below it, null being below all else: 1,
@@ -86,7 +86,7 @@ pub extern "C" fn hv_is_sorted(
     };
     let outcome = questions::is_sorted(alloc, session, &array, kinds::is_set(strict));
     column.put(array);
-    tell(outcome, truth, error)
+    write_answer(outcome, truth, error)
 }
 
 /// The least row that is not null, or the greatest where `greatest` is not 0; null where all are. A text or bytes
@@ -112,7 +112,7 @@ pub extern "C" fn hv_extreme(
     };
     let outcome = questions::extreme_of(alloc, session, &array, kinds::is_set(greatest), text);
     column.put(array);
-    tell(outcome, value, error)
+    write_answer(outcome, value, error)
 }
 
 /// The least and the greatest row that are not null; null twice where all are. A text or bytes of each go to the front
@@ -172,7 +172,7 @@ pub extern "C" fn hv_at(
     };
     let outcome = questions::row_at(&array, row, text);
     column.put(array);
-    tell(outcome, value, error)
+    write_answer(outcome, value, error)
 }
 
 /// How many rows there are; 0 of no column.

@@ -8,7 +8,7 @@ ghost use Rattle.runend_array.specs.Array.{column_of, rows};
 ghost use Rattle.c_columns.specs.ReadFaults.{EndsOnRead, EndsOnRows, bytes_fault, decimals_fault, flags_fault, numbers_fault, offsets_fault, truths_fault};
 ghost use Rattle.c_columns.specs.Reads.{AreBytesFrom, AreNumbersFrom, AreOffsetsFrom, ArePairsFrom, AreTruthWords, AreValidityWords};
 
-use c_columns::error_fields::{ErrorFields, NO_COLUMN, tell_done};
+use c_columns::error_fields::{ErrorFields, NO_COLUMN, write_status};
 use c_columns::handle::Handle;
 use c_columns::pairs::Pair;
 use c_columns::windows;
@@ -35,7 +35,7 @@ pub extern "C" fn hv_read_u8(
     };
     let outcome = windows::read_numbers(alloc, &array, start, items);
     column.put(array);
-    tell_done(outcome, error)
+    write_status(outcome, error)
 }
 
 /// The numbers of the rows from row `start` on, as many as there are `items`. Refused as
@@ -59,7 +59,7 @@ pub extern "C" fn hv_read_u16(
     };
     let outcome = windows::read_numbers(alloc, &array, start, items);
     column.put(array);
-    tell_done(outcome, error)
+    write_status(outcome, error)
 }
 
 /// The numbers of the rows from row `start` on, as many as there are `items`. Refused as
@@ -83,7 +83,7 @@ pub extern "C" fn hv_read_u32(
     };
     let outcome = windows::read_numbers(alloc, &array, start, items);
     column.put(array);
-    tell_done(outcome, error)
+    write_status(outcome, error)
 }
 
 /// The numbers of the rows from row `start` on, as many as there are `items`. Refused as
@@ -107,7 +107,7 @@ pub extern "C" fn hv_read_u64(
     };
     let outcome = windows::read_numbers(alloc, &array, start, items);
     column.put(array);
-    tell_done(outcome, error)
+    write_status(outcome, error)
 }
 
 /// The numbers of the rows from row `start` on, as many as there are `items`. Refused as
@@ -130,7 +130,7 @@ pub extern "C" fn hv_read_i8(
     };
     let outcome = windows::read_numbers(alloc, &array, start, items);
     column.put(array);
-    tell_done(outcome, error)
+    write_status(outcome, error)
 }
 
 /// The numbers of the rows from row `start` on, as many as there are `items`. Refused as
@@ -153,7 +153,7 @@ pub extern "C" fn hv_read_i16(
     };
     let outcome = windows::read_numbers(alloc, &array, start, items);
     column.put(array);
-    tell_done(outcome, error)
+    write_status(outcome, error)
 }
 
 /// The numbers of the rows from row `start` on, as many as there are `items`. Refused as
@@ -176,7 +176,7 @@ pub extern "C" fn hv_read_i32(
     };
     let outcome = windows::read_numbers(alloc, &array, start, items);
     column.put(array);
-    tell_done(outcome, error)
+    write_status(outcome, error)
 }
 
 /// The numbers of the rows from row `start` on, as many as there are `items`. Refused as
@@ -199,7 +199,7 @@ pub extern "C" fn hv_read_i64(
     };
     let outcome = windows::read_numbers(alloc, &array, start, items);
     column.put(array);
-    tell_done(outcome, error)
+    write_status(outcome, error)
 }
 
 /// The decimals of the rows from row `start` on, as many as there are `pairs`. Refused as
@@ -222,10 +222,10 @@ pub extern "C" fn hv_read_decimals(
     };
     let outcome = windows::read_decimals(alloc, &array, start, pairs);
     column.put(array);
-    tell_done(outcome, error)
+    write_status(outcome, error)
 }
 
-/// The truth values that a flat column stores, 64 to a word, in as few words as can be. Refused as
+/// The booleans that a flat column stores, 64 to a word, in as few words as can be. Refused as
 /// `windows::read_all_booleans` says.
 #[unsafe(no_mangle)]
 pub extern "C" fn hv_read_bools(
@@ -243,7 +243,7 @@ pub extern "C" fn hv_read_bools(
     };
     let outcome = windows::read_all_booleans(&array, words);
     column.put(array);
-    tell_done(outcome, error)
+    write_status(outcome, error)
 }
 
 /// A bit for each row of a flat column, 64 to a word: whether it is valid. Refused as `windows::read_all_validity`
@@ -264,7 +264,7 @@ pub extern "C" fn hv_read_validity(
     };
     let outcome = windows::read_all_validity(&array, words);
     column.put(array);
-    tell_done(outcome, error)
+    write_status(outcome, error)
 }
 
 /// The offsets of the texts or bytes from row `start` on, from 0: one more than rows. Refused
@@ -287,7 +287,7 @@ pub extern "C" fn hv_read_offsets(
     };
     let outcome = windows::read_offsets(alloc, &array, start, offsets);
     column.put(array);
-    tell_done(outcome, error)
+    write_status(outcome, error)
 }
 
 /// The offsets of the texts or bytes from row `start` on, from 0: one more than rows. Refused
@@ -310,7 +310,7 @@ pub extern "C" fn hv_read_large_offsets(
     };
     let outcome = windows::read_offsets(alloc, &array, start, offsets);
     column.put(array);
-    tell_done(outcome, error)
+    write_status(outcome, error)
 }
 
 /// The bytes of `count` texts or bytes from row `start` on, one after the other. Refused as
@@ -335,5 +335,5 @@ pub extern "C" fn hv_read_bytes(
     };
     let outcome = windows::read_bytes(alloc, &array, start, count, bytes);
     column.put(array);
-    tell_done(outcome, error)
+    write_status(outcome, error)
 }

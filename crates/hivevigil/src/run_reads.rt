@@ -7,7 +7,7 @@ ghost use Rattle.c_columns.specs.ReadFaults.{EndsOnRead};
 ghost use Rattle.c_columns.specs.RunParts.{no_runs_fault};
 ghost use Rattle.c_columns.specs.RunReads.{AreStopsFrom, EndsOnRun, IsRunCount, IsRunOfRow, IsRunTold, run_of_row_fault, stops_fault};
 
-use c_columns::error_fields::{ErrorFields, NO_COLUMN, refuse, tell, tell_done};
+use c_columns::error_fields::{ErrorFields, NO_COLUMN, refuse, write_answer, write_status};
 use c_columns::handle::Handle;
 use c_columns::row_value::RowValue;
 use c_columns::run_reads;
@@ -30,7 +30,7 @@ pub extern "C" fn hv_run_count(
     };
     let outcome = run_reads::run_count(&array);
     column.put(array);
-    tell(outcome, count, error)
+    write_answer(outcome, count, error)
 }
 
 /// The run of a row, from 0. Refused as `Unsupported` where the column has no runs, and then as `OutOfBounds`.
@@ -51,7 +51,7 @@ pub extern "C" fn hv_run_of(
     };
     let outcome = run_reads::run_of_row(&array, row);
     column.put(array);
-    tell(outcome, run, error)
+    write_answer(outcome, run, error)
 }
 
 /// The rows that a run shows, from `start` to `stop - 1` of the column, and their value. A text or bytes go to the
@@ -108,5 +108,5 @@ pub extern "C" fn hv_read_ends_u64(
     };
     let outcome = run_reads::read_stops(&array, first, stops);
     column.put(array);
-    tell_done(outcome, error)
+    write_status(outcome, error)
 }

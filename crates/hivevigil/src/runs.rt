@@ -10,7 +10,7 @@ ghost use Rattle.c_columns.specs.RunParts.{AreEndsOf, IsRecordAtFront, RecordedF
 ghost use Rattle.c_columns.specs.Sessions.{HasAllKernels, thresholds_in};
 
 use c_columns::commands::answer;
-use c_columns::error_fields::{BAD_NUMBER, ErrorFields, NO_COLUMN, tell};
+use c_columns::error_fields::{BAD_NUMBER, ErrorFields, NO_COLUMN, write_answer};
 use c_columns::handle::Handle;
 use c_columns::kinds::{self, Kind};
 use c_columns::runs;
@@ -110,7 +110,7 @@ pub extern "C" fn hv_serialize(
     };
     let outcome = runs::put_record(alloc, &array, bytes);
     column.put(array);
-    tell(outcome, size, error)
+    write_answer(outcome, size, error)
 }
 
 /// The ends of a run column, copied.

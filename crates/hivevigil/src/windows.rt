@@ -6,12 +6,12 @@ ghost use Rattle.runend_array.specs.Array.{column_of};
 ghost use Rattle.c_columns.specs.ReadFaults.{EndsOnWindow, flags_from_fault, truths_from_fault};
 ghost use Rattle.c_columns.specs.Reads.{AreTruthWordsFrom, AreValidityWordsFrom};
 
-use c_columns::error_fields::{ErrorFields, NO_COLUMN, tell_done};
+use c_columns::error_fields::{ErrorFields, NO_COLUMN, write_status};
 use c_columns::handle::Handle;
 use c_columns::windows;
 use std::alloc::Global;
 
-/// The truth values of `count` rows from row `start` on, 64 to a word, in as few words as can be. Refused as
+/// The booleans of `count` rows from row `start` on, 64 to a word, in as few words as can be. Refused as
 /// `windows::read_booleans` says.
 #[unsafe(no_mangle)]
 pub extern "C" fn hv_read_bools_from(
@@ -32,7 +32,7 @@ pub extern "C" fn hv_read_bools_from(
     };
     let outcome = windows::read_booleans(alloc, &array, start, count, words);
     column.put(array);
-    tell_done(outcome, error)
+    write_status(outcome, error)
 }
 
 /// A bit for each of `count` rows from row `start` on, 64 to a word: whether it is valid. Refused as
@@ -56,5 +56,5 @@ pub extern "C" fn hv_read_validity_from(
     };
     let outcome = windows::read_validity(alloc, &array, start, count, words);
     column.put(array);
-    tell_done(outcome, error)
+    write_status(outcome, error)
 }

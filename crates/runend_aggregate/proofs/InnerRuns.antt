@@ -1,7 +1,7 @@
 -- A visible run that is neither the first nor the last is cut by no window.
 use Rattle.std.proofs.Common.{◌≡◌, ℕ, zero, suc, ◌+◌, ◌-◌, ◌<◌, ◌≤◌, List, slice_index, arith}
-use Rattle.runend_codec.specs.Window.{IsWindow}
-use Rattle.runend_codec.proofs.RunAt.{ended_before, ends_after, run_at-le-length}
+use Rattle.runend_windows.specs.Window.{IsWindow}
+use Rattle.runend_windows.proofs.RunAt.{ended_before, ends_after, run_at-le-length}
 use Rattle.runend_array.specs.RowRuns.{first_visible, stop_visible}
 use Rattle.runend_aggregate.specs.ShownRuns.{rows_showing}
 

@@ -6,12 +6,12 @@ use Rattle.std.proofs.lemmas.Option.{get_or_from_slice_get, slice_get-get_or}
 use Rattle.column_core.specs.Value.{Value}
 use Rattle.column_sums.specs.RunSum.{rows_of_runs}
 use Rattle.column_sums.specs.SumAnswer.{number_in}
-use Rattle.runend_codec.specs.Cover.{Covers}
-use Rattle.runend_codec.specs.Window.{run_at, run_rows, IsWindow}
-use Rattle.runend_codec.proofs.Decoded.{Decoded, Decoded-next, reached, Covers-map}
-use Rattle.runend_codec.proofs.RunAt.{ended_before, ends_after, ends_past, run_at-le-run_at, run_of_row_within}
-use Rattle.runend_codec.proofs.RunRows.{Covers-run_rows}
-use Rattle.runend_codec.proofs.ShownRuns.{equal_from_Covers}
+use Rattle.runend_windows.specs.Cover.{Covers}
+use Rattle.runend_windows.specs.Window.{run_at, run_rows, IsWindow}
+use Rattle.runend_windows.proofs.Decoded.{Decoded, Decoded-next, reached, Covers-map}
+use Rattle.runend_windows.proofs.RunAt.{ended_before, ends_after, ends_past, run_at-le-run_at, run_of_row_within}
+use Rattle.runend_windows.proofs.RunRows.{Covers-run_rows}
+use Rattle.runend_windows.proofs.ShownRuns.{equal_from_Covers}
 use Rattle.runend_array.specs.Column.{Runs, AreRuns, column_of_runs, column_rows}
 use Rattle.runend_array.specs.RowRuns.{first_visible, stop_visible}
 use Rattle.runend_aggregate.specs.ShownRuns.{rows_before, rows_showing, runs_from, visible_runs}

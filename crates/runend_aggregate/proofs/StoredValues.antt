@@ -5,7 +5,7 @@ use Rattle.column_core.specs.Leaf.{OfNumbers}
 use Rattle.column_core.specs.PrimitiveForm.{PrimitiveForm, optional_numbers, optionals}
 use Rattle.column_sums.specs.SumAnswer.{number_in}
 use Rattle.column_sums.proofs.SingleRows.{numbers-of_rows}
-use Rattle.runend_codec.proofs.Arms.{length-arm}
+use Rattle.runend_windows.proofs.Arms.{length-arm}
 use Rattle.runend_array.specs.Column.{Column, OfLeaf, column_rows}
 
 -- items and their validity are the numbers of the flat values that store them

@@ -8,10 +8,10 @@ use Rattle.column_base.proofs.Ranges.{length-slice_range}
 use Rattle.column_core.specs.Value.{Value}
 use Rattle.column_order.specs.Order.{row_cmp}
 use Rattle.column_order.specs.OrderFacts.{IsConstant, IsSorted, IsFurthest}
-use Rattle.runend_codec.specs.Visible.{visible}
-use Rattle.runend_codec.proofs.RunRows.{length-run_rows}
-use Rattle.runend_codec.proofs.SlicedRuns.{slice_range-none}
-use Rattle.runend_codec.proofs.VisibleLaws.{all_rows, same_values, sorted, strictly_sorted}
+use Rattle.runend_windows.specs.Visible.{visible}
+use Rattle.runend_windows.proofs.RunRows.{length-run_rows}
+use Rattle.runend_windows.proofs.SlicedRuns.{slice_range-none}
+use Rattle.runend_windows.proofs.VisibleLaws.{all_rows, same_values, sorted, strictly_sorted}
 use Rattle.runend_array.specs.Column.{Column, Runs, AreRuns, column_of_runs, column_rows}
 use Rattle.runend_array.specs.RowRuns.{first_visible, stop_visible}
 use Rattle.runend_aggregate.proofs.SameRows.{not_above, not_below}

@@ -8,7 +8,7 @@ ghost use Rattle.column_core.specs.Optionals.{optionals};
 ghost use Rattle.column_sums.specs.RunSum.{calls_of, rows_of_runs, valid_runs};
 ghost use Rattle.column_sums.specs.SumAnswer.{answer_of, number_in};
 ghost use Rattle.column_sums.specs.SumRange.{UnsignedRange};
-ghost use Rattle.runend_codec.specs.Window.{IsWindow};
+ghost use Rattle.runend_windows.specs.Window.{IsWindow};
 ghost use Rattle.runend_array.specs.Array.{dtype_of, rows};
 ghost use Rattle.runend_array.specs.Column.{AreRuns, OfLeaf, column_dtype, column_rows};
 ghost use Rattle.runend_array.specs.RowRuns.{first_visible, stop_visible};

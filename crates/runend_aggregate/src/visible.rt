@@ -2,7 +2,7 @@
 ghost use Rattle.std.specs.Prelude.{◌≡◌, ◌-◌, ◌<◌, ◌≤◌, Some, length, map, min, option_map, pos, slice_get, slice_index};
 ghost use Rattle.column_base.specs.Types.{IsUnsigned};
 ghost use Rattle.column_sums.specs.SumAnswer.{number_in};
-ghost use Rattle.runend_codec.specs.Ends.{ends_of};
+ghost use Rattle.runend_windows.specs.Ends.{ends_of};
 ghost use Rattle.runend_array.specs.Array.{dtype_of, rows};
 ghost use Rattle.runend_array.specs.Column.{AreRuns};
 ghost use Rattle.runend_aggregate.specs.ShownRuns.{rows_before, rows_showing};
@@ -26,7 +26,7 @@ pub(crate) fn plain_ends<A: Allocator + Copy>(array: &RunEndArray<A>) -> &Primit
 
 // How many rows of the window lie before the end of a run.
 #[inline]
-fn rows_through<E: UnsignedPType>(ends: &[E], run: usize, offset: usize, count: usize) -> usize
+fn rows_to_end<E: UnsignedPType>(ends: &[E], run: usize, offset: usize, count: usize) -> usize
     requires { run < length ends.now }
     ensures { result ≡ min (slice_index (map E.natural ends.now) run - offset) count }
 {
@@ -35,14 +35,14 @@ fn rows_through<E: UnsignedPType>(ends: &[E], run: usize, offset: usize, count: 
 }
 
 #[inline]
-fn rows_ahead<E: UnsignedPType>(ends: &[E], run: usize, offset: usize, count: usize) -> usize
+fn rows_before_run<E: UnsignedPType>(ends: &[E], run: usize, offset: usize, count: usize) -> usize
     requires { run < length ends.now }
     ensures { result ≡ rows_before (map E.natural ends.now) offset count run }
 {
     if run == 0 {
         return 0;
     }
-    rows_through(ends, run - 1, offset, count)
+    rows_to_end(ends, run - 1, offset, count)
 }
 
 /// How many rows of a window, of `count` rows from position `offset` on, show a run.
@@ -56,7 +56,7 @@ pub(crate) fn rows_of_run<E: UnsignedPType>(
     requires { run < length ends.now }
     ensures { result ≡ rows_showing (map E.natural ends.now) offset count run }
 {
-    rows_through(ends, run, offset, count).saturating_sub(rows_ahead(ends, run, offset, count))
+    rows_to_end(ends, run, offset, count).saturating_sub(rows_before_run(ends, run, offset, count))
 }
 
 /// How many rows lie between the end of a run and that of the run before it, where the ends increase. So many rows of a

@@ -9,15 +9,15 @@ use Rattle.column_base.specs.ValidityForm.{ValidityForm, NeverNull, NoneNull, Al
 use Rattle.column_base.specs.declared.dtype.DType.TheVariants as column
 use Rattle.column_core.specs.PrimitiveForm.{PrimitiveForm, primitive_dtype, primitive_with}
 use Rattle.column_core.specs.Leaf.{OfNumbers, OfTruths, OfDecimals, OfVarBins}
-use Rattle.runend_codec.specs.Window.{IsWindow}
+use Rattle.runend_windows.specs.Window.{IsWindow}
 use Rattle.runend_array.specs.Column.{Column, OfLeaf, OfConstant, OfLists, OfRuns, Runs, AreParts, column_of_runs, column_rows, column_dtype, runs_of}
-use Rattle.runend_codec.specs.Ends.{IsEndsType, ends_of}
-use Rattle.runend_codec.proofs.RunRows.{Covers_iff_run_rows}
+use Rattle.runend_windows.specs.Ends.{IsEndsType, ends_of}
+use Rattle.runend_windows.proofs.RunRows.{Covers_iff_run_rows}
 use Rattle.runend_array.specs.Encoding.{IsEncoded, IsEncodedColumn, IsEncoding}
-use Rattle.runend_codec.specs.Encoding.{IsAllInvalid, IsFlatEncoding, number_rows}
-use Rattle.runend_codec.proofs.Grow.{IsTightCover-from_Tiles}
-use Rattle.runend_codec.proofs.NullRows.{length-number_rows, nulls-from_AllNull, null-at_each}
-use Rattle.runend_codec.proofs.ShownRuns.{shown_at-here}
+use Rattle.runend_windows.specs.Encoding.{IsAllInvalid, IsFlatEncoding, number_rows}
+use Rattle.runend_windows.proofs.Grow.{IsTightCover-from_Tiles}
+use Rattle.runend_windows.proofs.NullRows.{length-number_rows, nulls-from_AllNull, null-at_each}
+use Rattle.runend_windows.proofs.ShownRuns.{shown_at-here}
 
 -- a validity says that all of some rows are null, or it does not
 decide_all_null : (v : ValidityForm) (n : ℕ) → ((v ≡ AllNull) × (0 < n)) ⊎ (¬ ((v ≡ AllNull) × (0 < n)))

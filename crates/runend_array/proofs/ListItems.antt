@@ -16,7 +16,7 @@ use Rattle.column_core.specs.BoolForm.{bool_rows}
 use Rattle.column_core.specs.Leaf.{OfNumbers, OfTruths, OfDecimals, OfVarBins}
 use Rattle.column_core.proofs.OptionalRows.{rows_within_numbers, rows_within_bits}
 use Rattle.runend_array.specs.Column.{Column, OfLeaf, OfConstant, OfLists, OfRuns, IsPlainIndex, IsPlainTruths, column_rows, end_numbers, truths_of}
-use Rattle.runend_codec.proofs.StoredNumbers.{naturals-of_pos}
+use Rattle.runend_windows.proofs.StoredNumbers.{naturals-of_pos}
 
 -- a number of a flat column of unsigned numbers, as it is read
 pub number-read : (stored : List ℤ) (items : List ℕ) (i n : ℕ) → map (λ (k : ℕ). pos k) items ≡ stored → i < length (map unsigned_abs stored) → n ≡ get_or items i n

@@ -9,12 +9,12 @@ use Rattle.column_core.specs.PrimitiveForm.{PrimitiveForm, primitive_dtype, prim
 use Rattle.column_core.specs.BoolForm.{BoolForm, bool_with}
 use Rattle.column_core.specs.Leaf.{Leaf, OfNumbers, OfTruths, leaf_rows}
 use Rattle.column_core.proofs.OptionalRows.{length-primitive_rows, length-bool_rows}
-use Rattle.runend_codec.specs.Window.{IsWindow}
+use Rattle.runend_windows.specs.Window.{IsWindow}
 use Rattle.runend_array.specs.Lists.{RunIndex}
 use Rattle.runend_array.specs.Column.{AreParts, OfLeaf, Runs, end_numbers, runs_of}
-use Rattle.runend_codec.specs.Ends.{IsEndsType, ends_of}
-use Rattle.runend_codec.proofs.Ends.{length_ends_of}
-use Rattle.runend_codec.proofs.StoredNumbers.{naturals-of_pos}
+use Rattle.runend_windows.specs.Ends.{IsEndsType, ends_of}
+use Rattle.runend_windows.proofs.Ends.{length_ends_of}
+use Rattle.runend_windows.proofs.StoredNumbers.{naturals-of_pos}
 
 -- a flat column with a row for each end makes a run column
 AreParts-leaf : (ends : PrimitiveForm) (leaf : Leaf) (offset count : ℕ) → IsEndsType (primitive_dtype ends) → IsWindow (ends_of ends) offset count

@@ -14,16 +14,16 @@ use Rattle.column_core.specs.Value.{Value, Items}
 use Rattle.column_core.specs.PrimitiveForm.{PrimitiveForm, primitive_with}
 use Rattle.column_core.specs.Leaf.{Leaf, leaf_dtype, leaf_rows}
 use Rattle.runend_array.specs.Array.{validity_of}
-use Rattle.runend_codec.specs.Ends.{ends_of}
+use Rattle.runend_windows.specs.Ends.{ends_of}
 use Rattle.runend_array.specs.Fault.{rows_told}
 use Rattle.runend_array.specs.declared.validities.row_validity.RowValidity.{RowValidity}
 use Rattle.runend_array.specs.declared.validities.row_validity.RowValidity.TheVariants as told
 use Rattle.runend_array.specs.Lists.{AreLists, ByRows, Index, Lists, PlainIndex, RowValidityForm, index_at, index_count, index_numbers, list_at, list_count, list_dtype, list_rows, row_flag_at, row_nullability}
 use Rattle.column_core.specs.Value.{element_of}
 use Rattle.runend_array.specs.ListSlice.{AreListsInRange, IsValidityInRange}
-use Rattle.runend_codec.proofs.Lists.{equal_by_slice_get}
+use Rattle.runend_windows.proofs.Lists.{equal_by_slice_get}
 use Rattle.runend_array.proofs.ListRows.{slice_get-made}
-use Rattle.runend_codec.proofs.StoredNumbers.{naturals-of_pos}
+use Rattle.runend_windows.proofs.StoredNumbers.{naturals-of_pos}
 
 -- a list that is made by a function of the index, from some place on, with one item more
 pub made_from-push : {X : Type 0} (f : ℕ → X) (xs ys : List X) (start i : ℕ) (x : X) → start ≤ i → ys ≡ xs ++ x ∷ [] → x ≡ f i

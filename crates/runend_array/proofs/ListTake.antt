@@ -12,9 +12,9 @@ use Rattle.column_base.specs.declared.dtype.PType.TheVariants.{U64}
 use Rattle.column_core.specs.Value.{Value, Items, element_of}
 use Rattle.column_core.specs.PrimitiveForm.{PrimitiveForm, primitive_with}
 use Rattle.column_core.specs.Leaf.{Leaf, leaf_dtype, leaf_rows}
-use Rattle.runend_codec.specs.Ends.{ends_of}
-use Rattle.runend_codec.proofs.Lists.{equal_by_slice_get}
-use Rattle.runend_codec.proofs.StoredNumbers.{naturals-of_pos}
+use Rattle.runend_windows.specs.Ends.{ends_of}
+use Rattle.runend_windows.proofs.Lists.{equal_by_slice_get}
+use Rattle.runend_windows.proofs.StoredNumbers.{naturals-of_pos}
 use Rattle.runend_array.specs.Lists.{AreLists, ByRows, ByRuns, Lists, PlainIndex, RowValidityForm, index_at, index_count, list_at, list_count, list_dtype, list_rows, row_flag_at, row_nullability}
 use Rattle.runend_array.specs.ListTake.{AreListsAt, ArePlacesOf, IsValidityAt, flag_taken, list_taken, lists_taken, nullability_taken, number_taken}
 use Rattle.runend_array.proofs.ListRows.{slice_get-made}

@@ -8,10 +8,10 @@ use Rattle.std.specs.List.{slice_get, range_with_len}
 use Rattle.std.specs.List.Sorted.{IsStrictlyIncreasing}
 use Rattle.std.specs.Prelude.{get_or, slice_index_or, slice_range}
 use Rattle.column_base.proofs.Ranges.{length-slice_range, get_or-slice_range}
-use Rattle.runend_codec.specs.Window.{IsWindow, run_at}
-use Rattle.runend_codec.proofs.Lists.{equal_by_slice_get, slice_get-append, slice_get-append_copies, slice_get-replicate}
-use Rattle.runend_codec.proofs.Places.{run_at-beyond}
-use Rattle.runend_codec.proofs.RunAt.{ends_past, run_at-le, run_at-le-length, run_at-le-run_at, run_of_row_within}
+use Rattle.runend_windows.specs.Window.{IsWindow, run_at}
+use Rattle.runend_windows.proofs.Lists.{equal_by_slice_get, slice_get-append, slice_get-append_copies, slice_get-replicate}
+use Rattle.runend_windows.proofs.Places.{run_at-beyond}
+use Rattle.runend_windows.proofs.RunAt.{ends_past, run_at-le, run_at-le-length, run_at-le-run_at, run_of_row_within}
 use Rattle.runend_array.specs.Column.{Column, OfLeaf, OfConstant, OfLists, OfRuns, IsPlainIndex, end_numbers, index_of, leaf_ends}
 use Rattle.column_base.specs.ValidityForm.{NeverNull, NoneNull, AllNull, ByBits}
 use Rattle.runend_array.specs.Lists.{ByRows, ByRuns, Index, IsFlagRunUpTo, IsRunUpTo, IsWithinElements, Lists, PlainIndex, RowValidityForm, RunIndex, flag_stop, index_at, index_count, index_stop, row_flag_at, run_stop}

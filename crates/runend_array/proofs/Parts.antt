@@ -4,8 +4,8 @@ use Rattle.std.specs.Prelude.{option_map, slice_range}
 use Rattle.column_base.proofs.Ranges.{slice_range-replicate}
 use Rattle.column_core.specs.Value.{FlatValue, Single}
 use Rattle.column_core.specs.Leaf.{OfNumbers, OfTruths, OfDecimals, OfVarBins}
-use Rattle.runend_codec.specs.Window.{run_rows}
-use Rattle.runend_codec.proofs.SlicedRuns.{run_rows-narrowed}
+use Rattle.runend_windows.specs.Window.{run_rows}
+use Rattle.runend_windows.proofs.SlicedRuns.{run_rows-narrowed}
 use Rattle.runend_array.specs.Column.{AreRuns, Column, Constant, OfLeaf, OfConstant, OfLists, OfRuns, Runs, column_dtype, column_of_runs, column_rows, repeated}
 use Rattle.runend_array.specs.Encoding.{IsComputedFlat}
 use Rattle.runend_array.specs.RowRuns.{first_run, last_run}

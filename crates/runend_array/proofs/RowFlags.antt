@@ -22,18 +22,18 @@ use Rattle.column_core.specs.PrimitiveForm.{PrimitiveForm}
 use Rattle.column_core.specs.VarBinForm.{kind_dtype, varbin_value, view_bytes}
 use Rattle.column_core.specs.Leaf.{Leaf, OfNumbers, OfTruths, OfDecimals, OfVarBins, leaf_count, leaf_validity}
 use Rattle.column_core.proofs.OptionalRows.{length-optionals}
-use Rattle.runend_codec.specs.Window.{run_at}
+use Rattle.runend_windows.specs.Window.{run_at}
 use Rattle.runend_array.specs.Lists.{AreLists, ByRows, Lists, RowValidityForm, list_at, list_count, list_rows, row_flag_at, row_flags_of}
 use Rattle.runend_array.specs.ListRuns.{IsValidityInRuns}
 use Rattle.runend_array.specs.Column.{AreRuns, Column, Constant, OfConstant, OfLeaf, OfLists, Runs, column_dtype, column_of_runs, column_rows}
-use Rattle.runend_codec.specs.Ends.{ends_of}
+use Rattle.runend_windows.specs.Ends.{ends_of}
 use Rattle.column_core.specs.Computed.{without_nulls}
 use Rattle.runend_array.specs.RowFlags.{IsValidityForm, IsValidityOf, constant_validity}
-use Rattle.runend_codec.proofs.Ends.{length_ends_of}
-use Rattle.runend_codec.proofs.Lists.{equal_by_slice_get, slice_get-replicate}
+use Rattle.runend_windows.proofs.Ends.{length_ends_of}
+use Rattle.runend_windows.proofs.Lists.{equal_by_slice_get, slice_get-replicate}
 use Rattle.runend_array.proofs.ListRows.{length-list_rows, slice_get-made}
-use Rattle.runend_codec.proofs.RunAt.{run_of_row_within}
-use Rattle.runend_codec.proofs.RunRows.{length-run_rows, slice_get-run_rows_of_window}
+use Rattle.runend_windows.proofs.RunAt.{run_of_row_within}
+use Rattle.runend_windows.proofs.RunRows.{length-run_rows, slice_get-run_rows_of_window}
 use Rattle.runend_array.proofs.ShownLists.{flag-in_runs, has_rows-in_runs, nullability-in_runs}
 
 -- flags that say of each row whether it is no null

@@ -8,17 +8,17 @@ use Rattle.column_base.specs.declared.dtype.DType.TheVariants as column
 use Rattle.column_base.specs.ValidityForm.{NeverNull, NoneNull, AllNull, ByBits}
 use Rattle.column_core.specs.Value.{Value, Items}
 use Rattle.column_core.specs.Leaf.{Leaf, leaf_dtype, leaf_rows}
-use Rattle.runend_codec.specs.Window.{run_at, IsWindow}
+use Rattle.runend_windows.specs.Window.{run_at, IsWindow}
 use Rattle.column_core.specs.PrimitiveForm.{PrimitiveForm}
-use Rattle.runend_codec.specs.Ends.{ends_of}
-use Rattle.runend_codec.specs.Window.{run_rows}
+use Rattle.runend_windows.specs.Ends.{ends_of}
+use Rattle.runend_windows.specs.Window.{run_rows}
 use Rattle.runend_array.specs.Lists.{AreLists, ByRows, ByRuns, HasRows, Index, Lists, RowValidityForm, RunIndex, index_at, index_count, index_numbers, list_at, list_count, list_dtype, list_rows, row_flag_at, row_flags_of, row_nullability}
 use Rattle.column_core.specs.Value.{element_of}
 use Rattle.runend_array.specs.ListRuns.{AreListsInRuns, IsValidityInRuns}
-use Rattle.runend_codec.proofs.Lists.{equal_by_slice_get}
+use Rattle.runend_windows.proofs.Lists.{equal_by_slice_get}
 use Rattle.runend_array.proofs.ListRows.{length-list_rows, slice_get-made}
-use Rattle.runend_codec.proofs.RunAt.{run_of_row_within}
-use Rattle.runend_codec.proofs.RunRows.{length-run_rows, slice_get-run_rows_of_window}
+use Rattle.runend_windows.proofs.RunAt.{run_of_row_within}
+use Rattle.runend_windows.proofs.RunRows.{length-run_rows, slice_get-run_rows_of_window}
 
 -- a number of an index, one by one
 index_numbers-at : (index : Index) (i : ℕ) → i < index_count index → slice_index (index_numbers index) i ≡ index_at index i

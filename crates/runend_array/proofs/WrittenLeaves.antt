@@ -22,8 +22,8 @@ use Rattle.runend_array.specs.Column.{Constant}
 use Rattle.column_core.specs.Computed.{IsWrittenLeaf, without_nulls}
 use Rattle.column_core.specs.Leaf.{single_rows}
 use Rattle.runend_array.specs.Canonical.{IsConstantLeaf}
-use Rattle.runend_codec.proofs.DecodedItems.{rows_of}
-use Rattle.runend_codec.proofs.WrittenConstants.{rows-written_null, computed-written_null, rows-written, computed-written, nullability-without_nulls, nullable}
+use Rattle.runend_windows.proofs.DecodedItems.{rows_of}
+use Rattle.runend_windows.proofs.WrittenConstants.{rows-written_null, computed-written_null, rows-written, computed-written, nullability-without_nulls, nullable}
 
 -- what a view of a constant says of its value
 pub none-seen : (value : Option FlatValue) → ◌≡◌ {A = Option Value} None (option_map Single value) → value ≡ None

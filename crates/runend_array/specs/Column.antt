@@ -7,8 +7,8 @@ use Rattle.column_base.specs.declared.dtype.DType.{DType}
 use Rattle.column_base.specs.declared.dtype.DType.TheVariants as column
 use Rattle.column_core.specs.Value.{FlatValue, Value, Single, PlainColumn}
 use Rattle.column_core.specs.Leaf.{Leaf, OfNumbers, OfTruths, OfDecimals, OfVarBins, leaf_rows, leaf_dtype}
-use Rattle.runend_codec.specs.Window.{IsWindow, run_rows}
-use Rattle.runend_codec.specs.Ends.{IsEndsType, ends_of}
+use Rattle.runend_windows.specs.Window.{IsWindow, run_rows}
+use Rattle.runend_windows.specs.Ends.{IsEndsType, ends_of}
 use Rattle.runend_array.specs.Lists.{Index, PlainIndex, RunIndex, RowValidityForm, ByRuns, Lists, list_rows, list_dtype, lists_depth}
 
 -- one optional value of a type, in each of `count` rows

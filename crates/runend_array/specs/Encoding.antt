@@ -10,10 +10,10 @@ use Rattle.column_core.specs.Value.{Value}
 use Rattle.column_core.specs.PrimitiveForm.{PrimitiveForm, primitive_dtype}
 use Rattle.column_core.specs.Leaf.{OfNumbers}
 use Rattle.column_core.specs.Computed.{IsComputedLeaf}
-use Rattle.runend_codec.specs.Window.{last_end}
-use Rattle.runend_codec.specs.Cover.{IsTightCover}
-use Rattle.runend_codec.specs.Ends.{ends_of}
-use Rattle.runend_codec.specs.Encoding.{HasNullsAlone, IsAllInvalid, number_rows}
+use Rattle.runend_windows.specs.Window.{last_end}
+use Rattle.runend_windows.specs.Cover.{IsTightCover}
+use Rattle.runend_windows.specs.Ends.{ends_of}
+use Rattle.runend_windows.specs.Encoding.{HasNullsAlone, IsAllInvalid, number_rows}
 use Rattle.runend_array.specs.Column.{Column, OfLeaf, OfConstant, OfLists, OfRuns, Runs, column_rows, column_dtype}
 
 -- whole numbers of this native type

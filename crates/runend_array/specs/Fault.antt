@@ -5,7 +5,7 @@ use Rattle.column_base.specs.declared.error.VortexError.TheVariants.{EndsNotUnsi
 use Rattle.column_base.specs.ValidityForm.{length_of}
 use Rattle.column_core.specs.Leaf.{leaf_rows}
 use Rattle.column_core.specs.declared.flat.FlatColumn.{FlatColumn}
-use Rattle.runend_codec.specs.WindowFault.{WindowFault}
+use Rattle.runend_windows.specs.WindowFault.{WindowFault}
 use Rattle.runend_array.specs.Lists.{Lists, RowValidityForm, ByRows, ByRuns, HasRows, IsWithinElements, index_count, list_count, row_flag_at}
 use Rattle.runend_array.specs.Column.{Column, column_rows, IsPlainEnds, end_numbers}
 use Rattle.runend_array.specs.Array.{AreListTypes, lists_of}

@@ -9,7 +9,7 @@ use Rattle.column_base.specs.declared.dtype.DType.TheVariants as column
 use Rattle.column_base.specs.ValidityForm.{ValidityForm, NeverNull, NoneNull, AllNull, ByBits, HasLength, flag_at, nullability_in}
 use Rattle.column_core.specs.Value.{Value, Items, element_of}
 use Rattle.column_core.specs.Leaf.{Leaf, leaf_rows, leaf_dtype}
-use Rattle.runend_codec.specs.Window.{run_at}
+use Rattle.runend_windows.specs.Window.{run_at}
 
 -- numbers that are stored one by one, or as runs over flat numbers: the type of the ends, the ends, the numbers, the
 -- offset and the number of rows

@@ -1,6 +1,6 @@
 -- The runs of a range of rows, and of all rows: the visible runs.
 use Rattle.std.specs.Prelude.{ℕ, zero, suc, ◌+◌, ◌-◌, List}
-use Rattle.runend_codec.specs.Window.{run_at}
+use Rattle.runend_windows.specs.Window.{run_at}
 use Rattle.runend_array.specs.Column.{Runs}
 
 -- the run of row `start`

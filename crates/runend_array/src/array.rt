@@ -1,7 +1,7 @@
 //! The run column: runs of equal rows, seen through a window.
 ghost use Rattle.std.specs.Prelude.{◌≡◌, ◌+◌, ◌-◌, ◌<◌, ◌≤◌, length, min, count_by, nat_le, nat_lt};
 ghost use Rattle.runend_array.specs.Array.{column_of, rows};
-ghost use Rattle.runend_codec.specs.Window.{run_at};
+ghost use Rattle.runend_windows.specs.Window.{run_at};
 ghost use Rattle.runend_array.specs.Column.{AreParts, AreRuns, IsPlainEnds, Runs, column_dtype, end_numbers, end_ptype, runs_of};
 
 mod encoding;

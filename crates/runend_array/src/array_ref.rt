@@ -3,8 +3,8 @@ ghost use Rattle.std.specs.Prelude.{◌≡◌, ◌<◌, ◌≤◌, ◌↔◌, So
 ghost use Rattle.column_core.specs.FlatView.{leaf_in};
 ghost use Rattle.column_core.specs.PrimitiveForm.{primitive_dtype};
 ghost use Rattle.column_core.specs.ScalarView.{sees, IsViewOf};
-ghost use Rattle.runend_codec.specs.Ends.{IsEndsType, ends_of};
-ghost use Rattle.runend_codec.specs.Window.{IsWindow, run_rows};
+ghost use Rattle.runend_windows.specs.Ends.{IsEndsType, ends_of};
+ghost use Rattle.runend_windows.specs.Window.{IsWindow, run_rows};
 ghost use Rattle.runend_array.specs.Array.{column_of, dtype_of, rows};
 ghost use Rattle.runend_array.specs.Canonical.{IsCanonical, IsFlatPart, canonical_column};
 ghost use Rattle.runend_array.specs.Column.{OfConstant, OfLeaf, OfLists, IsLeaf, column_dtype, column_of_runs, column_rows};
@@ -46,7 +46,7 @@ impl<A: Allocator + Copy> ArrayRef<A> {
             ArrayRef::ListView(lists) => lists.len(),
             ArrayRef::Constant(array) => array.len(),
             ArrayRef::RunEnd(array) => array.len(),
-            _ => self.lent_flat().len(),
+            _ => self.as_flat().len(),
         }
     }
 
@@ -66,7 +66,7 @@ impl<A: Allocator + Copy> ArrayRef<A> {
             ArrayRef::ListView(lists) => lists.dtype(),
             ArrayRef::Constant(array) => array.dtype(),
             ArrayRef::RunEnd(array) => array.values_dtype(),
-            _ => self.lent_flat().dtype(),
+            _ => self.as_flat().dtype(),
         }
     }
 
@@ -94,7 +94,7 @@ impl<A: Allocator + Copy> ArrayRef<A> {
     }
 
     // The flat column, borrowed, of an array that has none of the other forms.
-    pub(crate) fn lent_flat(&self) -> FlatView<'_, A>
+    pub(crate) fn as_flat(&self) -> FlatView<'_, A>
         requires { IsLeaf (column_of self.now) }
         ensures { column_of self.now ≡ OfLeaf (leaf_in result) }
     {
@@ -129,7 +129,7 @@ impl<A: Allocator + Copy> ArrayRef<A> {
             }
             ArrayRef::RunEnd(array) => array.row_at(index),
             _ => {
-                let flat = self.lent_flat();
+                let flat = self.as_flat();
                 if index >= flat.len() {
                     return Err(out_of_bounds(index, flat.len()));
                 }
@@ -178,7 +178,7 @@ impl<A: Allocator + Copy> ArrayRef<A> {
                 Err(error) => Err(error),
             },
             _ => {
-                let copy = copy_flat(alloc, self.lent_flat(), buffers)?;
+                let copy = copy_flat(alloc, self.as_flat(), buffers)?;
                 Ok(array_of(copy))
             }
         }
@@ -211,7 +211,7 @@ impl<A: Allocator + Copy> ArrayRef<A> {
         self.canonicalize_in(*ctx.allocator(), prefill_runs)
     }
 
-    // From `prefill_runs` runs on the rows of truth values start as the value of most runs.
+    // From `prefill_runs` runs on the rows of booleans start as the value of most runs.
     pub(crate) fn canonicalize_in(
         &self,
         alloc: A,
@@ -230,7 +230,7 @@ impl<A: Allocator + Copy> ArrayRef<A> {
             ArrayRef::Constant(array) => write_constant(alloc, array),
             ArrayRef::RunEnd(array) => array.canonicalize_in(alloc, prefill_runs),
             _ => {
-                let copy = self.lent_flat().try_clone(alloc)?;
+                let copy = self.as_flat().try_clone(alloc)?;
                 Ok(Canonical::Flat(copy))
             }
         }
@@ -240,7 +240,7 @@ impl<A: Allocator + Copy> ArrayRef<A> {
     // false or the view of nothing under null. Values that are flat are read where they are; a constant
     // and runs are made flat first.
     #[cycle(canonicalize_in)]
-    pub(crate) fn shown_by(
+    pub(crate) fn decode_with(
         &self,
         alloc: A,
         ends: &PrimitiveArray<A>,
@@ -259,19 +259,19 @@ impl<A: Allocator + Copy> ArrayRef<A> {
     {
         match self {
             ArrayRef::ListView(lists) => {
-                let shown = lists.shown_by(alloc, ends, offset, count)?;
+                let shown = lists.decode_with(alloc, ends, offset, count)?;
                 Ok(Canonical::List(shown))
             }
             ArrayRef::Constant(constant) => {
                 let values = write_constant(alloc, constant)?;
-                values.shown_by(alloc, ends, offset, count, prefill_runs)
+                values.decode_with(alloc, ends, offset, count, prefill_runs)
             }
             ArrayRef::RunEnd(array) => {
                 let values = array.canonicalize_in(alloc, prefill_runs)?;
-                values.shown_by(alloc, ends, offset, count, prefill_runs)
+                values.decode_with(alloc, ends, offset, count, prefill_runs)
             }
             _ => {
-                let values = self.lent_flat();
+                let values = self.as_flat();
                 let array = decode_flat(alloc, ends, values, offset, count, prefill_runs)?;
                 Ok(Canonical::Flat(array))
             }

@@ -3,10 +3,10 @@ ghost use Rattle.std.specs.Prelude.{◌≡◌, length, IfOk, IsOkUnless};
 ghost use Rattle.column_core.specs.FlatColumn.{leaf_of};
 ghost use Rattle.runend_array.specs.Array.{column_of};
 ghost use Rattle.column_core.specs.PrimitiveForm.{primitive_dtype};
-ghost use Rattle.runend_codec.specs.Window.{IsWindow};
-ghost use Rattle.runend_codec.specs.Ends.{IsEndsType, ends_of};
+ghost use Rattle.runend_windows.specs.Window.{IsWindow};
+ghost use Rattle.runend_windows.specs.Ends.{IsEndsType, ends_of};
 ghost use Rattle.runend_array.specs.Column.{OfLeaf, column_dtype, column_rows};
-ghost use Rattle.runend_codec.specs.Window.{run_rows};
+ghost use Rattle.runend_windows.specs.Window.{run_rows};
 ghost use Rattle.runend_array.specs.Encoding.{IsComputedFlat};
 ghost use Rattle.runend_array.specs.Canonical.{canonical_column};
 
@@ -48,9 +48,9 @@ impl<A: Allocator + Copy> Canonical<A> {
     }
 
     /// The rows that runs of these values show, from row `offset` on, `count` many, in a flat form, with 0,
-    /// false or the view of nothing under null. From `prefill_runs` runs on the rows of truth values start as
+    /// false or the view of nothing under null. From `prefill_runs` runs on the rows of booleans start as
     /// the value of most runs; the answer is the same. Refused as `OutOfMemory` alone.
-    pub fn shown_by(
+    pub fn decode_with(
         self,
         alloc: A,
         ends: &PrimitiveArray<A>,
@@ -75,7 +75,7 @@ impl<A: Allocator + Copy> Canonical<A> {
                 Ok(Canonical::Flat(array?))
             }
             Canonical::List(lists) => {
-                let made = lists.shown_by(alloc, ends, offset, count);
+                let made = lists.decode_with(alloc, ends, offset, count);
                 drop(lists);
                 let shown = made?;
                 Ok(Canonical::List(shown))

@@ -1,4 +1,4 @@
-//! The encoder of whole numbers, and the decoder of flat values.
+//! The encoder of integers, and the decoder of flat values.
 ghost use Rattle.std.specs.Prelude.{◌≡◌, ℕ, List, None, length, length as item_count, map, IfOk, IsOkUnless};
 ghost use Rattle.column_base.specs.declared.dtype.DType.TheVariants as column;
 ghost use Rattle.column_base.specs.Mask.{mask_bits};
@@ -6,11 +6,11 @@ ghost use Rattle.column_core.specs.Computed.{IsComputed};
 ghost use Rattle.column_core.specs.FlatColumn.{leaf_of};
 ghost use Rattle.column_core.specs.Leaf.{OfDecimals, OfVarBins, leaf_dtype, leaf_rows, single_rows};
 ghost use Rattle.column_core.specs.PrimitiveForm.{primitive_dtype};
-ghost use Rattle.runend_codec.specs.Encoding.{IsAllInvalid, number_rows};
-ghost use Rattle.runend_codec.specs.Ends.{IsEndsType, ends_of};
-ghost use Rattle.runend_codec.specs.RunEnds.{AreRunEnds, FitsMask, masked_values};
+ghost use Rattle.runend_windows.specs.Encoding.{IsAllInvalid, number_rows};
+ghost use Rattle.runend_windows.specs.Ends.{IsEndsType, ends_of};
+ghost use Rattle.runend_windows.specs.RunEnds.{AreRunEnds, FitsMask, masked_values};
 ghost use Rattle.column_core.specs.Computed.{HasRowIfAllNull};
-ghost use Rattle.runend_codec.specs.Window.{IsWindow, run_rows};
+ghost use Rattle.runend_windows.specs.Window.{IsWindow, run_rows};
 ghost use Rattle.runend_array.specs.Array.{column_of, dtype_of, rows};
 ghost use Rattle.runend_array.specs.ListRuns.{AreListsInRuns};
 ghost use Rattle.runend_array.specs.Lists.{list_count, list_dtype, list_rows};
@@ -25,8 +25,8 @@ use column_core::{
     DecimalArray, FlatColumn, Mask, NativePType, Nullability, PrimitiveArray, PrimitiveValues,
     Validity, VarBinViewArray, VortexError, VortexResult,
 };
-use runend_codec::{encode_plain, is_all_null};
 use runend_decode::{decode_flat, decode_typed_numbers, has_nulls_alone};
+use runend_windows::{encode_plain, is_all_null};
 use std::alloc::Allocator;
 
 /// The ends and the values of the runs of a column: a run for each longest stretch of equal rows,
@@ -69,7 +69,7 @@ fn encode_nulls<A: Allocator + Copy>(
 
 /// The rows that runs show, from row `offset` on, `count` many: a constant null where there is a run
 /// and all values are null, else a flat column with 0, false or the view of nothing under null. From
-/// `prefill_runs` runs on the rows of truth values start as the value of most runs; others make no use
+/// `prefill_runs` runs on the rows of booleans start as the value of most runs; others make no use
 /// of it. Refused as `OutOfMemory` alone.
 pub fn decode_column<A: Allocator + Copy>(
     alloc: A,

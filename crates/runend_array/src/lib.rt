@@ -26,6 +26,6 @@ pub use column_core::{
 };
 pub use constant::{ConstantArray, null_constant};
 pub use lists::ListViewArray;
-pub use runend_codec::{TrimmedEnds, trimmed_ends_iter};
+pub use runend_windows::{TrimmedEnds, trimmed_ends_iter};
 pub use session::{ExecutionCtx, Kernel, Thresholds, VortexSession};
 pub use validities::RowValidity;

@@ -8,5 +8,5 @@ mod take;
 
 pub(crate) use index::{is_plain_index, is_plain_truths, plain_number_at, plain_truth_at};
 pub use listview::ListViewArray;
-pub(crate) use runs::validity_in_runs;
+pub(crate) use runs::run_validity_of_lists;
 pub(crate) use stretch::Stretch;

@@ -3,19 +3,19 @@ ghost use Rattle.std.specs.Prelude.{◌≡◌, ◌+◌, ◌-◌, ◌<◌, ◌≤
 ghost use Rattle.std.specs.List.Sorted.{IsStrictlyIncreasing};
 ghost use Rattle.column_base.specs.Numbers.{numbers, ptype_of};
 ghost use Rattle.column_base.specs.Types.{IsUnsigned};
-ghost use Rattle.runend_codec.specs.Window.{run_at};
+ghost use Rattle.runend_windows.specs.Window.{run_at};
 ghost use Rattle.runend_array.specs.Array.{column_of};
 ghost use Rattle.runend_array.specs.Column.{IsPlainEnds, end_numbers};
 
 use crate::array_ref::ArrayRef;
 use column_core::PrimitiveValues;
-pub use runend_codec::first_past;
-use runend_codec::{ended_before, first_past_of};
+pub use runend_windows::first_past;
+use runend_windows::{ended_before, first_past_of};
 use std::alloc::Allocator;
 
 /// The run of a row, over a column of ends: the number of ends at or below it, but the last run where
 /// that is past it. The ends are flat, unsigned, strictly increasing, and at least one.
-#[tactic(auto, using(runend_codec::proofs::Ends::length_ends_of))]
+#[tactic(auto, using(runend_windows::proofs::Ends::length_ends_of))]
 pub fn find_physical_index<A: Allocator + Copy>(ends: &ArrayRef<A>, index: usize) -> usize
     requires plain { IsPlainEnds (column_of ends.now) }
     requires increasing { IsStrictlyIncreasing (end_numbers (column_of ends.now)) }
@@ -32,7 +32,7 @@ pub fn find_physical_index<A: Allocator + Copy>(ends: &ArrayRef<A>, index: usize
 /// Where a slice that ends before row `index` stops, over a column of ends: one run past those whose
 /// ends are below it, but at most the number of runs. The ends are flat, unsigned, strictly
 /// increasing, and at least one.
-#[tactic(auto, using(runend_codec::proofs::Ends::length_ends_of))]
+#[tactic(auto, using(runend_windows::proofs::Ends::length_ends_of))]
 pub fn find_slice_end_index<A: Allocator + Copy>(ends: &ArrayRef<A>, index: usize) -> usize
     requires plain { IsPlainEnds (column_of ends.now) }
     requires increasing { IsStrictlyIncreasing (end_numbers (column_of ends.now)) }
@@ -80,7 +80,7 @@ pub(crate) fn run_from<A: Allocator + Copy>(ends: &ArrayRef<A>, run: usize, row:
 }
 
 // How many runs there are, over a column of ends.
-#[tactic(auto, using(runend_codec::proofs::Ends::length_ends_of))]
+#[tactic(auto, using(runend_windows::proofs::Ends::length_ends_of))]
 fn run_count<A: Allocator + Copy>(ends: &ArrayRef<A>) -> usize
     requires plain { IsPlainEnds (column_of ends.now) }
     ensures { result ≡ length (end_numbers (column_of ends.now)) }

@@ -2,5 +2,5 @@
 mod row_flags;
 mod row_validity;
 
-pub(crate) use row_flags::told_by_rows;
+pub(crate) use row_flags::rows_of_validity;
 pub use row_validity::RowValidity;

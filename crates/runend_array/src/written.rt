@@ -24,14 +24,14 @@ use crate::array_ref::ArrayRef;
 use crate::canonical::Canonical;
 use crate::constant::ConstantArray;
 use crate::lists::ListViewArray;
-use crate::validities::{RowValidity, told_by_rows};
+use crate::validities::{RowValidity, rows_of_validity};
 use bytes::Bytes;
 use column_core::{
     BitBufferMut, BoolArray, DType, DecimalArray, DecimalDType, ElementDType, FlatColumn,
     NativePType, Nullability, PType, PrimitiveArray, PrimitiveValues, Scalar, ScalarView, Validity,
     VarBinKind, VarBinViewArray, View, VortexError, VortexResult,
 };
-use runend_decode::{copies_of, no_null};
+use runend_decode::{no_null, repeated_items};
 use std::alloc::Allocator;
 use std::rc::Rc;
 
@@ -83,7 +83,7 @@ pub(crate) fn write_constant<A: Allocator + Copy>(
     }
 }
 
-// A constant of whole numbers, written out.
+// A constant of integers, written out.
 fn write_numbers<A: Allocator + Copy>(
     alloc: A,
     constant: &ConstantArray<A>,
@@ -117,11 +117,11 @@ fn write_as<T: NativePType, A: Allocator + Copy>(
 {
     match number_of::<T, A>(constant) {
         None => {
-            let zeros = copies_of(alloc, T::default(), constant.len())?;
+            let zeros = repeated_items(alloc, T::default(), constant.len())?;
             Ok(PrimitiveArray::new_unchecked(T::wrap(zeros), Validity::AllInvalid))
         }
         Some(number) => {
-            let numbers = copies_of(alloc, number, constant.len())?;
+            let numbers = repeated_items(alloc, number, constant.len())?;
             Ok(PrimitiveArray::new_unchecked(T::wrap(numbers), no_null(nullability)))
         }
     }
@@ -141,7 +141,7 @@ fn number_of<T: NativePType, A: Allocator>(constant: &ConstantArray<A>) -> Optio
     }
 }
 
-// A constant of truth values, written out.
+// A constant of booleans, written out.
 fn write_truths<A: Allocator + Copy>(
     alloc: A,
     constant: &ConstantArray<A>,
@@ -177,11 +177,11 @@ fn write_decimals<A: Allocator + Copy>(
 {
     match constant.scalar_view() {
         ScalarView::Null => {
-            let zeros = copies_of(alloc, 0, constant.len())?;
+            let zeros = repeated_items(alloc, 0, constant.len())?;
             Ok(DecimalArray::new_unchecked(zeros, decimal, Validity::AllInvalid))
         }
         ScalarView::Decimal(number) => {
-            let numbers = copies_of(alloc, number, constant.len())?;
+            let numbers = repeated_items(alloc, number, constant.len())?;
             Ok(DecimalArray::new_unchecked(numbers, decimal, no_null(nullability)))
         }
         _ => unreachable!(),
@@ -201,7 +201,7 @@ fn write_bytes<A: Allocator + Copy>(
 {
     match constant.scalar_view() {
         ScalarView::Null => {
-            let views = copies_of(alloc, View::default(), constant.len())?;
+            let views = repeated_items(alloc, View::default(), constant.len())?;
             let buffers = Vec::new(alloc);
             Ok(VarBinViewArray::new_unchecked(views, buffers, kind, Validity::AllInvalid))
         }
@@ -240,7 +240,7 @@ fn write_views<A: Allocator + Copy>(
     let buffer = Bytes::copy_from_slice(alloc, bytes)?;
     let mut buffers = Vec::new(alloc);
     buffers.push(buffer)?;
-    let views = copies_of(alloc, view, count)?;
+    let views = repeated_items(alloc, view, count)?;
     Ok(VarBinViewArray::new_unchecked(views, buffers, kind, no_null(nullability)))
 }
 
@@ -346,7 +346,7 @@ fn no_lists<A: Allocator + Copy>(
     match zeros_twice(alloc, 0) {
         Ok((offsets, sizes)) => {
             let rows = no_null(nullability);
-            let validity = told_by_rows(rows);
+            let validity = rows_of_validity(rows);
             Ok(ListViewArray::new_unchecked(elements, offsets, sizes, validity))
         }
         Err(error) => {
@@ -395,7 +395,7 @@ fn zeros_of<A: Allocator + Copy>(alloc: A, count: usize) -> VortexResult<ArrayRe
     ensures form { IfOk result (λ array. column_of array ≡
         OfLeaf (OfNumbers (primitive_with U64 (replicate count (pos 0)) NeverNull))) }
 {
-    let zeros = copies_of(alloc, 0u64, count)?;
+    let zeros = repeated_items(alloc, 0u64, count)?;
     let zeros = PrimitiveArray::new_unchecked(
         PrimitiveValues::from_vec(zeros),
         Validity::NonNullable,

@@ -3,9 +3,9 @@ use Rattle.std.proofs.Common.{◌≡◌, ◌⊎◌, inl, inr, ℕ, ◌+◌, ◌-
 use Rattle.std.specs.Prelude.{option_map, slice_range}
 use Rattle.column_core.specs.Value.{FlatValue, IsLists, Single}
 use Rattle.runend_array.specs.Column.{AreRuns, Column, Constant, OfConstant, OfLeaf, OfLists, OfRuns, Runs, column_dtype, column_of_runs, column_rows}
-use Rattle.runend_codec.specs.Window.{run_rows}
-use Rattle.runend_codec.proofs.SlicedRuns.{slice_range-none, run_rows-narrowed, copies-of_run}
-use Rattle.runend_column.specs.SliceForm.{IsOfRuns, IsSliceForm, RepeatsRun}
+use Rattle.runend_windows.specs.Window.{run_rows}
+use Rattle.runend_windows.proofs.SlicedRuns.{slice_range-none, run_rows-narrowed, copies-of_run}
+use Rattle.runend_column.specs.SliceForm.{IsOfRuns, SliceLeaves, RepeatsRun}
 use Rattle.runend_array.specs.RowRuns.{first_run, last_run}
 
 -- a column of some of the runs has their type
@@ -23,7 +23,7 @@ rows-of_none whole start stop (OfLists lists) same kept = absurd kept
 rows-of_none whole start stop (OfRuns ends_type ends values o n) same kept =
     ap (run_rows ends (column_rows values) o) kept.window.1 ∙ sym (slice_range-none (column_rows (column_of_runs whole)) start stop same)
 
-pub form-of_none : (whole : Runs) (start stop : ℕ) (part : Column) → start ≡ stop → IsOfRuns whole 0 0 0 0 part → IsSliceForm whole start stop part
+pub form-of_none : (whole : Runs) (start stop : ℕ) (part : Column) → start ≡ stop → IsOfRuns whole 0 0 0 0 part → SliceLeaves whole start stop part
 form-of_none whole start stop part same kept = record {
   empty = λ _. kept;
   one = λ some _ _. absurd (omega arith);
@@ -43,7 +43,7 @@ module _ (whole : Runs) (start stop : ℕ) (valid : AreRuns whole) (some : start
       (run_rows-narrowed whole.ends whole.offset whole.count start stop valid.window some within (column_rows whole.values) valid.paired)
 
   pub form-of_runs : (part : Column) → (first_run whole start < last_run whole stop) ⊎ IsLists (column_dtype whole.values)
-      → IsOfRuns whole (first_run whole start) (last_run whole stop + 1) (whole.offset + start) (stop - start) part → IsSliceForm whole start stop part
+      → IsOfRuns whole (first_run whole start) (last_run whole stop + 1) (whole.offset + start) (stop - start) part → SliceLeaves whole start stop part
   form-of_runs part more kept = record {
     empty = λ same. absurd (omega arith);
     one = λ _ same single. absurd (elim more [ inl several ↦ omega arith | inr lists ↦ single lists ]);
@@ -60,7 +60,7 @@ module _ (whole : Runs) (start stop : ℕ) (valid : AreRuns whole) (some : start
       (option_map (λ (v : FlatValue). Single v) constant.value) one repeats.value
 
   pub form-of_one : (constant : Constant) → first_run whole start ≡ last_run whole stop → ¬ IsLists (column_dtype whole.values) → RepeatsRun whole (first_run whole start) (stop - start) constant
-      → IsSliceForm whole start stop (OfConstant constant)
+      → SliceLeaves whole start stop (OfConstant constant)
   form-of_one constant one single repeats = record {
     empty = λ same. absurd (omega arith);
     one = λ _ _ _. repeats;

@@ -35,7 +35,7 @@ IsOfOneRun whole run count (OfRuns ends_type ends values o n) = ⊥
 
 -- the form of a slice: without rows it has no runs, rows of one run that are no lists are a constant, and other rows
 -- have just these runs
-pub record IsSliceForm (whole : Runs) (start stop : ℕ) (part : Column) : Type 0 where
+pub record SliceLeaves (whole : Runs) (start stop : ℕ) (part : Column) : Type 0 where
   pub empty : start ≡ stop → IsOfRuns whole 0 0 0 0 part
   pub one : start < stop → first_run whole start ≡ last_run whole stop → ¬ IsLists (column_dtype whole.values) → IsOfOneRun whole (first_run whole start) (stop - start) part
   pub lists : start < stop → IsLists (column_dtype whole.values) → IsOfRuns whole (first_run whole start) (last_run whole stop + 1) (whole.offset + start) (stop - start) part

@@ -6,10 +6,10 @@ ghost use Rattle.column_core.specs.Computed.{HasRowIfAllNull, IsComputed};
 ghost use Rattle.column_core.specs.FlatColumn.{leaf_of};
 ghost use Rattle.column_core.specs.Leaf.{OfDecimals, OfVarBins, leaf_dtype, leaf_rows, single_rows};
 ghost use Rattle.column_core.specs.PrimitiveForm.{primitive_dtype};
-ghost use Rattle.runend_codec.specs.Encoding.{number_rows};
-ghost use Rattle.runend_codec.specs.Ends.{IsEndsType, ends_of};
-ghost use Rattle.runend_codec.specs.RunEnds.{AreRunEnds, FitsMask, masked_values};
-ghost use Rattle.runend_codec.specs.Window.{IsWindow, run_rows};
+ghost use Rattle.runend_windows.specs.Encoding.{number_rows};
+ghost use Rattle.runend_windows.specs.Ends.{IsEndsType, ends_of};
+ghost use Rattle.runend_windows.specs.RunEnds.{AreRunEnds, FitsMask, masked_values};
+ghost use Rattle.runend_windows.specs.Window.{IsWindow, run_rows};
 ghost use Rattle.runend_array.specs.Array.{column_of, dtype_of, rows};
 ghost use Rattle.runend_array.specs.Encoding.{IsDecodedForm};
 ghost use Rattle.runend_array.specs.ListRuns.{AreListsInRuns};
@@ -96,7 +96,7 @@ pub fn runend_decode_varbinview<A: Allocator + Copy>(
 }
 
 /// The rows that runs of flat values show, from row `offset` on, `length` many. A constant null where there is a
-/// run and all values are null, else a flat column with 0, false or the view of nothing under null. Truth values
+/// run and all values are null, else a flat column with 0, false or the view of nothing under null. Booleans
 /// are prefilled from the session's number of runs on. Refused as `OutOfMemory` alone.
 pub(crate) fn decode_runs<A: Allocator + Copy>(
     ends: PrimitiveArray<A>,
@@ -142,7 +142,7 @@ pub fn runend_decode_listview<A: Allocator + Copy>(
     ensures form { IfOk result (λ lists. AreListsInRuns ends.ptype (ends_of ends) values offset length lists) }
     ensures session { ctx.new ≡ ctx.old }
 {
-    let shown = values.shown_by(*ctx.allocator(), &ends, offset, length);
+    let shown = values.decode_with(*ctx.allocator(), &ends, offset, length);
     drop(values);
     drop(ends);
     shown

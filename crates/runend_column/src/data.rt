@@ -49,7 +49,7 @@ impl RunEndData {
         RunEndData { offset }
     }
 
-    /// The data of the encoding of a plain column of whole numbers: offset 0. Refused as
+    /// The data of the encoding of a plain column of integers: offset 0. Refused as
     /// `OnlyPrimitive` exactly for other forms and types. Takes no memory.
     pub fn encode<A: Allocator + Copy>(
         array: &ArrayRef<A>,

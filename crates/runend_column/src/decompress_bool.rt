@@ -1,12 +1,12 @@
-//! The decoders of truth values.
+//! The decoders of booleans.
 ghost use Rattle.std.specs.Prelude.{◌≡◌, ℕ, List, IfOk, IsOkUnless, length as item_count};
 ghost use Rattle.column_base.specs.declared.dtype.DType.TheVariants as column;
 ghost use Rattle.column_base.specs.Mask.{mask_bits};
 ghost use Rattle.column_core.specs.Leaf.{OfTruths, leaf_dtype, single_rows};
 ghost use Rattle.column_core.specs.PrimitiveForm.{primitive_dtype};
-ghost use Rattle.runend_codec.specs.Ends.{IsEndsType, ends_of};
-ghost use Rattle.runend_codec.specs.RunEnds.{AreRunEnds, FitsMask, masked_truths};
-ghost use Rattle.runend_codec.specs.Window.{IsWindow, run_rows};
+ghost use Rattle.runend_windows.specs.Ends.{IsEndsType, ends_of};
+ghost use Rattle.runend_windows.specs.RunEnds.{AreRunEnds, FitsMask, masked_truths};
+ghost use Rattle.runend_windows.specs.Window.{IsWindow, run_rows};
 ghost use Rattle.runend_array.specs.Array.{column_of, dtype_of, rows};
 ghost use Rattle.runend_array.specs.Encoding.{IsDecodedForm};
 
@@ -19,7 +19,7 @@ use runend_array::{ArrayRef, ExecutionCtx, null_constant};
 use runend_decode::{decode_typed_bits, masks_all};
 use std::alloc::Allocator;
 
-/// The rows that runs of truth values show, from row `offset` on, `length` many. A constant null where
+/// The rows that runs of booleans show, from row `offset` on, `length` many. A constant null where
 /// there is a run and all values are null, else a flat column with false under null. The parts are a
 /// valid window over flat unsigned ends without null. Refused as `OutOfMemory` alone.
 pub fn runend_decode_bools<A: Allocator + Copy>(

@@ -3,10 +3,10 @@ ghost use Rattle.std.specs.Prelude.{◌≡◌, ◌+◌, ◌-◌, ◌<◌, ◌≤
 ghost use Rattle.column_core.specs.Value.{IsLists};
 ghost use Rattle.column_core.specs.Ranges.{IsBadRange};
 ghost use Rattle.column_core.specs.Refusal.{IsRefusedBy, range_fault};
-ghost use Rattle.runend_codec.specs.Window.{IsWindow};
+ghost use Rattle.runend_windows.specs.Window.{IsWindow};
 ghost use Rattle.runend_array.specs.Array.{column_of, dtype_of, rows};
 ghost use Rattle.runend_array.specs.Column.{column_dtype, column_of_runs, column_rows};
-ghost use Rattle.runend_column.specs.SliceForm.{IsOfRuns, IsSliceForm, RepeatsRun};
+ghost use Rattle.runend_column.specs.SliceForm.{IsOfRuns, SliceLeaves, RepeatsRun};
 
 use column_core::is_list_type;
 use runend_array::{
@@ -34,7 +34,7 @@ pub fn slice<A: Allocator + Copy>(
     ensures rows { IfOk result (λ part. rows part ≡
         slice_range (column_rows (column_of_runs array.now)) range.start range.end) }
     ensures dtype { IfOk result (λ part. dtype_of part ≡ column_dtype array.now.values) }
-    ensures form { IfOk result (λ part. IsSliceForm array.now range.start range.end (column_of part)) }
+    ensures form { IfOk result (λ part. SliceLeaves array.now range.start range.end (column_of part)) }
     ensures session { ctx.new ≡ ctx.old }
 {
     slice_of_count(array, range, ctx)
@@ -52,7 +52,7 @@ fn slice_of_count<A: Allocator + Copy>(
     ensures rows { IfOk result (λ part. rows part ≡
         slice_range (column_rows (column_of_runs array.now)) range.start range.end) }
     ensures dtype { IfOk result (λ part. dtype_of part ≡ column_dtype array.now.values) }
-    ensures form { IfOk result (λ part. IsSliceForm array.now range.start range.end (column_of part)) }
+    ensures form { IfOk result (λ part. SliceLeaves array.now range.start range.end (column_of part)) }
     ensures session { ctx.new ≡ ctx.old }
 {
     if range.start > range.end || range.end > array.len() {
@@ -81,7 +81,7 @@ fn rows_between<A: Allocator + Copy>(
     ensures only { IsOkUnless result VortexError.OutOfMemory }
     ensures rows { IfOk result (λ part. rows part ≡ slice_range (column_rows (column_of_runs array.now)) start stop) }
     ensures dtype { IfOk result (λ part. dtype_of part ≡ column_dtype array.now.values) }
-    ensures form { IfOk result (λ part. IsSliceForm array.now start stop (column_of part)) }
+    ensures form { IfOk result (λ part. SliceLeaves array.now start stop (column_of part)) }
     ensures session { ctx.new ≡ ctx.old }
 {
     let single = !is_list_type(array.values().dtype());

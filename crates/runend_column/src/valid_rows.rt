@@ -21,5 +21,5 @@ pub fn validity<A: Allocator + Copy>(
     ensures plain { IfOk result (λ rows. IsRowValidity rows) }
     ensures session { ctx.new ≡ ctx.old }
 {
-    array.validity_in(*ctx.allocator())
+    array.run_validity(*ctx.allocator())
 }

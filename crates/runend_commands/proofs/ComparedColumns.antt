@@ -16,7 +16,7 @@ use Rattle.column_order.specs.Comparing.{compare_rows, compare_with}
 use Rattle.column_order.specs.declared.operator.CompareOperator.{CompareOperator}
 use Rattle.column_order.proofs.RowRanges.{length-single_rows}
 use Rattle.column_core.specs.Kinds.{list_fault}
-use Rattle.runend_codec.proofs.RunRows.{length-run_rows}
+use Rattle.runend_windows.proofs.RunRows.{length-run_rows}
 use Rattle.runend_array.specs.Column.{Constant, OfConstant, Runs, column_dtype, column_of_runs, column_rows}
 use Rattle.runend_map.proofs.ComparedRows.{constant_rows}
 use Rattle.runend_map.proofs.OneKind.{no_column_fault, no_lists, no_lists_beside}

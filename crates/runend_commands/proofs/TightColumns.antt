@@ -3,8 +3,8 @@ use Rattle.std.proofs.Common.{◌≡◌, ◌∙◌, arith, zero, suc, ℕ, lengt
 use Rattle.std.specs.Prelude.{None}
 use Rattle.column_base.specs.ValidityForm.{ValidityForm, NeverNull, NoneNull, AllNull, ByBits, HasLength}
 use Rattle.column_core.specs.PrimitiveForm.{PrimitiveForm}
-use Rattle.runend_codec.specs.Encoding.{IsAllInvalid, number_rows}
-use Rattle.runend_codec.proofs.NullRows.{nulls-from_AllNull}
+use Rattle.runend_windows.specs.Encoding.{IsAllInvalid, number_rows}
+use Rattle.runend_windows.proofs.NullRows.{nulls-from_AllNull}
 use Rattle.column_core.specs.Leaf.{OfNumbers, OfTruths, OfDecimals, OfVarBins}
 use Rattle.runend_array.specs.Column.{Column, OfLeaf, OfConstant, OfLists, OfRuns, Runs, column_dtype, column_of_runs, column_rows}
 use Rattle.runend_array.specs.Encoding.{IsEncoded, IsEncodedColumn}

@@ -12,11 +12,11 @@ use Rattle.runend_array.specs.SessionForm.{SessionForm, is_registered_in}
 use Rattle.runend_array.specs.declared.array_ref.ArrayRef.{ArrayRef}
 use Rattle.runend_array.specs.declared.session.Kernel.{Kernel}
 use Rattle.runend_array.specs.declared.session.Kernel.TheVariants as kernel
-use Rattle.runend_column.specs.SliceForm.{IsSliceForm}
+use Rattle.runend_column.specs.SliceForm.{SliceLeaves}
 use Rattle.runend_select.specs.FilterForm.{IsFilterForm}
-use Rattle.runend_select.specs.TakeForm.{IsTakeForm}
+use Rattle.runend_select.specs.TakeForm.{TakeLeaves}
 use Rattle.runend_map.specs.Codes.{keeps_runs}
-use Rattle.runend_map.specs.TakenForm.{IsTakenForm}
+use Rattle.runend_map.specs.TakenForm.{TakeFromLeaves}
 use Rattle.runend_map.specs.ComparisonForm.{IsComparisonForm}
 use Rattle.runend_visible.specs.LeastForm.{IsRunForm}
 use Rattle.runend_commands.specs.declared.command.Command.{Command}
@@ -24,7 +24,7 @@ use Rattle.runend_commands.specs.declared.command.Command.TheVariants.{Slice, Fi
 use Rattle.runend_commands.specs.declared.command.Answer.{Answer}
 use Rattle.runend_commands.specs.declared.command.Answer.TheVariants.{Done, Refused}
 use Rattle.runend_commands.specs.Extremes.{HasBytes}
-use Rattle.runend_rowwise.specs.Parts.{IsPlainPart}
+use Rattle.array_rowwise.specs.Parts.{IsPlainPart}
 use Rattle.runend_commands.specs.Step.{IsChain, IsStep}
 
 -- a run column whose kernel is registered
@@ -69,10 +69,10 @@ IsNeverShort session kernel before answer = IsReadInPlace session kernel before 
 
 -- what a command leaves or answers by its kernel, where it has one
 abbrev pub LeavesByKernel : {A : Type 0} → SessionForm → ArrayRef A → Command A → Answer A → ArrayRef A → Type 0
-LeavesByKernel session before (Slice range) Done after = ByKernel session kernel.Slice (column_of before) (λ runs. IsSliceForm runs range.start range.end (column_of after)) (IsPlainPart (column_of before) range.start range.end (column_of after))
+LeavesByKernel session before (Slice range) Done after = ByKernel session kernel.Slice (column_of before) (λ runs. SliceLeaves runs range.start range.end (column_of after)) (IsPlainPart (column_of before) range.start range.end (column_of after))
 LeavesByKernel session before (Filter mask) Done after = ByKernel session kernel.Filter (column_of before) (λ runs. IsFilterForm session.thresholds runs mask (column_of after)) (IsFlat (column_of after))
-LeavesByKernel session before (Take indices) Done after = ByKernel session kernel.Take (column_of before) (λ runs. IsTakeForm (optional_numbers indices) (column_of after)) (IsFlat (column_of after))
-LeavesByKernel session before (TakeFrom dictionary) Done after = ByKernel session kernel.TakeFrom (column_of before) (λ runs. IsTakenForm (keeps_runs (dtype_of dictionary)) (dtype_of dictionary) runs (column_of after)) (IsFlat (column_of after))
+LeavesByKernel session before (Take indices) Done after = ByKernel session kernel.Take (column_of before) (λ runs. TakeLeaves (optional_numbers indices) (column_of after)) (IsFlat (column_of after))
+LeavesByKernel session before (TakeFrom dictionary) Done after = ByKernel session kernel.TakeFrom (column_of before) (λ runs. TakeFromLeaves (keeps_runs (dtype_of dictionary)) (dtype_of dictionary) runs (column_of after)) (IsFlat (column_of after))
 LeavesByKernel session before (CompareScalar operator value) Done after = ByKernel session kernel.Compare (column_of before) (λ runs. IsDecodedForm (rows after) (column_of after)) (IsFlat (column_of after))
 LeavesByKernel session before (CompareColumn operator right) Done after = ByKernel session kernel.Compare (column_of before) (λ runs. IsComparisonForm (column_of right) (column_of after)) (IsFlat (column_of after))
 LeavesByKernel session before (Cast dtype) Done after = KeepsRuns session kernel.Cast dtype (column_of before) (column_of after)
@@ -88,5 +88,5 @@ abbrev pub IsStepIn : {A : Type 0} → SessionForm → ArrayRef A → Command A 
 IsStepIn session before command answer after = IsStep before command answer after × LeavesByKernel session before command answer after
 
 -- a run of the commands in a session
-abbrev pub IsRunIn : {A : Type 0} → SessionForm → ArrayRef A → List (Command A) → List (Answer A) → ArrayRef A → Type 0
-IsRunIn session before commands answers after = IsChain (IsStepIn session) before commands answers after
+abbrev pub IsExecutionIn : {A : Type 0} → SessionForm → ArrayRef A → List (Command A) → List (Answer A) → ArrayRef A → Type 0
+IsExecutionIn session before commands answers after = IsChain (IsStepIn session) before commands answers after

@@ -17,8 +17,8 @@ use Rattle.column_order.specs.OrderFacts as order
 use Rattle.column_sums.specs.SumAnswer.{IsSumAnswer}
 use Rattle.runend_array.specs.Array.{column_of, dtype_of, rows}
 use Rattle.runend_array.specs.Column.{Column, OfLeaf, OfConstant, OfLists, OfRuns, column_rows, plain_of, IsFlat}
-use Rattle.runend_codec.specs.Cover.{IsTightCover}
-use Rattle.runend_codec.specs.Window.{last_end}
+use Rattle.runend_windows.specs.Cover.{IsTightCover}
+use Rattle.runend_windows.specs.Window.{last_end}
 use Rattle.runend_array.specs.declared.array_ref.ArrayRef.{ArrayRef}
 use Rattle.runend_commands.specs.declared.command.Command.{Command}
 use Rattle.runend_commands.specs.declared.command.Command.TheVariants.{Slice, Filter, Take, TakeFrom, CompareScalar, CompareColumn, Cast, FillNull, Encode, Decode, At, Sum, MinMax, IsConstant, IsSorted}

@@ -6,15 +6,15 @@ use Rattle.runend_array.specs.SessionForm.{SessionForm}
 use Rattle.runend_array.specs.declared.array_ref.ArrayRef.{ArrayRef}
 use Rattle.runend_commands.specs.declared.command.Command.{Command}
 use Rattle.runend_commands.specs.declared.command.Answer.TheVariants.{Done, Refused}
-use Rattle.runend_commands.specs.declared.steps.Outcome.{Outcome}
-use Rattle.runend_commands.specs.declared.steps.Outcome.TheVariants.{Becomes, Answers}
+use Rattle.runend_commands.specs.declared.steps.StepResult.{StepResult}
+use Rattle.runend_commands.specs.declared.steps.StepResult.TheVariants.{Becomes, Answers}
 use Rattle.runend_commands.specs.Refusal.{refusal}
 use Rattle.runend_commands.specs.Meaning.{plain}
 use Rattle.runend_commands.specs.Step.{IsDone}
 use Rattle.runend_commands.specs.KernelForms.{LeavesByKernel}
 
 -- the command may come to this: to an array in the place of the one before, to an answer beside it, or to a refusal
-abbrev pub IsOutcome : {A : Type 0} → SessionForm → ArrayRef A → Command A → Result (Outcome A) VortexError → Type 0
+abbrev pub IsOutcome : {A : Type 0} → SessionForm → ArrayRef A → Command A → Result (StepResult A) VortexError → Type 0
 IsOutcome session before command (Ok (Becomes after)) = IsDone before command Done after × LeavesByKernel session before command Done after
 IsOutcome session before command (Ok (Answers answer)) = IsDone before command answer before × LeavesByKernel session before command answer before
 IsOutcome session before command (Err error) = IsErrorFor (refusal (plain before) command) error × LeavesByKernel session before command (Refused error) before

@@ -33,5 +33,5 @@ IsChain Step before [] (reply ∷ replies) after = ⊥
 IsChain Step before (request ∷ requests) [] after = ⊥
 
 -- a run of the commands
-abbrev pub IsRun : {A : Type 0} → ArrayRef A → List (Command A) → List (Answer A) → ArrayRef A → Type 0
-IsRun before commands answers after = IsChain IsStep before commands answers after
+abbrev pub IsExecution : {A : Type 0} → ArrayRef A → List (Command A) → List (Answer A) → ArrayRef A → Type 0
+IsExecution before commands answers after = IsChain IsStep before commands answers after

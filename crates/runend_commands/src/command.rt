@@ -19,7 +19,7 @@ pub enum Command<A: Allocator> {
     /// `OutOfBounds` at the first valid index that is negative or not below the number of rows.
     Take(PrimitiveArray<A>),
     /// The rows are codes, and each becomes the row of this column, the dictionary, that it numbers from 0; null
-    /// stays null. Refused as `TypeMismatch` unless the rows are whole numbers; then as `OutOfBounds` at the
+    /// stays null. Refused as `TypeMismatch` unless the rows are integers; then as `OutOfBounds` at the
     /// first code that is negative or not below the dictionary's number of rows.
     TakeFrom(ArrayRef<A>),
     /// Each row becomes whether the operator holds of it and the scalar, null where either is null.
@@ -31,7 +31,7 @@ pub enum Command<A: Allocator> {
     /// another kind; then as `ColumnLength` for one of another number of rows.
     CompareColumn(CompareOperator, ArrayRef<A>),
     /// Each row becomes the same value of this type. Refused as `Unsupported` unless both types are of
-    /// whole numbers, or both of one kind that is no list; then, at the first row that is no value of the
+    /// integers, or both of one kind that is no list; then, at the first row that is no value of the
     /// type, as `NullNotAllowed` for null and as `CastOutOfRange` for a number.
     Cast(DType),
     /// Each null becomes the scalar's value, and the column's type has null no more. Refused as
@@ -39,7 +39,7 @@ pub enum Command<A: Allocator> {
     /// `NullFill` for null.
     FillNull(Scalar<A>),
     /// The column is written as runs, as few as there can be. Refused as `OnlyPrimitive` where the
-    /// rows are no whole numbers.
+    /// rows are no integers.
     Encode,
     /// The column is written row by row. Never refused but for want of memory.
     Decode,
@@ -47,7 +47,7 @@ pub enum Command<A: Allocator> {
     /// are lists, else as `OutOfBounds` from the number of rows on.
     At(usize),
     /// The rows that are not null are added one at a time. Refused as `Unsupported` where the rows are
-    /// no whole numbers.
+    /// no integers.
     Sum,
     /// The least and the greatest of the rows that are not null are looked for. Refused as `Unsupported`
     /// where the rows are lists.

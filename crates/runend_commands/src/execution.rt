@@ -1,10 +1,10 @@
 //! Runs commands one after another.
 ghost use Rattle.std.specs.Prelude.{◌≡◌, IfOk, IsOkUnless, OnErr};
-ghost use Rattle.runend_commands.specs.KernelForms.{IsRunIn, IsStepIn};
-ghost use Rattle.runend_commands.specs.Step.{IsRun};
+ghost use Rattle.runend_commands.specs.KernelForms.{IsExecutionIn, IsStepIn};
+ghost use Rattle.runend_commands.specs.Step.{IsExecution};
 
 use crate::command::{Answer, Command};
-use crate::steps::{Outcome, outcome_of};
+use crate::steps::{StepResult, outcome_of};
 use column_core::{VortexError, VortexResult};
 use runend_array::{ArrayRef, ExecutionCtx};
 use std::alloc::Allocator;
@@ -23,8 +23,8 @@ pub fn execute<A: Allocator + Copy>(
     commands: &[Command<A>],
     ctx: &mut ExecutionCtx<A>,
 ) -> VortexResult<Vec<Answer<A>, A>>
-    ensures run { IfOk result (λ answers. IsRun column.old commands.now answers.items column.new) }
-    ensures forms { IfOk result (λ answers. IsRunIn ctx.old column.old commands.now answers.items column.new) }
+    ensures run { IfOk result (λ answers. IsExecution column.old commands.now answers.items column.new) }
+    ensures forms { IfOk result (λ answers. IsExecutionIn ctx.old column.old commands.now answers.items column.new) }
     ensures only { IsOkUnless result VortexError.OutOfMemory }
     ensures kept { OnErr result (column.new ≡ column.old) }
     ensures session { ctx.new ≡ ctx.old }
@@ -48,11 +48,11 @@ pub fn execute_one<A: Allocator + Copy>(
     ensures session { ctx.new ≡ ctx.old }
 {
     match outcome_of(command, column, ctx) {
-        Ok(Outcome::Becomes(array)) => {
+        Ok(StepResult::Becomes(array)) => {
             drop(replace(column, array));
             Answer::Done
         }
-        Ok(Outcome::Answers(answer)) => answer,
+        Ok(StepResult::Answers(answer)) => answer,
         Err(error) => Answer::Refused(error),
     }
 }

@@ -27,11 +27,11 @@ const PREFILL_RUNS: usize = 32;
 
 /// A filter that keeps runs has costs that do not shrink with the selection: it reads every run, and
 /// filters the values too. With fewer selected rows than this, it takes those rows one by one.
-const MIN_RUN_FILTER_ROWS: usize = 25;
+const MIN_RUN_FILTER_SELECTED_ROWS: usize = 25;
 
 /// Taking costs by the selected row, keeping runs by the run. Where the runs are more than this many
 /// times the selected rows, a filter takes.
-const FILTER_FACTOR: usize = 10;
+const TAKE_RUNS_PER_SELECTED_ROW: usize = 10;
 
 /// Sorted indices can be merged with the ends, which reads each run once, where a search reads a few
 /// runs for each index. Up to this many runs for each index, the merge is less work.
@@ -65,8 +65,8 @@ pub fn default_thresholds() -> Thresholds
 {
     Thresholds {
         prefill_runs: PREFILL_RUNS,
-        min_run_filter_rows: MIN_RUN_FILTER_ROWS,
-        filter_factor: FILTER_FACTOR,
+        min_run_filter_rows: MIN_RUN_FILTER_SELECTED_ROWS,
+        filter_factor: TAKE_RUNS_PER_SELECTED_ROW,
         sorted_runs_per_index: SORTED_RUNS_PER_INDEX,
         table_len_per_index: TABLE_LEN_PER_INDEX,
         unsorted_min_runs: UNSORTED_MIN_RUNS,

@@ -13,7 +13,7 @@ use std::ops::Range;
 
 /// What a command that is not refused comes to.
 #[derive(Drop)]
-pub enum Outcome<A: Allocator> {
+pub enum StepResult<A: Allocator> {
     /// This column takes the place of the one before, and the answer is that the command is done.
     Becomes(ArrayRef<A>),
     /// The column stays, and this is the answer.
@@ -25,7 +25,7 @@ pub fn outcome_of<A: Allocator + Copy>(
     command: &Command<A>,
     column: &ArrayRef<A>,
     ctx: &mut ExecutionCtx<A>,
-) -> VortexResult<Outcome<A>>
+) -> VortexResult<StepResult<A>>
     ensures outcome { IsOutcome ctx.old column.now command.now result }
     ensures session { ctx.new ≡ ctx.old }
 {
@@ -57,12 +57,12 @@ fn slice_column<A: Allocator + Copy>(
     column: &ArrayRef<A>,
     range: &Range<usize>,
     ctx: &mut ExecutionCtx<A>,
-) -> VortexResult<Outcome<A>>
+) -> VortexResult<StepResult<A>>
     ensures outcome { IsOutcome ctx.old column.now (Slice range.now) result }
     ensures session { ctx.new ≡ ctx.old }
 {
     let part = compute::slice(column, range.start..range.end, ctx)?;
-    Ok(Outcome::Becomes(part))
+    Ok(StepResult::Becomes(part))
 }
 
 // The rows at which the mask is true.
@@ -70,12 +70,12 @@ fn filter_column<A: Allocator + Copy>(
     column: &ArrayRef<A>,
     mask: &Mask<A>,
     ctx: &mut ExecutionCtx<A>,
-) -> VortexResult<Outcome<A>>
+) -> VortexResult<StepResult<A>>
     ensures outcome { IsOutcome ctx.old column.now (Filter mask.now) result }
     ensures session { ctx.new ≡ ctx.old }
 {
     let kept = compute::filter(column, mask, ctx)?;
-    Ok(Outcome::Becomes(kept))
+    Ok(StepResult::Becomes(kept))
 }
 
 // The rows at the indices.
@@ -83,12 +83,12 @@ fn take_of_column<A: Allocator + Copy>(
     column: &ArrayRef<A>,
     indices: &PrimitiveArray<A>,
     ctx: &mut ExecutionCtx<A>,
-) -> VortexResult<Outcome<A>>
+) -> VortexResult<StepResult<A>>
     ensures outcome { IsOutcome ctx.old column.now (Take indices.now) result }
     ensures session { ctx.new ≡ ctx.old }
 {
     let taken = compute::take(column, indices, ctx)?;
-    Ok(Outcome::Becomes(taken))
+    Ok(StepResult::Becomes(taken))
 }
 
 // The dictionary's rows for the codes.
@@ -96,12 +96,12 @@ fn take_from_column<A: Allocator + Copy>(
     column: &ArrayRef<A>,
     dictionary: &ArrayRef<A>,
     ctx: &mut ExecutionCtx<A>,
-) -> VortexResult<Outcome<A>>
+) -> VortexResult<StepResult<A>>
     ensures outcome { IsOutcome ctx.old column.now (TakeFrom dictionary.now) result }
     ensures session { ctx.new ≡ ctx.old }
 {
     let taken = compute::take_from(column, dictionary, ctx)?;
-    Ok(Outcome::Becomes(taken))
+    Ok(StepResult::Becomes(taken))
 }
 
 // The rows in the type.
@@ -109,12 +109,12 @@ fn cast_column<A: Allocator + Copy>(
     column: &ArrayRef<A>,
     dtype: DType,
     ctx: &mut ExecutionCtx<A>,
-) -> VortexResult<Outcome<A>>
+) -> VortexResult<StepResult<A>>
     ensures outcome { IsOutcome ctx.old column.now (Cast dtype) result }
     ensures session { ctx.new ≡ ctx.old }
 {
     let cast = compute::cast(column, dtype, ctx)?;
-    Ok(Outcome::Becomes(cast))
+    Ok(StepResult::Becomes(cast))
 }
 
 // The rows with each null filled.
@@ -122,12 +122,12 @@ fn fill_column<A: Allocator + Copy>(
     column: &ArrayRef<A>,
     value: &Scalar<A>,
     ctx: &mut ExecutionCtx<A>,
-) -> VortexResult<Outcome<A>>
+) -> VortexResult<StepResult<A>>
     ensures outcome { IsOutcome ctx.old column.now (FillNull value.now) result }
     ensures session { ctx.new ≡ ctx.old }
 {
     let filled = compute::fill_null(column, value, ctx)?;
-    Ok(Outcome::Becomes(filled))
+    Ok(StepResult::Becomes(filled))
 }
 
 // Whether the operator holds of each row and the row of `right` beside it.
@@ -136,12 +136,12 @@ fn compare_column_with_column<A: Allocator + Copy>(
     operator: CompareOperator,
     right: &ArrayRef<A>,
     ctx: &mut ExecutionCtx<A>,
-) -> VortexResult<Outcome<A>>
+) -> VortexResult<StepResult<A>>
     ensures outcome { IsOutcome ctx.old column.now (CompareColumn operator right.now) result }
     ensures session { ctx.new ≡ ctx.old }
 {
     let truths = compute::compare(column, operator, right, ctx)?;
-    Ok(Outcome::Becomes(truths))
+    Ok(StepResult::Becomes(truths))
 }
 
 // Whether the operator holds of each row and the scalar.
@@ -150,48 +150,48 @@ fn compare_column_with_scalar<A: Allocator + Copy>(
     operator: CompareOperator,
     value: &Scalar<A>,
     ctx: &mut ExecutionCtx<A>,
-) -> VortexResult<Outcome<A>>
+) -> VortexResult<StepResult<A>>
     ensures outcome { IsOutcome ctx.old column.now (CompareScalar operator value.now) result }
     ensures session { ctx.new ≡ ctx.old }
 {
     let truths = compute::compare_scalar(column, operator, value, ctx)?;
-    Ok(Outcome::Becomes(truths))
+    Ok(StepResult::Becomes(truths))
 }
 
 // The sum of the rows that are not null.
 fn sum_column<A: Allocator + Copy>(
     column: &ArrayRef<A>,
     ctx: &mut ExecutionCtx<A>,
-) -> VortexResult<Outcome<A>>
+) -> VortexResult<StepResult<A>>
     ensures outcome { IsOutcome ctx.old column.now Sum result }
     ensures session { ctx.new ≡ ctx.old }
 {
     let total = compute::sum(column, ctx)?;
-    Ok(Outcome::Answers(Answer::Sum(total)))
+    Ok(StepResult::Answers(Answer::Sum(total)))
 }
 
 // The least and the greatest row that are not null.
 fn min_max_of_column<A: Allocator + Copy>(
     column: &ArrayRef<A>,
     ctx: &mut ExecutionCtx<A>,
-) -> VortexResult<Outcome<A>>
+) -> VortexResult<StepResult<A>>
     ensures outcome { IsOutcome ctx.old column.now MinMax result }
     ensures session { ctx.new ≡ ctx.old }
 {
     let extremes = compute::min_max(column, ctx)?;
-    Ok(Outcome::Answers(Answer::MinMax(extremes)))
+    Ok(StepResult::Answers(Answer::MinMax(extremes)))
 }
 
 // Whether any two rows are equal.
 fn is_constant_column<A: Allocator + Copy>(
     column: &ArrayRef<A>,
     ctx: &mut ExecutionCtx<A>,
-) -> VortexResult<Outcome<A>>
+) -> VortexResult<StepResult<A>>
     ensures outcome { IsOutcome ctx.old column.now IsConstant result }
     ensures session { ctx.new ≡ ctx.old }
 {
     let constant = compute::is_constant(column, ctx)?;
-    Ok(Outcome::Answers(Answer::Bool(constant)))
+    Ok(StepResult::Answers(Answer::Bool(constant)))
 }
 
 // Whether no row is above the next, or, where `strict` is asked, each is below the next.
@@ -199,12 +199,12 @@ fn is_sorted_column<A: Allocator + Copy>(
     column: &ArrayRef<A>,
     strict: bool,
     ctx: &mut ExecutionCtx<A>,
-) -> VortexResult<Outcome<A>>
+) -> VortexResult<StepResult<A>>
     ensures outcome { IsOutcome ctx.old column.now (IsSorted strict) result }
     ensures session { ctx.new ≡ ctx.old }
 {
     let sorted = compute::is_sorted(column, strict, ctx)?;
-    Ok(Outcome::Answers(Answer::Bool(sorted)))
+    Ok(StepResult::Answers(Answer::Bool(sorted)))
 }
 
 // The value of a row. A scalar is no list, so a column of lists is refused.
@@ -212,7 +212,7 @@ fn look_up<A: Allocator + Copy>(
     column: &ArrayRef<A>,
     index: usize,
     ctx: &mut ExecutionCtx<A>,
-) -> VortexResult<Outcome<A>>
+) -> VortexResult<StepResult<A>>
     ensures outcome { IsOutcome ctx.old column.now (At index) result }
     ensures session { ctx.new ≡ ctx.old }
 {
@@ -222,29 +222,29 @@ fn look_up<A: Allocator + Copy>(
     }
     let row = column.scalar_at(index)?;
     let scalar = Scalar::of_view(*ctx.allocator(), dtype, row)?;
-    Ok(Outcome::Answers(Answer::Value(scalar)))
+    Ok(StepResult::Answers(Answer::Value(scalar)))
 }
 
 // The column, written as runs.
 fn encode_column<A: Allocator + Copy>(
     column: &ArrayRef<A>,
     ctx: &mut ExecutionCtx<A>,
-) -> VortexResult<Outcome<A>>
+) -> VortexResult<StepResult<A>>
     ensures outcome { IsOutcome ctx.old column.now Encode result }
     ensures session { ctx.new ≡ ctx.old }
 {
     let encoded = compute::encode(column, ctx)?;
-    Ok(Outcome::Becomes(encoded))
+    Ok(StepResult::Becomes(encoded))
 }
 
 // The column, written row by row.
 fn decode_column<A: Allocator + Copy>(
     column: &ArrayRef<A>,
     ctx: &mut ExecutionCtx<A>,
-) -> VortexResult<Outcome<A>>
+) -> VortexResult<StepResult<A>>
     ensures outcome { IsOutcome ctx.old column.now Decode result }
     ensures session { ctx.new ≡ ctx.old }
 {
     let written = column.canonicalize(ctx)?;
-    Ok(Outcome::Becomes(written))
+    Ok(StepResult::Becomes(written))
 }

@@ -9,7 +9,7 @@ use Rattle.std.proofs.lemmas.List.Sums.{sum_by-cons}
 use Rattle.column_core.specs.Optionals.{optionals}
 use Rattle.column_core.proofs.OptionalRows.{length-optionals}
 use Rattle.runend_decode.specs.BitRunsForm.{IsOverBackground, background_of}
-use Rattle.runend_codec.specs.Encoding.{blanked}
+use Rattle.runend_windows.specs.Encoding.{blanked}
 
 -- the buffer with copies of a bit written up to `end`
 pub record Extended (old bits : List Bool) (written end : ℕ) (bit background : Bool) : Type 0 where

@@ -11,12 +11,12 @@ use Rattle.std.proofs.lemmas.Nat.Bits.{bit_at_and}
 use Rattle.column_base.specs.Words.{Packs, one_if}
 use Rattle.column_base.proofs.WordDigits.{digit_in_word}
 use Rattle.column_core.specs.Optionals.{optionals}
-use Rattle.runend_codec.specs.Cover.{Covers}
-use Rattle.runend_codec.specs.Encoding.{blanked}
-use Rattle.runend_codec.specs.Window.{run_at, IsWindow}
-use Rattle.runend_codec.proofs.Decoded.{reached}
-use Rattle.runend_codec.proofs.Lists.{slice_get-append, slice_get-replicate}
-use Rattle.runend_codec.proofs.RunAt.{run_at_is, run_of_row_within, ended_before, ends_past}
+use Rattle.runend_windows.specs.Cover.{Covers}
+use Rattle.runend_windows.specs.Encoding.{blanked}
+use Rattle.runend_windows.specs.Window.{run_at, IsWindow}
+use Rattle.runend_windows.proofs.Decoded.{reached}
+use Rattle.runend_windows.proofs.Lists.{slice_get-append, slice_get-replicate}
+use Rattle.runend_windows.proofs.RunAt.{run_at_is, run_of_row_within, ended_before, ends_past}
 
 -- a list of which a range is filled: inside the range
 pub filled_inside : {A : Type 0} (old : List A) (start stop i : ℕ) (b : A) → stop ≤ length old → start ≤ i → i < stop

@@ -3,9 +3,9 @@ use Rattle.std.proofs.Common.{◌≡◌, ℕ, zero, suc, ◌+◌, ◌-◌, ◌<�
 use Rattle.std.proofs.lemmas.List.{length-replicate, append_assoc, append-nil, drop-replicate, replicate-append-replicate}
 use Rattle.std.proofs.Math.Seq.{take-append_seam, drop-append-add}
 use Rattle.std.specs.List.{slice_get}
-use Rattle.runend_codec.specs.Cover.{Covers}
-use Rattle.runend_codec.specs.Window.{IsWindow}
-use Rattle.runend_codec.proofs.Decoded.{Decoded, Decoded-none, Decoded-next, Decoded-all, reached, reached-le}
+use Rattle.runend_windows.specs.Cover.{Covers}
+use Rattle.runend_windows.specs.Window.{IsWindow}
+use Rattle.runend_windows.proofs.Decoded.{Decoded, Decoded-none, Decoded-next, Decoded-all, reached, reached-le}
 
 -- the flags of the rows of the first runs, and true for each later row
 pub record Marked (ends : List ℕ) (marks : List Bool) (offset count runs : ℕ) (bits : List Bool) : Type 0 where

@@ -6,11 +6,11 @@ use Rattle.std.specs.List.{slice_get}
 use Rattle.std.specs.List.Sorted.{IsNonDecreasing}
 use Rattle.std.specs.Iterator.{AlwaysYields, YieldsFirst}
 use native.Mathlib.Numerals.{unary_clauses}
-use Rattle.runend_codec.specs.RunEnds.{AreRunEnds, Fills}
-use Rattle.runend_codec.specs.Window.{run_at, last_end}
-use Rattle.runend_codec.proofs.Lists.{slice_get-append, slice_get-append_copies}
-use Rattle.runend_codec.proofs.RunAt.{run_at_is}
-use Rattle.runend_codec.proofs.StoredNumbers.{map-append_copies}
+use Rattle.runend_windows.specs.RunEnds.{AreRunEnds, Fills}
+use Rattle.runend_windows.specs.Window.{run_at, last_end}
+use Rattle.runend_windows.proofs.Lists.{slice_get-append, slice_get-append_copies}
+use Rattle.runend_windows.proofs.RunAt.{run_at_is}
+use Rattle.runend_windows.proofs.StoredNumbers.{map-append_copies}
 
 -- the rows that the first runs reach
 abbrev pub reach : List ℕ → ℕ → ℕ

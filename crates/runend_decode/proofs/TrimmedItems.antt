@@ -5,9 +5,9 @@ use Rattle.std.proofs.lemmas.List.{length-map, get_or-map}
 use Rattle.std.proofs.lemmas.List.Kept.{AllPairs-from_increasing}
 use Rattle.std.specs.Iterator.{YieldsFirst}
 use Rattle.std.specs.List.Sorted.{IsNonDecreasing, IsStrictlyIncreasing}
-use Rattle.runend_codec.specs.Trimmed.{trimmed_ends}
-use Rattle.runend_codec.specs.RunEnds.{AreRunEnds}
-use Rattle.runend_codec.specs.Window.{last_end, IsWindow}
+use Rattle.runend_windows.specs.Trimmed.{trimmed_ends}
+use Rattle.runend_windows.specs.RunEnds.{AreRunEnds}
+use Rattle.runend_windows.specs.Window.{last_end, IsWindow}
 use Rattle.runend_decode.proofs.RunEnds.{AreRunEnds-of_first}
 
 -- the trimmed end of a run

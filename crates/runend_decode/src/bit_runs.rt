@@ -1,7 +1,7 @@
 //! Bits that are written run by run, one behind the other or over the bit of most runs.
 ghost use Rattle.std.specs.Prelude.{◌≡◌, ◌*◌, ◌-◌, ◌<◌, ◌↔◌, ◌++◌, [], IsTrue, Some, IfOk, IsOkUnless, OnErr, OnOk, count_by, drop, false, length, replicate, slice_get};
 ghost use Rattle.column_core.specs.Optionals.{optionals};
-ghost use Rattle.runend_codec.specs.Encoding.{blanked};
+ghost use Rattle.runend_windows.specs.Encoding.{blanked};
 ghost use Rattle.runend_decode.specs.BitRunsForm.{background_of};
 
 use column_core::{BitBuffer, BitBufferMut, VortexError, VortexResult};

@@ -6,13 +6,13 @@ ghost use Rattle.column_base.specs.Validity.{form_of};
 ghost use Rattle.column_core.specs.Computed.{HasRowIfAllNull};
 ghost use Rattle.column_core.specs.Optionals.{optionals};
 ghost use Rattle.column_core.specs.PrimitiveForm.{primitive_dtype, primitive_with};
-ghost use Rattle.runend_codec.specs.Window.{IsWindow};
-ghost use Rattle.runend_codec.specs.Cover.{Covers};
-ghost use Rattle.runend_codec.specs.Ends.{IsEndsType, ends_of};
-ghost use Rattle.runend_codec.specs.Decoding.{AreDecoded};
-ghost use Rattle.runend_codec.specs.Encoding.{IsDecodedFlat, blanked};
+ghost use Rattle.runend_windows.specs.Window.{IsWindow};
+ghost use Rattle.runend_windows.specs.Cover.{Covers};
+ghost use Rattle.runend_windows.specs.Ends.{IsEndsType, ends_of};
+ghost use Rattle.runend_windows.specs.Decoding.{AreDecoded};
+ghost use Rattle.runend_windows.specs.Encoding.{IsDecodedFlat, blanked};
 
-use crate::run_writer::{RunWriter, copies_of};
+use crate::run_writer::{RunWriter, repeated_items};
 use column_base::{match_each_native, match_each_unsigned};
 use column_core::{
     BitBuffer, BitBufferMut, NativePType, PrimitiveArray, UnsignedPType, Validity, VortexError,
@@ -198,7 +198,7 @@ fn decode_under<E: UnsignedPType, T: Copy + Drop, A: Allocator + Copy>(
             Ok((items, Validity::AllValid))
         }
         Validity::AllInvalid => {
-            let items = copies_of(alloc, blank, count)?;
+            let items = repeated_items(alloc, blank, count)?;
             let rows = decode_validity(alloc, ends, validity, offset, count)?;
             Ok((items, rows))
         }
@@ -254,7 +254,7 @@ fn decode_as<T: NativePType, A: Allocator + Copy>(
     Ok(PrimitiveArray::new_unchecked(T::wrap(items), rows))
 }
 
-/// The rows that runs of whole numbers show, from row `offset` on, `count` many, as a flat column with
+/// The rows that runs of integers show, from row `offset` on, `count` many, as a flat column with
 /// 0 under null. Refused as `OutOfMemory` alone.
 pub fn decode_numbers<A: Allocator + Copy>(
     alloc: A,

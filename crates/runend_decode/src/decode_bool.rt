@@ -1,15 +1,15 @@
-//! The decoder of truth values.
+//! The decoder of booleans.
 ghost use Rattle.std.specs.Prelude.{◌≡◌, ◌≤◌, ◌↔◌, IfOk, IsOkUnless, IsTrue, length as item_count, map, unsigned_abs, false};
 ghost use Rattle.column_base.specs.ValidityForm.{HasLength};
 ghost use Rattle.column_base.specs.Validity.{form_of};
 ghost use Rattle.column_core.specs.Optionals.{optionals};
 ghost use Rattle.column_core.specs.PrimitiveForm.{primitive_dtype};
 ghost use Rattle.column_core.specs.Leaf.{OfTruths};
-ghost use Rattle.runend_codec.specs.Window.{IsWindow};
-ghost use Rattle.runend_codec.specs.Cover.{Covers};
-ghost use Rattle.runend_codec.specs.Ends.{IsEndsType, ends_of};
-ghost use Rattle.runend_codec.specs.Decoding.{AreDecoded};
-ghost use Rattle.runend_codec.specs.Encoding.{IsDecodedLeaf, blanked};
+ghost use Rattle.runend_windows.specs.Window.{IsWindow};
+ghost use Rattle.runend_windows.specs.Cover.{Covers};
+ghost use Rattle.runend_windows.specs.Ends.{IsEndsType, ends_of};
+ghost use Rattle.runend_windows.specs.Decoding.{AreDecoded};
+ghost use Rattle.runend_windows.specs.Encoding.{IsDecodedLeaf, blanked};
 ghost use Rattle.runend_decode.specs.BitRunsForm.{majority_of};
 
 use crate::bit_runs::is_majority;
@@ -22,8 +22,8 @@ use column_core::{
 };
 use std::alloc::Allocator;
 
-/// The rows that runs of truth values show, from row `offset` on, `count` many, as a flat column with
-/// false under null. From `prefill_runs` runs on the rows start as the truth value of most runs, below as
+/// The rows that runs of booleans show, from row `offset` on, `count` many, as a flat column with
+/// false under null. From `prefill_runs` runs on the rows start as the boolean of most runs, below as
 /// false, and only the other runs are written; the answer is the same. Refused as `OutOfMemory` alone.
 pub fn decode_truths<A: Allocator + Copy>(
     alloc: A,
@@ -70,7 +70,7 @@ fn decode_under<E: UnsignedPType, A: Allocator + Copy>(
     Ok(BoolArray::new_unchecked(bits, rows))
 }
 
-// The truth values and the validity of the rows that the runs show in the window.
+// The booleans and the validity of the rows that the runs show in the window.
 fn decode_parts<E: UnsignedPType, A: Allocator + Copy>(
     alloc: A,
     ends: &[E],
@@ -124,7 +124,7 @@ fn starts_true<A: Allocator>(bits: &BitBuffer<A>, prefill_runs: usize) -> bool
     bits.len() >= prefill_runs && is_majority(bits.true_count(), bits.len())
 }
 
-// The truth values that the runs show in the window, where no run is null.
+// The booleans that the runs show in the window, where no run is null.
 fn decode_bits<E: UnsignedPType, A: Allocator + Copy>(
     alloc: A,
     ends: &[E],
@@ -149,7 +149,7 @@ fn decode_bits<E: UnsignedPType, A: Allocator + Copy>(
     Ok(rows.freeze())
 }
 
-// The truth values that the runs show in the window, false for null, and whether each row is valid, in one
+// The booleans that the runs show in the window, false for null, and whether each row is valid, in one
 // walk over the runs.
 fn decode_marked<E: UnsignedPType, A: Allocator + Copy>(
     alloc: A,

@@ -1,8 +1,8 @@
-//! Rows of truth values that start alike, of which runs are filled: those of 64 runs at a time.
+//! Rows of booleans that start alike, of which runs are filled: those of 64 runs at a time.
 ghost use Rattle.std.specs.Prelude.{◌≡◌, ◌≢◌, ℕ, ◌+◌, ◌-◌, ◌^◌, ◌<◌, ◌≤◌, Some, if◌then◌else◌};
 ghost use Rattle.std.specs.Prelude.{length, map, min, nat_eq, slice_get, slice_index, unsigned_abs};
 ghost use Rattle.std.specs.Int.{bit_at};
-ghost use Rattle.runend_codec.specs.Window.{IsWindow, run_at};
+ghost use Rattle.runend_windows.specs.Window.{IsWindow, run_at};
 
 use crate::decode::reach_of;
 use column_core::{BitBufferMut, UnsignedPType};

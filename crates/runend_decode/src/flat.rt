@@ -5,10 +5,10 @@ ghost use Rattle.column_core.specs.FlatColumn.{leaf_of};
 ghost use Rattle.column_core.specs.FlatView.{leaf_in};
 ghost use Rattle.column_core.specs.Leaf.{OfDecimals, OfVarBins, leaf_count, leaf_dtype, leaf_rows, leaf_validity};
 ghost use Rattle.column_core.specs.PrimitiveForm.{primitive_dtype};
-ghost use Rattle.runend_codec.specs.Window.{IsWindow};
-ghost use Rattle.runend_codec.specs.Ends.{IsEndsType, ends_of};
-ghost use Rattle.runend_codec.specs.Window.{run_rows};
-ghost use Rattle.runend_codec.specs.Encoding.{HasNullsAlone, IsDecodedLeaf};
+ghost use Rattle.runend_windows.specs.Window.{IsWindow};
+ghost use Rattle.runend_windows.specs.Ends.{IsEndsType, ends_of};
+ghost use Rattle.runend_windows.specs.Window.{run_rows};
+ghost use Rattle.runend_windows.specs.Encoding.{HasNullsAlone, IsDecodedLeaf};
 ghost use Rattle.column_core.specs.Leaf.{single_rows};
 
 use crate::decode::{decode_numbers, decode_rows};
@@ -22,7 +22,7 @@ use std::alloc::Allocator;
 
 /// The rows that runs show, from row `offset` on, `count` many, as a flat column with 0, false or the
 /// view of nothing under null. The values are left as they are; of texts and bytes, the bytes are shared. Of
-/// truth values, the rows start as the value of most runs from `prefill_runs` runs on; the answer is the same.
+/// booleans, the rows start as the value of most runs from `prefill_runs` runs on; the answer is the same.
 /// Refused as `OutOfMemory` alone.
 pub fn decode_flat<A: Allocator + Copy>(
     alloc: A,

@@ -14,6 +14,6 @@ mod typed_bool;
 pub use decode::{decode_numbers, decode_rows, decode_validity, reach_of};
 pub use decode_bool::decode_truths;
 pub use flat::{decode_flat, has_nulls_alone};
-pub use run_writer::{RunWriter, copies_of};
+pub use run_writer::{RunWriter, repeated_items};
 pub use typed::{decode_typed_numbers, no_null, no_value};
 pub use typed_bool::{decode_typed_bits, masks_all};

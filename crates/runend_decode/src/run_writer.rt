@@ -75,7 +75,7 @@ impl<T: Copy + Drop, A: Allocator> RunWriter<T, A> {
 }
 
 /// The item in each of `count` rows. Refused as `OutOfMemory` alone.
-pub fn copies_of<T: Copy + Drop, A: Allocator + Copy>(
+pub fn repeated_items<T: Copy + Drop, A: Allocator + Copy>(
     alloc: A,
     item: T,
     count: usize,

@@ -6,13 +6,13 @@ ghost use Rattle.column_base.specs.Mask.{mask_bits};
 ghost use Rattle.column_base.specs.ValidityForm.{HasLength, IsNormal, flags, nullability_in};
 ghost use Rattle.column_base.specs.Validity.{form_of};
 ghost use Rattle.column_core.specs.PrimitiveForm.{optionals, primitive_dtype};
-ghost use Rattle.runend_codec.specs.Window.{run_rows};
+ghost use Rattle.runend_windows.specs.Window.{run_rows};
 ghost use Rattle.column_core.specs.Computed.{IsComputed, without_nulls};
-ghost use Rattle.runend_codec.specs.Encoding.{blanked, number_rows};
-ghost use Rattle.runend_codec.specs.RunEnds.{AreRunEnds, Fills, FitsMask, masked_values};
+ghost use Rattle.runend_windows.specs.Encoding.{blanked, number_rows};
+ghost use Rattle.runend_windows.specs.RunEnds.{AreRunEnds, Fills, FitsMask, masked_values};
 ghost use Rattle.column_core.specs.Computed.{HasRowIfAllNull};
 
-use crate::run_writer::{RunWriter, copies_of};
+use crate::run_writer::{RunWriter, repeated_items};
 use column_core::{
     BitBuffer, BitBufferMut, Mask, NativePType, Nullability, PrimitiveArray, Validity, VortexError,
     VortexResult,
@@ -159,7 +159,7 @@ pub fn decode_typed_numbers<T: NativePType, I: Iterator<Item = usize>, A: Alloca
             Ok(PrimitiveArray::new_unchecked(T::wrap(items), validity))
         }
         Mask::AllFalse(_) => {
-            let zeros = copies_of(alloc, T::default(), count)?;
+            let zeros = repeated_items(alloc, T::default(), count)?;
             Ok(PrimitiveArray::new_unchecked(T::wrap(zeros), no_value(count)))
         }
         Mask::Values(_) => {

@@ -1,14 +1,14 @@
-//! The decoder of truth values, whose ends come from any iterator, so that runs may be empty.
+//! The decoder of booleans, whose ends come from any iterator, so that runs may be empty.
 ghost use Rattle.std.specs.Prelude.{◌≡◌, [], count_by, ◌<◌, ◌↔◌, IsTrue, ℕ, List, Some, false, slice_get, IfOk, IsOkUnless, length, length as item_count};
 ghost use Rattle.column_base.specs.Mask.{mask_bits};
 ghost use Rattle.column_base.specs.ValidityForm.{HasLength, IsNormal, flags, nullability_in};
 ghost use Rattle.column_base.specs.Validity.{form_of};
 ghost use Rattle.column_core.specs.Optionals.{AreBlankAtNulls, optionals};
-ghost use Rattle.runend_codec.specs.Window.{run_rows};
-ghost use Rattle.runend_codec.specs.RunEnds.{AreRunEnds, Fills, FitsMask, masked_truths};
+ghost use Rattle.runend_windows.specs.Window.{run_rows};
+ghost use Rattle.runend_windows.specs.RunEnds.{AreRunEnds, Fills, FitsMask, masked_truths};
 ghost use Rattle.column_core.specs.Computed.{HasRowIfAllNull};
 ghost use Rattle.column_base.specs.declared.dtype.DType.TheVariants as column;
-ghost use Rattle.runend_codec.specs.Encoding.{HasNullsAlone, blanked};
+ghost use Rattle.runend_windows.specs.Encoding.{HasNullsAlone, blanked};
 ghost use Rattle.runend_decode.specs.BitRunsForm.{background_of};
 
 use crate::bit_runs::{BitRuns, count_marked, is_majority, start_over};

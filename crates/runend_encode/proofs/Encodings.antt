@@ -7,11 +7,11 @@ use Rattle.column_base.specs.Types.{IsLeastFor}
 use Rattle.column_core.specs.Leaf.{Leaf, leaf_dtype, leaf_rows, single_rows, OfNumbers}
 use Rattle.column_core.specs.PrimitiveForm.{PrimitiveForm}
 use Rattle.column_core.specs.Value.{Value}
-use Rattle.runend_codec.specs.Cover.{IsTightCover}
-use Rattle.runend_codec.specs.Encoding.{IsFlatEncoding}
-use Rattle.runend_codec.specs.Visible.{HasRow}
-use Rattle.runend_codec.specs.Window.{IsWindow, last_end, run_rows}
-use Rattle.runend_codec.proofs.Widths.{le-last_end}
+use Rattle.runend_windows.specs.Cover.{IsTightCover}
+use Rattle.runend_windows.specs.Encoding.{IsFlatEncoding}
+use Rattle.runend_windows.specs.Visible.{HasRow}
+use Rattle.runend_windows.specs.Window.{IsWindow, last_end, run_rows}
+use Rattle.runend_windows.proofs.Widths.{le-last_end}
 use Rattle.runend_encode.specs.Encoding.{AreLeastEnds, AreRunValues, IsRowEncoding}
 use Rattle.runend_encode.specs.Windows.{start_in}
 use Rattle.runend_encode.proofs.Starts.{length-single}

@@ -2,10 +2,10 @@
 use Rattle.std.proofs.Common.{◌≡◌, ◌∙◌, ◌+◌, ◌-◌, ◌<◌, ◌≤◌, ◌^◌, ℕ, zero, suc, List, [], ◌∷◌, length, map, refl, sym, ap, subst, arith, inl, inr}
 use Rattle.std.specs.Prelude.{slice_get}
 use Rattle.std.proofs.lemmas.Bool.{cases_lt}
-use Rattle.runend_codec.specs.Cover.{IsTightCover}
-use Rattle.runend_codec.proofs.Grow.{IsTightCover-from_Tiles}
-use Rattle.runend_codec.proofs.ShownRuns.{shown_at, shown_at-here, shown_at-past}
-use Rattle.runend_codec.proofs.Tiles.{Tiles, Tiles-from_IsTightCover, Tiles-le, shown-from_IsTightCover}
+use Rattle.runend_windows.specs.Cover.{IsTightCover}
+use Rattle.runend_windows.proofs.Grow.{IsTightCover-from_Tiles}
+use Rattle.runend_windows.proofs.ShownRuns.{shown_at, shown_at-here, shown_at-past}
+use Rattle.runend_windows.proofs.Tiles.{Tiles, Tiles-from_IsTightCover, Tiles-le, shown-from_IsTightCover}
 
 -- `starts` tells where each of so many runs starts, and behind the last run where it ends: no run is empty
 abbrev pub AreFilled : (ℕ → ℕ) → ℕ → Type 0

@@ -19,10 +19,10 @@ use Rattle.column_core.specs.Refusal.{IsRefusedBy, first_fault}
 use Rattle.column_core.specs.Value.{FlatValue, Number, Single}
 use Rattle.column_ops.specs.Cast.{cast_fault, cast_row_fault, has_number}
 use Rattle.column_ops.specs.Computed.{IsMade}
-use Rattle.runend_codec.specs.Window.{last_end}
-use Rattle.runend_codec.proofs.StoredNumbers.{naturals-of_pos}
-use Rattle.runend_codec.proofs.ValidRuns.{optionals-all_valid}
-use Rattle.runend_codec.proofs.Widths.{le-last_end}
+use Rattle.runend_windows.specs.Window.{last_end}
+use Rattle.runend_windows.proofs.StoredNumbers.{naturals-of_pos}
+use Rattle.runend_windows.proofs.ValidRuns.{optionals-all_valid}
+use Rattle.runend_windows.proofs.Widths.{le-last_end}
 use Rattle.runend_encode.specs.Encoding.{AreLeastEnds}
 
 -- ends of 64 bits, as a column

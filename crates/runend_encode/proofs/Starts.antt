@@ -15,10 +15,10 @@ use Rattle.column_core.specs.Value.{FlatValue, Single, Value}
 use Rattle.column_ops.specs.Computed.{IsMade}
 use Rattle.column_ops.specs.Nullable.{either_nullable}
 use Rattle.column_ops.specs.Take.{ArePositions, position_numbers, take_rows}
-use Rattle.runend_codec.specs.Cover.{IsTightCover}
-use Rattle.runend_codec.proofs.Grow.{Open, Open-first, Open-same, Open-next, Open-done, IsTightCover-of_none}
-use Rattle.runend_codec.proofs.ValidRuns.{optionals-all_valid}
-use Rattle.runend_codec.proofs.Tiles.{Tiles, Tiles-from_IsTightCover, Tiles-le}
+use Rattle.runend_windows.specs.Cover.{IsTightCover}
+use Rattle.runend_windows.proofs.Grow.{Open, Open-first, Open-same, Open-next, Open-done, IsTightCover-of_none}
+use Rattle.runend_windows.proofs.ValidRuns.{optionals-all_valid}
+use Rattle.runend_windows.proofs.Tiles.{Tiles, Tiles-from_IsTightCover, Tiles-le}
 use Rattle.runend_encode.proofs.RowTests.{row-single}
 use Rattle.runend_encode.specs.Encoding.{AreRunValues}
 use Rattle.runend_encode.specs.Starts.{AreRunEnds, rows_at, starts_from}

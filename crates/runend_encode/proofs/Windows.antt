@@ -1,11 +1,11 @@
 -- Runs in a window, each of which shows a row.
 use Rattle.std.proofs.Common.{◌≡◌, ◌∙◌, ◌+◌, ◌-◌, ◌<◌, ◌≤◌, ℕ, zero, suc, List, [], ◌∷◌, Option, length, map, min, refl, sym, ap, subst, arith, add-one}
 use Rattle.std.specs.Prelude.{slice_index}
-use Rattle.runend_codec.specs.Cover.{IsTightCover}
-use Rattle.runend_codec.specs.Visible.{HasRow}
-use Rattle.runend_codec.specs.Window.{IsWindow, last_end, run_at, run_rows}
-use Rattle.runend_codec.proofs.RunAt.{ended_before, ends_past, run_of_row_within}
-use Rattle.runend_codec.proofs.RunRows.{length-run_rows, slice_get-run_rows_of_window}
+use Rattle.runend_windows.specs.Cover.{IsTightCover}
+use Rattle.runend_windows.specs.Visible.{HasRow}
+use Rattle.runend_windows.specs.Window.{IsWindow, last_end, run_at, run_rows}
+use Rattle.runend_windows.proofs.RunAt.{ended_before, ends_past, run_of_row_within}
+use Rattle.runend_windows.proofs.RunRows.{length-run_rows, slice_get-run_rows_of_window}
 use Rattle.runend_encode.specs.Windows.{start_in}
 use Rattle.runend_encode.proofs.Joined.{AreFilled, IsTightCover-of_runs}
 

@@ -7,9 +7,9 @@ use Rattle.column_core.specs.Computed.{IsComputedLeaf}
 use Rattle.column_core.specs.Leaf.{Leaf, leaf_dtype, single_rows}
 use Rattle.column_core.specs.PrimitiveForm.{PrimitiveForm}
 use Rattle.column_core.specs.Value.{Value}
-use Rattle.runend_codec.specs.Cover.{IsTightCover}
-use Rattle.runend_codec.specs.Ends.{ends_of}
-use Rattle.runend_codec.specs.Window.{last_end}
+use Rattle.runend_windows.specs.Cover.{IsTightCover}
+use Rattle.runend_windows.specs.Ends.{ends_of}
+use Rattle.runend_windows.specs.Window.{last_end}
 
 -- the values of runs with these ends: with these ends they are the only tight exact cover of the rows, of the same
 -- type, as a call computes them

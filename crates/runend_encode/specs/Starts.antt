@@ -1,7 +1,7 @@
 -- Where runs start, and what stands there.
 use Rattle.std.specs.Prelude.{ℕ, List, [], ◌∷◌, Option, None, map, slice_index_or}
 use Rattle.column_core.specs.Value.{Value}
-use Rattle.runend_codec.specs.Cover.{IsTightCover}
+use Rattle.runend_windows.specs.Cover.{IsTightCover}
 
 -- the first row of each run, where the first run starts at this row: each other run starts where the one before it ends
 abbrev pub starts_from : ℕ → List ℕ → List ℕ

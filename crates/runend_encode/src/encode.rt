@@ -4,9 +4,9 @@ ghost use Rattle.column_core.specs.FlatColumn.{leaf_of};
 ghost use Rattle.column_core.specs.FlatView.{leaf_in};
 ghost use Rattle.column_core.specs.Leaf.{leaf_dtype, leaf_rows, single_rows};
 ghost use Rattle.column_core.specs.PrimitiveForm.{primitive_dtype};
-ghost use Rattle.runend_codec.specs.Ends.{IsEndsType, ends_of};
-ghost use Rattle.runend_codec.specs.Visible.{HasRow};
-ghost use Rattle.runend_codec.specs.Window.{IsWindow, run_rows};
+ghost use Rattle.runend_windows.specs.Ends.{IsEndsType, ends_of};
+ghost use Rattle.runend_windows.specs.Visible.{HasRow};
+ghost use Rattle.runend_windows.specs.Window.{IsWindow, run_rows};
 ghost use Rattle.runend_encode.specs.Encoding.{AreRunValues, IsRowEncoding};
 
 use crate::least::least_ends;
@@ -14,7 +14,7 @@ use crate::row_ends::row_ends;
 use crate::rows::FlatRows;
 use crate::run_ends::{run_ends, starts_of};
 use column_core::{FlatColumn, FlatView, PrimitiveArray, Validity, VortexError, VortexResult};
-use runend_codec::encode_plain;
+use runend_windows::encode_plain;
 use std::alloc::Allocator;
 
 /// The ends and the values of the runs of a flat column, both flat: a run for each longest stretch of equal rows, null

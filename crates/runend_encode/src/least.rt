@@ -2,7 +2,7 @@
 ghost use Rattle.std.specs.Prelude.{IfOk, IsOkUnless};
 ghost use Rattle.std.specs.List.Sorted.{IsStrictlyIncreasing};
 ghost use Rattle.column_base.specs.Types.{IsLeastFor};
-ghost use Rattle.runend_codec.specs.Window.{last_end};
+ghost use Rattle.runend_windows.specs.Window.{last_end};
 ghost use Rattle.runend_encode.specs.Encoding.{AreLeastEnds};
 
 use column_core::{

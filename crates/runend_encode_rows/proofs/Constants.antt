@@ -2,14 +2,14 @@
 use Rattle.std.proofs.Common.{◌≡◌, ◌∙◌, ◌+◌, ◌<◌, ◌^◌, ℕ, ℤ, pos, zero, suc, List, [], ◌∷◌, Option, length, map, min, replicate, refl, sym, ap, subst, arith}
 use Rattle.std.specs.Prelude.{option_map, slice_get, slice_range}
 use Rattle.std.proofs.lemmas.List.{length-replicate}
-use Rattle.runend_codec.specs.Visible.{HasRow}
-use Rattle.runend_codec.specs.Window.{IsWindow, run_at, run_rows}
-use Rattle.runend_codec.proofs.Lists.{equal_by_slice_get, slice_get-replicate}
-use Rattle.runend_codec.proofs.RunAt.{run_at-here}
-use Rattle.runend_codec.proofs.RunRows.{length-run_rows, slice_get-run_rows_of_window}
-use Rattle.runend_codec.proofs.SlicedRuns.{IsWindow-of_none}
-use Rattle.runend_codec.proofs.StoredNumbers.{naturals-of_pos}
-use Rattle.runend_codec.specs.Ends.{IsEndsType, ends_of}
+use Rattle.runend_windows.specs.Visible.{HasRow}
+use Rattle.runend_windows.specs.Window.{IsWindow, run_at, run_rows}
+use Rattle.runend_windows.proofs.Lists.{equal_by_slice_get, slice_get-replicate}
+use Rattle.runend_windows.proofs.RunAt.{run_at-here}
+use Rattle.runend_windows.proofs.RunRows.{length-run_rows, slice_get-run_rows_of_window}
+use Rattle.runend_windows.proofs.SlicedRuns.{IsWindow-of_none}
+use Rattle.runend_windows.proofs.StoredNumbers.{naturals-of_pos}
+use Rattle.runend_windows.specs.Ends.{IsEndsType, ends_of}
 use Rattle.column_base.specs.declared.dtype.PType.{PType}
 use Rattle.column_base.specs.declared.dtype.PType.TheVariants.{U64}
 use Rattle.column_base.specs.ValidityForm.{NeverNull}

@@ -10,8 +10,8 @@ use Rattle.column_base.specs.ValidityForm.{ValidityForm, nullability_in}
 use Rattle.column_core.specs.Leaf.{Leaf, OfNumbers}
 use Rattle.column_core.specs.PrimitiveForm.{PrimitiveForm}
 use Rattle.column_core.specs.Value.{Value}
-use Rattle.runend_codec.specs.Ends.{IsEndsType, ends_of}
-use Rattle.runend_codec.specs.Window.{IsWindow}
+use Rattle.runend_windows.specs.Ends.{IsEndsType, ends_of}
+use Rattle.runend_windows.specs.Window.{IsWindow}
 use Rattle.runend_array.specs.Column.{AreParts, Column, OfLeaf, runs_of}
 use Rattle.runend_encode.specs.Encoding.{IsRowEncoding}
 use Rattle.runend_encode_rows.specs.Encoded.{IsEncodedRows}

@@ -3,8 +3,8 @@ use Rattle.std.specs.Prelude.{◌≡◌, List, Option, length}
 use Rattle.column_base.specs.declared.dtype.DType.{DType}
 use Rattle.column_base.specs.Types.{IsLeastFor}
 use Rattle.column_core.specs.Value.{Value}
-use Rattle.runend_codec.specs.Cover.{IsTightCover}
-use Rattle.runend_codec.specs.Window.{last_end}
+use Rattle.runend_windows.specs.Cover.{IsTightCover}
+use Rattle.runend_windows.specs.Window.{last_end}
 use Rattle.runend_array.specs.Column.{Column, OfLeaf, OfConstant, OfLists, OfRuns, Runs, column_dtype, column_rows}
 use Rattle.runend_array.specs.Encoding.{IsComputedFlat}
 

@@ -9,7 +9,7 @@ use Rattle.column_core.specs.Leaf.{Leaf, leaf_dtype, leaf_rows, plain_leaf, sing
 use Rattle.column_ops.specs.Cast.{can_cast, cast_fault, cast_row_fault}
 use Rattle.column_ops.specs.Fault.{first_fault}
 use Rattle.column_order.proofs.RowRanges.{length-single_rows}
-use Rattle.runend_codec.specs.Window.{run_rows}
+use Rattle.runend_windows.specs.Window.{run_rows}
 use Rattle.runend_array.specs.Column.{AreRuns, Runs, column_dtype, column_of_runs, column_rows, plain_of}
 use Rattle.runend_visible.specs.VisibleForm.{visible_ends, visible_values, window_start}
 use Rattle.runend_map.proofs.FirstFaults.{visible_fault}

@@ -9,7 +9,7 @@ use Rattle.column_core.specs.Leaf.{Leaf, leaf_rows, single_rows}
 use Rattle.column_ops.specs.Cast.{is_numbers}
 use Rattle.column_ops.specs.Fault.{first_fault}
 use Rattle.column_ops.specs.Take.{index_fault, take_fault, take_rows, taken_row}
-use Rattle.runend_codec.specs.Window.{run_rows}
+use Rattle.runend_windows.specs.Window.{run_rows}
 use Rattle.runend_array.specs.Column.{AreRuns, Runs, column_dtype, column_of_runs, column_rows, plain_of}
 use Rattle.column_ops.specs.Codes.{code_fault, code_number, code_rows}
 use Rattle.runend_visible.specs.VisibleForm.{visible_ends, visible_values, window_start}

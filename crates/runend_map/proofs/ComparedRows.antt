@@ -16,12 +16,12 @@ use Rattle.column_order.proofs.RowRanges.{length-single_rows}
 use Rattle.column_order.specs.Comparing.{IsStoredComparison, compare_rows, compare_with, compared}
 use Rattle.column_order.specs.declared.operator.CompareOperator.{CompareOperator}
 use Rattle.column_order.proofs.WrittenTruths.{compare_rows-copies}
-use Rattle.runend_codec.specs.Encoding.{HasNullsAlone}
-use Rattle.runend_codec.specs.Visible.{visible}
-use Rattle.runend_codec.specs.Window.{run_rows, IsWindow}
-use Rattle.runend_codec.proofs.RunRows.{length-run_rows}
-use Rattle.runend_codec.proofs.VisibleRuns.{first_le_last_visible, length-visible}
-use Rattle.runend_codec.proofs.VisibleLaws.{all_rows}
+use Rattle.runend_windows.specs.Encoding.{HasNullsAlone}
+use Rattle.runend_windows.specs.Visible.{visible}
+use Rattle.runend_windows.specs.Window.{run_rows, IsWindow}
+use Rattle.runend_windows.proofs.RunRows.{length-run_rows}
+use Rattle.runend_windows.proofs.VisibleRuns.{first_le_last_visible, length-visible}
+use Rattle.runend_windows.proofs.VisibleLaws.{all_rows}
 use Rattle.runend_array.specs.Column.{AreRuns, Column, Constant, OfConstant, OfLeaf, OfLists, OfRuns, Runs, column_dtype, column_of_runs, column_rows}
 use Rattle.runend_array.specs.Encoding.{IsDecodedForm}
 use Rattle.runend_visible.specs.VisibleForm.{visible_ends, visible_values, window_start}

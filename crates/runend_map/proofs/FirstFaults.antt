@@ -6,8 +6,8 @@ use Rattle.std.proofs.lemmas.List.Elements.{All-nil, All-cons, All-head, All-tai
 use Rattle.column_base.specs.declared.error.VortexError.{VortexError}
 use Rattle.column_core.specs.Value.{Value}
 use Rattle.column_ops.specs.Fault.{first_fault}
-use Rattle.runend_codec.specs.Visible.{FailsFirst}
-use Rattle.runend_codec.proofs.VisibleLaws.{all_rows, fails_first}
+use Rattle.runend_windows.specs.Visible.{FailsFirst}
+use Rattle.runend_windows.proofs.VisibleLaws.{all_rows, fails_first}
 use Rattle.runend_array.specs.Column.{AreRuns, Runs, column_of_runs, column_rows}
 use Rattle.runend_visible.specs.VisibleForm.{visible_values}
 

@@ -4,9 +4,9 @@ use Rattle.std.specs.Prelude.{IfOk, Result, Ok, Err}
 use Rattle.std.proofs.lemmas.List.{ext_get_or, length-map, get_or-map}
 use Rattle.std.proofs.lemmas.List.FromFn.{get_or-map-range_with_len}
 use Rattle.column_core.specs.Value.{Value}
-use Rattle.runend_codec.specs.Window.{run_at, run_rows, IsWindow}
-use Rattle.runend_codec.proofs.RunAt.{run_of_row_within}
-use Rattle.runend_codec.proofs.RunRows.{length-run_rows}
+use Rattle.runend_windows.specs.Window.{run_at, run_rows, IsWindow}
+use Rattle.runend_windows.proofs.RunAt.{run_of_row_within}
+use Rattle.runend_windows.proofs.RunRows.{length-run_rows}
 use Rattle.runend_array.specs.Column.{AreRuns, Runs, column_of_runs, column_rows}
 use Rattle.runend_visible.specs.VisibleForm.{visible_ends, visible_values, window_start}
 use Rattle.runend_visible.proofs.VisibleWindow.{visible_paired, visible_rows, visible_window}

@@ -5,6 +5,6 @@ pub mod FilledRows
 pub mod FirstFaults
 pub mod KeptRows
 pub mod OneKind
-pub mod OwedRows
+pub mod MapResultRows
 pub mod TakenForms
 pub mod KeptTypes

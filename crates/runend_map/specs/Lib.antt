@@ -1,5 +1,5 @@
-pub mod Asked
+pub mod MapInputs
 pub mod Codes
 pub mod ComparisonForm
-pub mod Owed
+pub mod MapResult
 pub mod TakenForm

@@ -7,6 +7,6 @@ use Rattle.runend_visible.specs.LeastForm.{IsRunForm}
 
 -- of a dictionary of this type the runs of the codes are kept, with ends of the same type and by the dictionary's type
 -- in least form or not; or the rows are flat
-abbrev pub IsTakenForm : Bool → DType → Runs → Column → Type 0
-IsTakenForm true dictionary codes taken = IsRunForm dictionary codes taken
-IsTakenForm false dictionary codes taken = IsComputedFlat taken
+abbrev pub TakeFromLeaves : Bool → DType → Runs → Column → Type 0
+TakeFromLeaves true dictionary codes taken = IsRunForm dictionary codes taken
+TakeFromLeaves false dictionary codes taken = IsComputedFlat taken

@@ -1,4 +1,4 @@
-//! A function called on each row of whole numbers, and its answers as columns.
+//! A function called on each row of integers, and its answers as columns.
 ghost use Rattle.std.specs.Prelude.{◌≡◌, ◌<◌, Some, false, IfOk, IsOkUnless, All, is_some, length, map, option_map, slice_get, unwrap_or};
 ghost use Rattle.std.specs.List.{AllZip};
 ghost use Rattle.column_base.specs.declared.dtype.DType.TheVariants as column;
@@ -10,7 +10,7 @@ ghost use Rattle.column_core.specs.Computed.{IsComputed, IsComputedLeaf};
 ghost use Rattle.column_core.specs.Leaf.{OfNumbers, OfTruths, single_rows};
 ghost use Rattle.column_core.specs.Optionals.{optionals};
 ghost use Rattle.column_core.specs.PrimitiveForm.{primitive_dtype};
-ghost use Rattle.runend_map.specs.Owed.{number_row, truth_row};
+ghost use Rattle.runend_map.specs.MapResult.{number_row, truth_row};
 
 use column_core::{
     BitBufferMut, BoolArray, NativePType, PrimitiveArray, Validity, VortexError, VortexResult,
@@ -57,7 +57,7 @@ fn items_of<T: Copy + Drop, A: Allocator + Copy>(
     Ok(items)
 }
 
-// Each row's truth value, and false for null.
+// Each row's boolean, and false for null.
 fn bits_of<A: Allocator + Copy>(alloc: A, rows: &[Option<bool>]) -> VortexResult<BitBufferMut<A>>
     ensures only { IsOkUnless result VortexError.OutOfMemory }
     ensures bits { IfOk result (λ bits. bits ≡ map (λ row. unwrap_or row false) rows.now) }
@@ -100,7 +100,7 @@ pub(crate) fn column_of_numbers<T: NativePType, A: Allocator + Copy>(
     Ok(PrimitiveArray::new_unchecked(T::wrap(items), validity))
 }
 
-/// The rows as a column of truth values with null, with false under null. Refused as `OutOfMemory` alone.
+/// The rows as a column of booleans with null, with false under null. Refused as `OutOfMemory` alone.
 pub(crate) fn column_of_truths<A: Allocator + Copy>(
     alloc: A,
     rows: &[Option<bool>],

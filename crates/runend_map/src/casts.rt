@@ -12,14 +12,14 @@ ghost use Rattle.runend_visible.specs.VisibleForm.{visible_values as values_of_v
 use column_core::{DType, FlatColumn, PrimitiveArray, VortexError, VortexResult, is_list_type};
 use column_ops::ColumnOps;
 use runend_array::{ArrayRef, ExecutionCtx, RunEndArray, RunEndArrayExt};
-use runend_visible::{lent_numbers, over_runs, visible_values};
+use runend_visible::{borrowed_values, over_runs, visible_values};
 use std::alloc::Allocator;
 
-/// The rows in the type: a run column with flat values and ends of the same type. Of whole numbers it is
+/// The rows in the type: a run column with flat values and ends of the same type. Of integers it is
 /// in least form: no run is hidden, neighbours differ (null equal to null), the offset is 0 and the last end
 /// the length. Of other types it has the visible runs. Work is by visible runs, and no hidden run decides.
 ///
-/// Refused as `Unsupported` unless both types are of whole numbers, or both of one kind that is no list;
+/// Refused as `Unsupported` unless both types are of integers, or both of one kind that is no list;
 /// then, at the first row that is no value of the type, as `NullNotAllowed` for null and as
 /// `CastOutOfRange` for a number; else as `OutOfMemory` alone.
 pub fn cast<A: Allocator + Copy>(
@@ -37,7 +37,7 @@ pub fn cast<A: Allocator + Copy>(
         return Err(VortexError::Unsupported);
     }
     let alloc = *ctx.allocator();
-    if let Some(numbers) = lent_numbers(array) {
+    if let Some(numbers) = borrowed_values(array) {
         return cast_lent(array, numbers, dtype, alloc);
     }
     let values = visible_values(array, alloc)?;
@@ -47,7 +47,7 @@ pub fn cast<A: Allocator + Copy>(
     over_runs(array, cast, alloc)
 }
 
-// The cast of a run column whose values are lent: whole numbers, each of which is visible.
+// The cast of a run column whose values are lent: integers, each of which is visible.
 fn cast_lent<A: Allocator + Copy>(
     array: &RunEndArray<A>,
     numbers: &PrimitiveArray<A>,

@@ -8,27 +8,27 @@ ghost use Rattle.column_core.specs.Refusal.{IsRefusedBy};
 ghost use Rattle.column_ops.specs.Cast.{is_numbers};
 ghost use Rattle.column_ops.specs.Codes.{code_fault, code_number, code_rows};
 ghost use Rattle.column_ops.specs.Nullable.{take_dtype};
-ghost use Rattle.runend_codec.specs.Window.{run_rows};
+ghost use Rattle.runend_windows.specs.Window.{run_rows};
 ghost use Rattle.runend_array.specs.Array.{column_of, dtype_of, rows};
 ghost use Rattle.runend_array.specs.Column.{AreRuns, column_dtype, column_of_runs, column_rows, plain_of};
 ghost use Rattle.runend_map.specs.Codes.{keeps_runs};
-ghost use Rattle.runend_map.specs.TakenForm.{IsTakenForm};
+ghost use Rattle.runend_map.specs.TakenForm.{TakeFromLeaves};
 ghost use Rattle.runend_visible.specs.VisibleForm.{visible_ends, visible_values as values_of_visible, window_start};
 
 use crate::visible::shown_rows;
 use column_core::{DType, FlatColumn, PrimitiveArray, VortexError, VortexResult, is_number_type};
 use column_ops::ColumnOps;
 use runend_array::{ArrayRef, ExecutionCtx, RunEndArray, RunEndArrayExt, array_of};
-use runend_visible::{lent_numbers, over_runs, visible_values};
+use runend_visible::{borrowed_values, over_runs, visible_values};
 use std::alloc::Allocator;
 
 /// The dictionary's row for each code, null for null, in a type with null where the dictionary's or the codes'
-/// has. Of a dictionary of whole numbers it is a run column in least form: no run is hidden, neighbours differ
-/// (null equal to null), the offset is 0 and the last end the length; of one of truth values it is a run column
+/// has. Of a dictionary of integers it is a run column in least form: no run is hidden, neighbours differ
+/// (null equal to null), the offset is 0 and the last end the length; of one of booleans it is a run column
 /// of the visible runs; both have flat values and ends of the same type. Of any other it is a flat column.
 /// Only codes of visible runs are looked at.
 ///
-/// Refused as `TypeMismatch` unless the codes are whole numbers; then as `OutOfBounds`, with the code and the
+/// Refused as `TypeMismatch` unless the codes are integers; then as `OutOfBounds`, with the code and the
 /// number of rows of the dictionary, at the first code that is no null and is negative or not below that
 /// number; else as `OutOfMemory` alone.
 pub(crate) fn take_from_flat<A: Allocator + Copy>(
@@ -42,7 +42,7 @@ pub(crate) fn take_from_flat<A: Allocator + Copy>(
         code_rows (single_rows (leaf_of dictionary.now)) (column_rows (column_of_runs codes.now))) }
     ensures dtype { IfOk result (λ taken. dtype_of taken ≡
         take_dtype (leaf_dtype (leaf_of dictionary.now)) (column_dtype codes.now.values)) }
-    ensures form { IfOk result (λ taken. IsTakenForm (keeps_runs (leaf_dtype (leaf_of dictionary.now)))
+    ensures form { IfOk result (λ taken. TakeFromLeaves (keeps_runs (leaf_dtype (leaf_of dictionary.now)))
         (leaf_dtype (leaf_of dictionary.now)) codes.now (column_of taken)) }
     ensures session { ctx.new ≡ ctx.old }
 {
@@ -50,7 +50,7 @@ pub(crate) fn take_from_flat<A: Allocator + Copy>(
         return Err(VortexError::TypeMismatch);
     }
     let alloc = *ctx.allocator();
-    if let Some(indices) = lent_numbers(codes) {
+    if let Some(indices) = borrowed_values(codes) {
         return take_at_codes(codes, indices, dictionary, alloc);
     }
     let indices = visible_codes(codes, alloc)?;
@@ -101,13 +101,13 @@ fn placed<A: Allocator + Copy>(
     ensures rows { IfOk result (λ part. rows part ≡ run_rows (visible_ends codes.now) (single_rows (leaf_of taken))
         (window_start codes.now.count codes.now.offset) codes.now.count) }
     ensures dtype { IfOk result (λ part. dtype_of part ≡ leaf_dtype (leaf_of taken)) }
-    ensures form { IfOk result (λ part. IsTakenForm kept (leaf_dtype (leaf_of taken)) codes.now (column_of part)) }
+    ensures form { IfOk result (λ part. TakeFromLeaves kept (leaf_dtype (leaf_of taken)) codes.now (column_of part)) }
 {
     if kept {
         let part = over_runs(codes, taken, alloc)?;
         Ok(part)
     } else {
-        // Truth values, which alone are prefilled, are put over the runs.
+        // Booleans, which alone are prefilled, are put over the runs.
         let flat = shown_rows(codes, taken, alloc, 0)?;
         Ok(array_of(flat))
     }
@@ -130,7 +130,7 @@ fn take_at_codes<A: Allocator + Copy>(
         code_rows (single_rows (leaf_of dictionary.now)) (column_rows (column_of_runs codes.now))) }
     ensures dtype { IfOk result (λ taken. dtype_of taken ≡
         take_dtype (leaf_dtype (leaf_of dictionary.now)) (column_dtype codes.now.values)) }
-    ensures form { IfOk result (λ taken. IsTakenForm (keeps_runs (leaf_dtype (leaf_of dictionary.now)))
+    ensures form { IfOk result (λ taken. TakeFromLeaves (keeps_runs (leaf_dtype (leaf_of dictionary.now)))
         (leaf_dtype (leaf_of dictionary.now)) codes.now (column_of taken)) }
 {
     let taken = dictionary.take(alloc, indices)?;

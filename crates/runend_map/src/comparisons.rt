@@ -17,12 +17,12 @@ ghost use Rattle.runend_array.specs.Encoding.{IsComputedFlat, IsDecodedForm};
 ghost use Rattle.runend_map.specs.ComparisonForm.{IsComparisonForm, IsNullConstant};
 
 use crate::visible::{shown_rows, shown_truths};
+use array_rowwise::flat_rows;
 use column_core::{
     BoolArray, DType, FlatColumn, Nullability, Scalar, ScalarView, VortexError, VortexResult,
 };
 use column_order::{CompareOperator, FlatOrder, column_fault};
 use runend_array::{ArrayRef, ConstantArray, ExecutionCtx, RunEndArray, RunEndArrayExt};
-use runend_rowwise::flat_rows;
 use runend_visible::visible_values;
 use std::alloc::Allocator;
 
@@ -82,7 +82,7 @@ fn is_null<A: Allocator>(scalar: &Scalar<A>) -> bool
     }
 }
 
-// Null in each of `count` rows of truth values. Takes no memory.
+// Null in each of `count` rows of booleans. Takes no memory.
 fn null_truths<A: Allocator + Copy>(count: usize) -> ArrayRef<A>
     ensures { column_of result ≡ OfConstant (record { dtype = column.Bool Nullable; value = None; count = count }) }
 {
@@ -142,7 +142,7 @@ fn compare_flat<A: Allocator + Copy>(
     truths
 }
 
-// Each row compared with the one beside it. The answer has a truth value for each row, so that to write
+// Each row compared with the one beside it. The answer has a boolean for each row, so that to write
 // both columns row by row costs no more than to walk runs beside rows.
 fn compare_beside<A: Allocator + Copy>(
     array: &RunEndArray<A>,

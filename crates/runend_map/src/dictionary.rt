@@ -11,26 +11,26 @@ ghost use Rattle.runend_array.specs.Array.{column_of, dtype_of, rows};
 ghost use Rattle.runend_array.specs.Column.{column_dtype, column_of_runs, column_rows, plain_of};
 ghost use Rattle.runend_array.specs.Encoding.{IsComputedFlat};
 ghost use Rattle.runend_map.specs.Codes.{keeps_runs};
-ghost use Rattle.runend_map.specs.TakenForm.{IsTakenForm};
+ghost use Rattle.runend_map.specs.TakenForm.{TakeFromLeaves};
 
 use crate::codes::take_from_flat;
 use crate::visible::shown_rows;
+use array_rowwise::{flat_rows, take_rows};
 use column_core::{
     FlatColumn, PrimitiveArray, VortexError, VortexResult, is_list_type, is_number_type,
 };
 use runend_array::{ArrayRef, ExecutionCtx, RunEndArray, RunEndArrayExt};
-use runend_rowwise::{flat_rows, take_rows};
 use runend_visible::visible_values;
 use std::alloc::Allocator;
 
 /// The dictionary's row for each code, null for null, in a type with null where the dictionary's or the codes'
-/// has. Of a dictionary of whole numbers it is a run column in least form: no run is hidden, neighbours differ
-/// (null equal to null), the offset is 0 and the last end the length; of one of truth values it is a run column
+/// has. Of a dictionary of integers it is a run column in least form: no run is hidden, neighbours differ
+/// (null equal to null), the offset is 0 and the last end the length; of one of booleans it is a run column
 /// of the visible runs; both have flat values and ends of the same type. Of any other it is a flat column.
 /// The dictionary may be of any form and of any kind, and of the codes only those of visible runs are looked
 /// at.
 ///
-/// Refused as `TypeMismatch` unless the codes are whole numbers, however little memory there is; then as
+/// Refused as `TypeMismatch` unless the codes are integers, however little memory there is; then as
 /// `OutOfBounds`, with the code and the number of rows of the dictionary, at the first code that is no null
 /// and is negative or not below that number; else as `OutOfMemory` alone.
 pub fn take_from<A: Allocator + Copy>(
@@ -45,7 +45,7 @@ pub fn take_from<A: Allocator + Copy>(
         code_rows (rows dictionary.now) (column_rows (column_of_runs codes.now))) }
     ensures dtype { IfOk result (λ taken. dtype_of taken ≡
         take_dtype (dtype_of dictionary.now) (column_dtype codes.now.values)) }
-    ensures form { IfOk result (λ taken. IsTakenForm (keeps_runs (dtype_of dictionary.now))
+    ensures form { IfOk result (λ taken. TakeFromLeaves (keeps_runs (dtype_of dictionary.now))
         (dtype_of dictionary.now) codes.now (column_of taken)) }
     ensures session { ctx.new ≡ ctx.old }
 {
@@ -64,7 +64,7 @@ pub fn take_from<A: Allocator + Copy>(
 /// The dictionary's row for each code, null for null, flat, in a type with null where the dictionary's or the
 /// codes' has. Both may be of any form, and the dictionary of any kind.
 ///
-/// Refused as `TypeMismatch` unless the codes are whole numbers, however little memory there is; then as
+/// Refused as `TypeMismatch` unless the codes are integers, however little memory there is; then as
 /// `OutOfBounds`, with the code and the number of rows of the dictionary, at the first code that is no null
 /// and is negative or not below that number; else as `OutOfMemory` alone.
 pub fn take_from_rows<A: Allocator + Copy>(
@@ -89,7 +89,7 @@ pub fn take_from_rows<A: Allocator + Copy>(
     taken
 }
 
-// The codes of a flat column of whole numbers.
+// The codes of a flat column of integers.
 fn numbers_of<A: Allocator>(flat: FlatColumn<A>) -> PrimitiveArray<A>
     requires numbers { is_numbers (leaf_dtype (leaf_of flat)) ≡ true }
     ensures codes { code_numbers (single_rows (leaf_of flat)) ≡ optional_numbers result }
@@ -113,7 +113,7 @@ fn codes_of_runs<A: Allocator + Copy>(
     ensures dtype { IfOk result (λ indices. primitive_dtype indices ≡ column_dtype codes.now.values) }
 {
     let values = visible_values(codes, alloc)?;
-    // Whole numbers are not prefilled.
+    // Integers are not prefilled.
     let shown = shown_rows(codes, values, alloc, 0)?;
     Ok(numbers_of(shown))
 }

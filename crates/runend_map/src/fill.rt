@@ -13,11 +13,11 @@ ghost use Rattle.runend_visible.specs.VisibleForm.{visible_values as values_of_v
 use column_core::{FlatColumn, PrimitiveArray, Scalar, VortexError, VortexResult, is_list_type};
 use column_ops::ColumnOps;
 use runend_array::{ArrayRef, ExecutionCtx, RunEndArray, RunEndArrayExt};
-use runend_visible::{lent_numbers, over_runs, visible_values};
+use runend_visible::{borrowed_values, over_runs, visible_values};
 use std::alloc::Allocator;
 
 /// The rows with the scalar's value in place of each null, of the column's kind and without null: a run
-/// column with flat values and ends of the same type. Of whole numbers it is in least form: no run is hidden,
+/// column with flat values and ends of the same type. Of integers it is in least form: no run is hidden,
 /// neighbours differ, the offset is 0 and the last end the length. Of other types it has the visible runs.
 /// Work is by visible runs.
 ///
@@ -40,7 +40,7 @@ pub fn fill_null<A: Allocator + Copy>(
         return Err(VortexError::Unsupported);
     }
     let alloc = *ctx.allocator();
-    if let Some(numbers) = lent_numbers(array) {
+    if let Some(numbers) = borrowed_values(array) {
         return fill_lent(array, numbers, value, alloc);
     }
     let values = visible_values(array, alloc)?;
@@ -50,7 +50,7 @@ pub fn fill_null<A: Allocator + Copy>(
     over_runs(array, filled, alloc)
 }
 
-// A run column whose nulls are filled, where the values are lent: whole numbers, each of which is visible.
+// A run column whose nulls are filled, where the values are lent: integers, each of which is visible.
 fn fill_lent<A: Allocator + Copy>(
     array: &RunEndArray<A>,
     numbers: &PrimitiveArray<A>,

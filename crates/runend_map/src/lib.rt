@@ -12,10 +12,10 @@ mod fill;
 mod scalar_fn;
 mod visible;
 
+pub use array_rowwise::{cast_rows, fill_rows};
 pub use casts::cast;
 pub use column_order::CompareOperator;
 pub use comparisons::compare;
 pub use dictionary::{take_from, take_from_rows};
 pub use fill::fill_null;
-pub use runend_rowwise::{cast_rows, fill_rows};
 pub use scalar_fn::{map_rows, map_rows_bool};

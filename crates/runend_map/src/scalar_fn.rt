@@ -9,14 +9,14 @@ ghost use Rattle.column_core.specs.Leaf.{leaf_dtype, leaf_rows, single_rows};
 ghost use Rattle.column_core.specs.Refusal.{IsRefusedBy};
 ghost use Rattle.column_core.specs.Value.{IsLists};
 ghost use Rattle.runend_array.specs.Array.{column_of, dtype_of, rows};
-ghost use Rattle.runend_map.specs.Asked.{HasValidRuns, IsAsked, answered_rows, asked_rows};
-ghost use Rattle.runend_map.specs.Owed.{IsMappedForm, IsOwed, MayAsk, is_native, native_fault, number_row, truth_row};
+ghost use Rattle.runend_map.specs.MapInputs.{HasValidRuns, IsAsked, answered_rows, asked_rows};
+ghost use Rattle.runend_map.specs.MapResult.{IsMappedForm, IsOwed, MayAsk, is_native, native_fault, number_row, truth_row};
 
 use crate::answers::{answers, column_of_numbers, column_of_truths};
 use crate::visible::shown_rows;
+use array_rowwise::flat_rows;
 use column_core::{DType, FlatColumn, NativePType, VortexError, VortexResult};
 use runend_array::{ArrayRef, ExecutionCtx, Kernel, array_of};
-use runend_rowwise::flat_rows;
 use runend_visible::{over_visible_runs, visible_values};
 use std::alloc::Allocator;
 
@@ -49,7 +49,7 @@ pub fn map_rows<S: NativePType, T: NativePType, F: Fn(Option<S>) -> Option<T>, A
     answered(column, FlatColumn::Primitive(mapped), ctx)
 }
 
-/// The truth value that the function answers to each row, in a type with null: of a run column, where scalar functions
+/// The boolean that the function answers to each row, in a type with null: of a run column, where scalar functions
 /// are registered, a run column of the visible runs with flat values, else a flat column. The function is called once
 /// for each visible run, or, of other columns, once for each row, and on no other value.
 ///

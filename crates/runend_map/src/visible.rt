@@ -4,7 +4,7 @@ ghost use Rattle.column_core.specs.Computed.{IsComputedLeaf};
 ghost use Rattle.column_core.specs.FlatColumn.{leaf_of};
 ghost use Rattle.column_core.specs.BoolForm.{bool_dtype, bool_rows};
 ghost use Rattle.column_core.specs.Leaf.{OfTruths, leaf_dtype, leaf_rows, single_rows};
-ghost use Rattle.runend_codec.specs.Window.{run_rows};
+ghost use Rattle.runend_windows.specs.Window.{run_rows};
 ghost use Rattle.runend_array.specs.Array.{column_of, dtype_of, rows};
 ghost use Rattle.runend_array.specs.Encoding.{IsDecodedForm};
 ghost use Rattle.runend_visible.specs.VisibleForm.{visible_ends, visible_values as values_of_visible, window_start};
@@ -16,7 +16,7 @@ use runend_decode::decode_flat;
 use runend_visible::{ends_of_visible, visible_offset};
 use std::alloc::Allocator;
 
-/// The rows that the visible runs show over these values, one for each, as a flat column. Of truth values, the
+/// The rows that the visible runs show over these values, one for each, as a flat column. Of booleans, the
 /// rows start as the value of most runs from `prefill_runs` runs on; the answer is the same. Refused as
 /// `OutOfMemory` alone.
 pub(crate) fn shown_rows<A: Allocator + Copy>(
@@ -54,7 +54,7 @@ pub(crate) fn shown_rows<A: Allocator + Copy>(
     flat
 }
 
-/// The truth values that the visible runs show, one for each run: a constant null where there is a run and
+/// The booleans that the visible runs show, one for each run: a constant null where there is a run and
 /// all are null, else a flat column. Refused as `OutOfMemory` alone.
 pub(crate) fn shown_truths<A: Allocator + Copy>(
     array: &RunEndArray<A>,

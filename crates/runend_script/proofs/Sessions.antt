@@ -2,13 +2,13 @@
 use Rattle.std.proofs.Common.{◌≡◌, refl}
 use Rattle.std.specs.Prelude.{◌≢◌, Option, None, Some}
 use Rattle.runend_array.specs.SessionForm.{SessionForm}
-use Rattle.runend_script.specs.declared.command.Command.{Command}
-use Rattle.runend_script.specs.declared.command.Command.TheVariants.{Set}
+use Rattle.runend_script.specs.declared.command.ScriptCommand.{ScriptCommand}
+use Rattle.runend_script.specs.declared.command.ScriptCommand.TheVariants.{Set}
 use Rattle.runend_script.specs.declared.command.Setting.{Setting}
 use Rattle.runend_script.specs.Session.{IsSessionAfter, IsSetTo}
 
 -- a command that sets nothing leaves the session
-pub left_by_others : {X : Type 0} (command : Command) (column : Option X) (before after : SessionForm) → ((setting : Setting) → command ≢ Set setting) → after ≡ before → IsSessionAfter command column before after
+pub left_by_others : {X : Type 0} (command : ScriptCommand) (column : Option X) (before after : SessionForm) → ((setting : Setting) → command ≢ Set setting) → after ≡ before → IsSessionAfter command column before after
 left_by_others (Set setting) column before after other same = absurd (other setting refl)
 left_by_others command column before after other same = same
 

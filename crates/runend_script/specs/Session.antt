@@ -3,8 +3,8 @@ use Rattle.std.specs.Prelude.{◌≡◌, Bool, Option, Some, true, false}
 use Rattle.runend_array.specs.SessionForm.{SessionForm, crate_thresholds, is_registered_in, no_thresholds}
 use Rattle.runend_array.specs.declared.session.Kernel.{Kernel}
 use Rattle.runend_array.specs.declared.session.Thresholds.{Thresholds}
-use Rattle.runend_script.specs.declared.command.Command.{Command}
-use Rattle.runend_script.specs.declared.command.Command.TheVariants.{Set}
+use Rattle.runend_script.specs.declared.command.ScriptCommand.{ScriptCommand}
+use Rattle.runend_script.specs.declared.command.ScriptCommand.TheVariants.{Set}
 use Rattle.runend_script.specs.declared.command.Setting.{Setting}
 use Rattle.runend_script.specs.declared.command.Setting.TheVariants.{AllKernels, NoKernels, CrateThresholds, ZeroThresholds}
 
@@ -26,6 +26,6 @@ IsSetTo CrateThresholds before after = AreThresholdsSet crate_thresholds before 
 IsSetTo ZeroThresholds before after = AreThresholdsSet no_thresholds before after
 
 -- the session after a command: it is set by a line that says so, where a column stands, and any other leaves it as it is
-abbrev pub IsSessionAfter : {X : Type 0} → Command → Option X → SessionForm → SessionForm → Type 0
+abbrev pub IsSessionAfter : {X : Type 0} → ScriptCommand → Option X → SessionForm → SessionForm → Type 0
 IsSessionAfter (Set setting) (Some column) before after = IsSetTo setting before after
 IsSessionAfter command column before after = after ≡ before

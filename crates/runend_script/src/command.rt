@@ -12,7 +12,7 @@ pub enum Line<'a> {
     /// It has no words.
     Blank,
     /// It is a command.
-    Command(Command<'a>),
+    Command(ScriptCommand<'a>),
     /// It has words, and they are no command.
     Bad,
 }
@@ -32,7 +32,7 @@ pub enum Setting {
 
 /// A command on the column.
 #[derive(Clone, Copy)]
-pub enum Command<'a> {
+pub enum ScriptCommand<'a> {
     /// A flat column of the listed rows replaces the column. The words are yet to be read.
     Col(PType, Nullability, Words<'a>),
     /// A run column of the listed runs replaces the column. The words are yet to be read.
@@ -109,7 +109,7 @@ pub fn read_line(line: &str) -> Line<'_> {
 }
 
 // The command of this name, where these words may follow it.
-fn read_command<'a>(name: &str, words: Words<'a>) -> Option<Command<'a>> {
+fn read_command<'a>(name: &str, words: Words<'a>) -> Option<ScriptCommand<'a>> {
     match read_name(name) {
         Some(command) => ended(words, command),
         None => read_longer(name, words),
@@ -117,85 +117,85 @@ fn read_command<'a>(name: &str, words: Words<'a>) -> Option<Command<'a>> {
 }
 
 // The command that is its name alone.
-fn read_name<'a>(name: &str) -> Option<Command<'a>> {
+fn read_name<'a>(name: &str) -> Option<ScriptCommand<'a>> {
     match name {
-        "encode" => Some(Command::Encode),
-        "decode" => Some(Command::Decode),
-        "show" => Some(Command::Show),
-        "rows" => Some(Command::Rows),
-        "sum" => Some(Command::Sum),
-        "minmax" => Some(Command::MinMax),
-        "constant" => Some(Command::Constant),
-        "sorted" => Some(Command::Sorted),
-        "strict" => Some(Command::Strict),
-        "meta" => Some(Command::Meta),
+        "encode" => Some(ScriptCommand::Encode),
+        "decode" => Some(ScriptCommand::Decode),
+        "show" => Some(ScriptCommand::Show),
+        "rows" => Some(ScriptCommand::Rows),
+        "sum" => Some(ScriptCommand::Sum),
+        "minmax" => Some(ScriptCommand::MinMax),
+        "constant" => Some(ScriptCommand::Constant),
+        "sorted" => Some(ScriptCommand::Sorted),
+        "strict" => Some(ScriptCommand::Strict),
+        "meta" => Some(ScriptCommand::Meta),
         _ => None,
     }
 }
 
 // The command of this name that more words belong to.
-fn read_longer<'a>(name: &str, words: Words<'a>) -> Option<Command<'a>> {
+fn read_longer<'a>(name: &str, words: Words<'a>) -> Option<ScriptCommand<'a>> {
     match name {
         "col" => read_col(words),
         "runs" => read_runs(words),
         "at" => read_at(words),
         "slice" => read_slice(words),
         "filter" => read_filter(words),
-        "take" => Some(Command::Take(words)),
+        "take" => Some(ScriptCommand::Take(words)),
         "cast" => read_cast(words),
         "fill" => read_fill(words),
         "kernels" | "thresholds" => read_setting(name, words),
-        "read" => Some(Command::Read(words)),
+        "read" => Some(ScriptCommand::Read(words)),
         _ => None,
     }
 }
 
 // The command of a `col` line. The words behind its type are its rows.
-fn read_col(mut words: Words<'_>) -> Option<Command<'_>> {
+fn read_col(mut words: Words<'_>) -> Option<ScriptCommand<'_>> {
     let (ptype, nullability) = parse_type(words.next()?)?;
-    Some(Command::Col(ptype, nullability, words))
+    Some(ScriptCommand::Col(ptype, nullability, words))
 }
 
 // The command of an `at` line: the index of a row.
-fn read_at(mut words: Words<'_>) -> Option<Command<'_>> {
+fn read_at(mut words: Words<'_>) -> Option<ScriptCommand<'_>> {
     let index = parse_count(words.next()?)?;
-    ended(words, Command::At(index))
+    ended(words, ScriptCommand::At(index))
 }
 
 // The command of a `filter` line: a word of bits, or none.
-fn read_filter(mut words: Words<'_>) -> Option<Command<'_>> {
+fn read_filter(mut words: Words<'_>) -> Option<ScriptCommand<'_>> {
     let bits = words.next().unwrap_or("");
-    ended(words, Command::Filter(bits))
+    ended(words, ScriptCommand::Filter(bits))
 }
 
 // The command of a `cast` line: a type.
-fn read_cast(mut words: Words<'_>) -> Option<Command<'_>> {
+fn read_cast(mut words: Words<'_>) -> Option<ScriptCommand<'_>> {
     let (ptype, nullability) = parse_type(words.next()?)?;
-    ended(words, Command::Cast(ptype, nullability))
+    ended(words, ScriptCommand::Cast(ptype, nullability))
 }
 
 // The command of a `fill` line: the word of a value.
-fn read_fill(mut words: Words<'_>) -> Option<Command<'_>> {
+fn read_fill(mut words: Words<'_>) -> Option<ScriptCommand<'_>> {
     let value = words.next()?;
-    ended(words, Command::Fill(value))
+    ended(words, ScriptCommand::Fill(value))
 }
 
 // The command of a `slice` line: where the rows start, and where they stop.
-fn read_slice(mut words: Words<'_>) -> Option<Command<'_>> {
+fn read_slice(mut words: Words<'_>) -> Option<ScriptCommand<'_>> {
     let start = parse_count(words.next()?)?;
     let stop = parse_count(words.next()?)?;
-    ended(words, Command::Slice(start, stop))
+    ended(words, ScriptCommand::Slice(start, stop))
 }
 
 // The command of a `runs` line with these words. A slash parts the ends from the values.
-fn read_runs(mut words: Words<'_>) -> Option<Command<'_>> {
+fn read_runs(mut words: Words<'_>) -> Option<ScriptCommand<'_>> {
     let (ptype, nullability) = parse_type(words.next()?)?;
     let ends_ptype = parse_ptype(words.next()?)?;
     let offset = parse_count(words.next()?)?;
     let length = parse_count(words.next()?)?;
     let ends = words;
     let _slash = words.find(|word| *word == SLASH)?;
-    Some(Command::Runs(RunsLine {
+    Some(ScriptCommand::Runs(RunsLine {
         ptype,
         nullability,
         ends_ptype,
@@ -207,7 +207,7 @@ fn read_runs(mut words: Words<'_>) -> Option<Command<'_>> {
 }
 
 // The command of a `kernels` or `thresholds` line with these words.
-fn read_setting<'a>(name: &str, mut words: Words<'a>) -> Option<Command<'a>> {
+fn read_setting<'a>(name: &str, mut words: Words<'a>) -> Option<ScriptCommand<'a>> {
     let setting = match (name, words.next()?) {
         ("kernels", "all") => Setting::AllKernels,
         ("kernels", "none") => Setting::NoKernels,
@@ -215,11 +215,11 @@ fn read_setting<'a>(name: &str, mut words: Words<'a>) -> Option<Command<'a>> {
         ("thresholds", "zero") => Setting::ZeroThresholds,
         _ => return None,
     };
-    ended(words, Command::Set(setting))
+    ended(words, ScriptCommand::Set(setting))
 }
 
 // The command, where no word is left.
-fn ended<'a>(mut words: Words<'a>, command: Command<'a>) -> Option<Command<'a>> {
+fn ended<'a>(mut words: Words<'a>, command: ScriptCommand<'a>) -> Option<ScriptCommand<'a>> {
     match words.next() {
         None => Some(command),
         Some(_) => None,

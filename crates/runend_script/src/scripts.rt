@@ -5,18 +5,18 @@ ghost use Rattle.runend_array.specs.Array.{column_of};
 ghost use Rattle.runend_array.specs.Column.{AreParts, column_of_runs, runs_of};
 ghost use Rattle.runend_array.specs.Fault.{PartsFault};
 ghost use Rattle.runend_commands.specs.declared.command.Answer.TheVariants.{Done};
-ghost use Rattle.runend_script.specs.declared.command.Command.TheVariants as line;
+ghost use Rattle.runend_script.specs.declared.command.ScriptCommand.TheVariants as line;
 ghost use Rattle.runend_script.specs.Listed.{AreRunsOf, IsFlatOf};
 ghost use Rattle.runend_script.specs.Replies.{IsKeptOrStep, IsReplyOf, IsReplyTo, Tells};
 ghost use Rattle.runend_script.specs.Session.{IsSessionAfter};
 
-use crate::command::{Command, Line, RunsLine, SLASH, Setting, read_line};
+use crate::command::{Line, RunsLine, SLASH, ScriptCommand, Setting, read_line};
 use crate::record::{meta_line, read_record};
 use crate::session::set_session;
 use crate::shown::{form_line, rows_line};
 use column_base::{DType, Nullability, PType, VortexError, VortexResult};
 use runend_commands::{Answer, Command as ColumnCommand, execute_one};
-use script_answers::{answer_line, has_line, refusal_line};
+use script_answers::{answer_line, has_answer_line, refusal_line};
 use script_text::{read_indices, read_mask, read_scalar, read_values};
 use std::alloc::{AllocError, Allocator};
 use std::mem::replace;
@@ -149,7 +149,7 @@ fn refusal_as_reply<A: Allocator + Copy>(
 // where none stands yet.
 #[tactic(auto, using(crate::proofs::Sessions::left_by_others))]
 fn perform<A: Allocator + Copy>(
-    command: Command<'_>,
+    command: ScriptCommand<'_>,
     column: &mut Option<ArrayRef<A>>,
     ctx: &mut ExecutionCtx<A>,
 ) -> VortexResult<Reply<A>>
@@ -157,11 +157,11 @@ fn perform<A: Allocator + Copy>(
     ensures session { IsSessionAfter command.entry column.old ctx.old ctx.new }
 {
     let listed = match command {
-        Command::Col(ptype, nullability, words) => {
+        ScriptCommand::Col(ptype, nullability, words) => {
             plain_of(*ctx.allocator(), ptype, nullability, words)?
         }
-        Command::Runs(line) => runs_of_line(line, ctx)?,
-        Command::Set(setting) => return Ok(set_beside(setting, column, ctx)),
+        ScriptCommand::Runs(line) => runs_of_line(line, ctx)?,
+        ScriptCommand::Set(setting) => return Ok(set_beside(setting, column, ctx)),
         _ => {
             return match column {
                 Some(array) => perform_on(command, array, ctx),
@@ -265,7 +265,7 @@ fn runs_of_parts<A: Allocator + Copy>(
 // Does the command on the column that stands.
 #[tactic(auto, using(crate::proofs::Replies::step_of_reply))]
 fn perform_on<A: Allocator + Copy>(
-    command: Command<'_>,
+    command: ScriptCommand<'_>,
     column: &mut ArrayRef<A>,
     ctx: &mut ExecutionCtx<A>,
 ) -> VortexResult<Reply<A>>
@@ -274,18 +274,18 @@ fn perform_on<A: Allocator + Copy>(
     ensures session { ctx.new ≡ ctx.old }
 {
     match command {
-        Command::Show => Ok(Reply::Line(form_line(*ctx.allocator(), column)?)),
-        Command::Rows => Ok(Reply::Line(rows_line(*ctx.allocator(), column)?)),
-        Command::Meta => Ok(Reply::Line(meta_line(column, ctx)?)),
-        Command::Read(words) => match read_record(words, ctx)? {
+        ScriptCommand::Show => Ok(Reply::Line(form_line(*ctx.allocator(), column)?)),
+        ScriptCommand::Rows => Ok(Reply::Line(rows_line(*ctx.allocator(), column)?)),
+        ScriptCommand::Meta => Ok(Reply::Line(meta_line(column, ctx)?)),
+        ScriptCommand::Read(words) => match read_record(words, ctx)? {
             Some(line) => Ok(Reply::Line(line)),
             None => Ok(Reply::Bad),
         },
-        Command::Filter(bits) => match read_mask(*ctx.allocator(), bits)? {
+        ScriptCommand::Filter(bits) => match read_mask(*ctx.allocator(), bits)? {
             Some(mask) => reply_of(ColumnCommand::Filter(mask), column, ctx),
             None => Ok(Reply::Bad),
         },
-        Command::Take(words) => match read_indices(*ctx.allocator(), words)? {
+        ScriptCommand::Take(words) => match read_indices(*ctx.allocator(), words)? {
             Some(indices) => reply_of(ColumnCommand::Take(indices), column, ctx),
             None => Ok(Reply::Bad),
         },
@@ -298,22 +298,25 @@ fn perform_on<A: Allocator + Copy>(
 
 // The command that is executed on a column of the type, or `None` where the line is no such command or
 // a word of it is none that the type has.
-fn column_command<A: Allocator>(command: Command<'_>, dtype: DType) -> Option<ColumnCommand<A>> {
+fn column_command<A: Allocator>(
+    command: ScriptCommand<'_>,
+    dtype: DType,
+) -> Option<ColumnCommand<A>> {
     match command {
-        Command::Encode => Some(ColumnCommand::Encode),
-        Command::Decode => Some(ColumnCommand::Decode),
-        Command::At(index) => Some(ColumnCommand::At(index)),
-        Command::Slice(start, stop) => Some(ColumnCommand::Slice(start..stop)),
-        Command::Cast(ptype, nullability) => {
+        ScriptCommand::Encode => Some(ColumnCommand::Encode),
+        ScriptCommand::Decode => Some(ColumnCommand::Decode),
+        ScriptCommand::At(index) => Some(ColumnCommand::At(index)),
+        ScriptCommand::Slice(start, stop) => Some(ColumnCommand::Slice(start..stop)),
+        ScriptCommand::Cast(ptype, nullability) => {
             let target = DType::Primitive(ptype, nullability);
             Some(ColumnCommand::Cast(target))
         }
-        Command::Fill(word) => Some(ColumnCommand::FillNull(read_scalar(dtype, word)?)),
-        Command::Sum => Some(ColumnCommand::Sum),
-        Command::MinMax => Some(ColumnCommand::MinMax),
-        Command::Constant => Some(ColumnCommand::IsConstant),
-        Command::Sorted => Some(ColumnCommand::IsSorted { strict: false }),
-        Command::Strict => Some(ColumnCommand::IsSorted { strict: true }),
+        ScriptCommand::Fill(word) => Some(ColumnCommand::FillNull(read_scalar(dtype, word)?)),
+        ScriptCommand::Sum => Some(ColumnCommand::Sum),
+        ScriptCommand::MinMax => Some(ColumnCommand::MinMax),
+        ScriptCommand::Constant => Some(ColumnCommand::IsConstant),
+        ScriptCommand::Sorted => Some(ColumnCommand::IsSorted { strict: false }),
+        ScriptCommand::Strict => Some(ColumnCommand::IsSorted { strict: true }),
         _ => None,
     }
 }
@@ -350,7 +353,7 @@ fn reply_by<A: Allocator + Copy>(
 }
 
 // What tells the answer. A command that is done needs no line, so that want of memory for one leaves the column as it
-// was. `Unsupported` where there is no line, as there is none of what is no whole number.
+// was. `Unsupported` where there is no line, as there is none of what is no integer.
 #[tactic(auto, using(crate::proofs::Replies::not_short))]
 fn reply_that<A: Allocator + Copy>(
     command: &ColumnCommand<A>,
@@ -364,8 +367,8 @@ fn reply_that<A: Allocator + Copy>(
     if is_done(answer) {
         return Ok(Reply::Done);
     }
-    if !has_line(command, answer) {
-        return Err(want_of(answer));
+    if !has_answer_line(command, answer) {
+        return Err(refusal_of(answer));
     }
     let line = answer_line(command, answer, ctx)?;
     Ok(Reply::Line(line))
@@ -382,7 +385,7 @@ fn is_done<A: Allocator>(answer: &Answer<A>) -> bool
 }
 
 // Why an answer has no line.
-fn want_of<A: Allocator>(answer: &Answer<A>) -> VortexError {
+fn refusal_of<A: Allocator>(answer: &Answer<A>) -> VortexError {
     match answer {
         Answer::Refused(error) => *error,
         _ => VortexError::Unsupported,

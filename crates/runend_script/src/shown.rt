@@ -7,8 +7,8 @@ use vortex_runend::{
     ArrayRef, ConstantArray, RunEndArray, RunEndArrayExt, RunEndArraySlotsExt, ScalarView,
 };
 
-/// The line `rows V ..` of all rows. Refused as `Unsupported` where a row is neither null nor a whole
-/// number, and as `OutOfMemory`.
+/// The line `rows V ..` of all rows. Refused as `Unsupported` where a row is neither null nor an integer,
+/// and as `OutOfMemory`.
 pub fn rows_line<A: Allocator + Copy>(alloc: A, array: &ArrayRef<A>) -> VortexResult<String<A>> {
     let mut line = String::from_str(alloc, "rows")?;
     push_rows(&mut line, array)?;
@@ -16,8 +16,8 @@ pub fn rows_line<A: Allocator + Copy>(alloc: A, array: &ArrayRef<A>) -> VortexRe
 }
 
 /// The line of the form of a column: `flat TYPE V ..`, `const TYPE V length N`, or `runs TYPE ETYPE
-/// offset N length N ends e .. values V ..`. Refused as `Unsupported` where rows are no whole
-/// numbers, and as `OutOfMemory`.
+/// offset N length N ends e .. values V ..`. Refused as `Unsupported` where rows are no integers,
+/// and as `OutOfMemory`.
 pub fn form_line<A: Allocator + Copy>(alloc: A, array: &ArrayRef<A>) -> VortexResult<String<A>> {
     let mut line = String::new(alloc);
     match array {
@@ -42,7 +42,7 @@ fn push_type<A: Allocator + Copy>(line: &mut String<A>, dtype: DType) -> VortexR
     Ok(())
 }
 
-// The row as a word, behind a space. Refused as `Unsupported` where it is neither null nor a whole number.
+// The row as a word, behind a space. Refused as `Unsupported` where it is neither null nor an integer.
 fn push_row<A: Allocator + Copy>(line: &mut String<A>, row: ScalarView<'_, A>) -> VortexResult<()> {
     if !is_null_or_number(row) {
         return Err(VortexError::Unsupported);

@@ -16,9 +16,9 @@ use Rattle.column_ops.specs.Nullable.{either_nullable}
 use Rattle.column_ops.specs.Take.{take_rows}
 use Rattle.runend_array.specs.Column.{Column, OfLeaf, OfConstant, OfLists, OfRuns}
 use Rattle.runend_array.specs.Encoding.{IsComputedFlat}
-use Rattle.runend_positions.specs.Indices.{optional_indices}
+use Rattle.runend_indices.specs.Indices.{optional_indices}
 use Rattle.runend_select.proofs.CheckedIndices.{length-indices}
-use Rattle.runend_select.specs.TakeForm.{AreAllNull, IsTakeForm}
+use Rattle.runend_select.specs.TakeForm.{AreAllNull, TakeLeaves}
 
 -- of rows that are there, none is null only by its form
 pub some-valid : (count : ℕ) → ¬ ((0 < count) × (count_by (λ (b : Bool). b) (replicate count true) ≡ 0))
@@ -68,7 +68,7 @@ null_dtype t form count h =
     ap (with_nullability t) (either-null (nullability_of t) ∙ ap (either_nullable (nullability_of t)) (sym (has-null form count h.0 h.1)))
 
 -- a flat form is taken where some index is not null, or there is none
-pub flat-taken : (indices : List (Option ℤ)) (column : Column) → IsComputedFlat column → ¬ AreAllNull indices → IsTakeForm indices column
+pub flat-taken : (indices : List (Option ℤ)) (column : Column) → IsComputedFlat column → ¬ AreAllNull indices → TakeLeaves indices column
 flat-taken indices (OfLeaf leaf) flat not = (not, flat)
 flat-taken indices (OfConstant constant) flat not = absurd flat
 flat-taken indices (OfLists lists) flat not = not

@@ -4,10 +4,10 @@ use Rattle.std.proofs.lemmas.Bool.{cases_lt}
 use Rattle.std.proofs.lemmas.List.{ext_get_or, length-replicate, get_or_push, get_or-append_right, get_or-replicate}
 use Rattle.std.proofs.lemmas.List.FromFn.{length-map-range_with_len, get_or-map-range_with_len}
 use Rattle.std.specs.List.Sorted.{IsStrictlyIncreasing}
-use Rattle.runend_codec.specs.Window.{IsWindow, last_end, run_at, run_rows}
-use Rattle.runend_join.specs.Joined.{AllHaveRows}
-use Rattle.runend_join.proofs.Joining.{AllHaveRows-exact}
-use Rattle.runend_codec.proofs.RunAt.{run_at-here, run_at-past, run_at_is, run_at_within}
+use Rattle.runend_windows.specs.Window.{IsWindow, last_end, run_at, run_rows}
+use Rattle.runend_coalesce.specs.Joined.{AllHaveRows}
+use Rattle.runend_coalesce.proofs.Joining.{AllHaveRows-exact}
+use Rattle.runend_windows.proofs.RunAt.{run_at-here, run_at-past, run_at_is, run_at_within}
 
 -- runs that end at so many rows or before, the last of them there
 pub record Grown {B : Type 0} (ends : List ℕ) (values : List (Option B)) (rows : ℕ) : Type 0 where

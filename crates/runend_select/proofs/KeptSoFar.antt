@@ -6,7 +6,7 @@ use Rattle.std.proofs.lemmas.List.{length-map, length-take, take_all, map-append
 use Rattle.std.proofs.lemmas.List.Sums.{count_by-le-length}
 use Rattle.std.specs.List.Sorted.{IsStrictlyIncreasing}
 use Rattle.column_ops.specs.Filter.{filter_rows}
-use Rattle.runend_codec.proofs.Lists.{slice_get-append}
+use Rattle.runend_windows.proofs.Lists.{slice_get-append}
 use Rattle.runend_select.specs.KeptRuns.{AreKept, HasSelectedRow, selected_before}
 use Rattle.runend_select.proofs.Reached.{reached, reached-le, reached-from_run, reached-past_run, run_at-reached}
 use Rattle.runend_select.proofs.Selected.{IsSetIn-counted, counted-IsSetIn, filter_rows-append, set_bits, set_bits-split, set_within}

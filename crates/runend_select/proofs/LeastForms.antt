@@ -14,7 +14,7 @@ use Rattle.column_core.specs.VarBinForm.{view_bytes, zero_view}
 use Rattle.runend_array.specs.Canonical.{IsAllNullFlat, IsNormalFlat}
 use Rattle.runend_array.specs.Column.{Column, OfLeaf, OfConstant, OfLists, OfRuns, IsFlat, Runs, column_rows}
 use Rattle.runend_array.specs.Encoding.{IsComputedFlat}
-use Rattle.runend_codec.proofs.Grow.{IsTightCover-of_none}
+use Rattle.runend_windows.proofs.Grow.{IsTightCover-of_none}
 use Rattle.runend_select.specs.FilterForm.{HasNoRuns}
 use Rattle.runend_visible.specs.LeastForm.{IsLeastForm}
 

@@ -2,10 +2,10 @@
 use Rattle.std.proofs.Common.{◌≡◌, ◌∙◌, Option, None, Some, ap, sym}
 use Rattle.std.specs.Prelude.{Result, Ok, Err, IsErrAnd, IsErrOf}
 use Rattle.column_base.specs.declared.error.VortexError.{VortexError}
-use Rattle.runend_select.specs.Told.{IsToldBy}
+use Rattle.runend_select.specs.Told.{IsRefusedExactlyBy}
 
 -- a refusal by the fault exactly, that is passed on
-pub told-passed_on : {T : Type 0} (fault : Option VortexError) (error : VortexError) (result : Result T VortexError) → IsErrAnd result (λ e. e ≡ error) → fault ≡ Some error → IsToldBy fault result
+pub told-passed_on : {T : Type 0} (fault : Option VortexError) (error : VortexError) (result : Result T VortexError) → IsErrAnd result (λ e. e ≡ error) → fault ≡ Some error → IsRefusedExactlyBy fault result
 told-passed_on fault error (Ok value) passed is = absurd passed
 told-passed_on fault error (Err other) passed is = is ∙ ap Some (sym passed)
 
@@ -13,7 +13,7 @@ same_error : (a b : VortexError) → ◌≡◌ {A = Option VortexError} (Some a)
 same_error a b same = cc
 
 -- the fault is what is told, and where there is none, nothing is asked
-pub first-told : {T : Type 0} (fault : Option VortexError) (result : Result T VortexError) → IsToldBy fault result → (error : VortexError) → fault ≡ Some error → IsErrOf result error
+pub first-told : {T : Type 0} (fault : Option VortexError) (result : Result T VortexError) → IsRefusedExactlyBy fault result → (error : VortexError) → fault ≡ Some error → IsErrOf result error
 first-told fault (Ok value) told error is = let never : ◌≡◌ {A = Option VortexError} None (Some error) = sym told ∙ is in absurd (cc)
 first-told fault (Err own) told error is = ap Err (same_error own error (sym told ∙ is))
 

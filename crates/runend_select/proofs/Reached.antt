@@ -2,8 +2,8 @@
 use Rattle.std.proofs.Common.{◌≡◌, ℕ, ◌+◌, ◌-◌, ◌<◌, ◌≤◌, zero, suc, List, [], ◌∷◌, length, slice_index, min, arith, add-one, inl, inr, ap}
 use Rattle.std.proofs.lemmas.Bool.{cases_lt}
 use Rattle.std.specs.List.Sorted.{IsStrictlyIncreasing}
-use Rattle.runend_codec.specs.Window.{run_at, last_end}
-use Rattle.runend_codec.proofs.RunAt.{ended_before, ends_after, ends_past}
+use Rattle.runend_windows.specs.Window.{run_at, last_end}
+use Rattle.runend_windows.proofs.RunAt.{ended_before, ends_after, ends_past}
 
 -- the rows that the first k runs reach
 abbrev pub reached : List ℕ → ℕ → ℕ → ℕ → ℕ

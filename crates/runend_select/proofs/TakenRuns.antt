@@ -7,11 +7,11 @@ use Rattle.std.proofs.lemmas.List.Elements.{All-cons, All-head, All-nil, All-tai
 use Rattle.std.proofs.lemmas.List.FromFn.{get_or-map-range_with_len}
 use Rattle.column_core.specs.Optionals.{optionals}
 use Rattle.column_ops.specs.Take.{ArePositions, position_numbers, take_rows, taken_row}
-use Rattle.runend_codec.specs.Window.{IsWindow, run_at, run_rows}
-use Rattle.runend_codec.proofs.RunAt.{run_of_row_within}
+use Rattle.runend_windows.specs.Window.{IsWindow, run_at, run_rows}
+use Rattle.runend_windows.proofs.RunAt.{run_of_row_within}
 use Rattle.column_base.specs.ValidityForm.{ValidityForm, HasLength, flags}
 use Rattle.column_base.proofs.ValidityRows.{length-flags}
-use Rattle.runend_positions.specs.Indices.{AreInBounds, optional_indices, runs_of}
+use Rattle.runend_indices.specs.Indices.{AreInBounds, optional_indices, runs_of}
 use Rattle.runend_select.specs.RunsOf.{AreRunsOf}
 
 -- the row of an index is the value of its run

@@ -1,7 +1,7 @@
 -- The runs of the rows that a mask selects.
 use Rattle.std.specs.Prelude.{◌≡◌, ◌↔◌, ℕ, ◌+◌, ◌-◌, ◌<◌, true, Some, List, Bool, length, map, take, count_by, slice_get}
 use Rattle.column_ops.specs.Filter.{filter_rows}
-use Rattle.runend_codec.specs.Window.{run_at}
+use Rattle.runend_windows.specs.Window.{run_at}
 
 -- how many rows are selected up to the end of a run, of rows from position `offset` on
 abbrev pub selected_before : List Bool → ℕ → ℕ → ℕ

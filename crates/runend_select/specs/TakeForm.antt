@@ -8,8 +8,8 @@ abbrev pub AreAllNull : List (Option ℤ) → Type 0
 AreAllNull indices = (0 < length indices) × All (λ index. index ≡ None) indices
 
 -- a constant null exactly where there is an index and each is null, else flat
-abbrev pub IsTakeForm : List (Option ℤ) → Column → Type 0
-IsTakeForm indices (OfLeaf leaf) = (¬ AreAllNull indices) × IsComputedFlat (OfLeaf leaf)
-IsTakeForm indices (OfConstant constant) = AreAllNull indices × (constant.value ≡ None)
-IsTakeForm indices (OfLists lists) = ¬ AreAllNull indices
-IsTakeForm indices (OfRuns ends_type ends values offset count) = ⊥
+abbrev pub TakeLeaves : List (Option ℤ) → Column → Type 0
+TakeLeaves indices (OfLeaf leaf) = (¬ AreAllNull indices) × IsComputedFlat (OfLeaf leaf)
+TakeLeaves indices (OfConstant constant) = AreAllNull indices × (constant.value ≡ None)
+TakeLeaves indices (OfLists lists) = ¬ AreAllNull indices
+TakeLeaves indices (OfRuns ends_type ends values offset count) = ⊥

@@ -9,20 +9,20 @@ ghost use Rattle.runend_array.specs.Array.{column_of, dtype_of, rows};
 ghost use Rattle.runend_array.specs.Canonical.{canonical_column};
 ghost use Rattle.runend_array.specs.Column.{column_dtype, column_of_runs, column_rows};
 ghost use Rattle.runend_array.specs.Encoding.{IsComputedFlat};
-ghost use Rattle.runend_rowwise.specs.Computed.{IsComputedAs};
+ghost use Rattle.array_rowwise.specs.Computed.{IsComputedAs};
 ghost use Rattle.runend_select.specs.FilterForm.{HasNoRuns, IsFilterForm, IsSelectedForm, IsWholeForm, TakesDirectly};
 
-use crate::kept_columns::{least_column, selected_runs};
+use crate::filtered_runs::{least_column, selected_runs};
 use crate::taken_runs::taken_rows;
+use array_rowwise::set_bit_indices;
 use column_core::{BitBuffer, Mask, Validity, VortexError, VortexResult, is_number_type};
 use runend_array::{
     ArrayRef, Canonical, ExecutionCtx, RunEnd, RunEndArray, RunEndArrayExt, RunEndArraySlotsExt,
     Thresholds,
 };
-use runend_rowwise::set_places;
 use std::alloc::Allocator;
 
-/// The rows at which the mask is true, in order. Runs of whole numbers are left in least form: as few as
+/// The rows at which the mask is true, in order. Runs of integers are left in least form: as few as
 /// can be, none hidden and no neighbours equal (null is equal to null), at offset 0, the last end the
 /// number of rows, with ends of the same type and flat values. Of other types the column is unchanged
 /// under `AllTrue`, has no runs and offset 0 under `AllFalse`, and else the runs with a selected row are
@@ -82,7 +82,7 @@ fn taken_directly<A: Allocator + Copy>(
         (column_dtype array.now.values) (canonical_column taken)) }
     ensures session { ctx.new ≡ ctx.old }
 {
-    let places = set_places(*ctx.allocator(), bits)?;
+    let places = set_bit_indices(*ctx.allocator(), bits)?;
     let taken = taken_rows(array, places.as_slice(), &Validity::NonNullable, ctx);
     drop(places);
     taken
@@ -126,7 +126,7 @@ fn unchanged<A: Allocator + Copy>(
     ArrayRef::of_runs(*ctx.allocator(), copy)
 }
 
-// All rows: of whole numbers in least form, of other types unchanged.
+// All rows: of integers in least form, of other types unchanged.
 fn all_rows<A: Allocator + Copy>(
     array: &RunEndArray<A>,
     ctx: &mut ExecutionCtx<A>,

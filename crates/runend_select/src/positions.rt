@@ -1,15 +1,15 @@
 //! The runs of indices, by the strategy that a session picks.
 ghost use Rattle.std.specs.Prelude.{◌≡◌, ◌+◌, ◌<◌, ◌≤◌, IfOk, IsOkUnless, OnErr, length as item_count};
 ghost use Rattle.column_base.specs.Mask.{mask_bits};
-ghost use Rattle.runend_codec.specs.Window.{IsWindow};
-ghost use Rattle.runend_positions.specs.declared.strategy.Strategy.{Strategy};
-ghost use Rattle.runend_positions.specs.Indices.{AreInBounds, optional_indices, valid_count};
-ghost use Rattle.runend_positions.specs.Pick.{IsPicked, answer_of, most_tests};
+ghost use Rattle.runend_windows.specs.Window.{IsWindow};
+ghost use Rattle.runend_indices.specs.declared.strategy.Strategy.{Strategy};
+ghost use Rattle.runend_indices.specs.Indices.{AreInBounds, optional_indices, valid_count};
+ghost use Rattle.runend_indices.specs.Pick.{IsPicked, answer_of, most_tests};
 ghost use Rattle.runend_select.specs.SessionPicks.{picks_of};
 
 use column_core::{CountedEnds, Mask, NativePType, UnsignedPType, VortexError, VortexResult};
 use runend_array::{ExecutionCtx, Thresholds};
-use runend_positions::TakeThresholds;
+use runend_indices::TakeThresholds;
 use std::alloc::Allocator;
 
 /// The run of each valid index among `length` rows, where `offset` is the position of row 0, by the
@@ -40,7 +40,7 @@ pub fn physical_indices<E: UnsignedPType, T: NativePType, A: Allocator + Copy>(
 {
     let alloc = *ctx.allocator();
     let picks = take_thresholds(ctx.session().thresholds());
-    runend_positions::physical_indices(ends, alloc, offset, length, indices, mask, picks)
+    runend_indices::physical_indices(ends, alloc, offset, length, indices, mask, picks)
 }
 
 // The thresholds by which a strategy is picked.

@@ -9,12 +9,13 @@ ghost use Rattle.column_ops.specs.Nullable.{either_nullable};
 ghost use Rattle.column_ops.specs.Take.{take_rows};
 ghost use Rattle.runend_array.specs.Canonical.{canonical_column};
 ghost use Rattle.runend_array.specs.Column.{column_dtype, column_of_runs, column_rows};
-ghost use Rattle.runend_codec.specs.Window.{IsWindow};
-ghost use Rattle.runend_positions.specs.Indices.{AreInBounds, optional_indices};
+ghost use Rattle.runend_windows.specs.Window.{IsWindow};
+ghost use Rattle.runend_indices.specs.Indices.{AreInBounds, optional_indices};
 ghost use Rattle.runend_select.specs.RunsOf.{AreRunsOf};
-ghost use Rattle.runend_rowwise.specs.Computed.{IsComputedAs};
+ghost use Rattle.array_rowwise.specs.Computed.{IsComputedAs};
 
 use crate::positions::physical_indices;
+use array_rowwise::take_values;
 use column_base::match_each_unsigned;
 use column_core::{
     CountedEnds, Mask, NativePType, PrimitiveValues, UnsignedPType, Validity, VortexError,
@@ -24,7 +25,6 @@ use runend_array::{
     ArrayRef, Canonical, ExecutionCtx, RunEndArray, RunEndArrayExt, RunEndArraySlotsExt,
 };
 use runend_decode::copies_of;
-use runend_rowwise::take_values;
 use std::alloc::Allocator;
 
 /// The rows at the indices, null for null, in a flat form. Refused as `OutOfMemory` alone.

@@ -11,9 +11,9 @@ ghost use Rattle.column_ops.specs.Nullable.{either_nullable, take_dtype};
 ghost use Rattle.column_ops.specs.Take.{index_fault, take_fault, take_rows};
 ghost use Rattle.runend_array.specs.Array.{column_of, dtype_of, rows};
 ghost use Rattle.runend_array.specs.Column.{column_dtype, column_of_runs, column_rows};
-ghost use Rattle.runend_positions.specs.Indices.{AreInBounds, optional_indices};
-ghost use Rattle.runend_select.specs.TakeForm.{IsTakeForm};
-ghost use Rattle.runend_select.specs.Told.{IsToldBy};
+ghost use Rattle.runend_indices.specs.Indices.{AreInBounds, optional_indices};
+ghost use Rattle.runend_select.specs.TakeForm.{TakeLeaves};
+ghost use Rattle.runend_select.specs.Told.{IsRefusedExactlyBy};
 
 use crate::taken_runs::taken_rows;
 use column_base::match_each_native;
@@ -40,7 +40,7 @@ pub fn take_indices_unchecked<T: NativePType, A: Allocator + Copy>(
         (optional_indices T.number indices.now (flags (form_of validity.now) (length indices.now)))) }
     ensures dtype { IfOk result (λ taken. dtype_of taken ≡ dtype_with (column_dtype array.now.values)
         (either_nullable (nullability_of (column_dtype array.now.values)) (nullability_in (form_of validity.now)))) }
-    ensures form { IfOk result (λ taken. IsTakeForm (optional_indices T.number indices.now (flags (form_of validity.now)
+    ensures form { IfOk result (λ taken. TakeLeaves (optional_indices T.number indices.now (flags (form_of validity.now)
         (length indices.now))) (column_of taken)) }
     ensures session { ctx.new ≡ ctx.old }
 {
@@ -71,7 +71,7 @@ pub fn take<A: Allocator + Copy>(
         take_rows (column_rows (column_of_runs array.now)) (optional_numbers indices.now)) }
     ensures dtype { IfOk result (λ taken. dtype_of taken ≡
         take_dtype (column_dtype array.now.values) (primitive_dtype indices.now)) }
-    ensures form { IfOk result (λ taken. IsTakeForm (optional_numbers indices.now) (column_of taken)) }
+    ensures form { IfOk result (λ taken. TakeLeaves (optional_numbers indices.now) (column_of taken)) }
     ensures session { ctx.new ≡ ctx.old }
 {
     let validity = indices.validity();
@@ -93,7 +93,7 @@ fn is_valid<const ALL: bool, A: Allocator>(validity: &Validity<A>, place: usize)
 
 // Is the index at a place null, or one of `count` rows? `ALL` says that none is null.
 #[inline(always)]
-fn check_place<const ALL: bool, T: NativePType, A: Allocator>(
+fn check_position<const ALL: bool, T: NativePType, A: Allocator>(
     indices: &[T],
     validity: &Validity<A>,
     place: usize,
@@ -104,7 +104,7 @@ fn check_place<const ALL: bool, T: NativePType, A: Allocator>(
     requires all { ALL ≡ true → (row : ℕ) → flag_at (form_of validity.now) row ≡ true }
     ensures { (index : Option ℤ) × (slice_get (optional_indices T.number indices.now (flags (form_of validity.now)
         (length indices.now))) place ≡ Some index)
-        × IsToldBy (index_fault count index) result }
+        × IsRefusedExactlyBy (index_fault count index) result }
 {
     if !is_valid::<ALL, A>(validity, place) {
         return Ok(());
@@ -124,11 +124,11 @@ fn check_each<const ALL: bool, T: NativePType, A: Allocator>(
 ) -> VortexResult<()>
     requires fits { HasLength (form_of validity.now) (length indices.now) }
     requires all { ALL ≡ true → (row : ℕ) → flag_at (form_of validity.now) row ≡ true }
-    ensures { IsToldBy (take_fault (optional_indices T.number indices.now (flags (form_of validity.now)
+    ensures { IsRefusedExactlyBy (take_fault (optional_indices T.number indices.now (flags (form_of validity.now)
         (length indices.now))) count) result }
 {
     for place in 0..indices.len() {
-        check_place::<ALL, T, A>(indices, validity, place, count)?;
+        check_position::<ALL, T, A>(indices, validity, place, count)?;
     }
     Ok(())
 }
@@ -141,7 +141,7 @@ fn check_indices<T: NativePType, A: Allocator>(
     count: usize,
 ) -> VortexResult<()>
     requires fits { HasLength (form_of validity.now) (length indices.now) }
-    ensures { IsToldBy (take_fault (optional_indices T.number indices.now (flags (form_of validity.now)
+    ensures { IsRefusedExactlyBy (take_fault (optional_indices T.number indices.now (flags (form_of validity.now)
         (length indices.now))) count) result }
 {
     match validity {
@@ -190,7 +190,7 @@ fn take_native<T: NativePType, A: Allocator + Copy>(
         (optional_numbers (primitive_with T.PTYPE (map T.number indices.now) (form_of validity.now)))) }
     ensures dtype { IfOk result (λ taken. dtype_of taken ≡ take_dtype (column_dtype array.now.values)
         (primitive_dtype (primitive_with T.PTYPE (map T.number indices.now) (form_of validity.now)))) }
-    ensures form { IfOk result (λ taken. IsTakeForm (optional_numbers (primitive_with T.PTYPE (map T.number indices.now)
+    ensures form { IfOk result (λ taken. TakeLeaves (optional_numbers (primitive_with T.PTYPE (map T.number indices.now)
         (form_of validity.now))) (column_of taken)) }
     ensures session { ctx.new ≡ ctx.old }
 {

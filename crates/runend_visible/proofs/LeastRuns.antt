@@ -6,12 +6,12 @@ use Rattle.column_base.specs.declared.dtype.DType.TheVariants as column
 use Rattle.column_core.specs.Value.{Value}
 use Rattle.column_core.specs.Leaf.{OfNumbers}
 use Rattle.column_core.specs.PrimitiveForm.{PrimitiveForm, primitive_dtype}
-use Rattle.runend_codec.specs.Cover.{Covers, IsTightCover}
-use Rattle.runend_codec.specs.Encoding.{number_rows}
-use Rattle.runend_codec.specs.Ends.{IsEndsType, ends_of}
-use Rattle.runend_codec.specs.Window.{run_rows, IsWindow}
-use Rattle.runend_codec.proofs.RunRows.{Covers_iff_run_rows, length-run_rows}
-use Rattle.runend_join.specs.Joined.{AreJoined}
+use Rattle.runend_windows.specs.Cover.{Covers, IsTightCover}
+use Rattle.runend_windows.specs.Encoding.{number_rows}
+use Rattle.runend_windows.specs.Ends.{IsEndsType, ends_of}
+use Rattle.runend_windows.specs.Window.{run_rows, IsWindow}
+use Rattle.runend_windows.proofs.RunRows.{Covers_iff_run_rows, length-run_rows}
+use Rattle.runend_coalesce.specs.Joined.{AreJoined}
 use Rattle.runend_array.specs.Column.{AreParts, OfLeaf, Runs, column_dtype, column_of_runs, column_rows, runs_of}
 use Rattle.runend_visible.specs.LeastForm.{AreLeastRuns, IsLeastForm}
 

@@ -6,8 +6,8 @@ use Rattle.column_core.specs.Computed.{IsComputedLeaf}
 use Rattle.column_core.specs.Leaf.{Leaf, OfNumbers, leaf_dtype, leaf_rows, single_rows}
 use Rattle.column_core.specs.PrimitiveForm.{PrimitiveForm, primitive_dtype}
 use Rattle.column_core.specs.Value.{FlatValue, Single}
-use Rattle.runend_codec.specs.Ends.{IsEndsType, ends_of}
-use Rattle.runend_codec.specs.Window.{run_rows, IsWindow}
+use Rattle.runend_windows.specs.Ends.{IsEndsType, ends_of}
+use Rattle.runend_windows.specs.Window.{run_rows, IsWindow}
 use Rattle.runend_array.specs.Column.{AreParts, Column, OfLeaf, Runs, column_dtype, column_of_runs, column_rows, runs_of}
 use Rattle.runend_array.specs.Encoding.{IsComputedFlat}
 use Rattle.runend_visible.specs.VisibleForm.{IsOverVisibleRuns, visible_ends, visible_values, window_start}

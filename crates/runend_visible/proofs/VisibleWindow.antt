@@ -3,14 +3,14 @@ use Rattle.std.proofs.Common.{◌≡◌, ℕ, zero, suc, ◌<◌, List, Option, 
 use Rattle.std.proofs.lemmas.List.{length-map}
 use Rattle.column_core.specs.PrimitiveForm.{PrimitiveForm}
 use Rattle.column_core.specs.Value.{Value}
-use Rattle.runend_codec.specs.Ends.{ends_of}
-use Rattle.runend_codec.specs.Visible.{visible}
-use Rattle.runend_codec.specs.Window.{run_rows, IsWindow}
-use Rattle.runend_codec.proofs.SlicedRuns.{IsWindow-of_none}
-use Rattle.runend_codec.proofs.VisibleRuns.{length-visible, row_of_visible}
-use Rattle.runend_codec.proofs.VisibleLaws.{length-visible_ends, rows_of_visible, run-among, window_of_visible}
+use Rattle.runend_windows.specs.Ends.{ends_of}
+use Rattle.runend_windows.specs.Visible.{visible}
+use Rattle.runend_windows.specs.Window.{run_rows, IsWindow}
+use Rattle.runend_windows.proofs.SlicedRuns.{IsWindow-of_none}
+use Rattle.runend_windows.proofs.VisibleRuns.{length-visible, row_of_visible}
+use Rattle.runend_windows.proofs.VisibleLaws.{length-visible_ends, rows_of_visible, run-among, window_of_visible}
 use Rattle.runend_array.specs.Column.{AreRuns, Runs, column_of_runs, column_rows}
-use Rattle.runend_join.specs.Joined.{AllHaveRows}
+use Rattle.runend_coalesce.specs.Joined.{AllHaveRows}
 use Rattle.runend_visible.specs.VisibleForm.{visible_ends, visible_values, window_start}
 
 -- the visible runs are a window over as many rows

@@ -3,7 +3,7 @@ use Rattle.std.specs.Prelude.{◌≡◌}
 use Rattle.column_base.specs.declared.dtype.PType.{PType}
 use Rattle.column_base.specs.declared.dtype.DType.{DType}
 use Rattle.column_base.specs.declared.dtype.DType.TheVariants as column
-use Rattle.runend_codec.specs.Cover.{IsTightCover}
+use Rattle.runend_windows.specs.Cover.{IsTightCover}
 use Rattle.runend_array.specs.Column.{Column, OfLeaf, OfConstant, OfLists, OfRuns, Runs, column_of_runs, column_rows, runs_with}
 use Rattle.runend_array.specs.Encoding.{IsComputedFlat}
 use Rattle.runend_visible.specs.VisibleForm.{IsOverVisibleRuns}

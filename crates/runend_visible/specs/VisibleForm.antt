@@ -1,7 +1,7 @@
 -- The visible runs of a run column, and run columns that have these runs over other values.
 use Rattle.std.specs.Prelude.{◌≡◌, ℕ, zero, suc, List, Option}
 use Rattle.column_core.specs.Value.{Value}
-use Rattle.runend_codec.specs.Visible.{visible}
+use Rattle.runend_windows.specs.Visible.{visible}
 use Rattle.runend_array.specs.Column.{Column, OfLeaf, OfConstant, OfLists, OfRuns, Runs, column_rows, runs_with}
 use Rattle.runend_array.specs.Encoding.{IsComputedFlat}
 

@@ -4,23 +4,23 @@ ghost use Rattle.column_core.specs.Computed.{IsComputed, IsComputedLeaf};
 ghost use Rattle.column_core.specs.FlatColumn.{leaf_of};
 ghost use Rattle.column_core.specs.Leaf.{OfNumbers, leaf_dtype, leaf_rows, single_rows};
 ghost use Rattle.column_core.specs.PrimitiveForm.{primitive_dtype};
-ghost use Rattle.runend_codec.specs.Encoding.{number_rows};
-ghost use Rattle.runend_codec.specs.Ends.{IsEndsType, ends_of};
-ghost use Rattle.runend_codec.specs.Window.{run_rows, IsWindow};
+ghost use Rattle.runend_windows.specs.Encoding.{number_rows};
+ghost use Rattle.runend_windows.specs.Ends.{IsEndsType, ends_of};
+ghost use Rattle.runend_windows.specs.Window.{run_rows, IsWindow};
 ghost use Rattle.runend_array.specs.Array.{column_of, dtype_of, rows};
 ghost use Rattle.runend_array.specs.Column.{column_dtype, column_of_runs, column_rows};
-ghost use Rattle.runend_join.specs.Joined.{AllHaveRows};
+ghost use Rattle.runend_coalesce.specs.Joined.{AllHaveRows};
 ghost use Rattle.runend_visible.specs.LeastForm.{AreLeastRuns, IsLeastForm, IsRunForm};
 ghost use Rattle.runend_visible.specs.VisibleForm.{IsOverVisibleRuns, visible_ends, visible_values as values_of_visible, window_start};
 
 use crate::visible::{ends_of_visible, visible_offset};
 use column_core::{FlatColumn, PrimitiveArray, VortexError, VortexResult};
 use runend_array::{ArrayRef, RunEnd, RunEndArray, RunEndArrayExt, RunEndArraySlotsExt, array_of};
-use runend_join::join_runs;
+use runend_coalesce::coalesce_runs;
 use std::alloc::Allocator;
 
 /// The rows that the visible runs show over these values, one for each, as a run column with ends of the same
-/// type and flat values: of whole numbers in least form, of other values over the visible runs as they are.
+/// type and flat values: of integers in least form, of other values over the visible runs as they are.
 /// Refused as `OutOfMemory` alone.
 pub fn over_runs<A: Allocator + Copy>(
     array: &RunEndArray<A>,
@@ -36,7 +36,7 @@ pub fn over_runs<A: Allocator + Copy>(
     ensures form { IfOk result (λ part. IsRunForm (leaf_dtype (leaf_of values)) array.now (column_of part)) }
 {
     match values {
-        FlatColumn::Primitive(numbers) => over_least_runs(array, numbers, alloc),
+        FlatColumn::Primitive(numbers) => with_minimal_runs(array, numbers, alloc),
         FlatColumn::Bool(truths) => over_visible_runs(array, FlatColumn::Bool(truths), alloc),
         FlatColumn::Decimal(numbers) => over_visible_runs(
             array,
@@ -77,9 +77,9 @@ pub fn over_visible_runs<A: Allocator + Copy>(
     ArrayRef::of_runs(alloc, part)
 }
 
-/// The rows that the visible runs show over these whole numbers, one for each, as a run column in least form,
+/// The rows that the visible runs show over these integers, one for each, as a run column in least form,
 /// with ends of the same type. Refused as `OutOfMemory` alone.
-pub fn over_least_runs<A: Allocator + Copy>(
+pub fn with_minimal_runs<A: Allocator + Copy>(
     array: &RunEndArray<A>,
     numbers: PrimitiveArray<A>,
     alloc: A,
@@ -124,7 +124,7 @@ pub fn least_runs<A: Allocator + Copy>(
     ensures form { IfOk result (λ least. AreLeastRuns ends.ptype least) }
 {
     prove_eq!(values.len(), ends.len());
-    let (joined_ends, joined_values) = join_runs(alloc, ends, values, offset, count)?;
+    let (joined_ends, joined_values) = coalesce_runs(alloc, ends, values, offset, count)?;
     let least_ends = ArrayRef::Primitive(joined_ends);
     let least_values = ArrayRef::Primitive(joined_values);
     Ok(RunEnd::new_unchecked(least_ends, least_values, 0, count))

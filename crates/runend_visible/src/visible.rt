@@ -4,10 +4,10 @@ ghost use Rattle.column_core.specs.FlatColumn.{leaf_of};
 ghost use Rattle.column_core.specs.Leaf.{OfNumbers, leaf_dtype, single_rows};
 ghost use Rattle.column_core.specs.PrimitiveForm.{primitive_dtype};
 ghost use Rattle.column_core.specs.Value.{IsLists};
-ghost use Rattle.runend_codec.specs.Ends.{IsEndsType, ends_of};
-ghost use Rattle.runend_codec.specs.Window.{IsWindow};
+ghost use Rattle.runend_windows.specs.Ends.{IsEndsType, ends_of};
+ghost use Rattle.runend_windows.specs.Window.{IsWindow};
 ghost use Rattle.runend_array.specs.Column.{AreRuns, column_dtype};
-ghost use Rattle.runend_join.specs.Joined.{AllHaveRows};
+ghost use Rattle.runend_coalesce.specs.Joined.{AllHaveRows};
 ghost use Rattle.runend_visible.specs.VisibleForm.{visible_ends, visible_values as values_of_visible, window_start};
 
 use column_core::{FlatColumn, PrimitiveArray, VortexError, VortexResult};
@@ -61,8 +61,8 @@ pub fn visible_values<A: Allocator + Copy>(
     }
 }
 
-/// The values, borrowed, where each run is visible and they are flat whole numbers. Takes no memory.
-pub fn lent_numbers<A: Allocator + Copy>(array: &RunEndArray<A>) -> Option<&PrimitiveArray<A>>
+/// The values, borrowed, where each run is visible and they are flat integers. Takes no memory.
+pub fn borrowed_values<A: Allocator + Copy>(array: &RunEndArray<A>) -> Option<&PrimitiveArray<A>>
     ensures rows { IfSome result (λ numbers. single_rows (OfNumbers numbers.now) ≡ values_of_visible array.now) }
     ensures dtype { IfSome result (λ numbers. primitive_dtype numbers.now ≡ column_dtype array.now.values) }
     ensures valid { AreRuns array.now }

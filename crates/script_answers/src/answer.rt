@@ -14,8 +14,8 @@ use std::alloc::{AllocError, Allocator};
 use vortex_runend::{ExecutionCtx, Scalar, ScalarView, SumAnswer, SumValue};
 
 /// Does the answer to the command have a line? It has none where it holds a value that is neither null nor
-/// a whole number, or a truth that the command does not ask for, or where memory was refused.
-pub fn has_line<A: Allocator>(command: &Command<A>, answer: &Answer<A>) -> bool
+/// an integer, or a truth that the command does not ask for, or where memory was refused.
+pub fn has_answer_line<A: Allocator>(command: &Command<A>, answer: &Answer<A>) -> bool
     ensures { IsTrue result ↔ HasLine command.now answer.now }
 {
     match answer {
@@ -135,7 +135,7 @@ pub fn refusal_line<A: Allocator + Copy>(
     Ok(line)
 }
 
-/// Adds a space and the word of the row, which is null or a whole number.
+/// Adds a space and the word of the row, which is null or an integer.
 pub fn push_word<A: Allocator + Copy>(
     line: &mut String<A>,
     row: ScalarView<'_, A>,

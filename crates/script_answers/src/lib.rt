@@ -3,4 +3,4 @@
 
 mod answer;
 
-pub use answer::{answer_line, has_line, push_word, refusal_line};
+pub use answer::{answer_line, has_answer_line, push_word, refusal_line};

@@ -10,5 +10,5 @@ mod words;
 pub use input::{Failure, read_input};
 pub use output::{Status, print, report};
 pub use reads::LimitedReads;
-pub use values::{Listed, read_indices, read_mask, read_scalar, read_values};
+pub use values::{ParsedRows, read_indices, read_mask, read_scalar, read_values};
 pub use words::Words;

@@ -20,7 +20,7 @@ use std::alloc::Allocator;
 
 /// Stored numbers, and which rows of them are there.
 #[derive(Drop)]
-pub struct Listed<A: Allocator> {
+pub struct ParsedRows<A: Allocator> {
     pub numbers: PrimitiveValues<A>,
     pub validity: Validity<A>,
 }
@@ -32,7 +32,7 @@ pub fn read_values<'a, I: Iterator<Item = &'a str> + Drop, A: Allocator + Copy>(
     ptype: PType,
     nullability: Nullability,
     words: I,
-) -> VortexResult<Option<Listed<A>>>
+) -> VortexResult<Option<ParsedRows<A>>>
     requires can { I.can_next words }
     requires finite { IsFinite (I.remaining words) }
     ensures only { IsOkUnless result VortexError.OutOfMemory }
@@ -54,7 +54,7 @@ pub fn read_values<'a, I: Iterator<Item = &'a str> + Drop, A: Allocator + Copy>(
 
 /// The scalar that the word stands for: null of the nullable type for `null`, whether rows may be null or
 /// not, and otherwise the number, in the type of the rows. `None` where the word is neither `null` nor a
-/// number of the type, or the rows are no whole numbers.
+/// number of the type, or the rows are no integers.
 pub fn read_scalar<A: Allocator>(dtype: DType, word: &str) -> Option<Scalar<A>>
     ensures { ReadsScalar dtype word.now result }
 {
@@ -119,7 +119,7 @@ fn read_natives<'a, T: NativePType, I: Iterator<Item = &'a str> + Drop, A: Alloc
     alloc: A,
     nullability: Nullability,
     words: I,
-) -> VortexResult<Option<Listed<A>>>
+) -> VortexResult<Option<ParsedRows<A>>>
     requires can { I.can_next words }
     requires finite { IsFinite (I.remaining words) }
     ensures only { IsOkUnless result VortexError.OutOfMemory }
@@ -136,7 +136,7 @@ fn read_natives<'a, T: NativePType, I: Iterator<Item = &'a str> + Drop, A: Alloc
             Nullability::Nullable => Validity::from_bits(valid.freeze()),
         };
         let numbers = T::wrap(items);
-        return Ok(Some(Listed { numbers, validity }));
+        return Ok(Some(ParsedRows { numbers, validity }));
     }
     drop(items);
     drop(valid);

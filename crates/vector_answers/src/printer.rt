@@ -202,7 +202,7 @@ fn push_truths<A: Allocator + Copy>(text: &mut String<A>, bits: &BitBuffer<A>) -
     Ok(())
 }
 
-/// A truth value.
+/// A boolean.
 pub fn push_truth<A: Allocator + Copy>(text: &mut String<A>, truth: bool) -> VortexResult<()> {
     push_space(text)?;
     write!(text, "{truth}")?;

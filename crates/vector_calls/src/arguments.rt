@@ -34,7 +34,7 @@ pub fn prepare<A: Allocator + Copy>(
 // The command on a copy of the column of this name.
 fn commanded_copy<A: Allocator + Copy>(
     name: &str,
-    command: request::Command<'_>,
+    command: request::VectorCommand<'_>,
     columns: &Columns<A>,
     ctx: &mut ExecutionCtx<A>,
 ) -> LineResult<Call<A>> {
@@ -98,7 +98,7 @@ fn on_copy<A: Allocator + Copy>(
     columns: &Columns<A>,
     ctx: &mut ExecutionCtx<A>,
 ) -> LineResult<Call<A>> {
-    match copy_of(name, columns, ctx) {
+    match clone_named(name, columns, ctx) {
         Ok(column) => Ok(Call::On(column, task)),
         Err(error) => {
             drop(task);
@@ -109,22 +109,24 @@ fn on_copy<A: Allocator + Copy>(
 
 // The command with what it is given.
 fn prepared_command<A: Allocator + Copy>(
-    command: request::Command<'_>,
+    command: request::VectorCommand<'_>,
     columns: &Columns<A>,
     ctx: &mut ExecutionCtx<A>,
 ) -> LineResult<Command<A>> {
     let alloc = *ctx.allocator();
     match command {
-        request::Command::Filter(word) => prepared_filter(alloc, word),
-        request::Command::Take(dtype, words) => take_by(flat_column(dtype, words, ctx)?),
-        request::Command::TakeFrom(name) => Ok(Command::TakeFrom(copy_of(name, columns, ctx)?)),
-        request::Command::CompareColumn(operator, name) => {
-            Ok(Command::CompareColumn(operator, copy_of(name, columns, ctx)?))
+        request::VectorCommand::Filter(word) => prepared_filter(alloc, word),
+        request::VectorCommand::Take(dtype, words) => take_by(flat_column(dtype, words, ctx)?),
+        request::VectorCommand::TakeFrom(name) => Ok(Command::TakeFrom(clone_named(
+            name, columns, ctx,
+        )?)),
+        request::VectorCommand::CompareColumn(operator, name) => {
+            Ok(Command::CompareColumn(operator, clone_named(name, columns, ctx)?))
         }
-        request::Command::CompareScalar(operator, dtype, value) => {
+        request::VectorCommand::CompareScalar(operator, dtype, value) => {
             Ok(Command::CompareScalar(operator, scalar_of(alloc, dtype, value)?))
         }
-        request::Command::Fill(dtype, value) => {
+        request::VectorCommand::Fill(dtype, value) => {
             Ok(Command::FillNull(scalar_of(alloc, dtype, value)?))
         }
         _ => plain_command(command),
@@ -136,7 +138,7 @@ fn prepared_filter<A: Allocator + Copy>(alloc: A, word: &str) -> LineResult<Comm
     Ok(Command::Filter(Mask::from_buffer(bits)))
 }
 
-// The command that takes the rows of these indices, where they are whole numbers.
+// The command that takes the rows of these indices, where they are integers.
 fn take_by<A: Allocator>(indices: ArrayRef<A>) -> LineResult<Command<A>> {
     match indices {
         ArrayRef::Primitive(indices) => Ok(Command::Take(indices)),
@@ -148,24 +150,24 @@ fn take_by<A: Allocator>(indices: ArrayRef<A>) -> LineResult<Command<A>> {
 }
 
 // The command, where it is given nothing that takes memory.
-fn plain_command<A: Allocator>(command: request::Command<'_>) -> LineResult<Command<A>> {
+fn plain_command<A: Allocator>(command: request::VectorCommand<'_>) -> LineResult<Command<A>> {
     match command {
-        request::Command::Slice(start, stop) => Ok(Command::Slice(start..stop)),
-        request::Command::Cast(dtype) => Ok(Command::Cast(dtype)),
-        request::Command::Encode => Ok(Command::Encode),
-        request::Command::Decode => Ok(Command::Decode),
-        request::Command::At(index) => Ok(Command::At(index)),
-        request::Command::Sum => Ok(Command::Sum),
-        request::Command::MinMax => Ok(Command::MinMax),
-        request::Command::Constant => Ok(Command::IsConstant),
-        request::Command::Sorted => Ok(Command::IsSorted { strict: false }),
-        request::Command::Strict => Ok(Command::IsSorted { strict: true }),
+        request::VectorCommand::Slice(start, stop) => Ok(Command::Slice(start..stop)),
+        request::VectorCommand::Cast(dtype) => Ok(Command::Cast(dtype)),
+        request::VectorCommand::Encode => Ok(Command::Encode),
+        request::VectorCommand::Decode => Ok(Command::Decode),
+        request::VectorCommand::At(index) => Ok(Command::At(index)),
+        request::VectorCommand::Sum => Ok(Command::Sum),
+        request::VectorCommand::MinMax => Ok(Command::MinMax),
+        request::VectorCommand::Constant => Ok(Command::IsConstant),
+        request::VectorCommand::Sorted => Ok(Command::IsSorted { strict: false }),
+        request::VectorCommand::Strict => Ok(Command::IsSorted { strict: true }),
         _ => Err(LineError::Bad),
     }
 }
 
 // A copy of the column of this name.
-fn copy_of<A: Allocator + Copy>(
+fn clone_named<A: Allocator + Copy>(
     name: &str,
     columns: &Columns<A>,
     ctx: &mut ExecutionCtx<A>,
@@ -182,9 +184,9 @@ fn prepared_maker<A: Allocator + Copy>(
     ctx: &mut ExecutionCtx<A>,
 ) -> LineResult<Maker<A>> {
     match call {
-        request::Call::Copy(name) => Ok(Maker::Copy(copy_of(name, columns, ctx)?)),
-        request::Call::Encode(name) => Ok(Maker::Encode(copy_of(name, columns, ctx)?)),
-        request::Call::EncodeRows(name) => Ok(Maker::EncodeRows(copy_of(name, columns, ctx)?)),
+        request::Call::Copy(name) => Ok(Maker::Copy(clone_named(name, columns, ctx)?)),
+        request::Call::Encode(name) => Ok(Maker::Encode(clone_named(name, columns, ctx)?)),
+        request::Call::EncodeRows(name) => Ok(Maker::EncodeRows(clone_named(name, columns, ctx)?)),
         request::Call::Runs(runs) => {
             let (ends, values) = prepared_runs(runs, columns, ctx)?;
             Ok(Maker::Runs(ends, values, runs.offset, runs.length))
@@ -201,14 +203,14 @@ fn prepared_maker<A: Allocator + Copy>(
 }
 
 // Copies of the columns of two names.
-fn copies_of<A: Allocator + Copy>(
+fn clones_named<A: Allocator + Copy>(
     first: &str,
     second: &str,
     columns: &Columns<A>,
     ctx: &mut ExecutionCtx<A>,
 ) -> LineResult<(ArrayRef<A>, ArrayRef<A>)> {
-    let first = copy_of(first, columns, ctx)?;
-    paired(first, copy_of(second, columns, ctx))
+    let first = clone_named(first, columns, ctx)?;
+    paired(first, clone_named(second, columns, ctx))
 }
 
 // The ends, and a copy of the values.
@@ -218,7 +220,7 @@ fn prepared_runs<A: Allocator + Copy>(
     ctx: &mut ExecutionCtx<A>,
 ) -> LineResult<(ArrayRef<A>, ArrayRef<A>)> {
     let ends = flat_column(runs.ends_type, runs.ends, ctx)?;
-    paired(ends, copy_of(runs.values, columns, ctx))
+    paired(ends, clone_named(runs.values, columns, ctx))
 }
 
 fn prepared_record<A: Allocator + Copy>(
@@ -227,7 +229,7 @@ fn prepared_record<A: Allocator + Copy>(
     ctx: &mut ExecutionCtx<A>,
 ) -> LineResult<Maker<A>> {
     let bytes = bytes_of_words(*ctx.allocator(), record.bytes)?;
-    let slots = copies_of(record.ends, record.values, columns, ctx);
+    let slots = clones_named(record.ends, record.values, columns, ctx);
     let (bytes, (ends, values)) = paired(bytes, slots)?;
     Ok(Maker::Deserialize(record.dtype, record.length, bytes, ends, values))
 }
@@ -238,7 +240,7 @@ fn prepared_lists<A: Allocator + Copy>(
     ctx: &mut ExecutionCtx<A>,
 ) -> LineResult<Maker<A>> {
     let over = elements_and_validity(lists, columns, ctx)?;
-    let indices = copies_of(lists.offsets, lists.sizes, columns, ctx);
+    let indices = clones_named(lists.offsets, lists.sizes, columns, ctx);
     let ((elements, validity), (offsets, sizes)) = paired(over, indices)?;
     Ok(Maker::Lists(elements, offsets, sizes, validity))
 }
@@ -258,7 +260,7 @@ fn elements_of<A: Allocator + Copy>(
     columns: &Columns<A>,
     ctx: &mut ExecutionCtx<A>,
 ) -> LineResult<Rc<FlatColumn<A>, A>> {
-    match flat_of(copy_of(name, columns, ctx)?) {
+    match flat_of(clone_named(name, columns, ctx)?) {
         Some(elements) => Ok(Rc::new(*ctx.allocator(), elements)?),
         None => Err(LineError::Bad),
     }
@@ -282,13 +284,13 @@ fn list_validity<A: Allocator + Copy>(
 ) -> LineResult<RowValidity<A>> {
     match read_validity(*ctx.allocator(), word) {
         Ok(validity) => Ok(row_validity(validity)),
-        Err(LineError::Bad) => validity_in(copy_of(word, columns, ctx)?),
+        Err(LineError::Bad) => run_validity(clone_named(word, columns, ctx)?),
         Err(error) => Err(error),
     }
 }
 
 // The validity that a run column tells.
-fn validity_in<A: Allocator>(array: ArrayRef<A>) -> LineResult<RowValidity<A>> {
+fn run_validity<A: Allocator>(array: ArrayRef<A>) -> LineResult<RowValidity<A>> {
     match array {
         ArrayRef::RunEnd(runs) => Ok(RowValidity::Runs(runs)),
         other => {

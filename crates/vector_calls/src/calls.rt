@@ -69,14 +69,14 @@ pub enum Reply<A: Allocator> {
     /// It says this.
     Says(String<A>),
     /// The commands of a list are answered so.
-    Listed(Listed<A>),
+    ListReply(ListReply<A>),
     /// It asks for something that there is not.
     Bad,
 }
 
 /// What the commands of a list are answered.
 #[derive(Drop)]
-pub struct Listed<A: Allocator> {
+pub struct ListReply<A: Allocator> {
     /// All answers.
     pub text: String<A>,
     /// The answers of those that were not refused for want of memory.
@@ -87,28 +87,28 @@ pub struct Listed<A: Allocator> {
 
 /// What comes of a call: its reply, and the column that it made or was done to.
 #[derive(Drop)]
-pub struct Outcome<A: Allocator> {
+pub struct CallResult<A: Allocator> {
     pub reply: Reply<A>,
     pub column: Option<ArrayRef<A>>,
 }
 
 impl<A: Allocator + Copy> Call<A> {
     /// Makes the call, with memory for it from `ctx`, and for what is said of it from `ample`.
-    pub fn run(self, ctx: &mut ExecutionCtx<A>, ample: A) -> VortexResult<Outcome<A>> {
+    pub fn run(self, ctx: &mut ExecutionCtx<A>, ample: A) -> VortexResult<CallResult<A>> {
         match self {
             Call::Make(maker) => match maker.make(ctx, ample) {
-                Ok(column) => Ok(Outcome {
+                Ok(column) => Ok(CallResult {
                     reply: Reply::Done,
                     column: Some(column),
                 }),
-                Err(error) => Ok(Outcome {
+                Err(error) => Ok(CallResult {
                     reply: Reply::Refused(error),
                     column: None,
                 }),
             },
             Call::On(mut column, task) => {
                 match task.run(&mut column, ctx, ample) {
-                    Ok(reply) => Ok(Outcome {
+                    Ok(reply) => Ok(CallResult {
                         reply,
                         column: Some(column),
                     }),
@@ -118,7 +118,7 @@ impl<A: Allocator + Copy> Call<A> {
                     }
                 }
             }
-            Call::Read(bytes) => Ok(Outcome {
+            Call::Read(bytes) => Ok(CallResult {
                 reply: read_of(&bytes, ample)?,
                 column: None,
             }),
@@ -243,13 +243,13 @@ fn run_list<A: Allocator + Copy>(
 
 // What is said of all of the answers.
 fn list_reply<A: Allocator + Copy>(answers: &[Answer<A>], ample: A) -> VortexResult<Reply<A>> {
-    let mut listed = Listed {
+    let mut listed = ListReply {
         text: String::new(ample),
         served: String::new(ample),
         lacking: Vec::new(ample),
     };
     match listed.push_all(answers) {
-        Ok(()) => Ok(Reply::Listed(listed)),
+        Ok(()) => Ok(Reply::ListReply(listed)),
         Err(error) => {
             drop(listed);
             Err(error)
@@ -257,7 +257,7 @@ fn list_reply<A: Allocator + Copy>(answers: &[Answer<A>], ample: A) -> VortexRes
     }
 }
 
-impl<A: Allocator + Copy> Listed<A> {
+impl<A: Allocator + Copy> ListReply<A> {
     // Puts the answers behind, in order.
     fn push_all(&mut self, answers: &[Answer<A>]) -> VortexResult<()> {
         for answer in answers {

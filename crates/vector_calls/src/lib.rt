@@ -6,5 +6,5 @@ mod calls;
 mod session;
 
 pub use arguments::{prepare, prepare_list, read_validity};
-pub use calls::{Call, Listed, Maker, Outcome, Reply, Task};
-pub use session::{copy_of, crate_session, set_kernels, set_thresholds};
+pub use calls::{Call, CallResult, ListReply, Maker, Reply, Task};
+pub use session::{clone_named, crate_session, set_kernels, set_thresholds};

@@ -65,7 +65,7 @@ fn array_of_rows<A: Allocator + Copy>(
 }
 
 /// The flat column of what the words store, with this validity. Bad where the validity is none of the
-/// type, or a word is no stored whole number, decimal or truth value of it. Refused as `try_new` is.
+/// type, or a word is no stored integer, decimal or boolean of it. Refused as `try_new` is.
 pub fn raw_column<A: Allocator + Copy>(
     alloc: A,
     dtype: DType,
@@ -89,7 +89,7 @@ pub fn raw_column<A: Allocator + Copy>(
     }
 }
 
-// The type of what words may store under such a validity: whole numbers, decimals or truth values.
+// The type of what words may store under such a validity: integers, decimals or booleans.
 fn raw_element(dtype: DType, nullability: Nullability) -> Option<ElementDType> {
     if nullability != dtype.nullability() {
         return None;

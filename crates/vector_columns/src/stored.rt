@@ -78,7 +78,7 @@ fn truths_of<A: Allocator + Copy>(alloc: A, rows: &[Row<'_>]) -> LineResult<Stor
     Ok(Stored::Truths(bits.freeze()))
 }
 
-// The truth value that a row of truth values stores.
+// The boolean that a row of booleans stores.
 fn stored_truth(row: Row<'_>) -> Option<bool> {
     match (row.valid, row.value) {
         (_, Value::Truth(truth)) => Some(truth),

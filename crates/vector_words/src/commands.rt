@@ -1,13 +1,13 @@
 //! Commands, as words ask for them.
 use crate::names::{only, only_count, read_name};
-use crate::request::Command;
+use crate::request::VectorCommand;
 use crate::types::read_type;
 use crate::values::read_value;
 use column_order::CompareOperator;
 use column_words::parse_count;
 
 /// The command of these words, of which the first is its verb.
-pub fn read_command<'a>(words: &'a [&'a str]) -> Option<Command<'a>> {
+pub fn read_command<'a>(words: &'a [&'a str]) -> Option<VectorCommand<'a>> {
     let (verb, rest) = words.split_first()?;
     match rest.split_first() {
         Some((first, others)) => read_worded(verb, first, others),
@@ -20,7 +20,7 @@ pub(crate) fn read_worded<'a>(
     verb: &str,
     first: &'a str,
     rest: &'a [&'a str],
-) -> Option<Command<'a>> {
+) -> Option<VectorCommand<'a>> {
     match verb {
         "slice" => read_slice(first, rest),
         "take" => read_take(first, rest),
@@ -31,53 +31,53 @@ pub(crate) fn read_worded<'a>(
     }
 }
 
-fn read_take<'a>(dtype: &str, rest: &'a [&'a str]) -> Option<Command<'a>> {
-    Some(Command::Take(read_type(dtype)?, rest))
+fn read_take<'a>(dtype: &str, rest: &'a [&'a str]) -> Option<VectorCommand<'a>> {
+    Some(VectorCommand::Take(read_type(dtype)?, rest))
 }
 
 // The command that is its verb alone.
-pub(crate) fn read_bare<'a>(verb: &str) -> Option<Command<'a>> {
+pub(crate) fn read_bare<'a>(verb: &str) -> Option<VectorCommand<'a>> {
     match verb {
-        "encode" => Some(Command::Encode),
-        "decode" => Some(Command::Decode),
-        "sum" => Some(Command::Sum),
-        "minmax" => Some(Command::MinMax),
-        "constant" => Some(Command::Constant),
-        "sorted" => Some(Command::Sorted),
-        "strict" => Some(Command::Strict),
+        "encode" => Some(VectorCommand::Encode),
+        "decode" => Some(VectorCommand::Decode),
+        "sum" => Some(VectorCommand::Sum),
+        "minmax" => Some(VectorCommand::MinMax),
+        "constant" => Some(VectorCommand::Constant),
+        "sorted" => Some(VectorCommand::Sorted),
+        "strict" => Some(VectorCommand::Strict),
         _ => None,
     }
 }
 
 // The command of a verb and one word.
-fn read_with_word<'a>(verb: &str, word: &'a str) -> Option<Command<'a>> {
+fn read_with_word<'a>(verb: &str, word: &'a str) -> Option<VectorCommand<'a>> {
     match verb {
-        "filter" => Some(Command::Filter(word)),
-        "codes" => Some(Command::TakeFrom(read_name(word)?)),
-        "cast" => Some(Command::Cast(read_type(word)?)),
-        "at" => Some(Command::At(parse_count(word)?)),
+        "filter" => Some(VectorCommand::Filter(word)),
+        "codes" => Some(VectorCommand::TakeFrom(read_name(word)?)),
+        "cast" => Some(VectorCommand::Cast(read_type(word)?)),
+        "at" => Some(VectorCommand::At(parse_count(word)?)),
         _ => None,
     }
 }
 
-fn read_slice<'a>(start: &str, rest: &'a [&'a str]) -> Option<Command<'a>> {
+fn read_slice<'a>(start: &str, rest: &'a [&'a str]) -> Option<VectorCommand<'a>> {
     let stop = only_count(rest)?;
-    Some(Command::Slice(parse_count(start)?, stop))
+    Some(VectorCommand::Slice(parse_count(start)?, stop))
 }
 
-fn read_fill<'a>(dtype: &str, rest: &'a [&'a str]) -> Option<Command<'a>> {
+fn read_fill<'a>(dtype: &str, rest: &'a [&'a str]) -> Option<VectorCommand<'a>> {
     let value = read_value(only(rest)?)?;
-    Some(Command::Fill(read_type(dtype)?, value))
+    Some(VectorCommand::Fill(read_type(dtype)?, value))
 }
 
 // A comparison with a named column, or with a value of a type.
-fn read_comparison<'a>(operator: &str, words: &'a [&'a str]) -> Option<Command<'a>> {
+fn read_comparison<'a>(operator: &str, words: &'a [&'a str]) -> Option<VectorCommand<'a>> {
     let operator = read_operator(operator)?;
     let [dtype, other] = words else {
         return None;
     };
     if *dtype == "column" {
-        return Some(Command::CompareColumn(operator, read_name(other)?));
+        return Some(VectorCommand::CompareColumn(operator, read_name(other)?));
     }
     compared_with(operator, dtype, other)
 }
@@ -86,9 +86,9 @@ fn compared_with<'a>(
     operator: CompareOperator,
     dtype: &str,
     value: &'a str,
-) -> Option<Command<'a>> {
+) -> Option<VectorCommand<'a>> {
     let dtype = read_type(dtype)?;
-    Some(Command::CompareScalar(operator, dtype, read_value(value)?))
+    Some(VectorCommand::CompareScalar(operator, dtype, read_value(value)?))
 }
 
 fn read_operator(word: &str) -> Option<CompareOperator> {

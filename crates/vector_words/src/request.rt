@@ -51,7 +51,7 @@ pub enum Call<'a> {
     Lists(Lists<'a>),
     Views(Views<'a>),
     Deserialize(Record<'a>),
-    Command(Command<'a>),
+    VectorCommand(VectorCommand<'a>),
     /// The words of commands, to be run as one list, parted by `NEXT`.
     Run(&'a [&'a str]),
     Row(usize),
@@ -70,7 +70,7 @@ impl<'a> Call<'a> {
             Call::Copy(_) | Call::Encode(_) | Call::EncodeRows(_) => true,
             Call::Runs(_) | Call::Whole(_) => true,
             Call::Lists(_) | Call::Views(_) | Call::Deserialize(_) => true,
-            Call::Command(_) | Call::Run(_) | Call::Row(_) | Call::Probe(_) => false,
+            Call::VectorCommand(_) | Call::Run(_) | Call::Row(_) | Call::Probe(_) => false,
             Call::Validity | Call::Meta | Call::Read(_) => false,
         }
     }
@@ -120,11 +120,11 @@ pub struct Record<'a> {
 
 /// Commands on a column.
 #[derive(Clone, Copy)]
-pub enum Command<'a> {
+pub enum VectorCommand<'a> {
     Slice(usize, usize),
     /// By a word of 0 and 1.
     Filter(&'a str),
-    /// By indices of a type of whole numbers.
+    /// By indices of a type of integers.
     Take(DType, &'a [&'a str]),
     /// From the column of this name, by codes.
     TakeFrom(&'a str),

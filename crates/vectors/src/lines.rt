@@ -7,7 +7,7 @@ use crate::workspace::{Heap, Workspace};
 use column_base::VortexResult;
 use std::alloc::Allocator;
 use vector_answers::{push_dtype, push_form, push_refusal, push_rows, push_stored};
-use vector_calls::{Outcome, Reply, prepare, read_validity, set_kernels, set_thresholds};
+use vector_calls::{CallResult, Reply, prepare, read_validity, set_kernels, set_thresholds};
 use vector_columns::{Columns, flat_column, invalid_column, raw_column, scalar_of};
 use vector_report::{Line, Report, read_line};
 use vector_words::request::{self, Look, Plain, Request};
@@ -196,7 +196,7 @@ pub fn reply_text<A: Allocator + Copy>(alloc: A, reply: Reply<A>) -> VortexResul
         Reply::Refused(error) => refusal_text(alloc, error),
         Reply::NoRoom => refusal_text(alloc, VortexError::OutOfMemory),
         Reply::Says(text) => Ok(text),
-        Reply::Listed(listed) => Ok(listed.text),
+        Reply::ListReply(listed) => Ok(listed.text),
         Reply::Bad => Ok(String::from_str(alloc, "bad line")?),
     }
 }
@@ -278,13 +278,13 @@ fn settle<A: Allocator + Copy>(
 // Keeps the column of an outcome, unless the call was refused.
 fn keep<A: Allocator + Copy>(
     name: &str,
-    outcome: Outcome<A>,
+    outcome: CallResult<A>,
     columns: &mut Columns<A>,
 ) -> LineResult<Reply<A>>
     ensures kept { IfOk result (λ reply. ChangesNothing reply → columns.new.named.items ≡ columns.old.named.items) }
     ensures unmade { OnErr result (columns.new.named.items ≡ columns.old.named.items) }
 {
-    let Outcome { reply, column } = outcome;
+    let CallResult { reply, column } = outcome;
     match put_if_done(name, &reply, column, columns) {
         Ok(()) => Ok(reply),
         Err(error) => {
@@ -305,7 +305,7 @@ fn put_if_done<A: Allocator + Copy>(
     ensures unmade { OnErr result (columns.new.named.items ≡ columns.old.named.items) }
 {
     let done = match reply {
-        Reply::Done | Reply::Says(_) | Reply::Listed(_) => true,
+        Reply::Done | Reply::Says(_) | Reply::ListReply(_) => true,
         _ => false,
     };
     match column {

@@ -7,7 +7,7 @@ use crate::workspace::{Heap, Plan, Workspace};
 use column_base::VortexResult;
 use std::alloc::Allocator;
 use vector_answers::push_form;
-use vector_calls::{Listed, Outcome, Reply, copy_of, prepare, prepare_list};
+use vector_calls::{CallResult, ListReply, Reply, clone_named, prepare, prepare_list};
 use vector_columns::Columns;
 use vector_words::{LineError, LineResult, request};
 use vortex_runend::{ArrayRef, ExecutionCtx, VortexError};
@@ -72,7 +72,7 @@ pub fn refused_one<'a>(
     name: &str,
     list: request::Call<'_>,
     workspace: &mut Workspace<'a>,
-) -> LineResult<Option<Outcome<Heap<'a>>>> {
+) -> LineResult<Option<CallResult<Heap<'a>>>> {
     for request in 1..u64::MAX {
         let heap = workspace.heap(Plan::Only, request)?;
         let outcome = outcome_with(heap, name, list, workspace)?;
@@ -91,7 +91,10 @@ pub fn refused_one<'a>(
 // Was the command at this place, from 1, refused for want of memory?
 fn lacks_at<A: Allocator>(reply: &Reply<A>, place: usize) -> bool {
     match (reply, place.checked_sub(1)) {
-        (Reply::Listed(listed), Some(before)) => matches!(listed.lacking.get(before), Some(true)),
+        (Reply::ListReply(listed), Some(before)) => matches!(
+            listed.lacking.get(before),
+            Some(true)
+        ),
         _ => false,
     }
 }
@@ -103,9 +106,9 @@ fn found_in_turn<'a>(
     workspace: &mut Workspace<'a>,
     expected: &Expected<Heap<'a>>,
 ) -> LineResult<Found> {
-    match refused_by(Plan::Only, name, call, workspace, expected)? {
+    match try_each_refusal(Plan::Only, name, call, workspace, expected)? {
         Found::Broken(request) => Ok(Found::Broken(request)),
-        alone => match refused_by(Plan::From, name, call, workspace, expected)? {
+        alone => match try_each_refusal(Plan::From, name, call, workspace, expected)? {
             Found::Nothing => Ok(alone),
             found => Ok(found),
         },
@@ -163,8 +166,8 @@ fn shown_before<A: Allocator + Copy>(
 }
 
 // What an outcome shows.
-fn shown_of<A: Allocator + Copy>(ample: A, outcome: Outcome<A>) -> VortexResult<Shown<A>> {
-    let Outcome { reply, column } = outcome;
+fn shown_of<A: Allocator + Copy>(ample: A, outcome: CallResult<A>) -> VortexResult<Shown<A>> {
+    let CallResult { reply, column } = outcome;
     let form = form_of(ample, &column);
     drop(column);
     let form = form?;
@@ -184,7 +187,7 @@ fn form_of<A: Allocator + Copy>(ample: A, column: &Option<ArrayRef<A>>) -> Vorte
 }
 
 // What comes of the call with each request refused in turn by the plan.
-fn refused_by<'a>(
+fn try_each_refusal<'a>(
     plan: Plan,
     name: &str,
     call: request::Call<'_>,
@@ -216,12 +219,12 @@ fn tried_with<'a>(
     expected: &Expected<Heap<'a>>,
 ) -> LineResult<Tried> {
     let ample = *workspace.ctx.allocator();
-    let Outcome { reply, column } = outcome_with(heap, name, call, workspace)?;
+    let CallResult { reply, column } = outcome_with(heap, name, call, workspace)?;
     match (call, reply) {
-        (request::Call::Run(list), Reply::Listed(listed)) => {
+        (request::Call::Run(list), Reply::ListReply(listed)) => {
             tried_list(name, list, listed, column, workspace)
         }
-        (_, reply) => tried_call(ample, Outcome { reply, column }, expected),
+        (_, reply) => tried_call(ample, CallResult { reply, column }, expected),
     }
 }
 
@@ -231,16 +234,16 @@ fn outcome_with<'a>(
     name: &str,
     call: request::Call<'_>,
     workspace: &mut Workspace<'a>,
-) -> LineResult<Outcome<Heap<'a>>> {
+) -> LineResult<CallResult<Heap<'a>>> {
     let call = prepare(name, call, &workspace.columns, &mut workspace.ctx)?;
-    let mut ctx = ExecutionCtx::new(copy_of(workspace.ctx.session()), heap);
+    let mut ctx = ExecutionCtx::new(clone_named(workspace.ctx.session()), heap);
     Ok(call.run(&mut ctx, *workspace.ctx.allocator())?)
 }
 
 // What became of a call that is no list, or was not begun.
 fn tried_call<A: Allocator + Copy>(
     ample: A,
-    outcome: Outcome<A>,
+    outcome: CallResult<A>,
     expected: &Expected<A>,
 ) -> LineResult<Tried> {
     let answered = matches!(&outcome.reply, Reply::Refused(VortexError::OutOfMemory));
@@ -253,14 +256,14 @@ fn tried_call<A: Allocator + Copy>(
 fn tried_list<'a>(
     name: &str,
     list: &[&str],
-    listed: Listed<Heap<'a>>,
+    listed: ListReply<Heap<'a>>,
     column: Option<ArrayRef<Heap<'a>>>,
     workspace: &mut Workspace<'a>,
 ) -> LineResult<Tried> {
     let ample = *workspace.ctx.allocator();
     let form = form_of(ample, &column);
     drop(column);
-    let Listed {
+    let ListReply {
         served,
         lacking,
         ..

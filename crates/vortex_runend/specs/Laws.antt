@@ -4,7 +4,7 @@ use Rattle.column_core.specs.Refusal.{range_fault}
 use Rattle.column_core.specs.Value.{Value}
 use Rattle.column_ops.specs.Fill.{fill_rows}
 use Rattle.column_ops.specs.Take.{take_rows, take_fault}
-use Rattle.runend_codec.specs.Cover.{Covers, IsTightCover}
+use Rattle.runend_windows.specs.Cover.{Covers, IsTightCover}
 use Rattle.runend_column.specs.Data.{data_eq, data_writes}
 
 -- two tight exact covers of a list have equal ends and equal optional values

@@ -1,5 +1,5 @@
 //! The laws of encodings, and of rows that are sliced, taken and filled, each proved of every list of
-//! optional values, so of whole numbers too, the law of what a run column holds beside its slots, and
+//! optional values, so of integers too, the law of what a run column holds beside its slots, and
 //! those of commands and of the metadata record. Those of filter, of strategies of a take, of commands, of
 //! sums, of the record and of columns cut into chunks stand in the crates below.
 //!
@@ -20,16 +20,16 @@ pub use chunk_laws::{
 pub use runend_aggregate::laws::{sum_in_four_runs, sum_of_four_runs};
 pub use runend_aggregate::{sum_signed_runs, sum_unsigned_runs};
 use runend_array::{ArrayRef, ExecutionCtx, RunEnd, VortexError, VortexResult};
-pub use runend_codec::laws::{
-    first_past_of_524288_runs, first_past_of_four_runs, first_past_of_one_run,
-};
-pub use runend_commands::laws::runs_agree;
-pub use runend_metadata::laws::{spelling_is_unique, write_then_read};
-pub use runend_positions::laws::{
+pub use runend_commands::laws::executions_agree;
+pub use runend_indices::laws::{
     merge_of_six_indices, physical_indices_by_halves, physical_indices_by_table,
     search_of_four_indices, search_of_six_indices, sort_of_four_indices, strategies_agree,
 };
+pub use runend_metadata::laws::{spelling_is_unique, write_then_read};
 pub use runend_select::laws::filter_is_take;
+pub use runend_windows::laws::{
+    first_past_of_524288_runs, first_past_of_four_runs, first_past_of_one_run,
+};
 use std::alloc::Allocator;
 
 /// A list has one encoding: two tight exact covers of it have equal ends and equal values.
@@ -88,7 +88,7 @@ pub fn equal_data_hash_equally()
     ensures { EqualDataHashEqually }
 {}
 
-/// Encodes a plain column of whole numbers, of any of the eight types, and decodes what comes out: the
+/// Encodes a plain column of integers, of any of the eight types, and decodes what comes out: the
 /// rows and the type are those of the column. Refused as `OutOfMemory` alone. For compressors.
 pub fn encode_then_decode<A: Allocator + Copy>(
     array: ArrayRef<A>,

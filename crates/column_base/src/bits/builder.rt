@@ -3,7 +3,7 @@ ghost use Rattle.std.specs.Prelude.{◌≡◌, ◌-◌, ◌≤◌, ◌↔◌, Is
 
 use crate::bits::buffer::BitBuffer;
 use crate::bits::fills::{clear_from, fill_bits, fill_rest_of_word};
-use crate::bits::masks::{word_of, words_for};
+use crate::bits::masks::{splat, words_for};
 use crate::error::{VortexError, VortexResult};
 use std::alloc::Allocator;
 use std::marker::Model;
@@ -43,7 +43,7 @@ impl<A: Allocator + Copy> BitBufferMut<A> {
         ensures bits { IfOk result (λ buffer. buffer ≡ replicate count value) }
         ensures only { IsOkUnless result VortexError.OutOfMemory }
     {
-        let mut words = vec![in alloc; word_of(value); words_for(count)]?;
+        let mut words = vec![in alloc; splat(value); words_for(count)]?;
         clear_from(&mut words, count);
         Ok(BitBufferMut { words, count })
     }
@@ -103,7 +103,7 @@ impl<A: Allocator + Copy> BitBufferMut<A> {
             return Ok(());
         }
         // All the memory at first, so that no later step can fail half-way.
-        self.words.resize(needed, word_of(bit))?;
+        self.words.resize(needed, splat(bit))?;
         let words = self.words.as_mut_slice();
         fill_rest_of_word(words, self.count, bit);
         clear_from(words, end);

@@ -2,7 +2,7 @@
 ghost use Rattle.std.specs.Prelude.{◌≡◌, ◌+◌, ◌*◌, ◌/◌, ◌<◌, ◌≤◌, length};
 ghost use Rattle.column_base.specs.Words.{IsClearedFrom, IsFilled};
 
-use crate::bits::masks::{filled_word, low_mask, word_of};
+use crate::bits::masks::{filled_word, low_mask, splat};
 
 // Makes each bit from `count` on 0. The last word has bit `count - 1`.
 pub(crate) fn clear_from(words: &mut [u64], count: usize)
@@ -30,7 +30,7 @@ fn fill_words(words: &mut [u64], first: usize, last: usize, bit: bool)
     requires in_bounds { last ≤ length words.old }
     ensures { IsFilled words.old words.new (first * 64) (last * 64) bit }
 {
-    words[first..last].fill(word_of(bit));
+    words[first..last].fill(splat(bit));
 }
 
 // Makes each bit from `start` to `stop - 1` the bit `bit`: whole words, with masks at both ends.

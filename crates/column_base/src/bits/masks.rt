@@ -20,7 +20,7 @@ pub(crate) fn low_mask(count: usize) -> u64
 }
 
 // 64 times the same bit.
-pub(crate) fn word_of(bit: bool) -> u64
+pub(crate) fn splat(bit: bool) -> u64
     ensures { (j : ℕ) → j < 64 → bit_at result j ≡ one_if bit }
 {
     if bit { u64::MAX } else { 0 }

@@ -24,8 +24,8 @@ lists::listview::ListViewArray::clone_in-returns-clause-form g t c =
     c.in_ok-elements.ensures.cases c.in_ok-offsets.ensures.form c.in-Ok.ensures.form c.in-Ok-clone_in.ensures.form
     ∙ c.self.view_is
 
-pub array_ref::ArrayRef::clone_in-lent_flat-requires : goal.array_ref::ArrayRef::clone_in-lent_flat-requires
-array_ref::ArrayRef::clone_in-lent_flat-requires g t c = IsLeaf-of_rest c.args.self.now c.in_default.not-ListView c.in_default.not-Constant c.in_default.not-RunEnd
+pub array_ref::ArrayRef::clone_in-as_flat-requires : goal.array_ref::ArrayRef::clone_in-as_flat-requires
+array_ref::ArrayRef::clone_in-as_flat-requires g t c = IsLeaf-of_rest c.args.self.now c.in_default.not-ListView c.in_default.not-Constant c.in_default.not-RunEnd
 
 pub array_ref::ArrayRef::clone_in-returns-in_ok-copy-in_default-clause-form : goal.array_ref::ArrayRef::clone_in-returns-in_ok-copy-in_default-clause-form
-array_ref::ArrayRef::clone_in-returns-in_ok-copy-in_default-clause-form g t c = c.array_of.ensures ∙ ap OfLeaf c.in_ok-copy-in_default.ensures.form ∙ sym c.lent_flat.ensures
+array_ref::ArrayRef::clone_in-returns-in_ok-copy-in_default-clause-form g t c = c.array_of.ensures ∙ ap OfLeaf c.in_ok-copy-in_default.ensures.form ∙ sym c.as_flat.ensures

@@ -8,8 +8,8 @@ use Rattle.column_core.specs.BoolForm.{bool_rows}
 use Rattle.column_core.specs.DecimalForm.{decimal_rows}
 use Rattle.column_core.specs.VarBinForm.{varbin_rows}
 use Rattle.column_core.proofs.OptionalRows.{single-of_range}
-use Rattle.runend_codec.specs.Ends.{ends_of}
-use Rattle.runend_codec.proofs.RunRows.{length-run_rows}
+use Rattle.runend_windows.specs.Ends.{ends_of}
+use Rattle.runend_windows.proofs.RunRows.{length-run_rows}
 use Rattle.runend_array.specs.Array.{column_of, rows}
 use Rattle.runend_array.specs.Canonical.{canonical_column}
 use Rattle.runend_array.specs.Column.{Runs, runs_of}
@@ -94,17 +94,17 @@ array::RunEndArray::rows_between-overflow_add-self-inside g t c =
 pub array::RunEndArray::rows_between-overflow_sub-stop : goal.array::RunEndArray::rows_between-overflow_sub-stop
 array::RunEndArray::rows_between-overflow_sub-stop g t c = omega (arith, c.requires.some)
 
-pub array::RunEndArray::rows_between-shown_by-made-requires-clause-plain : goal.array::RunEndArray::rows_between-shown_by-made-requires-clause-plain
-array::RunEndArray::rows_between-shown_by-made-requires-clause-plain g t c = c.in_ok-ends.ensures.plain
+pub array::RunEndArray::rows_between-decode_with-made-requires-clause-plain : goal.array::RunEndArray::rows_between-decode_with-made-requires-clause-plain
+array::RunEndArray::rows_between-decode_with-made-requires-clause-plain g t c = c.in_ok-ends.ensures.plain
 
-pub array::RunEndArray::rows_between-shown_by-made-requires-clause-window : goal.array::RunEndArray::rows_between-shown_by-made-requires-clause-window
-array::RunEndArray::rows_between-shown_by-made-requires-clause-window g t c =
+pub array::RunEndArray::rows_between-decode_with-made-requires-clause-window : goal.array::RunEndArray::rows_between-decode_with-made-requires-clause-window
+array::RunEndArray::rows_between-decode_with-made-requires-clause-window g t c =
     let window = rw (← c.self.view_is) at c.runs_of_rows-runs.ensures.window in
     let ends_are = rw (← c.self.view_is) at c.in_ok-ends.ensures.ends in
     rw ends_are window
 
-pub array::RunEndArray::rows_between-shown_by-made-requires-clause-paired : goal.array::RunEndArray::rows_between-shown_by-made-requires-clause-paired
-array::RunEndArray::rows_between-shown_by-made-requires-clause-paired g t c =
+pub array::RunEndArray::rows_between-decode_with-made-requires-clause-paired : goal.array::RunEndArray::rows_between-decode_with-made-requires-clause-paired
+array::RunEndArray::rows_between-decode_with-made-requires-clause-paired g t c =
     let whole = runs_of (column_of c.self.inside.ends) (column_of c.self.inside.values) c.self.inside.offset c.self.inside.length in
     let runs = c.runs_of_rows-runs in
     let ordered : runs.result.start ≤ runs.result.end = omega (arith, runs.ensures.ordered) in

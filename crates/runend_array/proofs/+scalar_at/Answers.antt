@@ -5,11 +5,11 @@ use Rattle.column_core.specs.Leaf.{leaf_rows}
 use Rattle.runend_array.specs.Array.{column_of, rows}
 use Rattle.runend_array.specs.Column.{column_rows, end_numbers, runs_of}
 use Rattle.runend_array.specs.Lists.{list_at, list_count, list_rows}
-use Rattle.runend_codec.proofs.Lists.{slice_get-replicate}
+use Rattle.runend_windows.proofs.Lists.{slice_get-replicate}
 use Rattle.runend_array.proofs.FlatForms.{IsLeaf-of_rest}
 use Rattle.runend_array.proofs.ListRows.{slice_get-made, length-list_rows}
-use Rattle.runend_codec.proofs.RunAt.{run_of_row_within}
-use Rattle.runend_codec.proofs.RunRows.{length-run_rows, slice_get-run_rows_of_window}
+use Rattle.runend_windows.proofs.RunAt.{run_of_row_within}
+use Rattle.runend_windows.proofs.RunRows.{length-run_rows, slice_get-run_rows_of_window}
 use Rattle.runend_array.proofs.Refusals.{reason_of_refusal, value_is_no_refusal, within_is_no_refusal, within_is_no_refusal-flat}
 use Rattle.runend_array.proofs.+scalar_at.Goals as goal
 
@@ -63,16 +63,16 @@ array_ref::ArrayRef::scalar_at-returns-else-index-len-clause-refused g t c =
     rw c.in-ListView.is
     (within_is_no_refusal c.get.result _ c.args.index (length (list_rows lists)) (omega (arith, counted, length-list_rows lists, c.if-index-len.false)))
 
-pub array_ref::ArrayRef::scalar_at-lent_flat-flat-requires : goal.array_ref::ArrayRef::scalar_at-lent_flat-flat-requires
-array_ref::ArrayRef::scalar_at-lent_flat-flat-requires g t c = IsLeaf-of_rest c.args.self.now c.in_default.not-ListView c.in_default.not-Constant c.in_default.not-RunEnd
+pub array_ref::ArrayRef::scalar_at-as_flat-flat-requires : goal.array_ref::ArrayRef::scalar_at-as_flat-flat-requires
+array_ref::ArrayRef::scalar_at-as_flat-flat-requires g t c = IsLeaf-of_rest c.args.self.now c.in_default.not-ListView c.in_default.not-Constant c.in_default.not-RunEnd
 
 pub array_ref::ArrayRef::scalar_at-returns-else-index-len-3-clause-row : goal.array_ref::ArrayRef::scalar_at-returns-else-index-len-3-clause-row
-array_ref::ArrayRef::scalar_at-returns-else-index-len-3-clause-row g t c = rw c.lent_flat-flat.ensures c.get-in_default.ensures.row
+array_ref::ArrayRef::scalar_at-returns-else-index-len-3-clause-row g t c = rw c.as_flat-flat.ensures c.get-in_default.ensures.row
 
 pub array_ref::ArrayRef::scalar_at-returns-else-index-len-3-clause-of_type : goal.array_ref::ArrayRef::scalar_at-returns-else-index-len-3-clause-of_type
-array_ref::ArrayRef::scalar_at-returns-else-index-len-3-clause-of_type g t c = rw c.lent_flat-flat.ensures c.get-in_default.ensures.of_type
+array_ref::ArrayRef::scalar_at-returns-else-index-len-3-clause-of_type g t c = rw c.as_flat-flat.ensures c.get-in_default.ensures.of_type
 
 pub array_ref::ArrayRef::scalar_at-returns-else-index-len-3-clause-refused : goal.array_ref::ArrayRef::scalar_at-returns-else-index-len-3-clause-refused
 array_ref::ArrayRef::scalar_at-returns-else-index-len-3-clause-refused g t c =
-    rw c.lent_flat-flat.ensures
-    (within_is_no_refusal-flat c.get-in_default.result _ c.args.index c.len-in_default.result (leaf_rows (leaf_in c.lent_flat-flat.result)) c.len-in_default.ensures c.if-index-len-3.false)
+    rw c.as_flat-flat.ensures
+    (within_is_no_refusal-flat c.get-in_default.result _ c.args.index c.len-in_default.result (leaf_rows (leaf_in c.as_flat-flat.result)) c.len-in_default.ensures c.if-index-len-3.false)

@@ -2,7 +2,7 @@
 ghost use Rattle.std.specs.Prelude.{◌≡◌, ◌+◌, ◌-◌, ◌<◌, ◌↔◌, Some, length, codes, IfOk, IsErrOf, IsOkUnless, MatchOption, MatchResult};
 ghost use Rattle.column_core.specs.Leaf.{OfNumbers};
 ghost use Rattle.runend_array.specs.Array.{column_of, rows};
-ghost use Rattle.runend_codec.specs.Window.{last_end};
+ghost use Rattle.runend_windows.specs.Window.{last_end};
 ghost use Rattle.runend_array.specs.Column.{AreParts, IsPlainEnds, OfLeaf, end_numbers, runs_of};
 ghost use Rattle.runend_array.specs.Encoding.{IsEncodedColumn, IsPlainNumbers};
 ghost use Rattle.runend_array.specs.Fault.{PartsFault};
@@ -12,7 +12,7 @@ use crate::array_ref::ArrayRef;
 use crate::compress::runend_encode;
 use crate::session::ExecutionCtx;
 use column_core::{Nullability, PrimitiveArray, VortexError, VortexResult};
-use runend_codec::{last_end_of, validate_ends};
+use runend_windows::{last_end_of, validate_ends};
 use std::alloc::Allocator;
 
 impl RunEnd {
@@ -99,7 +99,7 @@ impl RunEnd {
         }
     }
 
-    /// The run column of the encoding of a plain column of whole numbers: a tight exact cover of its
+    /// The run column of the encoding of a plain column of integers: a tight exact cover of its
     /// rows, with ends as narrow as can be. Refused as `OnlyPrimitive` exactly for other forms and
     /// types, else as `OutOfMemory` alone.
     pub fn encode<A: Allocator + Copy>(

@@ -1,9 +1,9 @@
-//! Rows of run columns over flat u64 and truth values: the offsets, sizes and validities of lists.
+//! Rows of run columns over flat u64 and booleans: the offsets, sizes and validities of lists.
 ghost use Rattle.std.specs.Prelude.{◌≡◌, ◌+◌, ◌-◌, ◌<◌, ◌≤◌, ◌↔◌, length, min, slice_index, slice_index_or, false, IsTrue, IfOk, IsOkUnless, map};
 ghost use Rattle.std.specs.List.{range_with_len};
 ghost use Rattle.runend_array.specs.Array.{rows};
 ghost use Rattle.runend_array.specs.Lists.{run_stop};
-ghost use Rattle.runend_codec.specs.Window.{run_at};
+ghost use Rattle.runend_windows.specs.Window.{run_at};
 ghost use Rattle.runend_array.specs.Column.{IsPlainIndex, IsPlainTruths, end_numbers, truths_of};
 
 use super::RunEndArray;
@@ -21,7 +21,7 @@ impl<A: Allocator + Copy> RunEndArray<A> {
         is_plain_index(&self.values)
     }
 
-    /// Is it a run column over flat truth values without null?
+    /// Is it a run column over flat booleans without null?
     pub(crate) fn is_truths(&self) -> bool
         ensures { IsTrue result ↔ IsPlainTruths self.now.values }
     {
@@ -38,7 +38,7 @@ impl<A: Allocator + Copy> RunEndArray<A> {
         plain_number_at(&self.values, run)
     }
 
-    /// The truth value in a row of a run column over flat truth values without null.
+    /// The boolean in a row of a run column over flat booleans without null.
     pub(crate) fn truth_at(&self, index: usize) -> bool
         requires plain { IsPlainTruths self.now.values }
         requires within { index < self.now.count }
@@ -77,7 +77,7 @@ impl<A: Allocator + Copy> RunEndArray<A> {
         }
     }
 
-    /// The truth value in a row of a run column over flat truth values without null, up to where the
+    /// The boolean in a row of a run column over flat booleans without null, up to where the
     /// run of this row ends; and in `run` this run, sought from `run` on: that of an earlier row, or the
     /// first.
     pub(crate) fn truth_from(&self, run: &mut usize, index: usize) -> Stretch<bool>
@@ -137,7 +137,7 @@ impl<A: Allocator + Copy> RunEndArray<A> {
         Ok(rows.finish())
     }
 
-    /// The truth values in the rows from `start` to `stop - 1` of a run column over flat truth values
+    /// The booleans in the rows from `start` to `stop - 1` of a run column over flat booleans
     /// without null. Each run is looked at once. Refused as `OutOfMemory` alone.
     pub(crate) fn truths_between(
         &self,

@@ -1,12 +1,12 @@
 //! The rows of a run column, and its runs.
 ghost use Rattle.std.specs.Prelude.{◌≡◌, ◌+◌, ◌-◌, ◌<◌, ◌≤◌, ◌↔◌, Some, pos, length, slice_get, IsTrue, IfOk, IsErrOf, IsOkUnless, slice_range};
 ghost use Rattle.column_core.specs.PrimitiveForm.{primitive_dtype};
-ghost use Rattle.runend_codec.specs.Ends.{IsEndsType, ends_of};
+ghost use Rattle.runend_windows.specs.Ends.{IsEndsType, ends_of};
 ghost use Rattle.column_core.specs.ScalarView.{sees, IsViewOf};
 ghost use Rattle.runend_array.specs.Array.{IsRowValidity, column_of, rows, validity_of};
 ghost use Rattle.runend_array.specs.RowFlags.{IsValidityForm, IsValidityOf};
-ghost use Rattle.runend_codec.specs.Visible.{visible};
-ghost use Rattle.runend_codec.specs.Window.{IsWindow};
+ghost use Rattle.runend_windows.specs.Visible.{visible};
+ghost use Rattle.runend_windows.specs.Window.{IsWindow};
 ghost use Rattle.runend_array.specs.Column.{AreRuns, IsPlainEnds, column_dtype, column_of_runs, column_rows, end_numbers, end_ptype};
 ghost use Rattle.runend_array.specs.Canonical.{IsFlatPart, canonical_column};
 ghost use Rattle.runend_array.specs.RowRuns.{first_run, first_visible, last_run, stop_visible};
@@ -16,7 +16,7 @@ use super::{RunEndArray, plain_ends};
 use crate::array_ref::{ArrayRef, out_of_bounds};
 use crate::canonical::Canonical;
 use crate::copies::Buffers;
-use crate::lists::validity_in_runs;
+use crate::lists::run_validity_of_lists;
 use crate::ops;
 use crate::session::ExecutionCtx;
 use crate::validities::RowValidity;
@@ -113,7 +113,7 @@ impl<A: Allocator + Copy> RunEndArray<A> {
             unreachable!()
         };
         self.values
-            .shown_by(alloc, ends, self.offset, self.length, prefill_runs)
+            .decode_with(alloc, ends, self.offset, self.length, prefill_runs)
     }
 
     /// The runs of the rows from `start` to `stop - 1`, of which there is one at least: from the run of
@@ -192,26 +192,26 @@ impl<A: Allocator + Copy> RunEndArray<A> {
                 return Err(error);
             }
         };
-        // No session is at hand, and by default truth values are prefilled from 0 runs on.
-        let made = values.shown_by(alloc, &ends, self.offset + start, stop - start, 0);
+        // No session is at hand, and by default booleans are prefilled from 0 runs on.
+        let made = values.decode_with(alloc, &ends, self.offset + start, stop - start, 0);
         drop(ends);
         let rows = made?;
         Ok(rows)
     }
 
     /// Which rows are valid. Refused as `OutOfMemory` alone.
-    #[cycle(validity_in)]
-    pub fn validity_in(&self, alloc: A) -> VortexResult<RowValidity<A>>
+    #[cycle(run_validity)]
+    pub fn run_validity(&self, alloc: A) -> VortexResult<RowValidity<A>>
         ensures only { IsOkUnless result VortexError.OutOfMemory }
         ensures rows { IfOk result (λ rows. IsValidityOf (column_of_runs self.now) (validity_of rows)) }
         ensures form { IfOk result (λ rows. IsValidityForm (column_of_runs self.now) (validity_of rows)) }
         ensures plain { IfOk result (λ rows. IsRowValidity rows) }
     {
-        let values = self.values.validity_in(alloc)?;
+        let values = self.values.run_validity(alloc)?;
         let Some(ends) = plain_ends(&self.ends) else {
             unreachable!()
         };
-        let shown = validity_in_runs(alloc, ends, &values, self.offset, self.length);
+        let shown = run_validity_of_lists(alloc, ends, &values, self.offset, self.length);
         drop(values);
         shown
     }

@@ -61,7 +61,7 @@ pub(crate) fn plain_numbers_between<A: Allocator + Copy>(
     }
 }
 
-/// Is it a flat column of truth values without null?
+/// Is it a flat column of booleans without null?
 pub(crate) fn is_plain_truths<A: Allocator + Copy>(column: &ArrayRef<A>) -> bool
     ensures { IsTrue result ↔ IsPlainTruths (column_of column.now) }
 {
@@ -71,7 +71,7 @@ pub(crate) fn is_plain_truths<A: Allocator + Copy>(column: &ArrayRef<A>) -> bool
     }
 }
 
-/// A truth value of a flat column of them.
+/// A boolean of a flat column of them.
 pub(crate) fn plain_truth_at<A: Allocator + Copy>(column: &ArrayRef<A>, index: usize) -> bool
     requires plain { IsPlainTruths (column_of column.now) }
     requires within { index < length (truths_of (column_of column.now)) }

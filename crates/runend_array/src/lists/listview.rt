@@ -3,12 +3,12 @@ ghost use Rattle.std.specs.Prelude.{◌≡◌, ◌+◌, ◌<◌, ◌≤◌, ◌�
 ghost use Rattle.column_core.specs.FlatColumn.{leaf_of};
 ghost use Rattle.column_core.specs.ScalarView.{sees, IsViewOf};
 ghost use Rattle.runend_array.specs.Array.{AreListParts, AreListTypes, IsRowValidity, column_of, lists_of, validity_of};
-ghost use Rattle.runend_codec.specs.Ends.{IsEndsType, ends_of};
+ghost use Rattle.runend_windows.specs.Ends.{IsEndsType, ends_of};
 ghost use Rattle.runend_array.specs.Column.{IsIndex, index_of};
-ghost use Rattle.runend_codec.specs.Window.{run_rows};
+ghost use Rattle.runend_windows.specs.Window.{run_rows};
 ghost use Rattle.column_core.specs.PrimitiveForm.{primitive_dtype};
 ghost use Rattle.column_core.specs.Ranges.{IsBadRange};
-ghost use Rattle.runend_codec.specs.Window.{IsWindow};
+ghost use Rattle.runend_windows.specs.Window.{IsWindow};
 ghost use Rattle.runend_array.specs.Fault.{IsFirstOutside, ListPartsFault, ListsFault};
 ghost use Rattle.runend_array.specs.Lists.{AreLists, HasRows, index_count, list_at, list_count, list_dtype, list_rows};
 ghost use Rattle.column_core.specs.Value.{element_of as element_type_of};
@@ -22,7 +22,7 @@ ghost use Rattle.column_base.specs.Validity.{form_of};
 use crate::array_ref::{ArrayRef, out_of_bounds};
 use crate::copies::Buffers;
 use crate::lists::index::{index_at, index_from, index_len, is_index};
-use crate::lists::runs::{index_in_runs, validity_in_runs};
+use crate::lists::runs::{index_in_runs, run_validity_of_lists};
 use crate::lists::slice::{index_between, validity_between};
 use crate::lists::take::{index_taken, validity_taken};
 use crate::session::ExecutionCtx;
@@ -71,7 +71,7 @@ impl<A: Allocator> Model for ListViewArray<A> {
 impl<A: Allocator + Copy> ListViewArray<A> {
     /// The lists of these parts. Refused by the first fault: `TypeMismatch` unless offsets and sizes
     /// are u64 without null, flat or in runs over flat values, and runs of the validity are over flat
-    /// truth values without null; `ColumnLength`, with the number of offsets first, where there are
+    /// booleans without null; `ColumnLength`, with the number of offsets first, where there are
     /// not as many sizes, then where the validity is of another number of rows; `OutOfBounds`, with
     /// the row and the number of elements, for the first valid row that does not lie within the
     /// elements. Takes no memory.
@@ -197,7 +197,7 @@ impl<A: Allocator + Copy> ListViewArray<A> {
     /// The rows that runs of these lists show, from row `offset` on, `count` many: lists over the same
     /// elements, with offsets, sizes and, where it is stored, validity in runs. Refused as
     /// `OutOfMemory` alone.
-    pub fn shown_by(
+    pub fn decode_with(
         &self,
         alloc: A,
         ends: &PrimitiveArray<A>,
@@ -223,7 +223,7 @@ impl<A: Allocator + Copy> ListViewArray<A> {
                 return Err(error);
             }
         };
-        match validity_in_runs(alloc, ends, &self.validity, offset, count) {
+        match run_validity_of_lists(alloc, ends, &self.validity, offset, count) {
             Ok(validity) => Ok(ListViewArray::new_unchecked(elements, offsets, sizes, validity)),
             Err(error) => {
                 drop(sizes);

@@ -2,11 +2,11 @@
 ghost use Rattle.std.specs.Prelude.{◌≡◌, ◌+◌, ◌<◌, length, IfOk, IsOkUnless};
 ghost use Rattle.column_core.specs.PrimitiveForm.{primitive_dtype};
 ghost use Rattle.runend_array.specs.Array.{IsRowValidity, column_of, validity_of};
-ghost use Rattle.runend_codec.specs.Ends.{IsEndsType, ends_of};
+ghost use Rattle.runend_windows.specs.Ends.{IsEndsType, ends_of};
 ghost use Rattle.runend_array.specs.Column.{IsIndex, index_of};
 ghost use Rattle.runend_array.specs.ListRuns.{IsValidityInRuns};
 ghost use Rattle.runend_array.specs.Lists.{ByRuns, HasRows, RunIndex, index_count, index_numbers};
-ghost use Rattle.runend_codec.specs.Window.{IsWindow};
+ghost use Rattle.runend_windows.specs.Window.{IsWindow};
 
 use crate::array::RunEnd;
 use crate::array_ref::ArrayRef;
@@ -91,7 +91,7 @@ fn flags_in_runs<A: Allocator + Copy>(
 
 /// The validity of the rows that runs show in a window: as it stands where it serves any number of
 /// rows, else runs with these ends and this window. Refused as `OutOfMemory` alone.
-pub(crate) fn validity_in_runs<A: Allocator + Copy>(
+pub(crate) fn run_validity_of_lists<A: Allocator + Copy>(
     alloc: A,
     ends: &PrimitiveArray<A>,
     validity: &RowValidity<A>,

@@ -8,7 +8,7 @@ ghost use Rattle.runend_array.specs.Lists.{HasRows, PlainIndex, index_at as numb
 
 use crate::array_ref::ArrayRef;
 use crate::lists::index::plain_numbers_between;
-use crate::validities::{RowValidity, told_by_rows};
+use crate::validities::{RowValidity, rows_of_validity};
 use column_core::{
     BitBuffer, BitBufferMut, Buffer, PrimitiveArray, PrimitiveValues, Validity, VortexError,
     VortexResult,
@@ -121,7 +121,7 @@ pub(crate) fn validity_between<A: Allocator + Copy>(
         RowValidity::AllInvalid => Ok(RowValidity::AllInvalid),
         _ => {
             let flags = flags_between(alloc, validity, count, start, stop)?;
-            Ok(told_by_rows(Validity::from_bits(flags)))
+            Ok(rows_of_validity(Validity::from_bits(flags)))
         }
     }
 }

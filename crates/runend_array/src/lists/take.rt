@@ -10,7 +10,7 @@ ghost use Rattle.runend_array.specs.Lists.{HasRows, PlainIndex, index_count, row
 
 use crate::array_ref::ArrayRef;
 use crate::lists::index::index_at;
-use crate::validities::{RowValidity, told_by_rows};
+use crate::validities::{RowValidity, rows_of_validity};
 use column_core::{
     BitBuffer, BitBufferMut, Nullability, PrimitiveArray, PrimitiveValues, Validity, VortexError,
     VortexResult,
@@ -103,7 +103,7 @@ pub(crate) fn validity_taken<A: Allocator + Copy>(
         Nullability::NonNullable => Ok(RowValidity::NonNullable),
         Nullability::Nullable => {
             let flags = flags_at(alloc, validity, count, positions, places)?;
-            Ok(told_by_rows(Validity::from_bits(flags)))
+            Ok(rows_of_validity(Validity::from_bits(flags)))
         }
     }
 }

@@ -14,7 +14,7 @@ use column_core::{Nullability, ScalarView, Validity, VortexError, VortexResult};
 use std::alloc::Allocator;
 
 /// A validity that is told row by row.
-pub(crate) fn told_by_rows<A: Allocator>(validity: Validity<A>) -> RowValidity<A>
+pub(crate) fn rows_of_validity<A: Allocator>(validity: Validity<A>) -> RowValidity<A>
     ensures form { validity_of result ≡ ByRows (form_of validity) }
     ensures plain { IsRowValidity result }
 {
@@ -33,7 +33,7 @@ fn copy_told<A: Allocator + Copy>(alloc: A, validity: &Validity<A>) -> VortexRes
     ensures plain { IfOk result (λ rows. IsRowValidity rows) }
 {
     let copy = validity.try_clone(alloc)?;
-    Ok(told_by_rows(copy))
+    Ok(rows_of_validity(copy))
 }
 
 // Which rows of a constant are valid: all, or none.
@@ -53,8 +53,8 @@ fn validity_of_constant<A: Allocator>(constant: &ConstantArray<A>) -> RowValidit
 
 impl<A: Allocator + Copy> ArrayRef<A> {
     /// Which rows are valid. Refused as `OutOfMemory` alone.
-    #[cycle(validity_in)]
-    pub(crate) fn validity_in(&self, alloc: A) -> VortexResult<RowValidity<A>>
+    #[cycle(run_validity)]
+    pub(crate) fn run_validity(&self, alloc: A) -> VortexResult<RowValidity<A>>
         ensures only { IsOkUnless result VortexError.OutOfMemory }
         ensures rows { IfOk result (λ rows. IsValidityOf (column_of self.now) (validity_of rows)) }
         ensures form { IfOk result (λ rows. IsValidityForm (column_of self.now) (validity_of rows)) }
@@ -63,8 +63,8 @@ impl<A: Allocator + Copy> ArrayRef<A> {
         match self {
             ArrayRef::ListView(lists) => lists.validity().clone_in(alloc, Buffers::Shared),
             ArrayRef::Constant(array) => Ok(validity_of_constant(array)),
-            ArrayRef::RunEnd(array) => array.validity_in(alloc),
-            _ => copy_told(alloc, self.lent_flat().validity()),
+            ArrayRef::RunEnd(array) => array.run_validity(alloc),
+            _ => copy_told(alloc, self.as_flat().validity()),
         }
     }
 }

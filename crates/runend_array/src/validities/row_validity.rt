@@ -10,7 +10,7 @@ use crate::lists::Stretch;
 use column_core::{BitBuffer, Nullability, VortexError, VortexResult};
 use std::alloc::Allocator;
 
-/// Which rows of a column are there, and which are null: row by row, or by runs of truth values.
+/// Which rows of a column are there, and which are null: row by row, or by runs of booleans.
 #[cycle(array)]
 #[derive(Drop)]
 pub enum RowValidity<A: Allocator> {
@@ -22,12 +22,12 @@ pub enum RowValidity<A: Allocator> {
     AllInvalid,
     /// A row for each bit, null where the bit is false.
     Bits(BitBuffer<A>),
-    /// A run column of truth values without null; a row is null where it shows false.
+    /// A run column of booleans without null; a row is null where it shows false.
     Runs(Box<RunEndArray<A>, A>),
 }
 
 impl<A: Allocator + Copy> RowValidity<A> {
-    /// Are its runs, where it has any, over flat truth values without null?
+    /// Are its runs, where it has any, over flat booleans without null?
     pub(crate) fn is_plain(&self) -> bool
         ensures { IsTrue result ↔ IsRowValidity self.now }
     {

@@ -16,7 +16,7 @@ use runend_map::cast_rows;
 use std::alloc::Allocator;
 
 /// The rows in the type. Where the kernel serves a run column, runs are left; else flat rows. Refused as
-/// `Unsupported` unless both types are of whole numbers or of one kind that is no list, and then at the first row
+/// `Unsupported` unless both types are of integers or of one kind that is no list, and then at the first row
 /// that is no value of the type: as `NullNotAllowed` for null, as `CastOutOfRange` for a number.
 pub fn cast<A: Allocator + Copy>(
     column: &ArrayRef<A>,

@@ -7,7 +7,7 @@ ghost use Rattle.runend_array.specs.Array.{column_of, dtype_of, rows};
 ghost use Rattle.runend_array.specs.Column.{IsFlat};
 ghost use Rattle.runend_array.specs.declared.session.Kernel.TheVariants.{TakeFrom as take_from_kernel};
 ghost use Rattle.runend_map.specs.Codes.{keeps_runs};
-ghost use Rattle.runend_map.specs.TakenForm.{IsTakenForm};
+ghost use Rattle.runend_map.specs.TakenForm.{TakeFromLeaves};
 ghost use Rattle.runend_commands.specs.KernelForms.{HasKernel, OnRuns};
 ghost use Rattle.runend_commands.specs.Meaning.{plain};
 
@@ -18,8 +18,8 @@ use runend_map::take_from_rows;
 use std::alloc::Allocator;
 
 /// The dictionary's row for each code, null for null. Where the kernel serves a run column of codes and the
-/// dictionary is of whole numbers or truth values, runs are left; else flat rows. Refused as `TypeMismatch` unless
-/// the codes are whole numbers, and then as `OutOfBounds`, with the code and the dictionary's rows, at the first
+/// dictionary is of integers or booleans, runs are left; else flat rows. Refused as `TypeMismatch` unless
+/// the codes are integers, and then as `OutOfBounds`, with the code and the dictionary's rows, at the first
 /// code that is negative or of no row of it.
 pub fn take_from<A: Allocator + Copy>(
     column: &ArrayRef<A>,
@@ -30,8 +30,8 @@ pub fn take_from<A: Allocator + Copy>(
     ensures rows { IfOk result (λ taken. rows taken ≡ code_rows (rows dictionary.now) (rows column.now)) }
     ensures dtype { IfOk result (λ taken. dtype_of taken ≡ take_dtype (dtype_of dictionary.now) (dtype_of column.now)) }
     ensures kernel { HasKernel ctx.old take_from_kernel (column_of column.now) → OnRuns (column_of column.now)
-        (λ runs. IfOk result (λ taken. IsTakenForm (keeps_runs (dtype_of dictionary.now)) (dtype_of dictionary.now) runs
-        (column_of taken))) }
+        (λ runs. IfOk result (λ taken. TakeFromLeaves (keeps_runs (dtype_of dictionary.now)) (dtype_of dictionary.now)
+        runs (column_of taken))) }
     ensures otherwise { ¬ HasKernel ctx.old take_from_kernel (column_of column.now) →
         IfOk result (λ taken. IsFlat (column_of taken)) }
     ensures session { ctx.new ≡ ctx.old }

@@ -12,13 +12,13 @@ ghost use Rattle.runend_map.specs.ComparisonForm.{IsComparisonForm};
 ghost use Rattle.runend_commands.specs.KernelForms.{HasKernel};
 
 use crate::compute::kernel_runs::runs_for;
+use array_rowwise::flat_rows;
 use column_core::{FlatColumn, VortexError, VortexResult};
 use column_order::{CompareOperator, FlatOrder, column_fault};
 use runend_array::{ArrayRef, ExecutionCtx, Kernel};
-use runend_rowwise::flat_rows;
 use std::alloc::Allocator;
 
-/// Whether the operator holds of each row and the row of `right` beside it, null where either is: flat truth values,
+/// Whether the operator holds of each row and the row of `right` beside it, null where either is: flat booleans,
 /// or a constant null where the kernel serves a run column, `right` is a constant, and all are null. Refused as
 /// `Unsupported` for lists, as `TypeMismatch` for two kinds, and as `ColumnLength` for two numbers of rows.
 pub fn compare<A: Allocator + Copy>(

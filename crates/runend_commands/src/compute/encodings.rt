@@ -11,7 +11,7 @@ use std::alloc::Allocator;
 
 /// The rows as runs, as few as there can be, whose ends have the narrowest type that has the last of them. A run
 /// column is written anew, since its neighbouring runs may be equal. Refused as `OnlyPrimitive` unless the rows are
-/// whole numbers.
+/// integers.
 pub fn encode<A: Allocator + Copy>(
     column: &ArrayRef<A>,
     ctx: &mut ExecutionCtx<A>,

@@ -15,10 +15,10 @@ ghost use Rattle.runend_commands.specs.KernelForms.{IsReadInPlace};
 ghost use Rattle.runend_commands.specs.Meaning.{plain};
 
 use crate::compute::kernel_runs::{constant_for, runs_for};
+use array_rowwise::flat_rows;
 use column_core::{DType, FlatView, Scalar, ScalarValue, ScalarView, VortexError, VortexResult};
 use runend_aggregate::min_max_of_constant;
 use runend_array::{ArrayRef, ConstantArray, ExecutionCtx, Kernel, RunEndArray, RunEndArrayExt};
-use runend_rowwise::flat_rows;
 use std::alloc::Allocator;
 
 /// The least and the greatest row that are not null, in memory of their own, or `None` where all are null. But for
@@ -58,7 +58,7 @@ fn extremes_of_runs<A: Allocator + Copy>(
     ensures session { ctx.new ≡ ctx.old }
 {
     let found = runend_aggregate::min_max(runs, ctx)?;
-    copies_of(*ctx.allocator(), runs.dtype(), found)
+    scalar_pair(*ctx.allocator(), runs.dtype(), found)
 }
 
 // The two rows of a constant, which is one run.
@@ -72,7 +72,7 @@ fn extremes_of_constant<A: Allocator + Copy>(
     ensures no_memory { ¬ HasBytes constant.now.dtype → result ≢ Err VortexError.OutOfMemory }
 {
     let found = min_max_of_constant(constant)?;
-    copies_of(*ctx.allocator(), constant.dtype(), found)
+    scalar_pair(*ctx.allocator(), constant.dtype(), found)
 }
 
 // The two rows of a flat column.
@@ -86,7 +86,7 @@ fn extremes_of_flat<A: Allocator + Copy>(
     ensures no_memory { ¬ HasBytes (leaf_dtype (leaf_in flat.entry)) → result ≢ Err VortexError.OutOfMemory }
 {
     let found = column_order::min_max(flat, 0..flat.len());
-    copies_of(*ctx.allocator(), flat.dtype(), found)
+    scalar_pair(*ctx.allocator(), flat.dtype(), found)
 }
 
 // The two rows of any column, written out.
@@ -105,7 +105,7 @@ fn extremes_row_by_row<A: Allocator + Copy>(
 }
 
 // What two rows of this type show, as scalars of it.
-fn copies_of<A: Allocator + Copy>(
+fn scalar_pair<A: Allocator + Copy>(
     alloc: A,
     dtype: DType,
     found: Option<(ScalarView<'_, A>, ScalarView<'_, A>)>,
@@ -120,8 +120,8 @@ fn copies_of<A: Allocator + Copy>(
     let Some((least, greatest)) = found else {
         return Ok(None);
     };
-    let least = copy_of(alloc, dtype, least)?;
-    match copy_of(alloc, dtype, greatest) {
+    let least = scalar_copy(alloc, dtype, least)?;
+    match scalar_copy(alloc, dtype, greatest) {
         Ok(greatest) => Ok(Some((least, greatest))),
         Err(error) => {
             drop(least);
@@ -131,7 +131,7 @@ fn copies_of<A: Allocator + Copy>(
 }
 
 // What a row of this type shows, as a scalar of it. Only a copy of a text or of bytes takes memory.
-fn copy_of<A: Allocator + Copy>(
+fn scalar_copy<A: Allocator + Copy>(
     alloc: A,
     dtype: DType,
     row: ScalarView<'_, A>,

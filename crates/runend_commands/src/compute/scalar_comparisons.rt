@@ -11,13 +11,13 @@ ghost use Rattle.runend_array.specs.declared.session.Kernel.TheVariants.{Compare
 ghost use Rattle.runend_commands.specs.KernelForms.{HasKernel};
 
 use crate::compute::kernel_runs::runs_for;
+use array_rowwise::flat_rows;
 use column_core::{Scalar, VortexResult};
 use column_order::{CompareOperator, FlatOrder};
 use runend_array::{ArrayRef, ConstantArray, ExecutionCtx, Kernel, RunEndArray, RunEndArrayExt};
-use runend_rowwise::flat_rows;
 use std::alloc::Allocator;
 
-/// Whether the operator holds of each row and the value, null where either is: flat truth values, or a constant null
+/// Whether the operator holds of each row and the value, null where either is: flat booleans, or a constant null
 /// where the kernel serves a run column and all are null. Refused as `Unsupported` for lists, and as `TypeMismatch`
 /// for a value of another kind.
 pub fn compare_scalar<A: Allocator + Copy>(

@@ -3,14 +3,14 @@ ghost use Rattle.std.specs.Prelude.{◌≡◌, length, slice_range, IfOk};
 ghost use Rattle.column_core.specs.Refusal.{range_fault, IsRefusedBy};
 ghost use Rattle.runend_array.specs.Array.{column_of, dtype_of, rows};
 ghost use Rattle.runend_array.specs.declared.session.Kernel.TheVariants.{Slice as slice_kernel};
-ghost use Rattle.runend_column.specs.SliceForm.{IsSliceForm};
+ghost use Rattle.runend_column.specs.SliceForm.{SliceLeaves};
 ghost use Rattle.runend_commands.specs.KernelForms.{HasKernel, OnRuns};
-ghost use Rattle.runend_rowwise.specs.Parts.{IsPlainPart};
+ghost use Rattle.array_rowwise.specs.Parts.{IsPlainPart};
 
 use crate::compute::kernel_runs::runs_for;
+use array_rowwise::slice_rows;
 use column_core::VortexResult;
 use runend_array::{ArrayRef, ExecutionCtx, Kernel};
-use runend_rowwise::part_of;
 use std::alloc::Allocator;
 use std::ops::Range;
 
@@ -26,13 +26,13 @@ pub fn slice<A: Allocator + Copy>(
     ensures rows { IfOk result (λ part. rows part ≡ slice_range (rows column.now) range.start range.end) }
     ensures dtype { IfOk result (λ part. dtype_of part ≡ dtype_of column.now) }
     ensures kernel { HasKernel ctx.old slice_kernel (column_of column.now) → OnRuns (column_of column.now)
-        (λ runs. IfOk result (λ part. IsSliceForm runs range.start range.end (column_of part))) }
+        (λ runs. IfOk result (λ part. SliceLeaves runs range.start range.end (column_of part))) }
     ensures otherwise { ¬ HasKernel ctx.old slice_kernel (column_of column.now)
         → IfOk result (λ part. IsPlainPart (column_of column.now) range.start range.end (column_of part)) }
     ensures session { ctx.new ≡ ctx.old }
 {
     match runs_for(column, Kernel::Slice, ctx) {
         Some(runs) => runend_column::slice(runs, range, ctx),
-        None => part_of(column, range, ctx),
+        None => slice_rows(column, range, ctx),
     }
 }

@@ -10,10 +10,10 @@ ghost use Rattle.runend_array.specs.declared.session.Kernel.TheVariants.{IsSorte
 ghost use Rattle.runend_commands.specs.KernelForms.{IsReadInPlace};
 
 use crate::compute::kernel_runs::{constant_for, runs_for};
+use array_rowwise::flat_rows;
 use column_core::{FlatView, VortexError, VortexResult};
 use runend_aggregate::is_sorted_of_constant;
 use runend_array::{ArrayRef, ExecutionCtx, Kernel};
-use runend_rowwise::flat_rows;
 use std::alloc::Allocator;
 
 /// Whether no row is above the next, or, where `strict` is asked, each is below the next; null is below all else. It

@@ -7,16 +7,16 @@ ghost use Rattle.runend_array.specs.declared.session.Kernel.TheVariants.{Sum as 
 ghost use Rattle.runend_commands.specs.KernelForms.{IsReadInPlace};
 
 use crate::compute::kernel_runs::{constant_for, runs_for};
+use array_rowwise::flat_rows;
 use column_core::{DType, VortexError, VortexResult};
 use column_sums::{SumAnswer, sum_view};
 use runend_aggregate::sum_of_constant;
 use runend_array::{ArrayRef, ExecutionCtx, Kernel};
-use runend_rowwise::flat_rows;
 use std::alloc::Allocator;
 
 /// The sum of the rows that are not null. Runs and constants are added run by run where the kernel is registered, a
-/// flat array is read where it is: none of these takes memory. Refused as `Unsupported` unless the rows are whole
-/// numbers.
+/// flat array is read where it is: none of these takes memory. Refused as `Unsupported` unless the rows are integers.
+///
 pub fn sum<A: Allocator + Copy>(
     column: &ArrayRef<A>,
     ctx: &mut ExecutionCtx<A>,

@@ -7,7 +7,7 @@ ghost use Rattle.column_ops.specs.Take.{take_fault, take_rows as rows_at_indices
 ghost use Rattle.runend_array.specs.Array.{column_of, dtype_of, rows};
 ghost use Rattle.runend_array.specs.Column.{IsFlat};
 ghost use Rattle.runend_array.specs.declared.session.Kernel.TheVariants.{Take as take_kernel};
-ghost use Rattle.runend_select.specs.TakeForm.{IsTakeForm};
+ghost use Rattle.runend_select.specs.TakeForm.{TakeLeaves};
 ghost use Rattle.runend_commands.specs.KernelForms.{HasKernel};
 
 use crate::compute::kernel_runs::runs_for;
@@ -31,7 +31,7 @@ pub fn take<A: Allocator + Copy>(
     ensures dtype { IfOk result (λ taken. dtype_of taken ≡
         take_dtype (dtype_of column.now) (primitive_dtype indices.now)) }
     ensures kernel { HasKernel ctx.old take_kernel (column_of column.now) →
-        IfOk result (λ taken. IsTakeForm (optional_numbers indices.now) (column_of taken)) }
+        IfOk result (λ taken. TakeLeaves (optional_numbers indices.now) (column_of taken)) }
     ensures otherwise { ¬ HasKernel ctx.old take_kernel (column_of column.now) →
         IfOk result (λ taken. IsFlat (column_of taken)) }
     ensures session { ctx.new ≡ ctx.old }

@@ -6,4 +6,4 @@ pub returns-clause-packed : goal.returns-clause-packed
 returns-clause-packed c =
     let needed : c.div_ceil.result ≡ (c.args.count + 63) / 64 = search rules in
     let there : length c.args.words.now ≡ (c.args.count + 63) / 64 = sym c.in_ok-check_room.ensures.there ∙ needed in
-    (full_of c.word_of.result (length c.args.words.now) c.args.bit c.word_of.ensures there (c.fill.ensures.after (λ y e. e)) c.clear_from.ensures).packs
+    (full_of c.splat.result (length c.args.words.now) c.args.bit c.splat.ensures there (c.fill.ensures.after (λ y e. e)) c.clear_from.ensures).packs

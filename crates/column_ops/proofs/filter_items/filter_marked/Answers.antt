@@ -7,7 +7,7 @@ use Rattle.column_core.specs.Optionals.{optionals}
 use Rattle.column_ops.specs.Filter.{filter_rows}
 use Rattle.column_ops.proofs.Blanked.{items_or}
 use Rattle.column_ops.proofs.SelectedRows.{filter_rows-optionals, length-filter_rows, marks-selected}
-use Rattle.column_ops.proofs.TakenRows.{AreWritten-rows, IsValidityOf-bits}
+use Rattle.column_ops.proofs.TakenRows.{AreStoredAs-rows, IsValidityOf-bits}
 use Rattle.column_ops.proofs.filter_items.filter_marked.Goals as goal
 
 pub with_item_at_nulls-shown-requires : goal.with_item_at_nulls-shown-requires
@@ -28,4 +28,4 @@ returns-in-Ok-clause-filtered g c =
     let made = IsValidityOf-bits flags Nullable (length rows) (form_of c.from_bits.result) refl (ap length same ∙ length-map rows is_some) told.flags told.fits told.normal told.all_valid told.all_null in
     let shown = c.with_item_at_nulls-shown.ensures ∙ ap (λ xs. items_or xs flags c.args.blank) c.in-Ok.ensures.items
     ∙ ap (λ fs. items_or (filter_rows bits items) fs c.args.blank) c.in_ok-flags.ensures.flags ∙ filter_rows-optionals c.args.blank bits items marks c.requires.masked c.requires.marked in
-    AreWritten-rows c.args.blank rows Nullable c.with_item_at_nulls-shown.result.items (length rows) (form_of c.from_bits.result) refl shown (rw same at made)
+    AreStoredAs-rows c.args.blank rows Nullable c.with_item_at_nulls-shown.result.items (length rows) (form_of c.from_bits.result) refl shown (rw same at made)

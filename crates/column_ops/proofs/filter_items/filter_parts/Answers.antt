@@ -4,10 +4,10 @@ use Rattle.column_base.specs.ValidityForm.{flags, nullability_in}
 use Rattle.column_base.specs.Validity.{form_of}
 use Rattle.column_core.specs.Optionals.{optionals}
 use Rattle.column_ops.specs.Filter.{filter_rows}
-use Rattle.column_ops.proofs.TakenRows.{AreWritten-rows}
+use Rattle.column_ops.proofs.TakenRows.{AreStoredAs-rows}
 use Rattle.column_ops.proofs.filter_items.filter_parts.Goals as goal
 
 pub returns-in-Ok-clause-filtered : goal.returns-in-Ok-clause-filtered
 returns-in-Ok-clause-filtered g c =
     let rows = filter_rows (mask_bits c.args.mask.now) (optionals c.args.items.now (flags (form_of c.args.validity.now) (length c.args.items.now))) in
-    AreWritten-rows c.args.blank rows (nullability_in (form_of c.args.validity.now)) c.in_ok-kept.kept.items (length rows) (form_of c.in-Ok.rows) refl c.in_ok-kept.ensures.items c.in-Ok.ensures.flags
+    AreStoredAs-rows c.args.blank rows (nullability_in (form_of c.args.validity.now)) c.in_ok-kept.kept.items (length rows) (form_of c.in-Ok.rows) refl c.in_ok-kept.ensures.items c.in-Ok.ensures.flags

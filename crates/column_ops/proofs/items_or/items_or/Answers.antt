@@ -19,4 +19,4 @@ pub returns-in-AllInvalid-clause-items : goal.returns-in-AllInvalid-clause-items
 returns-in-AllInvalid-clause-items g c =
     let items = c.args.items.now in
     let blank = sym (items_or-null items c.args.instead) ∙ sym (ap (λ own. items_or items (flags (form_of own) (length items)) c.args.instead) c.in-AllInvalid.is) in
-    subst (λ all. IfOk c.copies_of.result (λ shown. shown.items ≡ all)) blank c.copies_of.ensures.items
+    subst (λ all. IfOk c.filled_vec.result (λ shown. shown.items ≡ all)) blank c.filled_vec.ensures.items

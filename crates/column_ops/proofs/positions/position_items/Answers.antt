@@ -38,14 +38,14 @@ pub returns-in-AllInvalid-clause-refused : goal.returns-in-AllInvalid-clause-ref
 returns-in-AllInvalid-clause-refused g c =
     let numbers = map g.T.NativePType.number c.args.indices.now in
     let told = sym (ap (λ own. take_fault (optional_numbers (primitive_with g.T.NativePType.PTYPE numbers (form_of own))) c.args.count) c.in-AllInvalid.is) in
-    no_fault _ c.copies_of.result (sym told ∙ faults-null c.args.count numbers) c.copies_of.ensures.only
+    no_fault _ c.filled_vec.result (sym told ∙ faults-null c.args.count numbers) c.filled_vec.ensures.only
 
 pub returns-in-AllInvalid-clause-same : goal.returns-in-AllInvalid-clause-same
 returns-in-AllInvalid-clause-same g c =
     let numbers = map g.T.NativePType.number c.args.indices.now in
     let told = sym (ap (λ own. map (λ row. unwrap_or row (pos 0)) (optional_numbers (primitive_with g.T.NativePType.PTYPE numbers (form_of own)))) c.in-AllInvalid.is) in
     let wanted = map-zeros (length c.args.indices.now) ∙ ap (λ n. replicate n (pos 0)) (sym (length-map c.args.indices.now g.T.NativePType.number)) ∙ sym (items_or-null numbers (pos 0)) ∙ told in
-    if_ok c.copies_of.result _ _ (λ copies are. ap (map pos) are ∙ wanted) c.copies_of.ensures.items
+    if_ok c.filled_vec.result _ _ (λ copies are. ap (map pos) are ∙ wanted) c.filled_vec.ensures.items
 
 pub returns-in-Bits-clause-refused : goal.returns-in-Bits-clause-refused
 returns-in-Bits-clause-refused g c =

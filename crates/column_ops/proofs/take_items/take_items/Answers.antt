@@ -6,7 +6,7 @@ use Rattle.column_base.proofs.ValidityRows.{length-flags}
 use Rattle.column_core.specs.Optionals.{optionals}
 use Rattle.column_ops.specs.Nullable.{either_nullable}
 use Rattle.column_ops.specs.Take.{position_numbers, take_rows}
-use Rattle.column_ops.proofs.TakenRows.{AreWritten-rows, length-taken}
+use Rattle.column_ops.proofs.TakenRows.{AreStoredAs-rows, length-taken}
 use Rattle.column_ops.proofs.take_items.take_items.Goals as goal
 
 pub returns-in-Ok-clause-taken : goal.returns-in-Ok-clause-taken
@@ -19,5 +19,5 @@ returns-in-Ok-clause-taken g c =
     c.either-nullability.ensures ∙ ap (λ (n : Nullability). either_nullable n c.nullability-2.result) c.nullability.ensures
     ∙ ap (either_nullable (nullability_in (form_of c.args.validity.now))) c.nullability-2.ensures in
     rw (← wanted)
-    (AreWritten-rows c.args.blank (take_rows rows (position_numbers (optionals positions marks))) c.either-nullability.result c.in_ok-taken.taken.items (length positions) (form_of c.in-Ok.rows)
+    (AreStoredAs-rows c.args.blank (take_rows rows (position_numbers (optionals positions marks))) c.either-nullability.result c.in_ok-taken.taken.items (length positions) (form_of c.in-Ok.rows)
     (sym (length-taken rows positions marks (length-flags (form_of c.args.places.now) (length positions) c.requires.counted))) c.in_ok-taken.ensures.items c.in-Ok.ensures.flags)

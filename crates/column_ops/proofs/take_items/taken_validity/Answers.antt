@@ -13,8 +13,8 @@ use Rattle.column_ops.specs.Take.{position_numbers, take_rows}
 use Rattle.column_ops.proofs.TakenRows.{IsValidityOf-bits, flags-taken, length-taken, neither_nullable, never_null}
 use Rattle.column_ops.proofs.take_items.taken_validity.Goals as goal
 
-pub kept_validity-requires-clause-valid : goal.kept_validity-requires-clause-valid
-kept_validity-requires-clause-valid g c = λ never.
+pub computed_validity-requires-clause-valid : goal.computed_validity-requires-clause-valid
+computed_validity-requires-clause-valid g c = λ never.
     let neither = neither_nullable (nullability_in (form_of c.args.validity.now)) (nullability_in (form_of c.args.places.now)) (sym c.requires.wanted ∙ never) in
     never_null (form_of c.args.places.now) (length c.args.positions.now) neither.1
 
@@ -26,7 +26,7 @@ returns-then-is_all_valid-clause-flags g c =
     let marks = flags (form_of c.args.places.now) (length positions) in
     let all = c.is_all_valid.ensures.valid (length items) c.if-is_all_valid.true in
     let told = flags-taken items bits positions marks all (length-flags (form_of c.args.places.now) (length positions) c.requires.counted) c.requires.within in
-    subst (λ (wanted : List Bool). IfOk c.kept_validity.result (λ rows. IsValidityOf wanted c.args.nullability (length positions) (form_of rows))) (sym told) c.kept_validity.ensures.kept
+    subst (λ (wanted : List Bool). IfOk c.computed_validity.result (λ rows. IsValidityOf wanted c.args.nullability (length positions) (form_of rows))) (sym told) c.computed_validity.ensures.kept
 
 pub returns-clause-flags : goal.returns-clause-flags
 returns-clause-flags g c =

@@ -6,5 +6,5 @@ use Rattle.hivevigil.proofs.questions.hv_is_constant.Goals as goal
 
 pub returns-clause-told : goal.returns-clause-told
 returns-clause-told c = λ zero.
-    let back = to_z-of_z w32 c.tell.result (record { sfits = c.tell.type_inv }) in
-    told_constant c.args.column.now.column c.deref.result.now c.is_constant-outcome.result c.tell.result _ _ (c.in-Some.ensures.found ∙ ap Some (sym c.deref.ensures)) c.is_constant-outcome.ensures.told c.tell.ensures.ok c.tell.ensures.err (sym back ∙ zero)
+    let back = to_z-of_z w32 c.write_answer.result (record { sfits = c.write_answer.type_inv }) in
+    told_constant c.args.column.now.column c.deref.result.now c.is_constant-outcome.result c.write_answer.result _ _ (c.in-Some.ensures.found ∙ ap Some (sym c.deref.ensures)) c.is_constant-outcome.ensures.told c.write_answer.ensures.ok c.write_answer.ensures.err (sym back ∙ zero)

@@ -9,6 +9,6 @@ use Rattle.hivevigil.proofs.questions.hv_is_sorted.Goals as goal
 
 pub returns-clause-told : goal.returns-clause-told
 returns-clause-told c = λ zero.
-    let back = to_z-of_z w32 c.tell.result (record { sfits = c.tell.type_inv }) in
+    let back = to_z-of_z w32 c.write_answer.result (record { sfits = c.write_answer.type_inv }) in
     let told = subst (λ strict. IfOk c.is_sorted-outcome.result (λ truth. Tells truth (order.IsSorted strict (rows c.deref.result.now)))) c.is_set.ensures c.is_sorted-outcome.ensures.told in
-    told_sorted (flag_of c.args.strict) c.args.column.now.column c.deref.result.now c.is_sorted-outcome.result c.tell.result _ _ (c.in-Some.ensures.found ∙ ap Some (sym c.deref.ensures)) told c.tell.ensures.ok c.tell.ensures.err (sym back ∙ zero)
+    told_sorted (flag_of c.args.strict) c.args.column.now.column c.deref.result.now c.is_sorted-outcome.result c.write_answer.result _ _ (c.in-Some.ensures.found ∙ ap Some (sym c.deref.ensures)) told c.write_answer.ensures.ok c.write_answer.ensures.err (sym back ∙ zero)

@@ -1,6 +1,6 @@
 use Rattle.std.proofs.Common.{◌∙◌, ℕ, map, pos, sym, ap}
 use Rattle.column_base.specs.Numbers.{numbers}
-use Rattle.runend_codec.proofs.Ends.{numbers_stored}
+use Rattle.runend_windows.proofs.Ends.{numbers_stored}
 use Rattle.runend_aggregate.proofs.signed_sums.sum_signed_visible.Goals as goal
 
 pub sum_over-requires-clause-ends : goal.sum_over-requires-clause-ends

@@ -4,10 +4,10 @@ use Rattle.std.proofs.lemmas.List.{length-map}
 use Rattle.column_core.specs.FlatColumn.{leaf_of}
 use Rattle.column_core.specs.Leaf.{leaf_rows}
 use Rattle.column_core.specs.Value.{Single}
-use Rattle.runend_codec.specs.Ends.{ends_of}
+use Rattle.runend_windows.specs.Ends.{ends_of}
 use Rattle.column_core.specs.Leaf.{single_rows}
-use Rattle.runend_codec.proofs.FlatColumns.{run_rows-of_nulls}
-use Rattle.runend_codec.proofs.NullRows.{may_be_null-of_nulls}
+use Rattle.runend_windows.proofs.FlatColumns.{run_rows-of_nulls}
+use Rattle.runend_windows.proofs.NullRows.{may_be_null-of_nulls}
 use Rattle.runend_array.proofs.compress.decode_column.Goals as goal
 
 pub null_constant-nulls-requires : goal.null_constant-nulls-requires

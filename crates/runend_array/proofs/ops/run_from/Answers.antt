@@ -1,7 +1,7 @@
 use Rattle.std.proofs.Common.{◌≤◌, ◌<◌, arith, length}
 use Rattle.std.specs.Prelude.{slice_index}
-use Rattle.runend_codec.proofs.Places.{run_at-beyond}
-use Rattle.runend_codec.proofs.RunAt.{run_at-le}
+use Rattle.runend_windows.proofs.Places.{run_at-beyond}
+use Rattle.runend_windows.proofs.RunAt.{run_at-le}
 use Rattle.runend_array.specs.Array.{column_of}
 use Rattle.runend_array.specs.Column.{end_numbers}
 use Rattle.runend_array.proofs.ops.run_from.Goals as goal

@@ -1,5 +1,5 @@
 use Rattle.std.proofs.Common.{◌≤◌}
-use Rattle.runend_codec.specs.Window.{run_at}
+use Rattle.runend_windows.specs.Window.{run_at}
 use Rattle.runend_array.specs.Array.{column_of}
 use Rattle.runend_array.specs.Column.{end_numbers}
 use Rattle.runend_array.proofs.ops.run_from.Given as goal

@@ -2,7 +2,7 @@ use Rattle.std.proofs.Common.{◌∙◌, ap}
 use Rattle.column_base.specs.Validity.{form_of}
 use Rattle.column_base.specs.ValidityForm.{nullability_in}
 use Rattle.column_core.specs.FlatColumn.{leaf_of}
-use Rattle.runend_codec.proofs.WrittenConstants.{nullability-without_nulls}
+use Rattle.runend_windows.proofs.WrittenConstants.{nullability-without_nulls}
 use Rattle.runend_array.specs.Array.{column_of}
 use Rattle.runend_array.specs.Column.{index_of}
 use Rattle.runend_array.specs.Lists.{lists_with}
@@ -15,6 +15,6 @@ returns-in-Ok-clause-dtype g c =
     let offsets = index_of (column_of c.in-Ok.offsets) in
     let sizes = index_of (column_of c.in-Ok.sizes) in
     dtype-of_no_lists c.new_unchecked.result elements offsets sizes (form_of c.no_null-rows.result) c.args.element c.args.nullability
-    (c.new_unchecked.ensures ∙ ap (lists_with elements offsets sizes) c.told_by_rows-validity.ensures.form)
+    (c.new_unchecked.ensures ∙ ap (lists_with elements offsets sizes) c.rows_of_validity-validity.ensures.form)
     c.in_ok-elements.ensures.dtype
     (ap nullability_in c.no_null-rows.ensures ∙ nullability-without_nulls c.args.nullability)

@@ -1,8 +1,8 @@
 use Rattle.std.proofs.Common.{false}
 use Rattle.column_base.specs.Mask.{mask_bits}
 use Rattle.column_base.specs.Validity.{form_of}
-use Rattle.runend_codec.specs.RunEnds.{masked_truths}
-use Rattle.runend_codec.proofs.TypedRows.{Shows, nullable-of_nulls, run_rows-of_nulls_alone, truth_rows-of_Shows}
+use Rattle.runend_windows.specs.RunEnds.{masked_truths}
+use Rattle.runend_windows.proofs.TypedRows.{Shows, nullable-of_nulls, run_rows-of_nulls_alone, truth_rows-of_Shows}
 use Rattle.runend_column.proofs.decompress_bool.runend_decode_typed_bool.Goals as goal
 
 pub null_constant-requires : goal.null_constant-requires

@@ -1,5 +1,5 @@
 use Rattle.column_core.proofs.Refusals.{refused_by_range}
-use Rattle.runend_codec.proofs.RunRows.{length-run_rows}
+use Rattle.runend_windows.proofs.RunRows.{length-run_rows}
 use Rattle.runend_column.proofs.slices.slice.Goals as goal
 
 pub returns-clause-refused : goal.returns-clause-refused

@@ -1,6 +1,6 @@
 use Rattle.std.proofs.Common.{◌≡◌, ℕ, Bool, false, cond, ap, ◌∙◌, arith}
 use Rattle.column_core.specs.Optionals.{optionals}
-use Rattle.runend_codec.specs.Encoding.{blanked}
+use Rattle.runend_windows.specs.Encoding.{blanked}
 use Rattle.runend_decode.proofs.BitRuns.{count-next, count-all}
 use Rattle.runend_decode.proofs.bit_runs.count_marked.Goals as goal
 use Rattle.runend_decode.proofs.bit_runs.count_marked.Goals.{then-marked_at, else-marked_at}

@@ -1,7 +1,7 @@
 use Rattle.std.proofs.Common.{◌≡◌, ◌≤◌, Bool, false, take}
 use Rattle.std.specs.Prelude.{count_by}
 use Rattle.column_core.specs.Optionals.{optionals}
-use Rattle.runend_codec.specs.Encoding.{blanked}
+use Rattle.runend_windows.specs.Encoding.{blanked}
 use Rattle.runend_decode.proofs.bit_runs.count_marked.Given as goal
 
 abbrev pub invariant-loop-run : goal.invariant-loop-run

@@ -1,5 +1,5 @@
 use Rattle.std.proofs.Common.{Some, false, sym, ap, ◌∙◌}
-use Rattle.runend_codec.proofs.TypedRows.{stored-at_valid, stored-at_null}
+use Rattle.runend_windows.proofs.TypedRows.{stored-at_valid, stored-at_null}
 use Rattle.runend_decode.proofs.bit_runs.marked_at.Goals as goal
 
 pub returns-then-value : goal.returns-then-value

@@ -3,10 +3,10 @@ use Rattle.std.specs.Prelude.{unsigned_abs}
 use Rattle.std.proofs.lemmas.List.{length-map}
 use Rattle.column_base.specs.ValidityForm.{HasLength}
 use Rattle.column_base.specs.Validity.{form_of}
-use Rattle.runend_codec.specs.Ends.{ends_of}
-use Rattle.runend_codec.specs.Decoding.{AreDecoded}
-use Rattle.runend_codec.proofs.DecodedItems.{AreDecoded-map}
-use Rattle.runend_codec.proofs.DecodedLeaves.{IsDecodedFlat-numbers}
+use Rattle.runend_windows.specs.Ends.{ends_of}
+use Rattle.runend_windows.specs.Decoding.{AreDecoded}
+use Rattle.runend_windows.proofs.DecodedItems.{AreDecoded-map}
+use Rattle.runend_windows.proofs.DecodedLeaves.{IsDecodedFlat-numbers}
 use Rattle.runend_decode.proofs.decode.decode_as.Goals as goal
 
 pub returns-clause-flat : goal.returns-clause-flat

@@ -3,8 +3,8 @@ use Rattle.std.specs.Prelude.{slice_index, unsigned_abs}
 use Rattle.column_base.specs.ValidityForm.{flags}
 use Rattle.column_base.specs.Validity.{form_of}
 use Rattle.column_base.proofs.ValidityRows.{length-flags}
-use Rattle.runend_codec.proofs.Decoded.{Decoded-next, Decoded-all}
-use Rattle.runend_codec.proofs.StoredNumbers.{flags-read, length-naturals}
+use Rattle.runend_windows.proofs.Decoded.{Decoded-next, Decoded-all}
+use Rattle.runend_windows.proofs.StoredNumbers.{flags-read, length-naturals}
 use Rattle.runend_decode.proofs.decode.decode_flags.Goals as goal
 
 pub loop-run-preserved : goal.loop-run-preserved

@@ -2,7 +2,7 @@ use Rattle.std.proofs.Common.{length, map}
 use Rattle.std.specs.Prelude.{unsigned_abs}
 use Rattle.column_base.specs.ValidityForm.{flags}
 use Rattle.column_base.specs.Validity.{form_of}
-use Rattle.runend_codec.proofs.Decoded.{Decoded}
+use Rattle.runend_windows.proofs.Decoded.{Decoded}
 use Rattle.runend_decode.proofs.decode.decode_flags.Given as goal
 
 abbrev pub invariant-loop-run : goal.invariant-loop-run

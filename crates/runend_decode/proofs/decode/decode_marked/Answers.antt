@@ -3,11 +3,11 @@ use Rattle.std.specs.Prelude.{slice_index, unsigned_abs}
 use Rattle.std.proofs.lemmas.List.{length-replicate}
 use Rattle.column_base.specs.ValidityForm.{ByBits}
 use Rattle.column_core.specs.Optionals.{optionals}
-use Rattle.runend_codec.specs.Encoding.{blanked}
-use Rattle.runend_codec.proofs.Blanked.{length-blanked}
-use Rattle.runend_codec.proofs.Decoded.{Decoded-none, Decoded-next, Decoded-all, reached, reached-le}
+use Rattle.runend_windows.specs.Encoding.{blanked}
+use Rattle.runend_windows.proofs.Blanked.{length-blanked}
+use Rattle.runend_windows.proofs.Decoded.{Decoded-none, Decoded-next, Decoded-all, reached, reached-le}
 use Rattle.runend_decode.proofs.Marked.{Marked-none, Marked-valid, Marked-null, Marked-all, Marked-length}
-use Rattle.runend_codec.proofs.StoredNumbers.{length-naturals}
+use Rattle.runend_windows.proofs.StoredNumbers.{length-naturals}
 use Rattle.runend_decode.proofs.decode.decode_marked.Goals as goal
 use Rattle.runend_decode.proofs.decode.decode_marked.Goals.{then-not-value, else-not-value}
 

@@ -1,8 +1,8 @@
 use Rattle.std.proofs.Common.{◌≡◌, length, map}
 use Rattle.std.specs.Prelude.{unsigned_abs}
 use Rattle.column_core.specs.Optionals.{optionals}
-use Rattle.runend_codec.specs.Encoding.{blanked}
-use Rattle.runend_codec.proofs.Decoded.{Decoded, reached}
+use Rattle.runend_windows.specs.Encoding.{blanked}
+use Rattle.runend_windows.proofs.Decoded.{Decoded, reached}
 use Rattle.runend_decode.proofs.Marked.{Marked}
 use Rattle.runend_decode.proofs.decode.decode_marked.Given as goal
 

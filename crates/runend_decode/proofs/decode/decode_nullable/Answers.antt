@@ -1,5 +1,5 @@
 use Rattle.column_base.specs.Validity.{form_of}
-use Rattle.runend_codec.proofs.NullRows.{nullable-of_bits}
+use Rattle.runend_windows.proofs.NullRows.{nullable-of_bits}
 use Rattle.runend_decode.proofs.decode.decode_nullable.Goals as goal
 
 pub returns-clause-nullable : goal.returns-clause-nullable

@@ -5,9 +5,9 @@ use Rattle.column_base.specs.declared.dtype.PType.TheVariants.{U8, U16, U32, U64
 use Rattle.column_base.specs.Numbers.{numbers, ptype_of}
 use Rattle.column_base.specs.Validity.{form_of}
 use Rattle.column_core.specs.PrimitiveForm.{PrimitiveForm}
-use Rattle.runend_codec.specs.Ends.{ends_of}
-use Rattle.runend_codec.specs.Encoding.{IsDecodedFlat}
-use Rattle.runend_codec.proofs.Arms.{same-primitive, length-arm, HasLength-arm}
+use Rattle.runend_windows.specs.Ends.{ends_of}
+use Rattle.runend_windows.specs.Encoding.{IsDecodedFlat}
+use Rattle.runend_windows.proofs.Arms.{same-primitive, length-arm, HasLength-arm}
 use Rattle.runend_decode.proofs.decode.decode_numbers.Goals as goal
 
 pub decode_as-requires-clause-plain : goal.decode_as-requires-clause-plain

@@ -1,11 +1,11 @@
 use Rattle.std.proofs.Common.{length, map, sym, ◌∙◌}
 use Rattle.std.specs.Prelude.{unsigned_abs}
 use Rattle.column_base.specs.Validity.{form_of}
-use Rattle.runend_codec.proofs.Blanked.{blanked-all_null}
-use Rattle.runend_codec.proofs.FlatColumns.{Covers-copies}
-use Rattle.runend_codec.proofs.NullRows.{nullable-of_bits}
-use Rattle.runend_codec.proofs.StoredNumbers.{length-naturals}
-use Rattle.runend_codec.proofs.ValidRuns.{AreDecoded-never, AreDecoded-none_null, AreDecoded-marked}
+use Rattle.runend_windows.proofs.Blanked.{blanked-all_null}
+use Rattle.runend_windows.proofs.FlatColumns.{Covers-copies}
+use Rattle.runend_windows.proofs.NullRows.{nullable-of_bits}
+use Rattle.runend_windows.proofs.StoredNumbers.{length-naturals}
+use Rattle.runend_windows.proofs.ValidRuns.{AreDecoded-never, AreDecoded-none_null, AreDecoded-marked}
 use Rattle.runend_decode.proofs.decode.decode_under.Goals as goal
 
 pub returns-in_ok-items-in-NonNullable-clause-decoded : goal.returns-in_ok-items-in-NonNullable-clause-decoded

@@ -1,8 +1,8 @@
 use Rattle.std.proofs.Common.{◌≡◌, ◌-◌, ◌<◌, Some, length, map, min, refl, ◌∙◌, arith}
 use Rattle.std.specs.Prelude.{slice_get, slice_index, unsigned_abs}
 use Rattle.std.proofs.lemmas.Option.{slice_get_read}
-use Rattle.runend_codec.proofs.Decoded.{Decoded-all, Decoded-next}
-use Rattle.runend_codec.proofs.StoredNumbers.{length-naturals}
+use Rattle.runend_windows.proofs.Decoded.{Decoded-all, Decoded-next}
+use Rattle.runend_windows.proofs.StoredNumbers.{length-naturals}
 use Rattle.runend_decode.proofs.decode.decode_valid.Goals as goal
 
 pub loop-run-preserved : goal.loop-run-preserved

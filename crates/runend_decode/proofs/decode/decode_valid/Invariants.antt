@@ -1,6 +1,6 @@
 use Rattle.std.proofs.Common.{◌≡◌, map}
 use Rattle.std.specs.Prelude.{unsigned_abs}
-use Rattle.runend_codec.proofs.Decoded.{Decoded}
+use Rattle.runend_windows.proofs.Decoded.{Decoded}
 use Rattle.runend_decode.proofs.decode.decode_valid.Given as goal
 
 abbrev pub invariant-loop-run : goal.invariant-loop-run

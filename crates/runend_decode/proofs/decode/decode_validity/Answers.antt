@@ -1,7 +1,7 @@
 use Rattle.std.proofs.Common.{length, map, true, sym}
 use Rattle.std.specs.Prelude.{unsigned_abs}
-use Rattle.runend_codec.proofs.FlatColumns.{Covers-copies}
-use Rattle.runend_codec.proofs.StoredNumbers.{length-naturals}
+use Rattle.runend_windows.proofs.FlatColumns.{Covers-copies}
+use Rattle.runend_windows.proofs.StoredNumbers.{length-naturals}
 use Rattle.runend_decode.proofs.decode.decode_validity.Goals as goal
 
 pub returns-in-NonNullable-clause-cover : goal.returns-in-NonNullable-clause-cover

@@ -2,7 +2,7 @@ use Rattle.std.proofs.Common.{◌≡◌, length, map, refl, ◌∙◌, sym, arit
 use Rattle.std.specs.Prelude.{slice_index, unsigned_abs}
 use Rattle.std.proofs.lemmas.Option.{slice_get_read}
 use Rattle.std.proofs.lemmas.Grind.{common_steps}
-use Rattle.runend_codec.proofs.StoredNumbers.{slice_index-naturals}
+use Rattle.runend_windows.proofs.StoredNumbers.{slice_index-naturals}
 use Rattle.runend_decode.proofs.decode.reach_of.Goals as goal
 
 pub returns : goal.returns

@@ -1,7 +1,7 @@
 use Rattle.std.proofs.Common.{Some, true, false, length, ap, refl, ◌∙◌}
 use Rattle.std.proofs.lemmas.Option.{slice_get_read, get_or_from_slice_get}
 use Rattle.column_base.specs.ValidityForm.{ByBits}
-use Rattle.runend_codec.proofs.Blanked.{blanked-valid, blanked-null}
+use Rattle.runend_windows.proofs.Blanked.{blanked-valid, blanked-null}
 use Rattle.runend_decode.proofs.decode.stored_at.Goals as goal
 
 pub returns-then-value : goal.returns-then-value

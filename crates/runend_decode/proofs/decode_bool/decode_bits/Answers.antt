@@ -1,6 +1,6 @@
 use Rattle.std.proofs.Common.{ℕ, map, sym, ◌∙◌, arith}
 use Rattle.std.specs.Prelude.{slice_index, unsigned_abs}
-use Rattle.runend_codec.proofs.StoredNumbers.{length-naturals}
+use Rattle.runend_windows.proofs.StoredNumbers.{length-naturals}
 use Rattle.runend_decode.proofs.FilledRows.{Filled-next, Filled-all, digit_of}
 use Rattle.runend_decode.proofs.decode_bool.decode_bits.Goals as goal
 

@@ -2,9 +2,9 @@ use Rattle.std.proofs.Common.{◌≡◌, ℕ, bit_and, false, length, map, sym, 
 use Rattle.std.specs.Prelude.{slice_index, unsigned_abs}
 use Rattle.column_base.specs.ValidityForm.{ByBits}
 use Rattle.column_core.specs.Optionals.{optionals}
-use Rattle.runend_codec.specs.Encoding.{blanked}
-use Rattle.runend_codec.proofs.Blanked.{length-blanked}
-use Rattle.runend_codec.proofs.StoredNumbers.{length-naturals}
+use Rattle.runend_windows.specs.Encoding.{blanked}
+use Rattle.runend_windows.proofs.Blanked.{length-blanked}
+use Rattle.runend_windows.proofs.StoredNumbers.{length-naturals}
 use Rattle.runend_decode.proofs.FilledRows.{Filled-next, Filled-all, digit_of, digit_of_marked}
 use Rattle.runend_decode.proofs.decode_bool.decode_marked.Goals as goal
 

@@ -1,7 +1,7 @@
 use Rattle.std.proofs.Common.{false, map}
 use Rattle.std.specs.Prelude.{unsigned_abs}
 use Rattle.column_core.specs.Optionals.{optionals}
-use Rattle.runend_codec.specs.Encoding.{blanked}
+use Rattle.runend_windows.specs.Encoding.{blanked}
 use Rattle.runend_decode.proofs.FilledRows.{Filled}
 use Rattle.runend_decode.proofs.decode_bool.decode_marked.Given as goal
 

@@ -2,9 +2,9 @@ use Rattle.std.proofs.Common.{ℕ, pos, List, map, sym, ap, subst, ◌∙◌}
 use Rattle.std.specs.Prelude.{IfOk, unsigned_abs}
 use Rattle.column_base.specs.Numbers.{numbers}
 use Rattle.column_core.specs.Leaf.{OfTruths}
-use Rattle.runend_codec.specs.Window.{IsWindow}
-use Rattle.runend_codec.specs.Encoding.{IsDecodedLeaf}
-use Rattle.runend_codec.proofs.Arms.{length-arm}
+use Rattle.runend_windows.specs.Window.{IsWindow}
+use Rattle.runend_windows.specs.Encoding.{IsDecodedLeaf}
+use Rattle.runend_windows.proofs.Arms.{length-arm}
 use Rattle.runend_decode.proofs.decode_bool.decode_truths.Goals as goal
 
 pub decode_under-requires-clause-window : goal.decode_under-requires-clause-window

@@ -1,8 +1,8 @@
 use Rattle.std.proofs.Common.{length, map, sym, ap, ◌∙◌}
 use Rattle.std.specs.Prelude.{unsigned_abs}
 use Rattle.column_base.specs.Validity.{form_of}
-use Rattle.runend_codec.proofs.DecodedLeaves.{IsDecodedLeaf-truths}
-use Rattle.runend_codec.proofs.StoredNumbers.{length-naturals}
+use Rattle.runend_windows.proofs.DecodedLeaves.{IsDecodedLeaf-truths}
+use Rattle.runend_windows.proofs.StoredNumbers.{length-naturals}
 use Rattle.runend_decode.proofs.decode_bool.decode_under.Goals as goal
 
 pub decode_parts-requires-clause-paired : goal.decode_parts-requires-clause-paired

@@ -1,9 +1,9 @@
 use Rattle.std.proofs.Common.{◌≡◌, ◌<◌, ◌∙◌, length, map, arith, inl, inr}
 use Rattle.std.specs.Prelude.{unsigned_abs}
 use Rattle.std.proofs.lemmas.Bool.{cases_lt}
-use Rattle.runend_codec.proofs.Decoded.{reached, reached-le}
-use Rattle.runend_codec.proofs.RunAt.{run_of_row_within}
-use Rattle.runend_codec.proofs.StoredNumbers.{length-naturals}
+use Rattle.runend_windows.proofs.Decoded.{reached, reached-le}
+use Rattle.runend_windows.proofs.RunAt.{run_of_row_within}
+use Rattle.runend_windows.proofs.StoredNumbers.{length-naturals}
 use Rattle.runend_decode.proofs.FilledRows.{filled_inside, filled_outside, start-reached, run_of_row, row_from, row_below}
 use Rattle.runend_decode.proofs.filled_runs.fill_run.Goals as goal
 

@@ -2,8 +2,8 @@ use Rattle.std.proofs.Common.{sym, ◌∙◌}
 use Rattle.std.specs.Prelude.{unsigned_abs}
 use Rattle.std.proofs.lemmas.List.{length-map}
 use Rattle.column_base.specs.Validity.{form_of}
-use Rattle.runend_codec.specs.Ends.{ends_of}
-use Rattle.runend_codec.proofs.DecodedLeaves.{IsDecodedLeaf-decimals}
+use Rattle.runend_windows.specs.Ends.{ends_of}
+use Rattle.runend_windows.proofs.DecodedLeaves.{IsDecodedLeaf-decimals}
 use Rattle.runend_decode.proofs.flat.decode_decimals.Goals as goal
 
 pub returns-clause-flat : goal.returns-clause-flat

@@ -2,8 +2,8 @@ use Rattle.std.proofs.Common.{sym, ◌∙◌}
 use Rattle.std.specs.Prelude.{unsigned_abs}
 use Rattle.std.proofs.lemmas.List.{length-map}
 use Rattle.column_base.specs.Validity.{form_of}
-use Rattle.runend_codec.specs.Ends.{ends_of}
-use Rattle.runend_codec.proofs.DecodedLeaves.{AreVarBins-decoded, IsDecodedLeaf-varbins}
+use Rattle.runend_windows.specs.Ends.{ends_of}
+use Rattle.runend_windows.proofs.DecodedLeaves.{AreVarBins-decoded, IsDecodedLeaf-varbins}
 use Rattle.runend_decode.proofs.flat.decode_views.Goals as goal
 
 pub new_unchecked-requires : goal.new_unchecked-requires

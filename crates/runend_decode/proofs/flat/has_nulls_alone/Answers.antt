@@ -1,6 +1,6 @@
 use Rattle.std.proofs.Common.{◌∙◌}
 use Rattle.column_core.specs.FlatColumn.{leaf_of}
-use Rattle.runend_codec.proofs.NullRows.{HasNullsAlone-by_length, HasNullsAlone-by_count}
+use Rattle.runend_windows.proofs.NullRows.{HasNullsAlone-by_length, HasNullsAlone-by_count}
 use Rattle.runend_decode.proofs.flat.has_nulls_alone.Goals as goal
 
 pub returns-then-valid_count-eq0-clause-nulls : goal.returns-then-valid_count-eq0-clause-nulls

@@ -4,10 +4,10 @@ use Rattle.std.proofs.lemmas.List.{length-map, length-replicate}
 use Rattle.column_base.specs.Mask.{mask_bits}
 use Rattle.column_base.specs.Validity.{form_of}
 use Rattle.column_base.specs.declared.dtype.DType.TheVariants as column
-use Rattle.runend_codec.proofs.NullRows.{nullable-of_bits}
-use Rattle.runend_codec.proofs.StoredNumbers.{map-replicate}
-use Rattle.runend_codec.proofs.WrittenConstants.{fits-without_nulls, normal-without_nulls, nullability-without_nulls, some-of_bits, some-without_nulls}
-use Rattle.runend_codec.proofs.TypedRows.{Shows-of_valid, Shows-of_nulls, Shows-of_marks, number_rows-of_Shows, IsComputed-of_Shows, nullable-under_nulls, nullable-under_values, rows_masked}
+use Rattle.runend_windows.proofs.NullRows.{nullable-of_bits}
+use Rattle.runend_windows.proofs.StoredNumbers.{map-replicate}
+use Rattle.runend_windows.proofs.WrittenConstants.{fits-without_nulls, normal-without_nulls, nullability-without_nulls, some-of_bits, some-without_nulls}
+use Rattle.runend_windows.proofs.TypedRows.{Shows-of_valid, Shows-of_nulls, Shows-of_marks, number_rows-of_Shows, IsComputed-of_Shows, nullable-under_nulls, nullable-under_values, rows_masked}
 use Rattle.column_base.specs.ValidityForm.{HasLength}
 use Rattle.runend_decode.proofs.typed.decode_typed_numbers.Goals as goal
 

@@ -2,9 +2,9 @@ use Rattle.std.proofs.Common.{pos, ◌≡◌, ◌-◌, length, map, ◌∙◌, a
 use Rattle.std.specs.Option.{is_some}
 use Rattle.column_base.specs.Mask.{mask_bits}
 use Rattle.column_core.specs.PrimitiveForm.{optionals}
-use Rattle.runend_codec.specs.Encoding.{blanked}
+use Rattle.runend_windows.specs.Encoding.{blanked}
 use Rattle.runend_decode.proofs.RunEnds.{Pulled-more, Pulled-within, Pulled-next, Pulled-next_mapped, Pulled-all}
-use Rattle.runend_codec.proofs.TypedRows.{blanked-at_number}
+use Rattle.runend_windows.proofs.TypedRows.{blanked-at_number}
 use Rattle.runend_decode.proofs.typed.repeat_masked.Goals as goal
 
 pub next_end-end-requires-clause-more : goal.next_end-end-requires-clause-more

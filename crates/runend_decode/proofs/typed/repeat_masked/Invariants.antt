@@ -1,8 +1,8 @@
 use Rattle.std.proofs.Common.{pos, ◌≡◌, ℕ, List, length, map}
 use Rattle.column_base.specs.Mask.{mask_bits}
 use Rattle.column_core.specs.PrimitiveForm.{optionals}
-use Rattle.runend_codec.specs.Encoding.{blanked}
-use Rattle.runend_codec.specs.RunEnds.{AreRunEnds}
+use Rattle.runend_windows.specs.Encoding.{blanked}
+use Rattle.runend_windows.specs.RunEnds.{AreRunEnds}
 use Rattle.runend_decode.proofs.RunEnds.{Pulled}
 use Rattle.runend_decode.proofs.typed.repeat_masked.Given as goal
 

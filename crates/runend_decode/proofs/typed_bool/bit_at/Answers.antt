@@ -1,6 +1,6 @@
 use Rattle.std.proofs.Common.{Some, false, sym, ap, ◌∙◌}
 use Rattle.column_base.specs.Mask.{mask_bits}
-use Rattle.runend_codec.proofs.TypedRows.{stored-at_valid, stored-at_null}
+use Rattle.runend_windows.proofs.TypedRows.{stored-at_valid, stored-at_null}
 use Rattle.runend_decode.proofs.typed_bool.bit_at.Goals as goal
 
 pub returns-then-value : goal.returns-then-value

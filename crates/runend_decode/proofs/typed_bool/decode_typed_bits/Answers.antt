@@ -3,10 +3,10 @@ use Rattle.std.specs.Prelude.{replicate}
 use Rattle.std.proofs.lemmas.List.{length-replicate}
 use Rattle.column_base.specs.Mask.{mask_bits}
 use Rattle.column_base.specs.Validity.{form_of}
-use Rattle.runend_codec.proofs.NullRows.{nullable-of_bits}
-use Rattle.runend_codec.proofs.TypedRows.{Shows-of_valid, Shows-of_nulls, Shows-of_marks, nullable-under_nulls, nullable-under_values, rows_masked}
+use Rattle.runend_windows.proofs.NullRows.{nullable-of_bits}
+use Rattle.runend_windows.proofs.TypedRows.{Shows-of_valid, Shows-of_nulls, Shows-of_marks, nullable-under_nulls, nullable-under_values, rows_masked}
 use Rattle.column_base.specs.ValidityForm.{HasLength}
-use Rattle.runend_codec.proofs.WrittenConstants.{fits-without_nulls, normal-without_nulls, nullability-without_nulls, some-of_bits, some-without_nulls}
+use Rattle.runend_windows.proofs.WrittenConstants.{fits-without_nulls, normal-without_nulls, nullability-without_nulls, some-of_bits, some-without_nulls}
 use Rattle.runend_decode.proofs.typed_bool.decode_typed_bits.Goals as goal
 
 pub returns-in_ok-bits-in-AllTrue-clause-rows : goal.returns-in_ok-bits-in-AllTrue-clause-rows

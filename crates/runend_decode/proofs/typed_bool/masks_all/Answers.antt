@@ -2,7 +2,7 @@ use Rattle.column_base.specs.Mask.{mask_bits}
 use Rattle.column_base.specs.ValidityForm.{ByBits}
 use Rattle.column_core.specs.BoolForm.{bool_with}
 use Rattle.column_core.specs.Leaf.{OfTruths}
-use Rattle.runend_codec.proofs.NullRows.{HasNullsAlone-by_length, HasNullsAlone-by_count}
+use Rattle.runend_windows.proofs.NullRows.{HasNullsAlone-by_length, HasNullsAlone-by_count}
 use Rattle.runend_decode.proofs.typed_bool.masks_all.Goals as goal
 
 pub returns-then-true_count-eq0 : goal.returns-then-true_count-eq0

@@ -1,5 +1,5 @@
 use Rattle.std.proofs.Common.{ℕ, List, length}
-use Rattle.runend_codec.specs.RunEnds.{AreRunEnds}
+use Rattle.runend_windows.specs.RunEnds.{AreRunEnds}
 use Rattle.runend_decode.proofs.RunEnds.{Pulled}
 use Rattle.runend_decode.proofs.typed_bool.repeat_bits.Given as goal
 

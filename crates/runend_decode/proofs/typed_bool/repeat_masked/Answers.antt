@@ -1,7 +1,7 @@
 use Rattle.std.proofs.Common.{◌≡◌, ◌-◌, false, length, refl, arith}
 use Rattle.column_base.specs.Mask.{mask_bits}
 use Rattle.column_core.specs.Optionals.{optionals}
-use Rattle.runend_codec.specs.Encoding.{blanked}
+use Rattle.runend_windows.specs.Encoding.{blanked}
 use Rattle.runend_decode.proofs.RunEnds.{Pulled-more, Pulled-next, Pulled-all}
 use Rattle.runend_decode.proofs.typed_bool.repeat_masked.Goals as goal
 

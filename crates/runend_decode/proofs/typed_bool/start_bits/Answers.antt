@@ -2,8 +2,8 @@ use Rattle.std.proofs.Common.{false, sym, ◌∙◌, arith}
 use Rattle.column_base.specs.Mask.{mask_bits}
 use Rattle.column_base.specs.ValidityForm.{ByBits}
 use Rattle.column_core.specs.Optionals.{optionals}
-use Rattle.runend_codec.specs.Encoding.{blanked}
-use Rattle.runend_codec.proofs.Blanked.{length-blanked}
+use Rattle.runend_windows.specs.Encoding.{blanked}
+use Rattle.runend_windows.proofs.Blanked.{length-blanked}
 use Rattle.runend_decode.proofs.BitRuns.{background_of-few, background_of-most}
 use Rattle.runend_decode.proofs.typed_bool.start_bits.Goals as goal
 

@@ -1,8 +1,8 @@
 use Rattle.std.proofs.Common.{◌≤◌, ◌∙◌, ℕ, List, length, map, ap, sym, subst}
 use Rattle.std.specs.Prelude.{All}
 use Rattle.column_core.specs.Leaf.{leaf_dtype, single_rows}
-use Rattle.runend_codec.specs.Ends.{ends_of}
-use Rattle.runend_codec.specs.Window.{run_rows}
+use Rattle.runend_windows.specs.Ends.{ends_of}
+use Rattle.runend_windows.specs.Window.{run_rows}
 use Rattle.runend_encode.specs.Encoding.{AreRunValues}
 use Rattle.runend_encode.specs.Windows.{start_in}
 use Rattle.runend_encode.proofs.Encodings.{AreRunValues-shown, IsRowEncoding-of_runs, runs-increasing, runs-within}

@@ -9,7 +9,7 @@ use Rattle.column_core.specs.PrimitiveForm.{PrimitiveForm}
 use Rattle.column_ops.specs.Cast.{cast_fault}
 use Rattle.column_ops.specs.Computed.{IsMade}
 use Rattle.column_ops.proofs.Arms.{if_ok, same-primitive}
-use Rattle.runend_codec.specs.Window.{last_end}
+use Rattle.runend_windows.specs.Window.{last_end}
 use Rattle.runend_encode.specs.Encoding.{AreLeastEnds}
 use Rattle.runend_encode.proofs.LeastEnds.{AreLeastEnds-from_made, cast-no_fault, only-memory, wide_ends}
 use Rattle.runend_encode.proofs.least.least_ends.Goals as goal

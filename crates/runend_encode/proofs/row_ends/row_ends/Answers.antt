@@ -1,7 +1,7 @@
 use Rattle.std.proofs.Common.{◌≡◌, ◌∙◌, ℕ, List, pos, map, sym, ap, subst}
 use Rattle.std.specs.Prelude.{IfOk}
 use Rattle.column_base.specs.Numbers.{numbers}
-use Rattle.runend_codec.proofs.Ends.{numbers_stored}
+use Rattle.runend_windows.proofs.Ends.{numbers_stored}
 use Rattle.runend_encode.specs.Windows.{start_in}
 use Rattle.runend_encode.proofs.row_ends.row_ends.Goals as goal
 

@@ -5,8 +5,8 @@ use Rattle.column_base.specs.Numbers.{numbers, ptype_of}
 use Rattle.column_core.specs.FlatColumn.{leaf_of}
 use Rattle.column_core.specs.Leaf.{leaf_dtype, single_rows}
 use Rattle.column_core.specs.Value.{Value}
-use Rattle.runend_codec.specs.Ends.{ends_of}
-use Rattle.runend_codec.specs.Window.{run_rows}
+use Rattle.runend_windows.specs.Ends.{ends_of}
+use Rattle.runend_windows.specs.Window.{run_rows}
 use Rattle.runend_array.specs.Array.{column_of, dtype_of, rows}
 use Rattle.runend_encode.specs.Encoding.{IsRowEncoding}
 use Rattle.runend_encode.proofs.Starts.{length-single}

@@ -10,12 +10,12 @@ use Rattle.runend_array.specs.Array.{column_of, rows}
 use Rattle.runend_array.specs.Column.{column_of_runs, plain_of}
 use Rattle.column_ops.specs.Codes.{code_fault}
 use Rattle.runend_map.specs.Codes.{keeps_runs}
-use Rattle.runend_map.specs.TakenForm.{IsTakenForm}
+use Rattle.runend_map.specs.TakenForm.{TakeFromLeaves}
 use Rattle.runend_map.proofs.TakenForms.{taken_kind}
 use Rattle.runend_map.proofs.CodeRows.{same_fault, taken_count, taken_over}
 use Rattle.runend_map.proofs.KeptRows.{if_ok}
 use Rattle.runend_map.proofs.OneKind.{no_fault}
-use Rattle.runend_rowwise.proofs.PassedOn.{no_value}
+use Rattle.array_rowwise.proofs.PassedOn.{no_value}
 use Rattle.runend_map.proofs.codes.take_at_codes.Goals as goal
 
 pub returns-in_err-taken-clause-refused : goal.returns-in_err-taken-clause-refused
@@ -59,6 +59,6 @@ returns-clause-form g c =
     let dictionary = leaf_dtype (leaf_of c.args.dictionary.now) in
     let kept = c.is_kept_type.ensures ∙ ap keeps_runs c.dtype.ensures in
     if_ok c.placed.result (λ taken form.
-    subst (λ (b : Bool). IsTakenForm b dictionary codes (column_of taken)) kept
+    subst (λ (b : Bool). TakeFromLeaves b dictionary codes (column_of taken)) kept
     (taken_kind c.is_kept_type.result dictionary (primitive_dtype c.args.indices.now) codes (column_of taken)
-    (subst (λ (d : DType). IsTakenForm c.is_kept_type.result d codes (column_of taken)) c.in_ok-taken.ensures.made.dtype form))) c.placed.ensures.form
+    (subst (λ (d : DType). TakeFromLeaves c.is_kept_type.result d codes (column_of taken)) c.in_ok-taken.ensures.made.dtype form))) c.placed.ensures.form

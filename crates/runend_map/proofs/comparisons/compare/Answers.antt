@@ -6,7 +6,7 @@ use Rattle.column_core.specs.Value.{FlatValue, Single}
 use Rattle.column_order.specs.Comparing.{compare_rows, compare_with, compare_dtype}
 use Rattle.runend_array.specs.declared.array_ref.ArrayRef.{ArrayRef}
 use Rattle.runend_array.specs.declared.array_ref.ArrayRef.TheVariants.{Constant}
-use Rattle.runend_codec.proofs.RunRows.{length-run_rows}
+use Rattle.runend_windows.proofs.RunRows.{length-run_rows}
 use Rattle.runend_array.specs.Array.{dtype_of, rows, column_of}
 use Rattle.runend_array.specs.Column.{OfConstant, column_dtype, column_of_runs, column_rows, Column}
 use Rattle.runend_array.specs.Encoding.{IsComputedFlat}

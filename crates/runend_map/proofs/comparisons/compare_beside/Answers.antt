@@ -6,7 +6,7 @@ use Rattle.column_order.specs.Comparing.{compare_rows, compare_dtype}
 use Rattle.runend_array.specs.Array.{dtype_of, rows}
 use Rattle.runend_map.proofs.ComparedRows.{own_rows, shown_fault}
 use Rattle.column_base.specs.declared.dtype.DType.{DType}
-use Rattle.runend_rowwise.proofs.PassedOn.{no_value, only_error}
+use Rattle.array_rowwise.proofs.PassedOn.{no_value, only_error}
 use Rattle.runend_map.proofs.comparisons.compare_beside.Goals as goal
 
 pub compare_flat-truths-requires : goal.compare_flat-truths-requires

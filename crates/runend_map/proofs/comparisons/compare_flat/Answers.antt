@@ -7,7 +7,7 @@ use Rattle.runend_array.specs.Array.{dtype_of, rows}
 use Rattle.runend_map.proofs.ComparedRows.{beside_fault, memory_alone, stored_computed}
 use Rattle.runend_map.proofs.KeptRows.{if_ok}
 use Rattle.runend_map.proofs.OneKind.{no_column_fault, no_lists_beside}
-use Rattle.runend_rowwise.proofs.PassedOn.{no_value, only_error}
+use Rattle.array_rowwise.proofs.PassedOn.{no_value, only_error}
 use Rattle.runend_map.proofs.comparisons.compare_flat.Goals as goal
 
 pub returns-clause-only : goal.returns-clause-only

@@ -12,7 +12,7 @@ use Rattle.runend_visible.specs.VisibleForm.{visible_values}
 use Rattle.runend_map.proofs.ComparedRows.{compared_count, made_form, null_rows, nulls_alone-copies}
 use Rattle.runend_map.proofs.KeptRows.{if_ok, if_ok_both, mapped_rows}
 use Rattle.runend_map.proofs.OneKind.{filled}
-use Rattle.runend_rowwise.proofs.PassedOn.{no_value, only_error}
+use Rattle.array_rowwise.proofs.PassedOn.{no_value, only_error}
 use Rattle.runend_map.proofs.comparisons.compare_to_scalar.Goals as goal
 
 pub returns-then-not-is_empty-clause-rows : goal.returns-then-not-is_empty-clause-rows

@@ -1,10 +1,10 @@
 use Rattle.std.proofs.Common.{◌∙◌, List, Option, ap, sym}
 use Rattle.column_core.specs.Value.{Value}
 use Rattle.column_ops.specs.Codes.{code_numbers}
-use Rattle.runend_codec.specs.Window.{run_rows}
+use Rattle.runend_windows.specs.Window.{run_rows}
 use Rattle.runend_visible.specs.VisibleForm.{visible_ends, window_start}
 use Rattle.runend_visible.proofs.VisibleWindow.{visible_rows}
-use Rattle.runend_rowwise.proofs.PassedOn.{no_value, only_error}
+use Rattle.array_rowwise.proofs.PassedOn.{no_value, only_error}
 use Rattle.runend_map.proofs.dictionary.codes_of_runs.Goals as goal
 
 pub returns-clause-codes : goal.returns-clause-codes

@@ -2,7 +2,7 @@ use Rattle.std.proofs.Common.{length, inl}
 use Rattle.column_ops.specs.Codes.{code_fault}
 use Rattle.runend_array.specs.Array.{rows}
 use Rattle.runend_array.specs.Column.{column_of_runs, plain_of}
-use Rattle.runend_rowwise.proofs.PassedOn.{no_value}
+use Rattle.array_rowwise.proofs.PassedOn.{no_value}
 use Rattle.column_ops.proofs.IndexPositions.{refused-passed_on}
 use Rattle.runend_map.proofs.dictionary.take_each.Goals as goal
 

@@ -13,11 +13,11 @@ use Rattle.column_ops.proofs.IndexPositions.{refused-passed_on}
 use Rattle.runend_array.specs.Array.{column_of, dtype_of, rows}
 use Rattle.runend_array.specs.Column.{column_dtype, column_of_runs, column_rows, plain_of}
 use Rattle.runend_map.specs.Codes.{keeps_runs}
-use Rattle.runend_map.specs.TakenForm.{IsTakenForm}
+use Rattle.runend_map.specs.TakenForm.{TakeFromLeaves}
 use Rattle.runend_map.proofs.CodeRows.{as_many_rows}
 use Rattle.runend_map.proofs.TakenForms.{lists_taken}
 use Rattle.runend_map.proofs.KeptRows.{if_ok}
-use Rattle.runend_rowwise.proofs.PassedOn.{no_value}
+use Rattle.array_rowwise.proofs.PassedOn.{no_value}
 use Rattle.runend_map.proofs.dictionary.take_from.Goals as goal
 
 pub returns-clause-refused : goal.returns-clause-refused
@@ -41,7 +41,7 @@ returns-clause-dtype g c =
 
 pub returns-clause-form : goal.returns-clause-form
 returns-clause-form g c =
-    if_ok c.take_from_flat-taken.result (λ taken form. subst (λ (d : DType). IsTakenForm (keeps_runs d) d c.args.codes.now (column_of taken)) c.in_ok-flat.ensures.dtype form)
+    if_ok c.take_from_flat-taken.result (λ taken form. subst (λ (d : DType). TakeFromLeaves (keeps_runs d) d c.args.codes.now (column_of taken)) c.in_ok-flat.ensures.dtype form)
     c.take_from_flat-taken.ensures.form
 
 pub returns-clause-session : goal.returns-clause-session

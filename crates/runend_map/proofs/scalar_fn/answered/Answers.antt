@@ -6,10 +6,10 @@ use Rattle.runend_array.specs.SessionForm.{SessionForm, is_registered_in}
 use Rattle.runend_array.specs.declared.array_ref.ArrayRef.{ArrayRef}
 use Rattle.runend_array.specs.declared.array_ref.ArrayRef.TheVariants.{RunEnd}
 use Rattle.runend_array.specs.declared.session.Kernel.TheVariants.{ScalarFn}
-use Rattle.runend_map.specs.Owed.{IsMappedForm}
+use Rattle.runend_map.specs.MapResult.{IsMappedForm}
 use Rattle.runend_map.proofs.KeptRows.{if_ok}
-use Rattle.runend_map.proofs.OwedRows.{mapped_form}
-use Rattle.runend_rowwise.proofs.PassedOn.{no_value, only_error}
+use Rattle.runend_map.proofs.MapResultRows.{mapped_form}
+use Rattle.array_rowwise.proofs.PassedOn.{no_value, only_error}
 use Rattle.runend_map.proofs.scalar_fn.answered.Goals as goal
 
 -- answers to a column that is no run column are flat

@@ -5,9 +5,9 @@ use Rattle.column_core.specs.FlatColumn.{leaf_of}
 use Rattle.column_core.specs.Leaf.{single_rows}
 use Rattle.column_core.specs.Optionals.{optionals}
 use Rattle.column_core.specs.declared.flat.FlatColumn.{FlatColumn}
-use Rattle.runend_map.specs.Owed.{number_row}
+use Rattle.runend_map.specs.MapResult.{number_row}
 use Rattle.runend_map.proofs.KeptRows.{if_ok}
-use Rattle.runend_map.proofs.OwedRows.{asked_each, may_call, rows_of_items}
+use Rattle.runend_map.proofs.MapResultRows.{asked_each, may_call, rows_of_items}
 use Rattle.runend_map.proofs.scalar_fn.answers_to.Goals as goal
 
 pub answers-requires-clause-callable : goal.answers-requires-clause-callable

@@ -4,11 +4,11 @@ use Rattle.column_core.specs.FlatColumn.{leaf_of}
 use Rattle.column_core.specs.Leaf.{single_rows}
 use Rattle.column_core.specs.Value.{Value}
 use Rattle.runend_array.specs.Array.{column_of}
-use Rattle.runend_map.specs.Asked.{IsAsked}
-use Rattle.runend_map.specs.Owed.{number_row, is_native}
+use Rattle.runend_map.specs.MapInputs.{IsAsked}
+use Rattle.runend_map.specs.MapResult.{number_row, is_native}
 use Rattle.runend_map.proofs.KeptRows.{if_ok}
-use Rattle.runend_map.proofs.OwedRows.{may_ask}
-use Rattle.runend_rowwise.proofs.PassedOn.{no_value, only_error}
+use Rattle.runend_map.proofs.MapResultRows.{may_ask}
+use Rattle.array_rowwise.proofs.PassedOn.{no_value, only_error}
 use Rattle.runend_map.proofs.scalar_fn.asked_answers.Goals as goal
 
 pub answers_to-answers-requires-clause-callable : goal.answers_to-answers-requires-clause-callable

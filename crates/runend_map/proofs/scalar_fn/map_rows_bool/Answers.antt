@@ -3,12 +3,12 @@ use Rattle.std.specs.Prelude.{IfOk}
 use Rattle.column_core.specs.Leaf.{OfTruths, single_rows}
 use Rattle.runend_array.specs.Array.{column_of, rows, dtype_of}
 use Rattle.runend_array.specs.SessionForm.{SessionForm}
-use Rattle.runend_map.specs.Asked.{asked_rows}
-use Rattle.runend_map.specs.Owed.{IsMappedForm, number_row, truth_row, is_native, native_fault}
+use Rattle.runend_map.specs.MapInputs.{asked_rows}
+use Rattle.runend_map.specs.MapResult.{IsMappedForm, number_row, truth_row, is_native, native_fault}
 use Rattle.runend_map.proofs.KeptRows.{if_ok}
-use Rattle.runend_map.proofs.OwedRows.{answers_count, owed_rows, no_native_fault}
+use Rattle.runend_map.proofs.MapResultRows.{answers_count, owed_rows, no_native_fault}
 use Rattle.runend_map.proofs.OneKind.{no_fault}
-use Rattle.runend_rowwise.proofs.PassedOn.{no_value}
+use Rattle.array_rowwise.proofs.PassedOn.{no_value}
 use Rattle.column_ops.proofs.IndexPositions.{refused-passed_on}
 use Rattle.runend_map.proofs.scalar_fn.map_rows_bool.Goals as goal
 

@@ -2,13 +2,13 @@ use Rattle.std.proofs.Common.{◌∙◌, ap, sym, length}
 use Rattle.column_base.specs.Mask.{mask_bits}
 use Rattle.runend_array.specs.Array.{column_of}
 use Rattle.runend_array.specs.Column.{column_of_runs, column_rows}
-use Rattle.runend_codec.proofs.RunRows.{length-run_rows}
-use Rattle.runend_rowwise.proofs.FilterFaults.{fault_here, fault_told, no_fault, rows-unchanged}
+use Rattle.runend_windows.proofs.RunRows.{length-run_rows}
+use Rattle.array_rowwise.proofs.FilterFaults.{fault_here, fault_told, no_fault, rows-unchanged}
 use Rattle.runend_select.proofs.WithoutRuns.{rows-without_runs}
-use Rattle.runend_rowwise.proofs.ComputedRows.{ok_then}
+use Rattle.array_rowwise.proofs.ComputedRows.{ok_then}
 use Rattle.runend_select.proofs.LeastForms.{least-without_runs}
 use Rattle.runend_select.proofs.PassedOn.{first-none, first-told}
-use Rattle.runend_rowwise.proofs.PassedOn.{refused_by_none}
+use Rattle.array_rowwise.proofs.PassedOn.{refused_by_none}
 use Rattle.runend_select.proofs.filters.filter.Goals as goal
 
 pub returns-then-len-clause-refused : goal.returns-then-len-clause-refused

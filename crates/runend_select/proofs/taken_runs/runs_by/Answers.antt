@@ -2,12 +2,12 @@ use Rattle.std.proofs.Common.{◌≡◌, ℕ, List, map, ap, ◌∙◌, sym, sub
 use Rattle.std.specs.Prelude.{unsigned_abs}
 use Rattle.column_base.specs.Mask.{mask_bits}
 use Rattle.column_core.specs.Counted.{Counted}
-use Rattle.runend_codec.specs.Window.{IsWindow}
-use Rattle.runend_positions.specs.Indices.{optional_indices, runs_of}
-use Rattle.runend_positions.specs.Pick.{answer_of, run_of_null}
+use Rattle.runend_windows.specs.Window.{IsWindow}
+use Rattle.runend_indices.specs.Indices.{optional_indices, runs_of}
+use Rattle.runend_indices.specs.Pick.{answer_of, run_of_null}
 use Rattle.runend_select.specs.RunsOf.{AreRunsOf}
-use Rattle.runend_rowwise.proofs.ComputedRows.{ok_then}
-use Rattle.runend_join.proofs.Fitting.{naturals-of}
+use Rattle.array_rowwise.proofs.ComputedRows.{ok_then}
+use Rattle.runend_coalesce.proofs.Fitting.{naturals-of}
 use Rattle.runend_select.proofs.taken_runs.runs_by.Goals as goal
 
 pub physical_indices-requires-clause-window : goal.physical_indices-requires-clause-window

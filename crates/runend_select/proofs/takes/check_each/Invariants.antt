@@ -2,7 +2,7 @@ use Rattle.std.proofs.Common.{◌≡◌, length, take, None}
 use Rattle.column_base.specs.Validity.{form_of}
 use Rattle.column_base.specs.ValidityForm.{flags}
 use Rattle.column_ops.specs.Take.{take_fault}
-use Rattle.runend_positions.specs.Indices.{optional_indices}
+use Rattle.runend_indices.specs.Indices.{optional_indices}
 use Rattle.runend_select.proofs.takes.check_each.Given as goal
 
 abbrev pub invariant-loop-place : goal.invariant-loop-place

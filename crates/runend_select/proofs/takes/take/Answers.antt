@@ -11,7 +11,7 @@ use Rattle.column_ops.specs.Nullable.{take_dtype}
 use Rattle.column_ops.specs.Take.{take_fault, take_rows}
 use Rattle.runend_array.specs.Array.{column_of, dtype_of, rows}
 use Rattle.runend_array.specs.Column.{column_dtype, column_of_runs, column_rows}
-use Rattle.runend_select.specs.TakeForm.{IsTakeForm}
+use Rattle.runend_select.specs.TakeForm.{TakeLeaves}
 use Rattle.runend_select.proofs.CheckedIndices.{same-primitive}
 use Rattle.runend_select.proofs.takes.take.Goals as goal
 
@@ -53,7 +53,7 @@ returns-in-U8-match_each_native-clause-form g c =
     let typed = sym (ap ptype_of arm) ∙ c.values.ensures.typed in
     let shown = ap (map pos) c.as_slice.ensures.value ∙ sym (ap numbers arm) ∙ c.values.ensures.shows in
     let same = same-primitive U8 (map pos c.as_slice.result.now) (form_of c.validity-validity.result.now) c.args.indices.now typed shown c.validity-validity.ensures.form in
-    subst (λ (p : PrimitiveForm). IfOk c.take_native.result (λ taken. IsTakeForm (optional_numbers p) (column_of taken))) same c.take_native.ensures.form
+    subst (λ (p : PrimitiveForm). IfOk c.take_native.result (λ taken. TakeLeaves (optional_numbers p) (column_of taken))) same c.take_native.ensures.form
 
 pub returns-in-U16-match_each_native-clause-refused : goal.returns-in-U16-match_each_native-clause-refused
 returns-in-U16-match_each_native-clause-refused g c =
@@ -93,7 +93,7 @@ returns-in-U16-match_each_native-clause-form g c =
     let typed = sym (ap ptype_of arm) ∙ c.values.ensures.typed in
     let shown = ap (map pos) c.as_slice-2.ensures.value ∙ sym (ap numbers arm) ∙ c.values.ensures.shows in
     let same = same-primitive U16 (map pos c.as_slice-2.result.now) (form_of c.validity-validity.result.now) c.args.indices.now typed shown c.validity-validity.ensures.form in
-    subst (λ (p : PrimitiveForm). IfOk c.take_native-2.result (λ taken. IsTakeForm (optional_numbers p) (column_of taken))) same c.take_native-2.ensures.form
+    subst (λ (p : PrimitiveForm). IfOk c.take_native-2.result (λ taken. TakeLeaves (optional_numbers p) (column_of taken))) same c.take_native-2.ensures.form
 
 pub returns-in-U32-match_each_native-clause-refused : goal.returns-in-U32-match_each_native-clause-refused
 returns-in-U32-match_each_native-clause-refused g c =
@@ -133,7 +133,7 @@ returns-in-U32-match_each_native-clause-form g c =
     let typed = sym (ap ptype_of arm) ∙ c.values.ensures.typed in
     let shown = ap (map pos) c.as_slice-3.ensures.value ∙ sym (ap numbers arm) ∙ c.values.ensures.shows in
     let same = same-primitive U32 (map pos c.as_slice-3.result.now) (form_of c.validity-validity.result.now) c.args.indices.now typed shown c.validity-validity.ensures.form in
-    subst (λ (p : PrimitiveForm). IfOk c.take_native-3.result (λ taken. IsTakeForm (optional_numbers p) (column_of taken))) same c.take_native-3.ensures.form
+    subst (λ (p : PrimitiveForm). IfOk c.take_native-3.result (λ taken. TakeLeaves (optional_numbers p) (column_of taken))) same c.take_native-3.ensures.form
 
 pub returns-in-U64-match_each_native-clause-refused : goal.returns-in-U64-match_each_native-clause-refused
 returns-in-U64-match_each_native-clause-refused g c =
@@ -173,7 +173,7 @@ returns-in-U64-match_each_native-clause-form g c =
     let typed = sym (ap ptype_of arm) ∙ c.values.ensures.typed in
     let shown = ap (map pos) c.as_slice-4.ensures.value ∙ sym (ap numbers arm) ∙ c.values.ensures.shows in
     let same = same-primitive U64 (map pos c.as_slice-4.result.now) (form_of c.validity-validity.result.now) c.args.indices.now typed shown c.validity-validity.ensures.form in
-    subst (λ (p : PrimitiveForm). IfOk c.take_native-4.result (λ taken. IsTakeForm (optional_numbers p) (column_of taken))) same c.take_native-4.ensures.form
+    subst (λ (p : PrimitiveForm). IfOk c.take_native-4.result (λ taken. TakeLeaves (optional_numbers p) (column_of taken))) same c.take_native-4.ensures.form
 
 pub returns-in-I8-match_each_native-clause-refused : goal.returns-in-I8-match_each_native-clause-refused
 returns-in-I8-match_each_native-clause-refused g c =
@@ -213,7 +213,7 @@ returns-in-I8-match_each_native-clause-form g c =
     let typed = sym (ap ptype_of arm) ∙ c.values.ensures.typed in
     let shown = map-id c.as_slice-5.result.now ∙ c.as_slice-5.ensures.value ∙ sym (ap numbers arm) ∙ c.values.ensures.shows in
     let same = same-primitive I8 (map (λ (n : ℤ). n) c.as_slice-5.result.now) (form_of c.validity-validity.result.now) c.args.indices.now typed shown c.validity-validity.ensures.form in
-    subst (λ (p : PrimitiveForm). IfOk c.take_native-5.result (λ taken. IsTakeForm (optional_numbers p) (column_of taken))) same c.take_native-5.ensures.form
+    subst (λ (p : PrimitiveForm). IfOk c.take_native-5.result (λ taken. TakeLeaves (optional_numbers p) (column_of taken))) same c.take_native-5.ensures.form
 
 pub returns-in-I16-match_each_native-clause-refused : goal.returns-in-I16-match_each_native-clause-refused
 returns-in-I16-match_each_native-clause-refused g c =
@@ -253,7 +253,7 @@ returns-in-I16-match_each_native-clause-form g c =
     let typed = sym (ap ptype_of arm) ∙ c.values.ensures.typed in
     let shown = map-id c.as_slice-6.result.now ∙ c.as_slice-6.ensures.value ∙ sym (ap numbers arm) ∙ c.values.ensures.shows in
     let same = same-primitive I16 (map (λ (n : ℤ). n) c.as_slice-6.result.now) (form_of c.validity-validity.result.now) c.args.indices.now typed shown c.validity-validity.ensures.form in
-    subst (λ (p : PrimitiveForm). IfOk c.take_native-6.result (λ taken. IsTakeForm (optional_numbers p) (column_of taken))) same c.take_native-6.ensures.form
+    subst (λ (p : PrimitiveForm). IfOk c.take_native-6.result (λ taken. TakeLeaves (optional_numbers p) (column_of taken))) same c.take_native-6.ensures.form
 
 pub returns-in-I32-match_each_native-clause-refused : goal.returns-in-I32-match_each_native-clause-refused
 returns-in-I32-match_each_native-clause-refused g c =
@@ -293,7 +293,7 @@ returns-in-I32-match_each_native-clause-form g c =
     let typed = sym (ap ptype_of arm) ∙ c.values.ensures.typed in
     let shown = map-id c.as_slice-7.result.now ∙ c.as_slice-7.ensures.value ∙ sym (ap numbers arm) ∙ c.values.ensures.shows in
     let same = same-primitive I32 (map (λ (n : ℤ). n) c.as_slice-7.result.now) (form_of c.validity-validity.result.now) c.args.indices.now typed shown c.validity-validity.ensures.form in
-    subst (λ (p : PrimitiveForm). IfOk c.take_native-7.result (λ taken. IsTakeForm (optional_numbers p) (column_of taken))) same c.take_native-7.ensures.form
+    subst (λ (p : PrimitiveForm). IfOk c.take_native-7.result (λ taken. TakeLeaves (optional_numbers p) (column_of taken))) same c.take_native-7.ensures.form
 
 pub returns-in-I64-match_each_native-clause-refused : goal.returns-in-I64-match_each_native-clause-refused
 returns-in-I64-match_each_native-clause-refused g c =
@@ -333,4 +333,4 @@ returns-in-I64-match_each_native-clause-form g c =
     let typed = sym (ap ptype_of arm) ∙ c.values.ensures.typed in
     let shown = map-id c.as_slice-8.result.now ∙ c.as_slice-8.ensures.value ∙ sym (ap numbers arm) ∙ c.values.ensures.shows in
     let same = same-primitive I64 (map (λ (n : ℤ). n) c.as_slice-8.result.now) (form_of c.validity-validity.result.now) c.args.indices.now typed shown c.validity-validity.ensures.form in
-    subst (λ (p : PrimitiveForm). IfOk c.take_native-8.result (λ taken. IsTakeForm (optional_numbers p) (column_of taken))) same c.take_native-8.ensures.form
+    subst (λ (p : PrimitiveForm). IfOk c.take_native-8.result (λ taken. TakeLeaves (optional_numbers p) (column_of taken))) same c.take_native-8.ensures.form

@@ -3,12 +3,12 @@ use Rattle.column_base.specs.Validity.{form_of}
 use Rattle.column_base.specs.ValidityForm.{flags}
 use Rattle.runend_array.specs.Canonical.{canonical_column}
 use Rattle.runend_array.specs.Column.{Column, column_dtype, column_of_runs, column_rows}
-use Rattle.runend_codec.proofs.RunRows.{length-run_rows}
-use Rattle.runend_positions.specs.Indices.{optional_indices}
-use Rattle.runend_select.specs.TakeForm.{IsTakeForm}
+use Rattle.runend_windows.proofs.RunRows.{length-run_rows}
+use Rattle.runend_indices.specs.Indices.{optional_indices}
+use Rattle.runend_select.specs.TakeForm.{TakeLeaves}
 use Rattle.runend_select.proofs.AllNull.{all_null, flat-taken, not_all_null, null_dtype, null_rows}
-use Rattle.runend_rowwise.proofs.ComputedRows.{ok_then}
-use Rattle.runend_rowwise.proofs.PassedOn.{no_value, only_error}
+use Rattle.array_rowwise.proofs.ComputedRows.{ok_then}
+use Rattle.array_rowwise.proofs.PassedOn.{no_value, only_error}
 use Rattle.runend_select.proofs.takes.take_indices_unchecked.Goals as goal
 
 pub returns-then-are_all_null-clause-rows : goal.returns-then-are_all_null-clause-rows
@@ -54,4 +54,4 @@ returns-clause-form g c =
     let indices = optional_indices g.T.NativePType.number c.args.indices.now (flags (form_of c.args.validity.now) (length c.args.indices.now)) in
     let not = not_all_null g.T.NativePType.number c.args.indices.now (form_of c.args.validity.now) c.requires.fits (λ h. let yes = c.are_all_null.ensures.1 h in let no = c.if-are_all_null.false in cc) in
     let taken = flat-taken indices (canonical_column c.in_ok-taken.taken) c.in_ok-taken.ensures.made.form not in
-    ok_then c.into_array.result _ _ (λ array same. subst (λ (column : Column). IsTakeForm indices column) (sym same) taken) c.into_array.ensures.form
+    ok_then c.into_array.result _ _ (λ array same. subst (λ (column : Column). TakeLeaves indices column) (sym same) taken) c.into_array.ensures.form

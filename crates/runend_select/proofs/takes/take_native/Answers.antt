@@ -4,13 +4,13 @@ use Rattle.column_core.specs.PrimitiveForm.{optional_numbers, primitive_with}
 use Rattle.column_ops.specs.Take.{take_fault, take_rows}
 use Rattle.column_ops.proofs.IndexPositions.{refused-passed_on}
 use Rattle.runend_array.specs.Column.{column_of_runs, column_rows}
-use Rattle.runend_codec.proofs.RunRows.{length-run_rows}
+use Rattle.runend_windows.proofs.RunRows.{length-run_rows}
 use Rattle.runend_array.specs.Array.{column_of}
-use Rattle.runend_select.specs.TakeForm.{IsTakeForm}
+use Rattle.runend_select.specs.TakeForm.{TakeLeaves}
 use Rattle.runend_select.proofs.CheckedIndices.{AreInBounds-checked, same-fault, same-indices}
-use Rattle.runend_rowwise.proofs.ComputedRows.{ok_then}
+use Rattle.array_rowwise.proofs.ComputedRows.{ok_then}
 use Rattle.runend_select.proofs.PassedOn.{first-none, first-told, told-passed_on}
-use Rattle.runend_rowwise.proofs.PassedOn.{no_value, refused_by_none}
+use Rattle.array_rowwise.proofs.PassedOn.{no_value, refused_by_none}
 use Rattle.runend_select.proofs.takes.take_native.Goals as goal
 
 pub returns-in_err-check_indices-clause-refused : goal.returns-in_err-check_indices-clause-refused
@@ -73,4 +73,4 @@ returns-clause-dtype g c = c.take_indices_unchecked.ensures.dtype
 pub returns-clause-form : goal.returns-clause-form
 returns-clause-form g c =
     let same = same-indices g.T.NativePType.PTYPE g.T.NativePType.number c.args.indices.now (form_of c.args.validity.now) in
-    ok_then c.take_indices_unchecked.result _ _ (λ taken form. subst (λ (indices : List (Option ℤ)). IsTakeForm indices (column_of taken)) same form) c.take_indices_unchecked.ensures.form
+    ok_then c.take_indices_unchecked.result _ _ (λ taken form. subst (λ (indices : List (Option ℤ)). TakeLeaves indices (column_of taken)) same form) c.take_indices_unchecked.ensures.form

@@ -1,4 +1,4 @@
-use Rattle.runend_codec.proofs.Tiles.{equal_rows_iff}
+use Rattle.runend_windows.proofs.Tiles.{equal_rows_iff}
 use Rattle.vortex_runend.proofs.laws.equal_lists_equal_encodings.Goals as goal
 
 pub returns : goal.returns

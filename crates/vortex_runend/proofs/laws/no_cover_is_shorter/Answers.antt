@@ -1,4 +1,4 @@
-use Rattle.runend_codec.proofs.Tiles.{no_shorter_cover}
+use Rattle.runend_windows.proofs.Tiles.{no_shorter_cover}
 use Rattle.vortex_runend.proofs.laws.no_cover_is_shorter.Goals as goal
 
 pub returns : goal.returns

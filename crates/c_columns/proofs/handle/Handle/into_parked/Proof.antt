@@ -28,7 +28,7 @@ use Rattle.std.specs.contracts.impls.GlobalAllocator.TheImpl.{ghosts}
 use Rattle.std_alloc.proofs.ResultValues.{and_tt}
 use Rattle.std.proofs.raw_atomic.Walks.{proved_at, leaves}
 use Rattle.c_columns.specs.Handle.{column_row}
-use Rattle.c_columns.proofs.MachineValues.{HandleRow, HeapRow, Parked, as_one, close_parked, empty_fits, empty_or_held, open_handle, pair_value, parked_fits}
+use Rattle.c_columns.proofs.MachineValues.{HandleRow, HeapRow, RawBox, as_one, close_parked, empty_fits, empty_or_held, open_handle, pair_value, parked_fits}
 use Rattle.c_columns.specs.contracts.handle.Handle.into_parked.{ended, clauses}
 use Rattle.c_columns.specs.contracts.handle.Handle.into_parked.Key.{name as #self}
 use Rattle.c_columns.proofs.handle.Handle.into_parked.Statement.{statement}
@@ -41,7 +41,7 @@ into_parked_spec 𝓤 𝓛 𝓜 𝓡 wired =
     let fn = code.function in
     let c = clauses 𝓛 𝓜.mem 𝓡.returns in
     let laws = heap_laws.the_row_laws in
-    let Box : RattleType = Parked column_row HeapRow laws ghosts in
+    let Box : RattleType = RawBox column_row HeapRow laws ghosts in
     let stays : Stays ended.signature.params ended.kept = (stay_dropped (plain (λ _. HandleRow)) yes, tt) in
     proved_at 𝓛 ended stays c 𝓜 𝓡 (Goes-dropped 𝓛 0 (plain (λ _. HandleRow)) yes (λ κs x f. refl), tt) #self fn (code.unfolded 𝓤 H 𝓜 𝓡 wired) (λ z are.
     let Post : Val → SProp 𝓤 = (walk_of 𝓛 ended stays c).post z in

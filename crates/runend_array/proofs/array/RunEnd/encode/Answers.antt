@@ -4,7 +4,7 @@ use Rattle.std.proofs.lemmas.List.{length-map}
 use Rattle.column_core.specs.Value.{Single}
 use Rattle.column_core.specs.PrimitiveForm.{PrimitiveForm, primitive_rows}
 use Rattle.runend_array.specs.Array.{column_of}
-use Rattle.runend_codec.specs.Encoding.{number_rows}
+use Rattle.runend_windows.specs.Encoding.{number_rows}
 use Rattle.runend_array.proofs.Encodings.{encoding_parts, encoded_of_parts}
 use Rattle.runend_array.proofs.array.RunEnd.encode.Goals as goal
 

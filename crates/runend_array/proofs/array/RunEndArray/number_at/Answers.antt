@@ -1,7 +1,7 @@
 use Rattle.std.proofs.Common.{◌<◌, arith}
 use Rattle.runend_array.specs.Array.{column_of}
 use Rattle.runend_array.specs.Column.{IsPlainIndex, end_numbers}
-use Rattle.runend_codec.proofs.RunAt.{run_of_row_within}
+use Rattle.runend_windows.proofs.RunAt.{run_of_row_within}
 use Rattle.runend_array.proofs.ListItems.{rows_within_index}
 use Rattle.runend_array.proofs.array.RunEndArray.number_at.Goals as goal
 

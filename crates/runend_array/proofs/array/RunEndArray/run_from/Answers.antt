@@ -1,7 +1,7 @@
 use Rattle.std.proofs.Common.{◌<◌}
 use Rattle.runend_array.specs.Array.{column_of}
 use Rattle.runend_array.specs.Column.{end_numbers}
-use Rattle.runend_codec.proofs.RunAt.{run_of_row_within}
+use Rattle.runend_windows.proofs.RunAt.{run_of_row_within}
 use Rattle.runend_array.proofs.array.RunEndArray.run_from.Goals as goal
 
 pub run_from-requires-clause-within : goal.run_from-requires-clause-within

@@ -2,9 +2,9 @@ use Rattle.std.proofs.Common.{◌≡◌, ℕ, ◌+◌, ◌-◌, ◌<◌, List, l
 use Rattle.std.specs.Prelude.{count_by, min, nat_le}
 use Rattle.runend_array.specs.Array.{column_of}
 use Rattle.runend_array.specs.Column.{runs_of}
-use Rattle.runend_codec.specs.Window.{IsWindow, run_at}
-use Rattle.runend_codec.proofs.RunAt.{run_at-count_by, run_of_row_within, runs_of_rows as some_runs}
-use Rattle.runend_codec.proofs.SlicedRuns.{IsWindow-narrowed, first_le_last, slice_end}
+use Rattle.runend_windows.specs.Window.{IsWindow, run_at}
+use Rattle.runend_windows.proofs.RunAt.{run_at-count_by, run_of_row_within, runs_of_rows as some_runs}
+use Rattle.runend_windows.proofs.SlicedRuns.{IsWindow-narrowed, first_le_last, slice_end}
 use Rattle.runend_array.proofs.array.RunEndArray.runs_of_rows.Goals as goal
 
 -- the run of a row, as the search finds it

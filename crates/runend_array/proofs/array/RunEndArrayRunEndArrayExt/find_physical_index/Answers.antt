@@ -1,7 +1,7 @@
 use Rattle.std.proofs.Common.{◌+◌, arith}
 use Rattle.runend_array.specs.Array.{column_of}
 use Rattle.runend_array.specs.Column.{runs_of}
-use Rattle.runend_codec.proofs.RunAt.{run_of_row_within, run_at-count_by}
+use Rattle.runend_windows.proofs.RunAt.{run_of_row_within, run_at-count_by}
 use Rattle.runend_array.proofs.array.RunEndArrayRunEndArrayExt.find_physical_index.Goals as goal
 
 pub returns-clause-run : goal.returns-clause-run

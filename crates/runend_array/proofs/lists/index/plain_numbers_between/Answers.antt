@@ -1,7 +1,7 @@
 use Rattle.std.proofs.Common.{map, ap, sym, ◌∙◌}
 use Rattle.std.specs.Prelude.{slice_range, unsigned_abs}
 use Rattle.column_base.specs.Numbers.{numbers}
-use Rattle.runend_codec.proofs.StoredNumbers.{naturals-of_pos}
+use Rattle.runend_windows.proofs.StoredNumbers.{naturals-of_pos}
 use Rattle.runend_array.proofs.lists.index.plain_numbers_between.Goals as goal
 
 pub returns-clause-numbers : goal.returns-clause-numbers

@@ -10,5 +10,5 @@ returns-in-NonNullable-clause-form g c =
 
 pub returns-in_ok-flags-in-Nullable-clause-form : goal.returns-in_ok-flags-in-Nullable-clause-form
 returns-in_ok-flags-in-Nullable-clause-form g c =
-    IsValidityAt-flags (validity_of c.args.validity.now) (validity_of c.told_by_rows.result) (form_of c.from_bits.result) c.in_ok-flags-in-Nullable.flags c.args.positions.now (form_of c.args.places.now)
-    (sym c.nullability_at.ensures ∙ c.in-Nullable.is) c.told_by_rows.ensures.form c.in_ok-flags-in-Nullable.ensures.flags c.from_bits.ensures.flags c.from_bits.ensures.fits c.from_bits.ensures.normal c.from_bits.ensures.all_valid
+    IsValidityAt-flags (validity_of c.args.validity.now) (validity_of c.rows_of_validity.result) (form_of c.from_bits.result) c.in_ok-flags-in-Nullable.flags c.args.positions.now (form_of c.args.places.now)
+    (sym c.nullability_at.ensures ∙ c.in-Nullable.is) c.rows_of_validity.ensures.form c.in_ok-flags-in-Nullable.ensures.flags c.from_bits.ensures.flags c.from_bits.ensures.fits c.from_bits.ensures.normal c.from_bits.ensures.all_valid

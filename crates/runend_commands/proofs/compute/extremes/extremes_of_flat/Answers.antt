@@ -11,5 +11,5 @@ returns-clause-extremes g c =
     let leaf = leaf_in c.args.flat in
     let found = c.min_max-found in
     let whole : slice_range (single_rows leaf) 0 c.len.result ≡ single_rows leaf = rw c.len.ensures (all_rows leaf) in
-    extremes_answered (plain_of (OfLeaf leaf)) found.result c.copies_of.result (rw whole at found.ensures.none) (rw whole at found.ensures.least) (rw whole at found.ensures.greatest)
-    (rw c.dtype.ensures at c.copies_of.ensures.copies)
+    extremes_answered (plain_of (OfLeaf leaf)) found.result c.scalar_pair.result (rw whole at found.ensures.none) (rw whole at found.ensures.least) (rw whole at found.ensures.greatest)
+    (rw c.dtype.ensures at c.scalar_pair.ensures.copies)

@@ -5,5 +5,5 @@ use Rattle.runend_commands.proofs.compute.extremes.extremes_of_runs.Goals as goa
 pub returns-clause-extremes : goal.returns-clause-extremes
 returns-clause-extremes g c =
     let found = c.in_ok-found in
-    extremes_answered (plain_of (column_of_runs c.args.runs.now)) found.found c.copies_of.result found.ensures.none found.ensures.least found.ensures.greatest
-    (rw c.dtype.ensures at c.copies_of.ensures.copies)
+    extremes_answered (plain_of (column_of_runs c.args.runs.now)) found.found c.scalar_pair.result found.ensures.none found.ensures.least found.ensures.greatest
+    (rw c.dtype.ensures at c.scalar_pair.ensures.copies)

@@ -19,15 +19,15 @@ returns-then-needed-len-clause-ok g c =
 pub invariant_of-self-2 : goal.invariant_of-self-2
 invariant_of-self-2 g c =
     let old = opened c.self.view_is c.self.invariant in
-    let resized = c.as_mut_slice-words.ensures.value ∙ c.in_ok-resize.ensures.items ∙ resized_is c.words_for-needed.result c.self.inside.words.len c.word_of.result c.args.count old c.self.inside.words.ok.0 c.words_for-needed.ensures in
-    let grown = grown_by c.words_for-needed.result c.word_of.result c.args.count old resized c.words_for-needed.ensures c.word_of.ensures c.fill_rest_of_word.ensures c.clear_from.ensures in
+    let resized = c.as_mut_slice-words.ensures.value ∙ c.in_ok-resize.ensures.items ∙ resized_is c.words_for-needed.result c.self.inside.words.len c.splat.result c.args.count old c.self.inside.words.ok.0 c.words_for-needed.ensures in
+    let grown = grown_by c.words_for-needed.result c.splat.result c.args.count old resized c.words_for-needed.ensures c.splat.ensures c.fill_rest_of_word.ensures c.clear_from.ensures in
     let size = c.clear_from.ensures.len ∙ c.fill_rest_of_word.ensures.len ∙ ap length c.as_mut_slice-words.ensures.value in
     invariant_of (lent c.resize.new.self grown size)
 
 pub returns-clause-ok : goal.returns-clause-ok
 returns-clause-ok g c =
     let old = opened c.self.view_is c.self.invariant in
-    let resized = c.as_mut_slice-words.ensures.value ∙ c.in_ok-resize.ensures.items ∙ resized_is c.words_for-needed.result c.self.inside.words.len c.word_of.result c.args.count old c.self.inside.words.ok.0 c.words_for-needed.ensures in
-    let grown = grown_by c.words_for-needed.result c.word_of.result c.args.count old resized c.words_for-needed.ensures c.word_of.ensures c.fill_rest_of_word.ensures c.clear_from.ensures in
+    let resized = c.as_mut_slice-words.ensures.value ∙ c.in_ok-resize.ensures.items ∙ resized_is c.words_for-needed.result c.self.inside.words.len c.splat.result c.args.count old c.self.inside.words.ok.0 c.words_for-needed.ensures in
+    let grown = grown_by c.words_for-needed.result c.splat.result c.args.count old resized c.words_for-needed.ensures c.splat.ensures c.fill_rest_of_word.ensures c.clear_from.ensures in
     let size = c.clear_from.ensures.len ∙ c.fill_rest_of_word.ensures.len ∙ ap length c.as_mut_slice-words.ensures.value in
     view_of (lent c.resize.new.self grown size)

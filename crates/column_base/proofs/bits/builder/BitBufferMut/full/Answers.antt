@@ -7,10 +7,10 @@ pub invariant_of-result : goal.invariant_of-result
 invariant_of-result g c =
     let all = c.in_ok-words.ensures.items_if_clones_equal (λ y e. e) in
     let cleared = cleared_whole c.in_ok-words.words c.clear_from.ensures c.deref_mut.ensures.value in
-    invariant_of (full_of c.word_of.result c.words_for.result c.args.value c.word_of.ensures c.words_for.ensures all cleared)
+    invariant_of (full_of c.splat.result c.words_for.result c.args.value c.splat.ensures c.words_for.ensures all cleared)
 
 pub returns-clause-bits : goal.returns-clause-bits
 returns-clause-bits g c =
     let all = c.in_ok-words.ensures.items_if_clones_equal (λ y e. e) in
     let cleared = cleared_whole c.in_ok-words.words c.clear_from.ensures c.deref_mut.ensures.value in
-    view_of (full_of c.word_of.result c.words_for.result c.args.value c.word_of.ensures c.words_for.ensures all cleared)
+    view_of (full_of c.splat.result c.words_for.result c.args.value c.splat.ensures c.words_for.ensures all cleared)

@@ -1,0 +1,7 @@
+use Rattle.std.proofs.Common.{◌∙◌, sym, ap}
+use Rattle.std.proofs.lemmas.Nat.Bits.{bit_at_ones}
+use Rattle.column_base.specs.Words.{one_if}
+use Rattle.column_base.proofs.bits.masks.splat.Goals as goal
+
+pub returns-then-bit : goal.returns-then-bit
+returns-then-bit c = λ j h. bit_at_ones 64 j h ∙ ap one_if (sym c.if-bit.true)

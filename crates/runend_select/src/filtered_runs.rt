@@ -1,0 +1,177 @@
+//! The runs that a mask selects rows of, as run columns: of integers in least form.
+ghost use Rattle.std.specs.Prelude.{◌≡◌, true, IfOk, IsOkUnless, count_by, length};
+ghost use Rattle.column_base.specs.Mask.{mask_bits};
+ghost use Rattle.column_core.specs.Computed.{IsComputed};
+ghost use Rattle.column_core.specs.Kinds.{is_numbers};
+ghost use Rattle.column_core.specs.Leaf.{OfNumbers, single_rows};
+ghost use Rattle.column_core.specs.PrimitiveForm.{primitive_dtype};
+ghost use Rattle.column_ops.specs.Filter.{filter_rows};
+ghost use Rattle.runend_array.specs.Array.{column_of, dtype_of, rows};
+ghost use Rattle.runend_array.specs.Column.{AreParts, AreRuns, IsFlat, OfLeaf, column_dtype, column_of_runs, column_rows, runs_of};
+ghost use Rattle.runend_windows.specs.Ends.{IsEndsType, ends_of};
+ghost use Rattle.runend_windows.specs.Window.{run_rows};
+ghost use Rattle.runend_coalesce.specs.Joined.{AllHaveRows};
+ghost use Rattle.array_rowwise.specs.Computed.{IsComputedAs};
+ghost use Rattle.runend_select.specs.FilterForm.{AreLeftRuns, AreSelectedRuns};
+ghost use Rattle.runend_visible.specs.LeastForm.{AreLeastRuns, IsLeastForm};
+ghost use Rattle.runend_visible.specs.VisibleForm.{visible_values as values_of_visible};
+
+use crate::filtered_ends::filter_ends;
+use array_rowwise::{select_values, selected_by};
+use column_core::{BitBuffer, Mask, PrimitiveArray, VortexError, VortexResult, is_number_type};
+use runend_array::{ArrayRef, RunEnd, RunEndArray, RunEndArrayExt, RunEndArraySlotsExt, array_of};
+use runend_visible::{least_runs, visible_values, with_minimal_runs};
+use std::alloc::Allocator;
+
+/// The runs with a selected row: of integers in least form, of other types as they are. Refused as
+/// `OutOfMemory` alone.
+pub(crate) fn selected_runs<A: Allocator + Copy>(
+    alloc: A,
+    array: &RunEndArray<A>,
+    bits: &BitBuffer<A>,
+) -> VortexResult<RunEndArray<A>>
+    requires masked { length bits.now ≡ array.now.count }
+    ensures only { IsOkUnless result VortexError.OutOfMemory }
+    ensures rows { IfOk result (λ kept. column_rows (column_of_runs kept) ≡
+        filter_rows bits.now (column_rows (column_of_runs array.now))) }
+    ensures dtype { IfOk result (λ kept. column_dtype kept.values ≡ column_dtype array.now.values) }
+    ensures form { IfOk result (λ kept. AreLeftRuns (is_numbers (column_dtype array.now.values)) array.now bits.now
+        kept) }
+{
+    if is_number_type(array.dtype()) {
+        return least_kept(alloc, array, bits);
+    }
+    kept_column(alloc, array, bits)
+}
+
+/// All rows of a column of integers, in least form. Refused as `OutOfMemory` alone.
+pub(crate) fn least_column<A: Allocator + Copy>(
+    alloc: A,
+    array: &RunEndArray<A>,
+) -> VortexResult<ArrayRef<A>>
+    requires numbers { is_numbers (column_dtype array.now.values) ≡ true }
+    ensures only { IsOkUnless result VortexError.OutOfMemory }
+    ensures rows { IfOk result (λ least. rows least ≡ column_rows (column_of_runs array.now)) }
+    ensures dtype { IfOk result (λ least. dtype_of least ≡ column_dtype array.now.values) }
+    ensures form { IfOk result (λ least. IsLeastForm array.now.ends_type (column_of least)) }
+{
+    let numbers = visible_numbers(alloc, array)?;
+    with_minimal_runs(array, numbers, alloc)
+}
+
+// The values at which the mask is true, as a column.
+fn kept_values<A: Allocator + Copy>(
+    alloc: A,
+    values: &ArrayRef<A>,
+    mask: &Mask<A>,
+) -> VortexResult<ArrayRef<A>>
+    requires masked { length (mask_bits mask.now) ≡ length (rows values.now) }
+    ensures only { IsOkUnless result VortexError.OutOfMemory }
+    ensures made { IfOk result (λ kept. IsComputedAs (filter_rows (mask_bits mask.now) (rows values.now))
+        (dtype_of values.now) (column_of kept)) }
+{
+    let kept = select_values(alloc, values, mask)?;
+    kept.into_array(alloc)
+}
+
+// The runs with a selected row: their ends among the selected rows, and their values.
+fn kept_parts<A: Allocator + Copy>(
+    alloc: A,
+    array: &RunEndArray<A>,
+    bits: &BitBuffer<A>,
+) -> VortexResult<(PrimitiveArray<A>, ArrayRef<A>)>
+    requires masked { length bits.now ≡ array.now.count }
+    ensures only { IsOkUnless result VortexError.OutOfMemory }
+    ensures parts { IfOk result (λ parts. AreParts (OfLeaf (OfNumbers parts.0)) (column_of parts.1) 0 (count_by (λ bit.
+        bit) bits.now)) }
+    ensures rows { IfOk result (λ parts. run_rows (ends_of parts.0) (rows parts.1) 0 (count_by (λ bit. bit) bits.now) ≡
+        filter_rows bits.now (column_rows (column_of_runs array.now))) }
+    ensures dtype { IfOk result (λ parts. dtype_of parts.1 ≡ column_dtype array.now.values) }
+    ensures form { IfOk result (λ parts. AreSelectedRuns array.now bits.now (runs_of (OfLeaf (OfNumbers parts.0))
+        (column_of parts.1) 0 (count_by (λ bit. bit) bits.now))) }
+    ensures filled { IfOk result (λ parts. AllHaveRows (ends_of parts.0) 0 (count_by (λ bit. bit) bits.now)) }
+{
+    let ends = match array.ends() {
+        ArrayRef::Primitive(plain) => plain.values(),
+        _ => unreachable!(),
+    };
+    let (kept_ends, kept) = filter_ends(alloc, ends, array.offset(), array.len(), bits)?;
+    let values = kept_values(alloc, array.values(), &kept);
+    drop(kept);
+    match values {
+        Ok(values) => Ok((kept_ends, values)),
+        Err(error) => {
+            drop(kept_ends);
+            Err(error)
+        }
+    }
+}
+
+// The runs with a selected row, as they are.
+fn kept_column<A: Allocator + Copy>(
+    alloc: A,
+    array: &RunEndArray<A>,
+    bits: &BitBuffer<A>,
+) -> VortexResult<RunEndArray<A>>
+    requires masked { length bits.now ≡ array.now.count }
+    ensures only { IsOkUnless result VortexError.OutOfMemory }
+    ensures rows { IfOk result (λ kept. column_rows (column_of_runs kept) ≡
+        filter_rows bits.now (column_rows (column_of_runs array.now))) }
+    ensures dtype { IfOk result (λ kept. column_dtype kept.values ≡ column_dtype array.now.values) }
+    ensures form { IfOk result (λ kept. AreSelectedRuns array.now bits.now kept) }
+{
+    let (ends, values) = kept_parts(alloc, array, bits)?;
+    let kept_ends = ArrayRef::Primitive(ends);
+    Ok(RunEnd::new_unchecked(kept_ends, values, 0, bits.true_count()))
+}
+
+// The numbers of a flat column of integers.
+fn numbers_in<A: Allocator + Copy>(values: ArrayRef<A>) -> PrimitiveArray<A>
+    requires numbers { is_numbers (dtype_of values) ≡ true }
+    requires flat { IsFlat (column_of values) }
+    ensures { column_of values ≡ OfLeaf (OfNumbers result) }
+{
+    match values {
+        ArrayRef::Primitive(numbers) => numbers,
+        _ => unreachable!(),
+    }
+}
+
+// The runs with a selected row, of integers and in least form: runs that a dropped one divided may be
+// equal neighbours now.
+fn least_kept<A: Allocator + Copy>(
+    alloc: A,
+    array: &RunEndArray<A>,
+    bits: &BitBuffer<A>,
+) -> VortexResult<RunEndArray<A>>
+    requires masked { length bits.now ≡ array.now.count }
+    requires numbers { is_numbers (column_dtype array.now.values) ≡ true }
+    ensures only { IsOkUnless result VortexError.OutOfMemory }
+    ensures rows { IfOk result (λ kept. column_rows (column_of_runs kept) ≡
+        filter_rows bits.now (column_rows (column_of_runs array.now))) }
+    ensures dtype { IfOk result (λ kept. column_dtype kept.values ≡ column_dtype array.now.values) }
+    ensures form { IfOk result (λ kept. AreLeastRuns array.now.ends_type kept) }
+{
+    let (ends, values) = kept_parts(alloc, array, bits)?;
+    let numbers = numbers_in(values);
+    least_runs(alloc, ends, numbers, 0, bits.true_count())
+}
+
+// The integers of the visible runs, with 0 under null.
+fn visible_numbers<A: Allocator + Copy>(
+    alloc: A,
+    array: &RunEndArray<A>,
+) -> VortexResult<PrimitiveArray<A>>
+    requires numbers { is_numbers (column_dtype array.now.values) ≡ true }
+    ensures only { IsOkUnless result VortexError.OutOfMemory }
+    ensures rows { IfOk result (λ numbers. single_rows (OfNumbers numbers) ≡ values_of_visible array.now) }
+    ensures dtype { IfOk result (λ numbers. primitive_dtype numbers ≡ column_dtype array.now.values) }
+    ensures computed { IfOk result (λ numbers. IsComputed numbers) }
+    ensures valid { AreRuns array.now }
+{
+    let values = visible_values(array, alloc)?;
+    let shown = numbers_in(array_of(values));
+    let numbers = selected_by(alloc, &shown, &Mask::AllTrue(shown.len()));
+    drop(shown);
+    numbers
+}
