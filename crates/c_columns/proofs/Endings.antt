@@ -135,7 +135,7 @@ pub asked_refused : (c : Held) (a : ArrayRef Global) (command : Command Global) 
 asked_refused c a command error code fields some why is told =
     subst (λ (h : Held). EndsOn h (Some command) code fields) (sym some) (ends_refused (refusal (plain a) command) error code fields why is told)
 
--- a truth value that is told
+-- a boolean that is told
 written_is : (outcome : Result ℕ VortexError) (code : ℤ) (written : ℕ) (fields : ErrorFields) (P : ℕ → Type 0) → IfOk outcome P → IfOk outcome (λ found. (code ≡ pos 0) × (written ≡ found))
     → IfErr outcome (λ error. (code ≡ pos (number_of error)) × (code ≢ pos 0) × HasFields error fields) → code ≡ pos 0 → P written
 written_is (Ok truth) code written fields P is ok err zero = subst P (sym ok.1) is

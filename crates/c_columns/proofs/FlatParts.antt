@@ -127,7 +127,7 @@ decimals_there c (OfNumbers form) start count typed part counted = let none : de
 decimals_there c (OfTruths form) start count typed part counted = let none : decimals_type_fault (column_dtype (OfLeaf (OfTruths form))) ≡ None = ap decimals_type_fault part.dtype ∙ typed in absurd (cc)
 decimals_there c (OfVarBins form) start count typed part counted = absurd (no_decimals form.kind (nullability_in form.validity) (ap decimals_type_fault part.dtype ∙ typed))
 
--- truth values
+-- booleans
 pub truths_there : (c : Column) (leaf : Leaf) (start count room : ℕ) → truths_type_fault (column_dtype c) ≡ None → IsFlatPart c start (start + count) (OfLeaf leaf) → leaf_count leaf ≡ count → stored_truths_fault room leaf ≡ words_fault count room
 truths_there c (OfTruths form) start count room typed part counted = ap (λ (n : ℕ). words_fault n room) counted
 truths_there c (OfNumbers form) start count room typed part counted = let none : truths_type_fault (column_dtype (OfLeaf (OfNumbers form))) ≡ None = ap truths_type_fault part.dtype ∙ typed in absurd (cc)

@@ -47,7 +47,7 @@ left_same a b command answer done same = record {
   shape = subst (λ (c : Column). LeavesShape (column_of a) command c) (sym same) (shape_of a a command done.form);
 }
 
--- a truth value as a byte
+-- a boolean as a byte
 pub tells_of : (truth : Bool) (P : Type 0) → (IsTrue truth ↔ P) → Tells (byte_of truth) P
 tells_of true P is = is.0 refl
 tells_of false P is = λ p. false≢true (is.1 p)

@@ -45,7 +45,7 @@ signed_types value text (column.List e n) = (λ x. x, λ x. x)
 pub signed_passed : (value : RowValue) (text : List ℕ) → value.kind ≡ 2 → (t : DType) → IsOwnedOf {A = Global} t (owned.Signed value.as_signed) ↔ IsPassedIn t value.kind value text
 signed_passed value text is t = subst (λ (k : ℕ). IsOwnedOf {A = Global} t (owned.Signed value.as_signed) ↔ IsPassedIn t k value text) (sym is) (signed_types value text t)
 
--- a truth value
+-- a boolean
 truth_types : (truth : Bool) (value : RowValue) (text : List ℕ) → (t : DType) → IsOwnedOf {A = Global} t (owned.Bool truth) ↔ IsPassedIn t 3 value text
 truth_types truth value text (column.Primitive p n) = (λ x. x, λ x. x)
 truth_types truth value text (column.Bool n) = (λ x. x, λ x. x)

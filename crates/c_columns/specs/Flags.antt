@@ -1,4 +1,4 @@
--- Truth values as bytes.
+-- Booleans as bytes.
 use Rattle.std.specs.Prelude.{ℕ, zero, suc, Bool, true, false}
 
 -- what a byte that C passes means: 0 is false, and any other is true
@@ -6,7 +6,7 @@ abbrev pub flag_of : ℕ → Bool
 flag_of zero = false
 flag_of (suc k) = true
 
--- the byte of a truth value
+-- the byte of a boolean
 abbrev pub byte_of : Bool → ℕ
 byte_of false = 0
 byte_of true = 1

@@ -13,7 +13,7 @@ use Rattle.column_core.specs.declared.varbinview.VarBinKind.{VarBinKind}
 use Rattle.column_core.specs.declared.varbinview.VarBinKind.TheVariants.{Utf8, Binary}
 use Rattle.c_columns.specs.declared.kinds.Kind.{Kind}
 
--- the numbers of the types of whole numbers
+-- the numbers of the types of integers
 abbrev pub ptype_number : PType → ℕ
 ptype_number U8 = 0
 ptype_number U16 = 1
@@ -24,7 +24,7 @@ ptype_number I16 = 5
 ptype_number I32 = 6
 ptype_number I64 = 7
 
--- the type of whole numbers of a number, from 0 to 7
+-- the type of integers of a number, from 0 to 7
 abbrev pub ptype_by : ℕ → Option PType
 ptype_by zero = Some U8
 ptype_by (suc zero) = Some U16
@@ -46,7 +46,7 @@ abbrev pub nullability_by : ℕ → Nullability
 nullability_by zero = NonNullable
 nullability_by (suc k) = Nullable
 
--- the type of whole numbers, if it is one
+-- the type of integers, if it is one
 abbrev pub whole_by : Option PType → Nullability → Option DType
 whole_by None nullability = None
 whole_by (Some ptype) nullability = Some (column.Primitive ptype nullability)

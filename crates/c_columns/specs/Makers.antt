@@ -31,7 +31,7 @@ use Rattle.c_columns.specs.declared.pairs.Pair.{Pair}
 abbrev pub IsFlatOf : PType → List ℤ → ValidityForm → ArrayRef Global → Type 0
 IsFlatOf ptype numbers validity c = column_of c ≡ OfLeaf (OfNumbers (primitive_with ptype numbers validity))
 
--- the flat column of these truth values
+-- the flat column of these booleans
 abbrev pub AreTruthsOf : List Bool → ValidityForm → ArrayRef Global → Type 0
 AreTruthsOf truths validity c = column_of c ≡ OfLeaf (OfTruths (bool_with truths validity))
 

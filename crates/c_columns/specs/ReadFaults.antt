@@ -40,7 +40,7 @@ words_fault count room = room_fault ((count + 63) / 64) room
 abbrev pub is_same_type : PType → PType → Bool
 is_same_type a b = nat_eq (ptype_number a) (ptype_number b)
 
--- the type is not one of these whole numbers
+-- the type is not one of these integers
 abbrev pub numbers_type_fault : PType → DType → Option VortexError
 numbers_type_fault ptype (column.Primitive t n) = cond (is_same_type t ptype) None (Some TypeMismatch)
 numbers_type_fault ptype t = Some Unsupported
@@ -50,7 +50,7 @@ abbrev pub decimals_type_fault : DType → Option VortexError
 decimals_type_fault (column.Decimal decimal n) = None
 decimals_type_fault t = Some Unsupported
 
--- the type is none of truth values
+-- the type is none of booleans
 abbrev pub truths_type_fault : DType → Option VortexError
 truths_type_fault (column.Bool n) = None
 truths_type_fault t = Some Unsupported
@@ -83,7 +83,7 @@ abbrev pub decimals_fault : ℕ → ℕ → Column → Option VortexError
 decimals_fault start count (OfLeaf leaf) = stored_decimals_fault start count leaf
 decimals_fault start count c = part_fault (decimals_type_fault (column_dtype c)) start count c
 
--- the truth values, with room for so many words
+-- the booleans, with room for so many words
 abbrev pub stored_truths_fault : ℕ → Leaf → Option VortexError
 stored_truths_fault room (OfTruths form) = words_fault (length form.bits) room
 stored_truths_fault room leaf = Some Unsupported

@@ -38,7 +38,7 @@ abbrev pub ArePairsFrom : Column → ℕ → List Pair → Type 0
 ArePairsFrom (OfLeaf leaf) start pairs = AreStoredPairs leaf start pairs
 ArePairsFrom c start pairs = AreReadFlat c start (length pairs) (λ leaf. AreStoredPairs leaf 0 pairs)
 
--- the words of the truth values that a flat column stores
+-- the words of the booleans that a flat column stores
 abbrev pub AreLeafTruths : Leaf → List ℕ → Type 0
 AreLeafTruths (OfTruths form) words = Packs words form.bits
 AreLeafTruths leaf words = ⊥

@@ -28,7 +28,7 @@ is_true row = false
 abbrev pub AreWithin : List Bool → List Bool → Type 0
 AreWithin bits others = (i : ℕ) → i < length bits → slice_index_or bits i false ≡ true → slice_index_or others i false ≡ true
 
--- the rows of a mask are truth values
+-- the rows of a mask are booleans
 abbrev pub mask_fault : DType → Option VortexError
 mask_fault (column.Bool n) = None
 mask_fault t = Some TypeMismatch

@@ -33,7 +33,7 @@ items_long v items = omega (arith, length-append (validity_field v) (varint (7 *
 items_small : (v : ValidityForm) (items bytes : List ℕ) → length bytes < 2 ^ 64 → bytes ≡ flat_fields v items → length items < 2 ^ 64
 items_small v items bytes lt e = omega (arith, items_long v items, ap length e)
 
--- ---- whole numbers
+-- ---- integers
 
 pub no_numbers_fields : (t : PType) (rows : ℕ) (bytes : List ℕ) → length bytes < 2 ^ 64 → AreNoFlatFields rows bytes → AreNoNumbersOf t rows bytes
 no_numbers_fields t rows bytes lt absent = record {
@@ -62,7 +62,7 @@ are_numbers form t u rows v ns items bytes is typed len small fit counted b show
       spelt = b ∙ ap (λ (x : List ℕ). flat_fields v x) (sym shows);
     })
 
--- ---- truth values
+-- ---- booleans
 
 pub no_truths_fields : (rows : ℕ) (bytes : List ℕ) → length bytes < 2 ^ 64 → AreNoFlatFields rows bytes → AreNoTruthsOf rows bytes
 no_truths_fields rows bytes lt absent = record {
@@ -143,7 +143,7 @@ truths_at (OfConstant constant) levels kind rows bytes k h = absurd h.writable.s
 truths_at (OfLists lists) levels kind rows bytes k h = absurd h.writable.stored
 truths_at (OfRuns ends_type ends values offset count) levels kind rows bytes k h = absurd (omega (arith, h.form_is))
 
--- a body of a flat column is one of numbers or of truth values
+-- a body of a flat column is one of numbers or of booleans
 no_type_at : (c : Column) (levels kind rows : ℕ) (bytes : List ℕ) → (kind ≡ 9 → ⊥) → HasNoType kind → IsBody levels kind 1 rows bytes c → ⊥
 no_type_at (OfLeaf (OfNumbers form)) levels kind rows bytes ne absent h = absent.none form.ptype h.kind_is
 no_type_at (OfLeaf (OfTruths form)) levels kind rows bytes ne absent h = ne (sym h.kind_is)

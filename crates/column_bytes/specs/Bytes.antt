@@ -14,7 +14,7 @@ use Rattle.column_fields.specs.Types.{type_number}
 use Rattle.runend_array.specs.Column.{Column, OfLeaf, OfConstant, OfLists, OfRuns, column_dtype}
 use Rattle.runend_array.specs.Lists.{list_count}
 
--- the number of a type: 1 to 8 the native types, then truth values, decimals, texts, bytes and lists
+-- the number of a type: 1 to 8 the native types, then booleans, decimals, texts, bytes and lists
 abbrev pub kind_number : DType → ℕ
 kind_number (column.Primitive t n) = type_number t
 kind_number (column.Bool n) = 9

@@ -46,7 +46,7 @@ pub record AreNumbersOf (t : PType) (rows : ℕ) (bytes : List ℕ) (form : Prim
 pub record AreNoNumbersOf (t : PType) (rows : ℕ) (bytes : List ℕ) : Type 0 where
   pub none : (form : PrimitiveForm) → AreNumbersOf t rows bytes form → ⊥
 
--- the same of truth values
+-- the same of booleans
 pub record AreTruthsOf (rows : ℕ) (bytes : List ℕ) (form : BoolForm) : Type 0 where
   pub counted : length form.bits ≡ rows
   pub stored : AreTruths form

@@ -25,7 +25,7 @@ IsStoredLeaf (OfTruths form) = AreTruths form
 IsStoredLeaf (OfDecimals form) = ⊥
 IsStoredLeaf (OfVarBins form) = ⊥
 
--- flat columns of whole numbers and of truth values, and runs over columns that have bytes
+-- flat columns of integers and of booleans, and runs over columns that have bytes
 abbrev pub IsStored : Column → Type 0
 IsStored (OfLeaf leaf) = IsStoredLeaf leaf
 IsStored (OfConstant constant) = ⊥

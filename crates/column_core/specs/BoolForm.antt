@@ -1,4 +1,4 @@
--- What a flat column of truth values is.
+-- What a flat column of booleans is.
 use Rattle.std.specs.Prelude.{List, Bool, false, Option, length, map, option_map}
 use Rattle.column_base.specs.declared.dtype.DType.{DType}
 use Rattle.column_base.specs.declared.dtype.DType.TheVariants as column
@@ -19,7 +19,7 @@ bool_with bits validity = record { bits = bits; validity = validity }
 abbrev pub bool_flags : BoolForm → List Bool
 bool_flags form = flags form.validity (length form.bits)
 
--- the optional truth values, row by row
+-- the optional booleans, row by row
 abbrev pub optional_truths : BoolForm → List (Option Bool)
 optional_truths form = optionals form.bits (bool_flags form)
 

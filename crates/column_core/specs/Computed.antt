@@ -24,7 +24,7 @@ pub record AreComputed {B : Type 0} (blank : B) (items : List B) (validity : Val
   pub blanked : AreBlankAtNulls blank items (flags validity (length items))
   pub normal : IsNormal validity
 
--- a flat column of whole numbers as a call computes it: 0 is stored under null
+-- a flat column of integers as a call computes it: 0 is stored under null
 abbrev pub IsComputed : PrimitiveForm → Type 0
 IsComputed form = AreComputed (pos 0) form.numbers form.validity
 

@@ -7,7 +7,7 @@ use Rattle.column_base.specs.ValidityForm.{ValidityForm, flags, nullability_in}
 use Rattle.column_core.specs.Value.{FlatValue, DecimalNumber}
 use Rattle.column_core.specs.Optionals.{optionals, AreBlankAtNulls}
 
--- the form: precision and scale, the whole numbers of the decimals as they are stored, also under null, and which rows
+-- the form: precision and scale, the integers of the decimals as they are stored, also under null, and which rows
 -- are valid
 pub record DecimalForm : Type 0 where
   pub decimal : DecimalDType
@@ -22,7 +22,7 @@ decimal_with decimal numbers validity = record { decimal = decimal; numbers = nu
 abbrev pub decimal_flags : DecimalForm → List Bool
 decimal_flags form = flags form.validity (length form.numbers)
 
--- the optional whole numbers of the decimals, row by row
+-- the optional integers of the decimals, row by row
 abbrev pub optional_decimals : DecimalForm → List (Option ℤ)
 optional_decimals form = optionals form.numbers (decimal_flags form)
 

@@ -21,7 +21,7 @@ is_list (column.List e n) = true
 abbrev pub list_fault : DType → Option VortexError
 list_fault t = if is_list t then Some Unsupported else None
 
--- whether the type is one of whole numbers
+-- whether the type is one of integers
 abbrev pub is_numbers : DType → Bool
 is_numbers (column.Bool n) = false
 is_numbers (column.Primitive t n) = true

@@ -1,4 +1,4 @@
--- What a flat column of whole numbers is.
+-- What a flat column of integers is.
 use Rattle.std.specs.Prelude.{ℤ, pos, List, Bool, Option, length, map, option_map}
 use Rattle.column_base.specs.declared.dtype.PType.{PType}
 use Rattle.column_base.specs.declared.dtype.DType.{DType}

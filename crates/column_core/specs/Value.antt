@@ -10,7 +10,7 @@ use Rattle.column_base.specs.declared.dtype.DType.{DType}
 use Rattle.column_base.specs.declared.dtype.DType.TheVariants as column
 use Rattle.column_base.specs.Types.{HasNumber, nullability_of}
 
--- a flat value: a truth value, a whole number, the whole number of a decimal, the bytes of a text, or bytes
+-- a flat value: a boolean, an integer, the integer of a decimal, the bytes of a text, or bytes
 pub data FlatValue : Type 0 where
   Truth : Bool → FlatValue
   Number : ℤ → FlatValue

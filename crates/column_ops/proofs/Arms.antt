@@ -14,7 +14,7 @@ use Rattle.column_core.specs.PrimitiveForm.{PrimitiveForm, primitive_with}
 use Rattle.column_core.specs.Refusal.{IsRefusedBy}
 use Rattle.column_ops.specs.Filter.{filter_fault}
 
--- a column of whole numbers is known by its parts
+-- a column of integers is known by its parts
 pub same-primitive : (ptype : PType) (numbers : List ℤ) (validity : ValidityForm) (own : PrimitiveForm) → ptype ≡ own.ptype → numbers ≡ own.numbers → validity ≡ own.validity
     → primitive_with ptype numbers validity ≡ own
 same-primitive ptype numbers validity own same_type same_numbers same_validity = λ i. primitive_with (same_type i) (same_numbers i) (same_validity i)

@@ -26,7 +26,7 @@ use Rattle.column_ops.specs.Take.{take_rows, taken_row}
 use Rattle.column_ops.specs.Written.{AreStoredAs}
 use Rattle.column_ops.proofs.IndexPositions.{optionals-map}
 
--- written truth values are a column of these rows
+-- written booleans are a column of these rows
 pub IsMade-truths : (rows : List (Option Bool)) (wanted : Nullability) (items : List Bool) (form : ValidityForm) → AreStoredAs false rows wanted items form
     → IsMade (map (option_map Truth) rows) (column.Bool wanted) (OfTruths (bool_with items form))
 IsMade-truths rows wanted items form written = record {

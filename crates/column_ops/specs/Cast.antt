@@ -42,7 +42,7 @@ abbrev pub null_row_fault : {B : Type 0} → Nullability → Option B → Option
 null_row_fault nullability None = null_fault nullability
 null_row_fault nullability (Some x) = None
 
--- a number that a type of whole numbers does not have
+-- a number that a type of integers does not have
 abbrev pub number_fault : DType → ℤ → Option VortexError
 number_fault (column.Primitive ptype n) z = cond (has_number ptype z) None (Some CastOutOfRange)
 number_fault dtype z = None
@@ -53,7 +53,7 @@ cast_row_fault dtype None = null_fault (nullability_of dtype)
 cast_row_fault dtype (Some (Single (Number z))) = number_fault dtype z
 cast_row_fault dtype (Some value) = None
 
--- whether rows of the first type can be cast to the second: both are of whole numbers, or of one kind that is no list
+-- whether rows of the first type can be cast to the second: both are of integers, or of one kind that is no list
 abbrev pub can_cast : DType → DType → Bool
 can_cast from to = (is_numbers from && is_numbers to) || (same_kind from to && not (is_list to))
 

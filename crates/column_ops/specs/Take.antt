@@ -31,7 +31,7 @@ take_fault indices count = first_fault (index_fault count) indices
 abbrev pub ArePositions : List (Option ℕ) → ℕ → Type 0
 ArePositions positions count = All (λ position. IfSome position (λ k. k < count)) positions
 
--- optional positions as whole numbers
+-- optional positions as integers
 abbrev pub position_numbers : List (Option ℕ) → List (Option ℤ)
 position_numbers positions = map (option_map (λ k. pos k)) positions
 

@@ -198,7 +198,7 @@ mapped-next f xs k x old y here is told =
     let grown : take (k + 1) xs ≡ take k xs ++ x ∷ [] = take_more xs k x within ∙ ap (λ z. take k xs ++ z ∷ []) (get_or-read xs k x x here) in
     ap (λ ys. ys ++ y ∷ []) told ∙ ap (λ z. map f (take k xs) ++ z ∷ []) is ∙ sym (map_push f (take k xs) x) ∙ ap (map f) (sym grown)
 
--- the bit of an optional truth value is that of the answer that it is
+-- the bit of an optional boolean is that of the answer that it is
 pub bit_of-truth : (truth : Option Bool) (answer : Option Value) → option_map (λ (b : Bool). Single (Truth b)) truth ≡ answer → unwrap_or truth false ≡ answer_bit answer
 bit_of-truth None answer says = ap answer_bit says
 bit_of-truth (Some b) answer says = ap answer_bit says
@@ -228,7 +228,7 @@ bits-told value result operator sent right form own items numbers as_numbers sam
     let wholes = subst (λ (v : ValidityForm). IfOk result (λ bits. bits ≡ map (is_held (λ (n : ℤ). holds_of operator (int_cmp n right))) (optionals numbers (flags v (length numbers))))) whole items_told in
     subst (λ (bs : List Bool). IfOk result (λ bits. bits ≡ bs)) (sym (answer_bits-rows value operator right as_numbers numbers (flags own (length numbers)))) wholes
 
--- of whole numbers
+-- of integers
 pub bits-numbers : {E : Type 0} (result : Result (List Bool) E) (operator : CompareOperator) (sent right : ℤ) (form own : ValidityForm) (items numbers : List ℤ) → sent ≡ right → items ≡ numbers → form ≡ own
     → IfOk result (λ bits. bits ≡ map (is_held (λ n. holds_of operator (int_cmp n sent))) (optionals items (flags form (length items))))
     → IfOk result (λ bits. bits ≡ answer_bits (compare_with operator (map row_of (map (option_map (λ (n : ℤ). Number n)) (optionals numbers (flags own (length numbers))))) (Some (Single (Number right)))))

@@ -1,4 +1,4 @@
--- The rows of flat columns of whole numbers and of decimals, as those of the items that they store.
+-- The rows of flat columns of integers and of decimals, as those of the items that they store.
 use Rattle.std.proofs.Common.{◌≡◌, ◌∙◌, ◌≤◌, ℕ, ℤ, List, [], ◌∷◌, Bool, true, false, Option, Some, None, length, map, pos, refl, sym, ap, subst, arith}
 use Rattle.std.specs.Prelude.{option_map}
 use Rattle.std.proofs.lemmas.List.{length-map}
@@ -27,7 +27,7 @@ optional-numbers number (x ∷ items) [] = refl
 optional-numbers number (x ∷ items) (true ∷ marks) = ap (λ rows. Some (Number (number x)) ∷ rows) (optional-numbers number items marks)
 optional-numbers number (x ∷ items) (false ∷ marks) = ap (λ rows. None ∷ rows) (optional-numbers number items marks)
 
--- the rows of a column of whole numbers
+-- the rows of a column of integers
 pub number-rows : {S : Type 0} (number : S → ℤ) (items : List S) (form : ValidityForm) (own : PrimitiveForm) → map number items ≡ own.numbers → form ≡ own.validity
     → flagged_rows (λ (x : S). Number (number x)) items (flags form (length items)) ≡ single_rows (OfNumbers own)
 number-rows number items form own shown same =

@@ -94,7 +94,7 @@ value_total = record { antisymm = value_back; trans = value_chain; congr = value
 pub row_total : IsTotalOrder row_cmp
 row_total = options_total value_total
 
--- whole numbers that the order does not tell apart are one
+-- integers that the order does not tell apart are one
 int_equal : (a b : ℤ) → int_cmp a b ≡ Equal → a ≡ b
 int_equal a b h = (Decides-int_eq a b).0 (ap is_eq h)
 

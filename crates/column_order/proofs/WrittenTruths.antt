@@ -1,4 +1,4 @@
--- Optional truth values that are written row by row, and the answers of a comparison that they are.
+-- Optional booleans that are written row by row, and the answers of a comparison that they are.
 use Rattle.std.proofs.Common.{◌≡◌, ◌∙◌, ◌+◌, ◌≤◌, ℕ, zero, suc, List, [], ◌∷◌, ◌++◌, Bool, true, false, Option, Some, None, length, map, take, replicate, refl, sym, ap, subst, arith, length-append}
 use Rattle.std.specs.Prelude.{All, IsSome, is_some, unwrap_or, option_map, slice_get, if◌then◌else◌}
 use Rattle.std.proofs.lemmas.Bool.{false≢true}
@@ -22,7 +22,7 @@ use Rattle.column_order.specs.Comparing.{compare_rows, compare_with, compared, e
 use Rattle.column_order.specs.declared.operator.CompareOperator.{CompareOperator}
 use Rattle.column_order.proofs.RowRanges.{get_or-read}
 
--- a truth value as a value
+-- a boolean as a value
 abbrev pub truth_value : Bool → Value
 truth_value truth = Single (Truth truth)
 
@@ -37,7 +37,7 @@ pub record AreWritten (nullability : Nullability) (answers : List (Option Value)
 pub AreWritten-none : (nullability : Nullability) (answers : List (Option Value)) → AreWritten nullability (take 0 answers) [] []
 AreWritten-none nullability answers = record { paired = refl; rows = refl; blank = tt; typed = λ _. All-nil (λ (flag : Bool). flag ≡ true) }
 
--- an optional truth value from its bit and its flag
+-- an optional boolean from its bit and its flag
 truth-parts : (truth : Option Bool) → (if is_some truth then Some (unwrap_or truth false) else None) ≡ truth
 truth-parts None = refl
 truth-parts (Some b) = refl
@@ -47,7 +47,7 @@ blank-part : (truth : Option Bool) → is_some truth ≡ false → unwrap_or tru
 blank-part None h = refl
 blank-part (Some b) h = cc
 
--- an answer that is no null is of a truth value that is none
+-- an answer that is no null is of a boolean that is none
 some-part : (truth : Option Bool) (answer : Option Value) → option_map truth_value truth ≡ answer → IsSome answer → is_some truth ≡ true
 some-part None answer h some = absurd (false≢true (subst IsSome (sym h) some))
 some-part (Some b) answer h some = refl
@@ -77,7 +77,7 @@ AreWritten-more nullability all k bits flags truth answer here says some written
     subst (λ (xs : List (Option Value)). AreWritten nullability xs (bits ++ unwrap_or truth false ∷ []) (flags ++ is_some truth ∷ [])) (sym grown)
     (AreWritten-next nullability (take k all) bits flags truth answer says some written)
 
--- truth values as rows are truth values as values
+-- booleans as rows are booleans as values
 two_maps : (truths : List (Option Bool)) → map (option_map (λ (v : FlatValue). Single v)) (map (option_map (λ (b : Bool). Truth b)) truths) ≡ map (option_map truth_value) truths
 two_maps [] = refl
 two_maps (None ∷ truths) = ap (λ (xs : List (Option Value)). None ∷ xs) (two_maps truths)

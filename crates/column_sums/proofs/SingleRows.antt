@@ -65,7 +65,7 @@ number-read form k seen h =
       ]
     ] read
 
--- the numbers of a plain column of whole numbers
+-- the numbers of a plain column of integers
 pub numbers-of_rows : (numbers : List (Option ℤ)) → map number_in (map (option_map (λ (v : FlatValue). Single v)) (map (option_map (λ (n : ℤ). Number n)) numbers)) ≡ numbers
 numbers-of_rows [] = refl
 numbers-of_rows (None ∷ numbers) = ap (λ rest. None ∷ rest) (numbers-of_rows numbers)

@@ -1,4 +1,4 @@
--- The sum of a list of optional whole numbers, row by row.
+-- The sum of a list of optional integers, row by row.
 use Rattle.std.specs.Prelude.{ℤ, pos, ◌+ℤ◌, Bool, is_none, if◌then◌else◌, Option, Some, None, List, [], ◌∷◌}
 use Rattle.std.specs.List.{list_all}
 use Rattle.column_sums.specs.SumRange.{SumRange, is_within}

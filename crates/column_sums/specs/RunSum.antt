@@ -1,4 +1,4 @@
--- Runs of optional whole numbers, and the calls of `add_run` that sum them.
+-- Runs of optional integers, and the calls of `add_run` that sum them.
 --
 -- Code that has runs implements `SignedRuns` or `UnsignedRuns` and calls `sum_signed_in_runs` or
 -- `sum_unsigned_in_runs`. A loop of one's own goes

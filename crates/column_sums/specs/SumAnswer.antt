@@ -20,17 +20,17 @@ value_in UnsignedRange n = Unsigned (unsigned_abs n)
 abbrev pub answer_of : SumRange → List (Option ℤ) → SumAnswer
 answer_of range rows = record { sum = option_map (value_in range) (sum_of_rows range rows); is_empty = are_null rows }
 
--- the whole number in a row, if there is one
+-- the integer in a row, if there is one
 abbrev pub number_in : Option Value → Option ℤ
 number_in (Some (Single (Number n))) = Some n
 number_in row = None
 
--- only whole numbers are summed
+-- only integers are summed
 abbrev pub sum_fault : DType → Option VortexError
 sum_fault (column.Primitive t n) = None
 sum_fault t = Some Unsupported
 
--- the answer is that of a column of whole numbers, of this type and with these rows
+-- the answer is that of a column of integers, of this type and with these rows
 abbrev pub IsSumAnswer : DType → List (Option Value) → SumAnswer → Type 0
 IsSumAnswer (column.Primitive t n) rows answer = answer ≡ answer_of (sum_range t) (map number_in rows)
 IsSumAnswer t rows answer = ⊥

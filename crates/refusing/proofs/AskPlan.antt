@@ -44,11 +44,11 @@ module _ {M : Type 1} {𝓤 : Ura M} (𝓛 : Logic 𝓤) (at_mem : Memory → SP
       feq_i ! (List Val) (vptr place.0 place.1 ∷ []) (vptr place.0 place.1 ∷ []) refl $ fjoin ! $
       nothing ! $ move ! (1 ∷ []) $ fjoin ! $ nothing ! $ move ! (2 ∷ []) $ join ! $ join ! $ nothing ! $ move ! (1 ∷ []) $ done !
 
-  -- the value is this truth value, and the share of the lifetime is back
+  -- the value is this boolean, and the share of the lifetime is back
   abbrev pub Said : Val → Bool → SProp 𝓤
   Said value is_refused = guard 𝓤 (value ≡ vbool is_refused) (A.lft κ q)
 
-  -- the call answers some truth value: which one depends on a cell, so nothing is known of it
+  -- the call answers some boolean: which one depends on a cell, so nothing is known of it
   pub Asks-gives : (value : Val) → ent 𝓤 ((Asks 𝓛 at_mem run).post (at_asks 𝓛 at_mem run asked κ q place) value) (H.⇛ (ex 𝓤 (Said value)))
   Asks-gives value =
       qed 𝓛 (types.Kit.raw ((Asks 𝓛 at_mem run).post (at_asks 𝓛 at_mem run asked κ q place) value) ∷ []) ∵ updating ! $

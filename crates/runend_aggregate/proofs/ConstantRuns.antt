@@ -1,4 +1,4 @@
--- A constant column of whole numbers as one run of all its rows.
+-- A constant column of integers as one run of all its rows.
 use Rattle.std.proofs.Common.{◌≡◌, ◌∙◌, ◌<◌, ℕ, zero, suc, ℤ, List, ◌∷◌, Option, Some, length, map, replicate, refl, sym, ap, arith}
 use Rattle.std.specs.Prelude.{slice_get}
 use Rattle.column_core.specs.Value.{Value}

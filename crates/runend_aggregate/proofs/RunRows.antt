@@ -1,4 +1,4 @@
--- The visible runs of a column of whole numbers, written out, are the numbers of its rows.
+-- The visible runs of a column of integers, written out, are the numbers of its rows.
 use Rattle.std.proofs.Common.{◌≡◌, ℕ, zero, suc, ◌+◌, ◌-◌, ◌<◌, ◌≤◌, ℤ, List, [], ◌∷◌, ◌++◌, Option, Some, None, length, map, min, replicate, slice_index, refl, sym, subst, ◌∙◌, ap, arith, append_assoc, add-one}
 use Rattle.std.specs.Prelude.{All, slice_get, slice_index_or, option_map}
 use Rattle.std.proofs.lemmas.List.{length-map}

@@ -20,7 +20,7 @@ runs_from ends numbers offset count run zero = []
 runs_from ends numbers offset count run (suc n) =
     (slice_index_or numbers run None, rows_showing ends offset count run) ∷ runs_from ends numbers offset count (run + 1) n
 
--- the visible runs of a column of whole numbers: what each shows and in how many rows
+-- the visible runs of a column of integers: what each shows and in how many rows
 abbrev pub visible_runs : Runs → List (Option ℤ × ℕ)
 visible_runs r =
     let first = first_visible r.ends r.offset r.count in
@@ -31,7 +31,7 @@ abbrev pub one_run : Option ℤ → ℕ → List (Option ℤ × ℕ)
 one_run value zero = []
 one_run value (suc n) = (value, suc n) ∷ []
 
--- the runs of a constant of whole numbers: one of all its rows
+-- the runs of a constant of integers: one of all its rows
 abbrev pub constant_runs : Constant → List (Option ℤ × ℕ)
 constant_runs constant = one_run (number_in (option_map Single constant.value)) constant.count
 

@@ -26,7 +26,7 @@ number-read stored items i n is within read =
     let here = slice_get_read items (length items) i n refl (rw same at within) read in
     sym (ap (λ (xs : List ℕ). slice_index xs i) same ∙ get_or_from_slice_get items i n 0 here)
 
--- texts and bytes are neither numbers nor truth values
+-- texts and bytes are neither numbers nor booleans
 kind-no_index : (kind : VarBinKind) (n : Nullability) → ¬ (kind_dtype kind n ≡ column.Primitive U64 NonNullable)
 kind-no_index Utf8 n e = cc
 kind-no_index Binary n e = cc
@@ -46,7 +46,7 @@ rows_within_index (OfConstant constant) h = absurd h
 rows_within_index (OfLists lists) h = absurd h
 rows_within_index (OfRuns ends_type ends values offset count) h = absurd h
 
--- a flat column of truth values has no more rows than bits
+-- a flat column of booleans has no more rows than bits
 pub rows_within_truths : (c : Column) → IsPlainTruths c → length (column_rows c) ≤ length (truths_of c)
 rows_within_truths (OfLeaf (OfNumbers form)) h = cc
 rows_within_truths (OfLeaf (OfTruths form)) h = omega (arith, length-map (bool_rows form) (option_map (λ (v : FlatValue). Single v)), rows_within_bits form)

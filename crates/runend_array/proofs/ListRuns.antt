@@ -32,7 +32,7 @@ AreParts-numbers ends copy form items offset count plain window same is paired =
     rw (same, is) (AreParts-leaf ends _ offset count plain window
     (length-primitive_rows (primitive_with U64 (map (λ (n : ℕ). pos n) items) NeverNull) tt ∙ length-map items (λ (n : ℕ). pos n) ∙ paired))
 
--- and truth values without null
+-- and booleans without null
 pub AreParts-truths : (ends copy : PrimitiveForm) (form : BoolForm) (bits : List Bool) (offset count : ℕ) → IsEndsType (primitive_dtype ends) → IsWindow (ends_of ends) offset count
     → copy ≡ ends → form ≡ bool_with bits NeverNull → length bits ≡ length ends.numbers → AreParts (OfLeaf (OfNumbers copy)) (OfLeaf (OfTruths form)) offset count
 AreParts-truths ends copy form bits offset count plain window same is paired =

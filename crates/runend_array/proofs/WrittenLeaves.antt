@@ -54,7 +54,7 @@ leaf-of_value value x nullability constant leaf some rows dtype computed valid t
   written = (computed, (λ (none : constant.value ≡ None). cc), (λ _. rw typed valid));
 }
 
--- whole numbers
+-- integers
 pub numbers-of_null : (constant : Constant) (t : PType) (nullability : Nullability) (array : PrimitiveForm) → constant.dtype ≡ column.Primitive t nullability
     → MayBeNull (nullability_of constant.dtype) → constant.value ≡ None → array ≡ primitive_with t (replicate constant.count (pos 0)) AllNull → IsConstantLeaf constant (OfNumbers array)
 numbers-of_null constant t nullability array typed may none made =
@@ -68,7 +68,7 @@ numbers-of_value constant t nullability z array typed some made =
     rw made
     (leaf-of_value Number z nullability constant _ some refl (ap (column.Primitive t) (nullability-without_nulls nullability) ∙ sym typed) (computed-written (pos 0) constant.count z nullability) refl (ap nullability_of typed))
 
--- truth values
+-- booleans
 pub truths-of_null : (constant : Constant) (nullability : Nullability) (array : BoolForm) → constant.dtype ≡ column.Bool nullability
     → MayBeNull (nullability_of constant.dtype) → constant.value ≡ None → array ≡ bool_with (replicate constant.count false) AllNull → IsConstantLeaf constant (OfTruths array)
 truths-of_null constant nullability array typed may none made =

@@ -153,14 +153,14 @@ index_of (OfConstant constant) = PlainIndex []
 index_of (OfLists lists) = PlainIndex []
 index_of (OfRuns ends_type ends values offset count) = RunIndex ends_type ends (end_numbers values) offset count
 
--- a flat column of truth values without null
+-- a flat column of booleans without null
 abbrev pub IsPlainTruths : Column → Type 0
 IsPlainTruths (OfLeaf leaf) = leaf_dtype leaf ≡ column.Bool NonNullable
 IsPlainTruths (OfConstant constant) = ⊥
 IsPlainTruths (OfLists lists) = ⊥
 IsPlainTruths (OfRuns ends_type ends values offset count) = ⊥
 
--- the bits of a flat column of truth values
+-- the bits of a flat column of booleans
 abbrev pub leaf_truths : Leaf → List Bool
 leaf_truths (OfNumbers form) = []
 leaf_truths (OfTruths form) = form.bits
@@ -173,6 +173,6 @@ truths_of (OfConstant constant) = []
 truths_of (OfLists lists) = []
 truths_of (OfRuns ends_type ends values offset count) = []
 
--- the validity that runs of truth values tell
+-- the validity that runs of booleans tell
 abbrev pub runs_validity : Runs → RowValidityForm
 runs_validity r = ByRuns r.ends_type r.ends (truths_of r.values) r.offset r.count

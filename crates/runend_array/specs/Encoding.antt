@@ -16,12 +16,12 @@ use Rattle.runend_windows.specs.Ends.{ends_of}
 use Rattle.runend_windows.specs.Encoding.{HasNullsAlone, IsAllInvalid, number_rows}
 use Rattle.runend_array.specs.Column.{Column, OfLeaf, OfConstant, OfLists, OfRuns, Runs, column_rows, column_dtype}
 
--- whole numbers of this native type
+-- integers of this native type
 abbrev pub IsNumbersOf : PType → DType → Type 0
 IsNumbersOf ptype (column.Primitive t n) = t ≡ ptype
 IsNumbersOf ptype t = ⊥
 
--- a plain column of whole numbers
+-- a plain column of integers
 abbrev pub IsPlainNumbers : Column → Type 0
 IsPlainNumbers (OfLeaf (OfNumbers form)) = Unit {0}
 IsPlainNumbers c = ⊥
@@ -33,7 +33,7 @@ IsComputedFlat (OfConstant constant) = ⊥
 IsComputedFlat (OfLists lists) = Unit {0}
 IsComputedFlat (OfRuns ends_type ends values offset count) = ⊥
 
--- the encoding of a flat column of whole numbers: ends and values that are a tight exact cover of its rows. Ends are as
+-- the encoding of a flat column of integers: ends and values that are a tight exact cover of its rows. Ends are as
 -- narrow as can be, and values flat; a column whose validity says that all of its rows are null has u64 ends and one
 -- constant null
 pub record IsEncoding (array ends : PrimitiveForm) (values : Column) : Type 0 where
@@ -55,7 +55,7 @@ pub record IsEncoded (array : PrimitiveForm) (runs : Runs) : Type 0 where
   pub wide : IsAllInvalid array → runs.ends_type ≡ U64
   pub null : IsAllInvalid array → runs.values ≡ OfConstant (record { dtype = primitive_dtype array; value = None; count = 1 })
 
--- what only a plain column of whole numbers has
+-- what only a plain column of integers has
 abbrev pub IsEncodedColumn : Column → Runs → Type 0
 IsEncodedColumn (OfLeaf (OfNumbers form)) runs = IsEncoded form runs
 IsEncodedColumn c runs = ⊥

@@ -1,4 +1,4 @@
--- Covers by joined runs, of rows of values, and the parts that are in least form.
+-- Covers by joined runs, of rows of values, and the parts that are in minimal form.
 use Rattle.std.proofs.Common.{◌≡◌, ℕ, ℤ, List, Bool, Option, Some, None, length, map, refl, sym, subst, ◌∙◌, ap}
 use Rattle.std.specs.Option.{option_map}
 use Rattle.std.proofs.lemmas.List.{length-map}
@@ -41,7 +41,7 @@ tight-values ends values offset count least joined window paired cover =
     tight-map (λ (v : FlatValue). Single v) (λ x y e. cc) ends (map (option_map (λ (n : ℤ). Number n)) values) offset count least (map (option_map (λ (n : ℤ). Number n)) joined)
     window (length-map values (option_map (λ (n : ℤ). Number n)) ∙ paired) numbered
 
--- the parts that were joined are in least form
+-- the parts that were joined are in minimal form
 pub AreJoined-made : (ends values joined_ends joined_values : PrimitiveForm) (offset count : ℕ) (numbers : List ℤ) (bits : List Bool)
     → IsWindow (ends_of ends) offset count → length (optional_numbers values) ≡ length (ends_of ends)
     → IsTightCover (run_rows (ends_of ends) (optional_numbers values) offset count) (ends_of joined_ends) (optionals numbers bits)

@@ -24,7 +24,7 @@ use runend_windows::{last_end_of, validity_with};
 use std::alloc::Allocator;
 
 /// The ends and the values of the runs that show the same rows, `count` of them from position `offset` on, in
-/// least form: no two neighbours show the same number or null both, each run ends past the one before it, the
+/// minimal form: no two neighbours show the same number or null both, each run ends past the one before it, the
 /// last one at `count`, and the ends count rows from the first. Ends and values keep their types; the number
 /// under a null is 0. Each run has to show a row, so hidden runs are dropped before.
 ///

@@ -1,4 +1,4 @@
-//! Runs of integers in least form: equal neighbours are joined, so that the runs are the tight exact cover of
+//! Runs of integers in minimal form: equal neighbours are joined, so that the runs are the tight exact cover of
 //! their rows.
 #![tactic(auto)]
 

@@ -40,7 +40,7 @@ tight_of_encoded (OfConstant constant) runs e = absurd e
 tight_of_encoded (OfLists lists) runs e = absurd e
 tight_of_encoded (OfRuns ends_type ends values offset count) runs e = absurd e
 
--- only whole numbers are encoded, in runs of their type
+-- only integers are encoded, in runs of their type
 pub numbers_of_encoded : (c : Column) (runs : Runs) → IsEncodedColumn c runs → numbers_fault (column_dtype c) ≡ None
 numbers_of_encoded (OfLeaf (OfNumbers form)) runs e = refl
 numbers_of_encoded (OfLeaf (OfTruths form)) runs e = absurd e

@@ -18,7 +18,7 @@ use Rattle.runend_select.specs.TakeForm.{TakeLeaves}
 use Rattle.runend_map.specs.Codes.{keeps_runs}
 use Rattle.runend_map.specs.TakenForm.{TakeFromLeaves}
 use Rattle.runend_map.specs.ComparisonForm.{IsComparisonForm}
-use Rattle.runend_visible.specs.LeastForm.{IsRunForm}
+use Rattle.runend_visible.specs.MinimalForm.{IsRunForm}
 use Rattle.runend_commands.specs.declared.command.Command.{Command}
 use Rattle.runend_commands.specs.declared.command.Command.TheVariants.{Slice, Filter, Take, TakeFrom, CompareScalar, CompareColumn, Cast, FillNull, Sum, MinMax, IsConstant, IsSorted}
 use Rattle.runend_commands.specs.declared.command.Answer.{Answer}
@@ -58,7 +58,7 @@ pub record ByKernel (session : SessionForm) (kernel : Kernel) (before : Column) 
   pub served : HasKernel session kernel before → OnRuns before Served
   pub otherwise : ¬ HasKernel session kernel before → Otherwise
 
--- the kernel leaves runs, of whole numbers in least form and of another type over the visible runs; where it does not
+-- the kernel leaves runs, of integers in minimal form and of another type over the visible runs; where it does not
 -- serve the column, the rows are flat
 abbrev pub KeepsRuns : SessionForm → Kernel → DType → Column → Column → Type 0
 KeepsRuns session kernel dtype before after = ByKernel session kernel before (λ runs. IsRunForm dtype runs after) (IsFlat after)

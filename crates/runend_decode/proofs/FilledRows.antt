@@ -96,7 +96,7 @@ digit_of words bits k j packs small =
     let place : (k * 64 + j) % 64 ≡ j = omega arith in
     sym (digit_in_word words k (k * 64 + j) word ∙ ap (bit_at (get_or words k 0)) place) ∙ packs.digit (k * 64 + j)
 
--- a truth value under a mark is 1 where both are
+-- a boolean under a mark is 1 where both are
 one_if_both : (values marks : List Bool) (i : ℕ) → length marks ≡ length values
     → one_if (get_or (blanked false (optionals values marks)) i false) ≡ min (one_if (get_or values i false)) (one_if (get_or marks i false))
 one_if_both [] [] i paired = refl

@@ -17,7 +17,7 @@ use Rattle.runend_encode.specs.Windows.{start_in}
 use Rattle.runend_encode.proofs.Starts.{length-single}
 use Rattle.runend_encode.proofs.Windows.{IsTightCover-of_window}
 
--- of whole numbers, as their encoder answers
+-- of integers, as their encoder answers
 pub IsRowEncoding-of_numbers : (array ends values : PrimitiveForm) → IsFlatEncoding array ends values
     → IsRowEncoding (single_rows (OfNumbers array)) (leaf_dtype (OfNumbers array)) ends (OfNumbers values)
 IsRowEncoding-of_numbers array ends values e = record { cover = e.cover; typed = e.dtype; computed = e.computed; required = e.required; narrow = e.narrow }

@@ -20,7 +20,7 @@ use Rattle.runend_map.proofs.KeptRows.{mapped_rows}
 pub as_many_rows : (leaf : Leaf) (rows : List (Option Value)) → single_rows leaf ≡ rows → length (leaf_rows leaf) ≡ length rows
 as_many_rows leaf rows same = sym (length-map (leaf_rows leaf) (option_map (λ (v : FlatValue). Single v))) ∙ ap length same
 
--- the codes of a flat column of whole numbers are its numbers
+-- the codes of a flat column of integers are its numbers
 pub codes_are : (numbers : List (Option ℤ)) → map code_number (map (option_map (λ (v : FlatValue). Single v)) (map (option_map (λ (n : ℤ). Number n)) numbers)) ≡ numbers
 codes_are [] = refl
 codes_are (None ∷ numbers) = ap (λ (ns : List (Option ℤ)). None ∷ ns) (codes_are numbers)

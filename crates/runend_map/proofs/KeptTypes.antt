@@ -6,7 +6,7 @@ use Rattle.column_base.specs.declared.dtype.Nullability.{Nullability}
 use Rattle.column_base.specs.declared.dtype.PType.{PType}
 use Rattle.runend_map.specs.Codes.{keeps_runs}
 
--- only runs over whole numbers and truth values are kept
+-- only runs over integers and booleans are kept
 pub others_lose : (dtype : DType) → ((n : Nullability) → ¬ (dtype ≡ column.Bool n)) → ((t : PType) (n : Nullability) → ¬ (dtype ≡ column.Primitive t n)) → false ≡ keeps_runs dtype
 others_lose (column.Bool n) truths numbers = absurd (truths n refl)
 others_lose (column.Primitive t n) truths numbers = absurd (numbers t n refl)

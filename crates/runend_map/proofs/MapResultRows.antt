@@ -96,7 +96,7 @@ written_computed {T} {X} number blank none rows items form bits zeroth items_are
       some = λ null. subst (λ (n : ℕ). 0 < n) (sym long) (some null);
     }
 
--- the rows of whole numbers, from their items
+-- the rows of integers, from their items
 native_rows : {S : Type 0} (number : S → ℤ) (items : List S) (bits : List Bool)
     → map (option_map (λ (v : FlatValue). Single v)) (map (option_map (λ (n : ℤ). Number n)) (optionals (map number items) bits)) ≡ map (number_row number) (optionals items bits)
 native_rows number [] bits = refl

@@ -31,7 +31,7 @@ no_lists (column.Utf8 n) right none = λ h. h
 no_lists (column.Binary n) right none = λ h. h
 no_lists (column.List e n) right none = cc
 
--- whole numbers are no lists
+-- integers are no lists
 pub numbers_single : (t : DType) → is_numbers t ≡ true → ¬ IsLists t
 numbers_single (column.Bool n) numbers = λ h. h
 numbers_single (column.Primitive t n) numbers = λ h. h

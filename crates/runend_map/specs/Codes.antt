@@ -3,7 +3,7 @@ use Rattle.std.specs.Prelude.{Bool, true, false}
 use Rattle.column_base.specs.declared.dtype.DType.{DType}
 use Rattle.column_base.specs.declared.dtype.DType.TheVariants as column
 
--- whether the runs of the codes are kept: over whole numbers and truth values
+-- whether the runs of the codes are kept: over integers and booleans
 abbrev pub keeps_runs : DType → Bool
 keeps_runs (column.Bool n) = true
 keeps_runs (column.Primitive t n) = true

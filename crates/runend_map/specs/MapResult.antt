@@ -17,7 +17,7 @@ use Rattle.runend_visible.specs.VisibleForm.{IsOverVisibleRuns}
 abbrev pub number_row : {S : Type 0} → (S → ℤ) → Option S → Option Value
 number_row number value = option_map (λ s. Single (Number (number s))) value
 
--- an optional truth value as a row
+-- an optional boolean as a row
 abbrev pub truth_row : Option Bool → Option Value
 truth_row truth = option_map (λ b. Single (Truth b)) truth
 

@@ -3,10 +3,10 @@ use Rattle.std.specs.Prelude.{Bool, true, false}
 use Rattle.column_base.specs.declared.dtype.DType.{DType}
 use Rattle.runend_array.specs.Column.{Column, Runs}
 use Rattle.runend_array.specs.Encoding.{IsComputedFlat}
-use Rattle.runend_visible.specs.LeastForm.{IsRunForm}
+use Rattle.runend_visible.specs.MinimalForm.{IsRunForm}
 
 -- of a dictionary of this type the runs of the codes are kept, with ends of the same type and by the dictionary's type
--- in least form or not; or the rows are flat
+-- in minimal form or not; or the rows are flat
 abbrev pub TakeFromLeaves : Bool → DType → Runs → Column → Type 0
 TakeFromLeaves true dictionary codes taken = IsRunForm dictionary codes taken
 TakeFromLeaves false dictionary codes taken = IsComputedFlat taken

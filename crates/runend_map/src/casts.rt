@@ -6,7 +6,7 @@ ghost use Rattle.column_core.specs.PrimitiveForm.{primitive_dtype};
 ghost use Rattle.column_ops.specs.Cast.{cast_fault};
 ghost use Rattle.runend_array.specs.Array.{column_of, dtype_of, rows};
 ghost use Rattle.runend_array.specs.Column.{AreRuns, column_dtype, column_of_runs, column_rows, plain_of};
-ghost use Rattle.runend_visible.specs.LeastForm.{IsRunForm};
+ghost use Rattle.runend_visible.specs.MinimalForm.{IsRunForm};
 ghost use Rattle.runend_visible.specs.VisibleForm.{visible_values as values_of_visible};
 
 use column_core::{DType, FlatColumn, PrimitiveArray, VortexError, VortexResult, is_list_type};
@@ -16,7 +16,7 @@ use runend_visible::{borrowed_values, over_runs, visible_values};
 use std::alloc::Allocator;
 
 /// The rows in the type: a run column with flat values and ends of the same type. Of integers it is
-/// in least form: no run is hidden, neighbours differ (null equal to null), the offset is 0 and the last end
+/// in minimal form: no run is hidden, neighbours differ (null equal to null), the offset is 0 and the last end
 /// the length. Of other types it has the visible runs. Work is by visible runs, and no hidden run decides.
 ///
 /// Refused as `Unsupported` unless both types are of integers, or both of one kind that is no list;

@@ -23,7 +23,7 @@ use runend_visible::{borrowed_values, over_runs, visible_values};
 use std::alloc::Allocator;
 
 /// The dictionary's row for each code, null for null, in a type with null where the dictionary's or the codes'
-/// has. Of a dictionary of integers it is a run column in least form: no run is hidden, neighbours differ
+/// has. Of a dictionary of integers it is a run column in minimal form: no run is hidden, neighbours differ
 /// (null equal to null), the offset is 0 and the last end the length; of one of booleans it is a run column
 /// of the visible runs; both have flat values and ends of the same type. Of any other it is a flat column.
 /// Only codes of visible runs are looked at.

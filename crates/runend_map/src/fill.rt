@@ -7,7 +7,7 @@ ghost use Rattle.column_core.specs.Value.{Single};
 ghost use Rattle.column_ops.specs.Fill.{fill_dtype, fill_fault, fill_rows};
 ghost use Rattle.runend_array.specs.Array.{column_of, dtype_of, rows};
 ghost use Rattle.runend_array.specs.Column.{AreRuns, column_dtype, column_of_runs, column_rows};
-ghost use Rattle.runend_visible.specs.LeastForm.{IsRunForm};
+ghost use Rattle.runend_visible.specs.MinimalForm.{IsRunForm};
 ghost use Rattle.runend_visible.specs.VisibleForm.{visible_values as values_of_visible};
 
 use column_core::{FlatColumn, PrimitiveArray, Scalar, VortexError, VortexResult, is_list_type};
@@ -17,7 +17,7 @@ use runend_visible::{borrowed_values, over_runs, visible_values};
 use std::alloc::Allocator;
 
 /// The rows with the scalar's value in place of each null, of the column's kind and without null: a run
-/// column with flat values and ends of the same type. Of integers it is in least form: no run is hidden,
+/// column with flat values and ends of the same type. Of integers it is in minimal form: no run is hidden,
 /// neighbours differ, the offset is 0 and the last end the length. Of other types it has the visible runs.
 /// Work is by visible runs.
 ///

@@ -32,7 +32,7 @@ pub same-indices : {S : Type 0} (ptype : PType) (number : S → ℤ) (items : Li
     → optional_indices number items (flags form (length items)) ≡ optional_numbers (primitive_with ptype (map number items) form)
 same-indices ptype number items form = ap (λ (n : ℕ). optionals (map number items) (flags form n)) (sym (length-map items number))
 
--- a column of whole numbers is known by its parts
+-- a column of integers is known by its parts
 pub same-primitive : (ptype : PType) (numbers : List ℤ) (validity : ValidityForm) (own : PrimitiveForm) → ptype ≡ own.ptype → numbers ≡ own.numbers → validity ≡ own.validity
     → primitive_with ptype numbers validity ≡ own
 same-primitive ptype numbers validity own same_type same_numbers same_validity = λ i. primitive_with (same_type i) (same_numbers i) (same_validity i)

@@ -10,6 +10,6 @@ pub mod KeptColumn
 pub mod AllNull
 pub mod SelectLaws
 pub mod Forms
-pub mod LeastForms
+pub mod MinimalForms
 pub mod PassedOn
 pub mod WithoutRuns

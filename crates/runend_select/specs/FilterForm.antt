@@ -8,7 +8,7 @@ use Rattle.runend_array.specs.declared.session.Thresholds.{Thresholds}
 use Rattle.runend_array.specs.Column.{Column, OfLeaf, OfConstant, OfLists, OfRuns, Runs, runs_with, column_dtype, column_of_runs, column_rows}
 use Rattle.runend_array.specs.Encoding.{IsComputedFlat}
 use Rattle.runend_select.specs.KeptRuns.{AreKept}
-use Rattle.runend_visible.specs.LeastForm.{AreLeastRuns, IsLeastForm}
+use Rattle.runend_visible.specs.MinimalForm.{AreMinimalRuns, IsMinimalForm}
 
 -- rows are taken one by one where few of them are selected, or few for each run
 abbrev pub TakesDirectly : ℕ → ℕ → Thresholds → Type 0
@@ -23,9 +23,9 @@ pub record AreSelectedRuns (whole : Runs) (bits : List Bool) (part : Runs) : Typ
   pub flat : IsComputedFlat part.values
   pub window : (part.offset ≡ 0) × (part.count ≡ count_by (λ bit. bit) bits)
 
--- the runs that are left: of whole numbers in least form, of other types those with a selected row
+-- the runs that are left: of integers in minimal form, of other types those with a selected row
 abbrev pub AreLeftRuns : Bool → Runs → List Bool → Runs → Type 0
-AreLeftRuns true whole bits part = AreLeastRuns whole.ends_type part
+AreLeftRuns true whole bits part = AreMinimalRuns whole.ends_type part
 AreLeftRuns false whole bits part = AreSelectedRuns whole bits part
 
 -- rows that were taken one by one are flat, and else these runs are left
@@ -36,9 +36,9 @@ IsSelectedForm directly whole bits (OfLists lists) = directly
 IsSelectedForm directly whole bits (OfRuns ends_type ends values offset count) =
     (¬ directly) × AreLeftRuns (is_numbers (column_dtype whole.values)) whole bits (runs_with ends_type ends values offset count)
 
--- all rows: of whole numbers in least form, of other types the column as it was
+-- all rows: of integers in minimal form, of other types the column as it was
 abbrev pub IsWholeForm : Bool → Runs → Column → Type 0
-IsWholeForm true whole column = IsLeastForm whole.ends_type column
+IsWholeForm true whole column = IsMinimalForm whole.ends_type column
 IsWholeForm false whole column = column ≡ column_of_runs whole
 
 -- a run column without runs, with ends of the same type and flat values
@@ -48,11 +48,11 @@ HasNoRuns whole (OfConstant constant) = ⊥
 HasNoRuns whole (OfLists lists) = ⊥
 HasNoRuns whole (OfRuns ends_type ends values offset count) = (ends_type ≡ whole.ends_type) × (ends ≡ []) × (column_rows values ≡ []) × IsComputedFlat values × (offset ≡ 0) × (count ≡ 0)
 
--- no rows: no runs, which is the least form of no rows
+-- no rows: no runs, which is the minimal form of no rows
 abbrev pub IsEmptyForm : Runs → Column → Type 0
-IsEmptyForm whole column = HasNoRuns whole column × IsLeastForm whole.ends_type column
+IsEmptyForm whole column = HasNoRuns whole column × IsMinimalForm whole.ends_type column
 
--- the form of a filter, by whether the mask selects all rows by its form, or none. Every run column of whole numbers that it leaves is in least form
+-- the form of a filter, by whether the mask selects all rows by its form, or none. Every run column of integers that it leaves is in minimal form
 abbrev pub IsFilterForm : {A : Type 0} → Thresholds → Runs → Mask A → Column → Type 0
 IsFilterForm thresholds whole (AllTrue n) column = IsWholeForm (is_numbers (column_dtype whole.values)) whole column
 IsFilterForm thresholds whole (AllFalse n) column = IsEmptyForm whole column

@@ -1,4 +1,4 @@
--- The law of take and filter, stated over lists of optional values, so of whole numbers too.
+-- The law of take and filter, stated over lists of optional values, so of integers too.
 use Rattle.std.specs.Prelude.{◌≡◌, pos, List, Bool, Option, Some, length, map}
 use Rattle.column_base.specs.Bits.{set_indices_of}
 use Rattle.column_core.specs.Value.{Value}

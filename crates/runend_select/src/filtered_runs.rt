@@ -1,4 +1,4 @@
-//! The runs that a mask selects rows of, as run columns: of integers in least form.
+//! The runs that a mask selects rows of, as run columns: of integers in minimal form.
 ghost use Rattle.std.specs.Prelude.{◌≡◌, true, IfOk, IsOkUnless, count_by, length};
 ghost use Rattle.column_base.specs.Mask.{mask_bits};
 ghost use Rattle.column_core.specs.Computed.{IsComputed};
@@ -13,17 +13,17 @@ ghost use Rattle.runend_windows.specs.Window.{run_rows};
 ghost use Rattle.runend_coalesce.specs.Joined.{AllHaveRows};
 ghost use Rattle.array_rowwise.specs.Computed.{IsComputedAs};
 ghost use Rattle.runend_select.specs.FilterForm.{AreLeftRuns, AreSelectedRuns};
-ghost use Rattle.runend_visible.specs.LeastForm.{AreLeastRuns, IsLeastForm};
+ghost use Rattle.runend_visible.specs.MinimalForm.{AreMinimalRuns, IsMinimalForm};
 ghost use Rattle.runend_visible.specs.VisibleForm.{visible_values as values_of_visible};
 
 use crate::filtered_ends::filter_ends;
 use array_rowwise::{select_values, selected_by};
 use column_core::{BitBuffer, Mask, PrimitiveArray, VortexError, VortexResult, is_number_type};
 use runend_array::{ArrayRef, RunEnd, RunEndArray, RunEndArrayExt, RunEndArraySlotsExt, array_of};
-use runend_visible::{least_runs, visible_values, with_minimal_runs};
+use runend_visible::{minimal_runs, visible_values, with_minimal_runs};
 use std::alloc::Allocator;
 
-/// The runs with a selected row: of integers in least form, of other types as they are. Refused as
+/// The runs with a selected row: of integers in minimal form, of other types as they are. Refused as
 /// `OutOfMemory` alone.
 pub(crate) fn selected_runs<A: Allocator + Copy>(
     alloc: A,
@@ -44,8 +44,8 @@ pub(crate) fn selected_runs<A: Allocator + Copy>(
     kept_column(alloc, array, bits)
 }
 
-/// All rows of a column of integers, in least form. Refused as `OutOfMemory` alone.
-pub(crate) fn least_column<A: Allocator + Copy>(
+/// All rows of a column of integers, in minimal form. Refused as `OutOfMemory` alone.
+pub(crate) fn minimal_column<A: Allocator + Copy>(
     alloc: A,
     array: &RunEndArray<A>,
 ) -> VortexResult<ArrayRef<A>>
@@ -53,7 +53,7 @@ pub(crate) fn least_column<A: Allocator + Copy>(
     ensures only { IsOkUnless result VortexError.OutOfMemory }
     ensures rows { IfOk result (λ least. rows least ≡ column_rows (column_of_runs array.now)) }
     ensures dtype { IfOk result (λ least. dtype_of least ≡ column_dtype array.now.values) }
-    ensures form { IfOk result (λ least. IsLeastForm array.now.ends_type (column_of least)) }
+    ensures form { IfOk result (λ least. IsMinimalForm array.now.ends_type (column_of least)) }
 {
     let numbers = visible_numbers(alloc, array)?;
     with_minimal_runs(array, numbers, alloc)
@@ -137,7 +137,7 @@ fn numbers_in<A: Allocator + Copy>(values: ArrayRef<A>) -> PrimitiveArray<A>
     }
 }
 
-// The runs with a selected row, of integers and in least form: runs that a dropped one divided may be
+// The runs with a selected row, of integers and in minimal form: runs that a dropped one divided may be
 // equal neighbours now.
 fn least_kept<A: Allocator + Copy>(
     alloc: A,
@@ -150,11 +150,11 @@ fn least_kept<A: Allocator + Copy>(
     ensures rows { IfOk result (λ kept. column_rows (column_of_runs kept) ≡
         filter_rows bits.now (column_rows (column_of_runs array.now))) }
     ensures dtype { IfOk result (λ kept. column_dtype kept.values ≡ column_dtype array.now.values) }
-    ensures form { IfOk result (λ kept. AreLeastRuns array.now.ends_type kept) }
+    ensures form { IfOk result (λ kept. AreMinimalRuns array.now.ends_type kept) }
 {
     let (ends, values) = kept_parts(alloc, array, bits)?;
     let numbers = numbers_in(values);
-    least_runs(alloc, ends, numbers, 0, bits.true_count())
+    minimal_runs(alloc, ends, numbers, 0, bits.true_count())
 }
 
 // The integers of the visible runs, with 0 under null.

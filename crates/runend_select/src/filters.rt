@@ -12,7 +12,7 @@ ghost use Rattle.runend_array.specs.Encoding.{IsComputedFlat};
 ghost use Rattle.array_rowwise.specs.Computed.{IsComputedAs};
 ghost use Rattle.runend_select.specs.FilterForm.{HasNoRuns, IsFilterForm, IsSelectedForm, IsWholeForm, TakesDirectly};
 
-use crate::filtered_runs::{least_column, selected_runs};
+use crate::filtered_runs::{minimal_column, selected_runs};
 use crate::taken_runs::taken_rows;
 use array_rowwise::set_bit_indices;
 use column_core::{BitBuffer, Mask, Validity, VortexError, VortexResult, is_number_type};
@@ -22,7 +22,7 @@ use runend_array::{
 };
 use std::alloc::Allocator;
 
-/// The rows at which the mask is true, in order. Runs of integers are left in least form: as few as
+/// The rows at which the mask is true, in order. Runs of integers are left in minimal form: as few as
 /// can be, none hidden and no neighbours equal (null is equal to null), at offset 0, the last end the
 /// number of rows, with ends of the same type and flat values. Of other types the column is unchanged
 /// under `AllTrue`, has no runs and offset 0 under `AllFalse`, and else the runs with a selected row are
@@ -126,7 +126,7 @@ fn unchanged<A: Allocator + Copy>(
     ArrayRef::of_runs(*ctx.allocator(), copy)
 }
 
-// All rows: of integers in least form, of other types unchanged.
+// All rows: of integers in minimal form, of other types unchanged.
 fn all_rows<A: Allocator + Copy>(
     array: &RunEndArray<A>,
     ctx: &mut ExecutionCtx<A>,
@@ -139,7 +139,7 @@ fn all_rows<A: Allocator + Copy>(
     ensures session { ctx.new ≡ ctx.old }
 {
     if is_number_type(array.dtype()) {
-        return least_column(*ctx.allocator(), array);
+        return minimal_column(*ctx.allocator(), array);
     }
     unchanged(array, ctx)
 }

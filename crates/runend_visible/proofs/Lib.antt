@@ -1,4 +1,4 @@
-pub mod LeastRuns
+pub mod MinimalRuns
 pub mod OverVisible
 pub mod PassedOn
 pub mod VisibleWindow

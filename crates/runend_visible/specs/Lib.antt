@@ -1,2 +1,2 @@
-pub mod LeastForm
+pub mod MinimalForm
 pub mod VisibleForm

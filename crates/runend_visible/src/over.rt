@@ -10,7 +10,7 @@ ghost use Rattle.runend_windows.specs.Window.{run_rows, IsWindow};
 ghost use Rattle.runend_array.specs.Array.{column_of, dtype_of, rows};
 ghost use Rattle.runend_array.specs.Column.{column_dtype, column_of_runs, column_rows};
 ghost use Rattle.runend_coalesce.specs.Joined.{AllHaveRows};
-ghost use Rattle.runend_visible.specs.LeastForm.{AreLeastRuns, IsLeastForm, IsRunForm};
+ghost use Rattle.runend_visible.specs.MinimalForm.{AreMinimalRuns, IsMinimalForm, IsRunForm};
 ghost use Rattle.runend_visible.specs.VisibleForm.{IsOverVisibleRuns, visible_ends, visible_values as values_of_visible, window_start};
 
 use crate::visible::{ends_of_visible, visible_offset};
@@ -20,7 +20,7 @@ use runend_coalesce::coalesce_runs;
 use std::alloc::Allocator;
 
 /// The rows that the visible runs show over these values, one for each, as a run column with ends of the same
-/// type and flat values: of integers in least form, of other values over the visible runs as they are.
+/// type and flat values: of integers in minimal form, of other values over the visible runs as they are.
 /// Refused as `OutOfMemory` alone.
 pub fn over_runs<A: Allocator + Copy>(
     array: &RunEndArray<A>,
@@ -77,7 +77,7 @@ pub fn over_visible_runs<A: Allocator + Copy>(
     ArrayRef::of_runs(alloc, part)
 }
 
-/// The rows that the visible runs show over these integers, one for each, as a run column in least form,
+/// The rows that the visible runs show over these integers, one for each, as a run column in minimal form,
 /// with ends of the same type. Refused as `OutOfMemory` alone.
 pub fn with_minimal_runs<A: Allocator + Copy>(
     array: &RunEndArray<A>,
@@ -90,7 +90,7 @@ pub fn with_minimal_runs<A: Allocator + Copy>(
     ensures rows { IfOk result (λ part. rows part ≡ run_rows (visible_ends array.now) (single_rows (OfNumbers numbers))
         (window_start array.now.count array.now.offset) array.now.count) }
     ensures dtype { IfOk result (λ part. dtype_of part ≡ primitive_dtype numbers) }
-    ensures form { IfOk result (λ part. IsLeastForm array.now.ends_type (column_of part)) }
+    ensures form { IfOk result (λ part. IsMinimalForm array.now.ends_type (column_of part)) }
 {
     let ends = match ends_of_visible(array, alloc) {
         Ok(ends) => ends,
@@ -99,13 +99,13 @@ pub fn with_minimal_runs<A: Allocator + Copy>(
             return Err(error);
         }
     };
-    let least = least_runs(alloc, ends, numbers, visible_offset(array), array.len())?;
+    let least = minimal_runs(alloc, ends, numbers, visible_offset(array), array.len())?;
     ArrayRef::of_runs(alloc, least)
 }
 
 /// The rows that runs with these ends and values show, `count` of them from position `offset` on, as a run
-/// column in least form, with ends of the same type. Each run has to show a row. Refused as `OutOfMemory` alone.
-pub fn least_runs<A: Allocator + Copy>(
+/// column in minimal form, with ends of the same type. Each run has to show a row. Refused as `OutOfMemory` alone.
+pub fn minimal_runs<A: Allocator + Copy>(
     alloc: A,
     ends: PrimitiveArray<A>,
     values: PrimitiveArray<A>,
@@ -121,7 +121,7 @@ pub fn least_runs<A: Allocator + Copy>(
     ensures rows { IfOk result (λ least. column_rows (column_of_runs least) ≡
         run_rows (ends_of ends) (number_rows values) offset count) }
     ensures dtype { IfOk result (λ least. column_dtype least.values ≡ primitive_dtype values) }
-    ensures form { IfOk result (λ least. AreLeastRuns ends.ptype least) }
+    ensures form { IfOk result (λ least. AreMinimalRuns ends.ptype least) }
 {
     prove_eq!(values.len(), ends.len());
     let (joined_ends, joined_values) = coalesce_runs(alloc, ends, values, offset, count)?;

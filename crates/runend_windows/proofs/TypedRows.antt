@@ -160,7 +160,7 @@ number_rows-of_Shows array ends numbers bits count shows =
     ∙ ap (map (option_map (λ (v : FlatValue). Single v))) (run_rows-map (λ (n : ℤ). Number n) ends (optionals numbers bits) 0 count)
     ∙ run_rows-map (λ (v : FlatValue). Single v) ends _ 0 count
 
--- and of truth values
+-- and of booleans
 pub truth_rows-of_Shows : (items : List Bool) (form : ValidityForm) (ends : List ℕ) (truths : List Bool) (bits : List Bool) (count : ℕ) → Shows false items form ends truths bits count
     → map (option_map (λ (v : FlatValue). Single v)) (map (option_map (λ (b : Bool). Truth b)) (optionals items (flags form (length items)))) ≡ run_rows ends (masked_truths truths bits) 0 count
 truth_rows-of_Shows items form ends truths bits count shows =

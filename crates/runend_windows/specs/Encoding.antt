@@ -10,7 +10,7 @@ use Rattle.runend_windows.specs.Window.{last_end, run_rows}
 use Rattle.runend_windows.specs.Cover.{IsTightCover}
 use Rattle.runend_windows.specs.Ends.{ends_of}
 
--- the rows of a flat column of whole numbers
+-- the rows of a flat column of integers
 abbrev pub number_rows : PrimitiveForm → List (Option Value)
 number_rows form = map (option_map Single) (primitive_rows form)
 
@@ -22,7 +22,7 @@ blanked blank rows = map (λ row. unwrap_or row blank) rows
 abbrev pub IsAllInvalid : PrimitiveForm → Type 0
 IsAllInvalid form = (form.validity ≡ AllNull) × (0 < length form.numbers)
 
--- the encoding of a flat column of whole numbers by flat values
+-- the encoding of a flat column of integers by flat values
 pub record IsFlatEncoding (array ends values : PrimitiveForm) : Type 0 where
   pub cover : IsTightCover (number_rows array) (ends_of ends) (number_rows values)
   pub dtype : primitive_dtype values ≡ primitive_dtype array
@@ -40,7 +40,7 @@ pub record IsDecodedLeaf (ends : List ℕ) (values : Leaf) (offset count : ℕ) 
   pub dtype : leaf_dtype array ≡ leaf_dtype values
   pub computed : IsComputedLeaf array
 
--- the flat column of whole numbers of the rows that runs with these ends and values show
+-- the flat column of integers of the rows that runs with these ends and values show
 pub record IsDecodedFlat (ends : List ℕ) (values : PrimitiveForm) (offset count : ℕ) (array : PrimitiveForm) : Type 0 where
   pub rows : number_rows array ≡ run_rows ends (number_rows values) offset count
   pub dtype : primitive_dtype array ≡ primitive_dtype values

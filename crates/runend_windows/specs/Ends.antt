@@ -11,6 +11,6 @@ abbrev pub IsEndsType : DType → Type 0
 IsEndsType (column.Primitive t NonNullable) = IsUnsigned t
 IsEndsType t = ⊥
 
--- the ends of a flat column of whole numbers
+-- the ends of a flat column of integers
 abbrev pub ends_of : PrimitiveForm → List ℕ
 ends_of form = map unsigned_abs form.numbers

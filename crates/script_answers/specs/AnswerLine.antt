@@ -48,7 +48,7 @@ IsQuestion IsConstant = Unit {0}
 IsQuestion (IsSorted strict) = Unit {0}
 IsQuestion command = ⊥
 
--- the answers that have a line: of whole numbers, of truths that the command asks for, and of refusals for other reasons than want of memory
+-- the answers that have a line: of integers, of truths that the command asks for, and of refusals for other reasons than want of memory
 abbrev pub HasLine : {A : Type 0} → Command A → Answer A → Type 0
 HasLine command (answer.Value scalar) = IsNullOrNumber (shown scalar)
 HasLine command (answer.MinMax None) = Unit {0}

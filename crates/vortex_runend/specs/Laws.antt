@@ -1,4 +1,4 @@
--- The laws of encodings, stated over lists of optional values, so of whole numbers too.
+-- The laws of encodings, stated over lists of optional values, so of integers too.
 use Rattle.std.specs.Prelude.{IsTrue, ◌≡◌, ◌≢◌, ◌+◌, ◌≤◌, ◌↔◌, ℕ, ℤ, List, Option, Some, None, length, slice_get, slice_range}
 use Rattle.column_core.specs.Refusal.{range_fault}
 use Rattle.column_core.specs.Value.{Value}

@@ -5,7 +5,7 @@ ghost use Rattle.column_ops.specs.Fill.{fill_dtype, fill_fault};
 ghost use Rattle.runend_array.specs.Array.{column_of, dtype_of, rows};
 ghost use Rattle.runend_array.specs.Column.{IsFlat};
 ghost use Rattle.runend_array.specs.declared.session.Kernel.TheVariants.{FillNull as fill_kernel};
-ghost use Rattle.runend_visible.specs.LeastForm.{IsRunForm};
+ghost use Rattle.runend_visible.specs.MinimalForm.{IsRunForm};
 ghost use Rattle.runend_commands.specs.KernelForms.{HasKernel, OnRuns};
 ghost use Rattle.runend_commands.specs.Meaning.{rows_filled};
 

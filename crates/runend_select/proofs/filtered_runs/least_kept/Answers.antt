@@ -12,9 +12,9 @@ use Rattle.runend_windows.specs.Ends.{ends_of}
 use Rattle.runend_windows.specs.Window.{run_rows, IsWindow}
 use Rattle.runend_windows.proofs.Ends.{length_ends_of}
 use Rattle.runend_coalesce.specs.Joined.{AllHaveRows}
-use Rattle.runend_visible.specs.LeastForm.{AreLeastRuns}
+use Rattle.runend_visible.specs.MinimalForm.{AreMinimalRuns}
 use Rattle.array_rowwise.proofs.ComputedRows.{ok_then}
-use Rattle.runend_select.proofs.LeastForms.{flat_of_computed}
+use Rattle.runend_select.proofs.MinimalForms.{flat_of_computed}
 use Rattle.array_rowwise.proofs.PassedOn.{no_value, only_error}
 use Rattle.runend_select.proofs.filtered_runs.least_kept.Goals as goal
 
@@ -25,8 +25,8 @@ numbers_in-numbers-requires g c =
       flat = flat_of_computed (column_of c.in_ok-ends.values) c.in_ok-ends.ensures.form.flat;
     }
 
-pub least_runs-requires : goal.least_runs-requires
-least_runs-requires g c =
+pub minimal_runs-requires : goal.minimal_runs-requires
+minimal_runs-requires g c =
     let ends = c.in_ok-ends.ends in
     let numbers = c.numbers_in-numbers.result in
     let parts = c.in_ok-ends.ensures.parts in
@@ -41,23 +41,23 @@ least_runs-requires g c =
 
 pub returns-clause-only : goal.returns-clause-only
 returns-clause-only g c =
-    c.least_runs.ensures.only
+    c.minimal_runs.ensures.only
 
 pub returns-clause-rows : goal.returns-clause-rows
 returns-clause-rows g c =
     let ends = ends_of c.in_ok-ends.ends in
     let values = sym (ap column_rows c.numbers_in-numbers.ensures) in
-    ok_then c.least_runs.result _ _
+    ok_then c.minimal_runs.result _ _
     (λ least is. is ∙ ap (λ (rows : List (Option Value)). run_rows ends rows 0 c.true_count.result) values ∙ ap (run_rows ends (column_rows (column_of c.in_ok-ends.values)) 0) c.true_count.ensures
-    ∙ c.in_ok-ends.ensures.rows) c.least_runs.ensures.rows
+    ∙ c.in_ok-ends.ensures.rows) c.minimal_runs.ensures.rows
 
 pub returns-clause-dtype : goal.returns-clause-dtype
 returns-clause-dtype g c =
-    ok_then c.least_runs.result _ _ (λ least is. is ∙ sym (ap column_dtype c.numbers_in-numbers.ensures) ∙ c.in_ok-ends.ensures.dtype) c.least_runs.ensures.dtype
+    ok_then c.minimal_runs.result _ _ (λ least is. is ∙ sym (ap column_dtype c.numbers_in-numbers.ensures) ∙ c.in_ok-ends.ensures.dtype) c.minimal_runs.ensures.dtype
 
 pub returns-clause-form : goal.returns-clause-form
 returns-clause-form g c =
-    ok_then c.least_runs.result _ _ (λ least form. subst (λ (t : PType). AreLeastRuns t least) c.in_ok-ends.ensures.form.ends_type form) c.least_runs.ensures.form
+    ok_then c.minimal_runs.result _ _ (λ least form. subst (λ (t : PType). AreMinimalRuns t least) c.in_ok-ends.ensures.form.ends_type form) c.minimal_runs.ensures.form
 
 pub returns-in_err-ends-clause-only : goal.returns-in_err-ends-clause-only
 returns-in_err-ends-clause-only g c =

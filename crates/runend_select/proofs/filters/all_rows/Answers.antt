@@ -6,27 +6,27 @@ use Rattle.runend_select.specs.FilterForm.{IsWholeForm}
 use Rattle.array_rowwise.proofs.ComputedRows.{ok_then}
 use Rattle.runend_select.proofs.filters.all_rows.Goals as goal
 
-pub least_column-requires : goal.least_column-requires
-least_column-requires g c =
+pub minimal_column-requires : goal.minimal_column-requires
+minimal_column-requires g c =
     let numbers : is_numbers (column_dtype c.args.array.now.values) ≡ true = ap is_numbers (sym c.dtype.ensures) ∙ sym c.is_number_type.ensures ∙ c.if-is_number_type.true in
     record { numbers = numbers }
 
 pub returns-then-is_number_type-clause-only : goal.returns-then-is_number_type-clause-only
 returns-then-is_number_type-clause-only g c =
-    c.least_column.ensures.only
+    c.minimal_column.ensures.only
 
 pub returns-then-is_number_type-clause-rows : goal.returns-then-is_number_type-clause-rows
 returns-then-is_number_type-clause-rows g c =
-    c.least_column.ensures.rows
+    c.minimal_column.ensures.rows
 
 pub returns-then-is_number_type-clause-dtype : goal.returns-then-is_number_type-clause-dtype
 returns-then-is_number_type-clause-dtype g c =
-    c.least_column.ensures.dtype
+    c.minimal_column.ensures.dtype
 
 pub returns-then-is_number_type-clause-form : goal.returns-then-is_number_type-clause-form
 returns-then-is_number_type-clause-form g c =
     let numbers : is_numbers (column_dtype c.args.array.now.values) ≡ true = ap is_numbers (sym c.dtype.ensures) ∙ sym c.is_number_type.ensures ∙ c.if-is_number_type.true in
-    ok_then c.least_column.result _ _ (λ least form. subst (λ (b : Bool). IsWholeForm b c.args.array.now (column_of least)) (sym numbers) form) c.least_column.ensures.form
+    ok_then c.minimal_column.result _ _ (λ least form. subst (λ (b : Bool). IsWholeForm b c.args.array.now (column_of least)) (sym numbers) form) c.minimal_column.ensures.form
 
 pub returns-clause-only : goal.returns-clause-only
 returns-clause-only g c =

@@ -3,7 +3,7 @@ use Rattle.runend_array.specs.Canonical.{canonical_column}
 use Rattle.runend_array.specs.Column.{column_dtype, column_rows}
 use Rattle.runend_array.specs.Encoding.{IsComputedFlat}
 use Rattle.array_rowwise.proofs.ComputedRows.{ok_then}
-use Rattle.runend_select.proofs.LeastForms.{computed_none}
+use Rattle.runend_select.proofs.MinimalForms.{computed_none}
 use Rattle.array_rowwise.proofs.PassedOn.{no_value, only_error}
 use Rattle.runend_select.proofs.filters.no_values.Goals as goal
 

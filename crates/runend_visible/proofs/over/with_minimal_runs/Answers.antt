@@ -2,8 +2,8 @@ use Rattle.std.proofs.Common.{◌∙◌, ap, subst, sym}
 use Rattle.column_base.specs.declared.dtype.PType.{PType}
 use Rattle.column_core.specs.Leaf.{OfNumbers, single_rows}
 use Rattle.runend_array.specs.Column.{column_dtype, column_of_runs, column_rows}
-use Rattle.runend_visible.specs.LeastForm.{IsLeastForm}
-use Rattle.runend_visible.proofs.LeastRuns.{least_column}
+use Rattle.runend_visible.specs.MinimalForm.{IsMinimalForm}
+use Rattle.runend_visible.proofs.MinimalRuns.{minimal_column}
 use Rattle.runend_visible.proofs.PassedOn.{if_ok, no_value}
 use Rattle.runend_visible.proofs.VisibleWindow.{read_rows, read_shown, read_window}
 use Rattle.runend_visible.proofs.over.with_minimal_runs.Goals as goal
@@ -29,8 +29,8 @@ returns-in_err-least-clause-form g c = no_value _ c.from_residual.result c.from_
 pub returns-in_err-least-clause-rows : goal.returns-in_err-least-clause-rows
 returns-in_err-least-clause-rows g c = no_value _ c.from_residual.result c.from_residual.ensures.0
 
-pub least_runs-requires : goal.least_runs-requires
-least_runs-requires g c =
+pub minimal_runs-requires : goal.minimal_runs-requires
+minimal_runs-requires g c =
     let array = c.args.array.now in
     let ends = c.in-Ok.ends in
     record {
@@ -57,5 +57,5 @@ pub returns-clause-form : goal.returns-clause-form
 returns-clause-form g c =
     let least = c.in_ok-least.least in
     if_ok c.of_runs.result (λ boxed same.
-    subst (IsLeastForm c.args.array.now.ends_type) (sym same)
-    (subst (λ (wanted : PType). IsLeastForm wanted (column_of_runs least)) c.in-Ok.ensures.typed (least_column c.in-Ok.ends.ptype least c.in_ok-least.ensures.form))) c.of_runs.ensures.form
+    subst (IsMinimalForm c.args.array.now.ends_type) (sym same)
+    (subst (λ (wanted : PType). IsMinimalForm wanted (column_of_runs least)) c.in-Ok.ensures.typed (minimal_column c.in-Ok.ends.ptype least c.in_ok-least.ensures.form))) c.of_runs.ensures.form

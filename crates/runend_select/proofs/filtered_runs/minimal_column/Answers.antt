@@ -8,7 +8,7 @@ use Rattle.runend_visible.specs.VisibleForm.{visible_ends, window_start}
 use Rattle.runend_visible.proofs.VisibleWindow.{visible_rows}
 use Rattle.array_rowwise.proofs.ComputedRows.{ok_then}
 use Rattle.array_rowwise.proofs.PassedOn.{no_value, only_error}
-use Rattle.runend_select.proofs.filtered_runs.least_column.Goals as goal
+use Rattle.runend_select.proofs.filtered_runs.minimal_column.Goals as goal
 
 pub with_minimal_runs-requires : goal.with_minimal_runs-requires
 with_minimal_runs-requires g c =

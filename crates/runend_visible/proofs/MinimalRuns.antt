@@ -13,7 +13,7 @@ use Rattle.runend_windows.specs.Window.{run_rows, IsWindow}
 use Rattle.runend_windows.proofs.RunRows.{Covers_iff_run_rows, length-run_rows}
 use Rattle.runend_coalesce.specs.Joined.{AreJoined}
 use Rattle.runend_array.specs.Column.{AreParts, OfLeaf, Runs, column_dtype, column_of_runs, column_rows, runs_of}
-use Rattle.runend_visible.specs.LeastForm.{AreLeastRuns, IsLeastForm}
+use Rattle.runend_visible.specs.MinimalForm.{AreMinimalRuns, IsMinimalForm}
 
 -- the runs of a tight cover are a window over its rows
 pub least_window : (rows : List (Option Value)) (ends : List ℕ) (values : List (Option Value)) (count : ℕ) → length rows ≡ count → IsTightCover rows ends values → IsWindow ends 0 count
@@ -45,7 +45,7 @@ module _ (ends values joined_ends joined_values : PrimitiveForm) (offset count :
     };
   }
 
-  -- of the same rows, of the same type, in least form
+  -- of the same rows, of the same type, in minimal form
   module _ (least : Runs) (made : least ≡ runs_of (OfLeaf (OfNumbers joined_ends)) (OfLeaf (OfNumbers joined_values)) 0 count) where
     pub joined_rows : column_rows (column_of_runs least) ≡ shown
     joined_rows = subst (λ (p : Runs). column_rows (column_of_runs p) ≡ shown) (sym made) (least_rows shown (ends_of joined_ends) (number_rows joined_values) count counted joined.cover)
@@ -53,8 +53,8 @@ module _ (ends values joined_ends joined_values : PrimitiveForm) (offset count :
     pub joined_dtype : column_dtype least.values ≡ primitive_dtype values
     joined_dtype = subst (λ (p : Runs). column_dtype p.values ≡ primitive_dtype values) (sym made) joined.dtype
 
-    pub joined_form : AreLeastRuns ends.ptype least
-    joined_form = subst (λ (p : Runs). AreLeastRuns ends.ptype p) (sym made) (record {
+    pub joined_form : AreMinimalRuns ends.ptype least
+    joined_form = subst (λ (p : Runs). AreMinimalRuns ends.ptype p) (sym made) (record {
       cover = subst (λ (rows : List (Option Value)). IsTightCover rows (ends_of joined_ends) (number_rows joined_values))
           (sym (least_rows shown (ends_of joined_ends) (number_rows joined_values) count counted joined.cover)) joined.cover;
       offset = refl;
@@ -62,6 +62,6 @@ module _ (ends values joined_ends joined_values : PrimitiveForm) (offset count :
       values = joined.computed;
     })
 
--- least form of runs is that of the column that they are
-pub least_column : (wanted : PType) (least : Runs) → AreLeastRuns wanted least → IsLeastForm wanted (column_of_runs least)
-least_column wanted least form = record { cover = form.cover; offset = form.offset; ends_type = form.ends_type; values = form.values }
+-- minimal form of runs is that of the column that they are
+pub minimal_column : (wanted : PType) (least : Runs) → AreMinimalRuns wanted least → IsMinimalForm wanted (column_of_runs least)
+minimal_column wanted least form = record { cover = form.cover; offset = form.offset; ends_type = form.ends_type; values = form.values }

@@ -1,6 +1,6 @@
-use Rattle.runend_visible.proofs.LeastRuns.{joined_dtype, joined_form, joined_parts, joined_rows}
+use Rattle.runend_visible.proofs.MinimalRuns.{joined_dtype, joined_form, joined_parts, joined_rows}
 use Rattle.runend_visible.proofs.PassedOn.{no_value}
-use Rattle.runend_visible.proofs.over.least_runs.Goals as goal
+use Rattle.runend_visible.proofs.over.minimal_runs.Goals as goal
 
 pub new_unchecked-requires : goal.new_unchecked-requires
 new_unchecked-requires g c = joined_parts c.args.ends c.args.values c.in_ok-joined_ends.joined_ends c.in_ok-joined_ends.joined_values c.args.offset c.args.count c.in_ok-joined_ends.ensures.joined c.requires.plain

@@ -16,7 +16,7 @@ use Rattle.runend_array.specs.Column.{Column, OfLeaf, OfConstant, OfLists, OfRun
 use Rattle.runend_array.specs.Encoding.{IsComputedFlat}
 use Rattle.runend_windows.proofs.Grow.{IsTightCover-of_none}
 use Rattle.runend_select.specs.FilterForm.{HasNoRuns}
-use Rattle.runend_visible.specs.LeastForm.{IsLeastForm}
+use Rattle.runend_visible.specs.MinimalForm.{IsMinimalForm}
 
 -- a flat form as a call computes it is a flat form
 pub flat_of_computed : (column : Column) → IsComputedFlat column → IsFlat column
@@ -25,7 +25,7 @@ flat_of_computed (OfConstant constant) h = h
 flat_of_computed (OfLists lists) h = tt
 flat_of_computed (OfRuns ends_type ends values offset count) h = h
 
--- whole numbers are no lists
+-- integers are no lists
 pub number_lists : (dtype : DType) → is_numbers dtype ≡ true → ¬ IsLists dtype
 number_lists (column.Bool n) is lists = lists
 number_lists (column.Primitive t n) is lists = lists
@@ -70,8 +70,8 @@ computed_none (OfConstant constant) none normal some = normal
 computed_none (OfLists lists) none normal some = tt
 computed_none (OfRuns ends_type ends values offset count) none normal some = normal
 
--- no runs are the least form of no rows
-pub least-without_runs : (whole : Runs) (column : Column) → HasNoRuns whole column → IsLeastForm whole.ends_type column
+-- no runs are the minimal form of no rows
+pub least-without_runs : (whole : Runs) (column : Column) → HasNoRuns whole column → IsMinimalForm whole.ends_type column
 least-without_runs whole (OfLeaf leaf) h = h
 least-without_runs whole (OfConstant constant) h = h
 least-without_runs whole (OfLists lists) h = h
