@@ -85,7 +85,7 @@ fn runs_of_runs<A: Allocator + Copy>(
         IsRowEncoding (column_rows (column_of_runs runs.now)) (column_dtype runs.now.values)
         parts.0 (leaf_of parts.1)) }
 {
-    let values = visible_values(runs, alloc)?;
+    let values = visible_values(alloc, runs)?;
     let made = runs_over(alloc, runs, &values);
     drop(values);
     made
@@ -105,7 +105,7 @@ fn runs_over<A: Allocator + Copy>(
         IsRowEncoding (column_rows (column_of_runs runs.now)) (column_dtype runs.now.values)
         parts.0 (leaf_of parts.1)) }
 {
-    let ends = ends_of_visible(runs, alloc)?;
+    let ends = ends_of_visible(alloc, runs)?;
     encode_runs(alloc, &ends, values, visible_offset(runs), runs.len())
 }
 

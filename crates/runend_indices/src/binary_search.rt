@@ -14,8 +14,8 @@ use std::alloc::Allocator;
 /// each valid index it tests no more ends than their number has binary digits. Refused as
 /// `OutOfMemory` alone, before any test.
 pub fn physical_indices_binary<E: UnsignedPType, T: NativePType, A: Allocator + Copy>(
-    ends: &mut CountedEnds<'_, E>,
     alloc: A,
+    ends: &mut CountedEnds<'_, E>,
     offset: usize,
     indices: &[T],
     mask: &Mask<A>,
@@ -31,16 +31,16 @@ pub fn physical_indices_binary<E: UnsignedPType, T: NativePType, A: Allocator + 
     ensures untested { OnErr result (ends.new.tests ≡ ends.old.tests) }
 {
     if selects_all(mask) {
-        searched_runs::<true, E, T, A>(ends, alloc, offset, indices, mask)
+        searched_runs::<true, E, T, A>(alloc, ends, offset, indices, mask)
     } else {
-        searched_runs::<false, E, T, A>(ends, alloc, offset, indices, mask)
+        searched_runs::<false, E, T, A>(alloc, ends, offset, indices, mask)
     }
 }
 
 // The run of each valid index, and 0 for a null one, where `ALL` says that no index is null.
 fn searched_runs<const ALL: bool, E: UnsignedPType, T: NativePType, A: Allocator + Copy>(
-    ends: &mut CountedEnds<'_, E>,
     alloc: A,
+    ends: &mut CountedEnds<'_, E>,
     offset: usize,
     indices: &[T],
     mask: &Mask<A>,

@@ -46,8 +46,8 @@ pub fn picked_strategy<T: NativePType, A: Allocator>(
 /// else 0. It tests no more ends than the picked strategy; a table costs the tests that it takes to
 /// make it. Refused as `OutOfMemory` alone, before any test.
 pub fn physical_indices<E: UnsignedPType, T: NativePType, A: Allocator + Copy>(
-    ends: &mut CountedEnds<'_, E>,
     alloc: A,
+    ends: &mut CountedEnds<'_, E>,
     offset: usize,
     length: usize,
     indices: &[T],
@@ -68,7 +68,7 @@ pub fn physical_indices<E: UnsignedPType, T: NativePType, A: Allocator + Copy>(
     ensures untested { OnErr result (ends.new.tests ≡ ends.old.tests) }
 {
     let strategy = picked_strategy(indices, mask, ends.len(), length, thresholds);
-    physical_indices_by(strategy, ends, alloc, offset, length, indices, mask)
+    physical_indices_by(alloc, strategy, ends, offset, length, indices, mask)
 }
 
 // Are so many runs or rows at most `per_index` for each of so many valid indices?
@@ -109,9 +109,9 @@ fn prefers_sort_and_merge(count: usize, runs: usize, thresholds: TakeThresholds)
 
 // What a strategy answers.
 fn physical_indices_by<E: UnsignedPType, T: NativePType, A: Allocator + Copy>(
+    alloc: A,
     strategy: Strategy,
     ends: &mut CountedEnds<'_, E>,
-    alloc: A,
     offset: usize,
     length: usize,
     indices: &[T],
@@ -132,11 +132,11 @@ fn physical_indices_by<E: UnsignedPType, T: NativePType, A: Allocator + Copy>(
     ensures untested { OnErr result (ends.new.tests ≡ ends.old.tests) }
 {
     match strategy {
-        Strategy::SortedMerge => physical_indices_linear_sorted(ends, alloc, offset, indices, mask),
-        Strategy::Table => runs_by_table(ends, alloc, offset, length, indices, mask),
+        Strategy::SortedMerge => physical_indices_linear_sorted(alloc, ends, offset, indices, mask),
+        Strategy::Table => runs_by_table(alloc, ends, offset, length, indices, mask),
         Strategy::SortAndMerge => {
-            physical_indices_linear_unsorted(ends, alloc, offset, indices, mask)
+            physical_indices_linear_unsorted(alloc, ends, offset, indices, mask)
         }
-        Strategy::Binary => physical_indices_binary(ends, alloc, offset, indices, mask),
+        Strategy::Binary => physical_indices_binary(alloc, ends, offset, indices, mask),
     }
 }

@@ -13,8 +13,8 @@ use std::alloc::Allocator;
 /// The run of each of `length` rows, from position `offset` on. It tests an end for each row and one
 /// for each run but the last, at most. Refused as `OutOfMemory` alone, before any test.
 pub fn run_index_table<E: UnsignedPType, A: Allocator + Copy>(
-    ends: &mut CountedEnds<'_, E>,
     alloc: A,
+    ends: &mut CountedEnds<'_, E>,
     offset: usize,
     length: usize,
 ) -> VortexResult<Vec<u64, A>>
@@ -27,7 +27,7 @@ pub fn run_index_table<E: UnsignedPType, A: Allocator + Copy>(
 {
     // Read for its range: each run is a number of 64 bits.
     let _runs = ends.len();
-    table_of::<u64, E, A>(ends, alloc, offset, length)
+    table_of::<u64, E, A>(alloc, ends, offset, length)
 }
 
 // A run as a position.
@@ -41,8 +41,8 @@ fn position_of<P: UnsignedPType>(run: usize) -> P
 
 // The table of the run of each row, of positions that every run fits.
 fn table_of<P: UnsignedPType, E: UnsignedPType, A: Allocator + Copy>(
-    ends: &mut CountedEnds<'_, E>,
     alloc: A,
+    ends: &mut CountedEnds<'_, E>,
     offset: usize,
     length: usize,
 ) -> VortexResult<Vec<P, A>>
@@ -69,8 +69,8 @@ fn table_of<P: UnsignedPType, E: UnsignedPType, A: Allocator + Copy>(
 /// The table's item at each valid index, and its first item at a null one. No end is tested, since
 /// none is lent. Refused as `OutOfMemory` alone.
 pub fn physical_indices_table<T: NativePType, A: Allocator + Copy>(
-    table: &[u64],
     alloc: A,
+    table: &[u64],
     indices: &[T],
     mask: &Mask<A>,
 ) -> VortexResult<Vec<u64, A>>
@@ -136,8 +136,8 @@ fn looked_up<const ALL: bool, P: UnsignedPType, T: NativePType, A: Allocator>(
 // The run of each index by a table of such positions. The room for the answers is taken first, so that
 // a refused call has tested nothing.
 fn runs_in_table<P: UnsignedPType, E: UnsignedPType, T: NativePType, A: Allocator + Copy>(
-    ends: &mut CountedEnds<'_, E>,
     alloc: A,
+    ends: &mut CountedEnds<'_, E>,
     offset: usize,
     length: usize,
     indices: &[T],
@@ -156,7 +156,7 @@ fn runs_in_table<P: UnsignedPType, E: UnsignedPType, T: NativePType, A: Allocato
     ensures untested { OnErr result (ends.new.tests ≡ ends.old.tests) }
 {
     let runs = Vec::with_capacity(alloc, indices.len())?;
-    let table = table_of::<P, E, A>(ends, alloc, offset, length)?;
+    let table = table_of::<P, E, A>(alloc, ends, offset, length)?;
     Ok(look_up(table.as_slice(), runs, indices, mask))
 }
 
@@ -164,8 +164,8 @@ fn runs_in_table<P: UnsignedPType, E: UnsignedPType, T: NativePType, A: Allocato
 /// the run of each row: of half the bytes where there are no more than 2^32 runs. It tests as many ends
 /// as it takes to make the table. Refused as `OutOfMemory` alone, before any test.
 pub(crate) fn runs_by_table<E: UnsignedPType, T: NativePType, A: Allocator + Copy>(
-    ends: &mut CountedEnds<'_, E>,
     alloc: A,
+    ends: &mut CountedEnds<'_, E>,
     offset: usize,
     length: usize,
     indices: &[T],
@@ -184,8 +184,8 @@ pub(crate) fn runs_by_table<E: UnsignedPType, T: NativePType, A: Allocator + Cop
 {
     // The last of 2^32 runs is run 2^32 - 1.
     if ends.len() <= 1 << 32 {
-        runs_in_table::<u32, E, T, A>(ends, alloc, offset, length, indices, mask)
+        runs_in_table::<u32, E, T, A>(alloc, ends, offset, length, indices, mask)
     } else {
-        runs_in_table::<u64, E, T, A>(ends, alloc, offset, length, indices, mask)
+        runs_in_table::<u64, E, T, A>(alloc, ends, offset, length, indices, mask)
     }
 }

@@ -38,21 +38,21 @@ pub fn cast<A: Allocator + Copy>(
     }
     let alloc = *ctx.allocator();
     if let Some(numbers) = borrowed_values(array) {
-        return cast_lent(array, numbers, dtype, alloc);
+        return cast_lent(alloc, array, numbers, dtype);
     }
-    let values = visible_values(array, alloc)?;
+    let values = visible_values(alloc, array)?;
     let cast = values.cast(alloc, dtype);
     drop(values);
     let cast = cast?;
-    over_runs(array, cast, alloc)
+    over_runs(alloc, array, cast)
 }
 
 // The cast of a run column whose values are lent: integers, each of which is visible.
 fn cast_lent<A: Allocator + Copy>(
+    alloc: A,
     array: &RunEndArray<A>,
     numbers: &PrimitiveArray<A>,
     dtype: DType,
-    alloc: A,
 ) -> VortexResult<ArrayRef<A>>
     requires valid { AreRuns array.now }
     requires rows { single_rows (OfNumbers numbers.now) ≡ values_of_visible array.now }
@@ -63,5 +63,5 @@ fn cast_lent<A: Allocator + Copy>(
     ensures form { IfOk result (λ cast. IsRunForm dtype array.now (column_of cast)) }
 {
     let cast = numbers.cast(alloc, dtype)?;
-    over_runs(array, FlatColumn::Primitive(cast), alloc)
+    over_runs(alloc, array, FlatColumn::Primitive(cast))
 }

@@ -51,10 +51,10 @@ pub(crate) fn take_from_flat<A: Allocator + Copy>(
     }
     let alloc = *ctx.allocator();
     if let Some(indices) = borrowed_values(codes) {
-        return take_at_codes(codes, indices, dictionary, alloc);
+        return take_at_codes(alloc, codes, indices, dictionary);
     }
-    let indices = visible_codes(codes, alloc)?;
-    let taken = take_at_codes(codes, &indices, dictionary, alloc);
+    let indices = visible_codes(alloc, codes)?;
+    let taken = take_at_codes(alloc, codes, &indices, dictionary);
     drop(indices);
     taken
 }
@@ -72,8 +72,8 @@ fn is_kept_type(dtype: DType) -> bool
 
 // The codes of the visible runs. Refused as `OutOfMemory` alone.
 fn visible_codes<A: Allocator + Copy>(
-    codes: &RunEndArray<A>,
     alloc: A,
+    codes: &RunEndArray<A>,
 ) -> VortexResult<PrimitiveArray<A>>
     requires numbers { is_numbers (column_dtype codes.now.values) ≡ true }
     ensures only { IsOkUnless result VortexError.OutOfMemory }
@@ -81,7 +81,7 @@ fn visible_codes<A: Allocator + Copy>(
     ensures dtype { IfOk result (λ indices. primitive_dtype indices ≡ column_dtype codes.now.values) }
     ensures valid { AreRuns codes.now }
 {
-    let values = visible_values(codes, alloc)?;
+    let values = visible_values(alloc, codes)?;
     match values {
         FlatColumn::Primitive(indices) => Ok(indices),
         _ => unreachable!(),
@@ -90,10 +90,10 @@ fn visible_codes<A: Allocator + Copy>(
 
 // What the dictionary has for the visible runs, put over these runs, or in each row.
 fn placed<A: Allocator + Copy>(
+    alloc: A,
     codes: &RunEndArray<A>,
     taken: FlatColumn<A>,
     kept: bool,
-    alloc: A,
 ) -> VortexResult<ArrayRef<A>>
     requires paired { length (leaf_rows (leaf_of taken)) ≡ length (values_of_visible codes.now) }
     requires computed { IsComputedLeaf (leaf_of taken) }
@@ -104,21 +104,21 @@ fn placed<A: Allocator + Copy>(
     ensures form { IfOk result (λ part. TakeFromLeaves kept (leaf_dtype (leaf_of taken)) codes.now (column_of part)) }
 {
     if kept {
-        let part = over_runs(codes, taken, alloc)?;
+        let part = over_runs(alloc, codes, taken)?;
         Ok(part)
     } else {
         // Booleans, which alone are prefilled, are put over the runs.
-        let flat = shown_rows(codes, taken, alloc, 0)?;
+        let flat = shown_rows(alloc, codes, taken, 0)?;
         Ok(array_of(flat))
     }
 }
 
 // What `take_from_flat` answers, from the codes of the visible runs.
 fn take_at_codes<A: Allocator + Copy>(
+    alloc: A,
     codes: &RunEndArray<A>,
     indices: &PrimitiveArray<A>,
     dictionary: &FlatColumn<A>,
-    alloc: A,
 ) -> VortexResult<ArrayRef<A>>
     requires valid { AreRuns codes.now }
     requires numbers { is_numbers (column_dtype codes.now.values) ≡ true }
@@ -134,5 +134,5 @@ fn take_at_codes<A: Allocator + Copy>(
         (leaf_dtype (leaf_of dictionary.now)) codes.now (column_of taken)) }
 {
     let taken = dictionary.take(alloc, indices)?;
-    placed(codes, taken, is_kept_type(dictionary.dtype()), alloc)
+    placed(alloc, codes, taken, is_kept_type(dictionary.dtype()))
 }

@@ -112,7 +112,7 @@ fn compare_to_scalar<A: Allocator + Copy>(
         return Ok(null_truths(array.len()));
     }
     let alloc = *ctx.allocator();
-    let values = visible_values(array, alloc)?;
+    let values = visible_values(alloc, array)?;
     let truths = values.compare_scalar(alloc, operator, right);
     drop(values);
     let truths = truths?;
@@ -162,8 +162,8 @@ fn compare_beside<A: Allocator + Copy>(
 {
     let alloc = *ctx.allocator();
     let prefill_runs = ctx.session().thresholds().prefill_runs;
-    let values = visible_values(array, alloc)?;
-    let left = shown_rows(array, values, alloc, prefill_runs)?;
+    let values = visible_values(alloc, array)?;
+    let left = shown_rows(alloc, array, values, prefill_runs)?;
     let truths = compare_flat(&left, operator, right, ctx);
     drop(left);
     let truths = truths?;

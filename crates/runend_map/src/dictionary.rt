@@ -103,8 +103,8 @@ fn numbers_of<A: Allocator>(flat: FlatColumn<A>) -> PrimitiveArray<A>
 
 // The codes of all rows, of which only those of visible runs are looked at. Refused as `OutOfMemory` alone.
 fn codes_of_runs<A: Allocator + Copy>(
-    codes: &RunEndArray<A>,
     alloc: A,
+    codes: &RunEndArray<A>,
 ) -> VortexResult<PrimitiveArray<A>>
     requires numbers { is_numbers (column_dtype codes.now.values) ≡ true }
     ensures only { IsOkUnless result VortexError.OutOfMemory }
@@ -112,9 +112,9 @@ fn codes_of_runs<A: Allocator + Copy>(
         optional_numbers indices) }
     ensures dtype { IfOk result (λ indices. primitive_dtype indices ≡ column_dtype codes.now.values) }
 {
-    let values = visible_values(codes, alloc)?;
+    let values = visible_values(alloc, codes)?;
     // Integers are not prefilled.
-    let shown = shown_rows(codes, values, alloc, 0)?;
+    let shown = shown_rows(alloc, codes, values, 0)?;
     Ok(numbers_of(shown))
 }
 
@@ -135,7 +135,7 @@ fn take_each<A: Allocator + Copy>(
     ensures session { ctx.new ≡ ctx.old }
 {
     let alloc = *ctx.allocator();
-    let indices = codes_of_runs(codes, alloc)?;
+    let indices = codes_of_runs(alloc, codes)?;
     let taken = take_rows(dictionary, &indices, ctx);
     drop(indices);
     taken

@@ -41,21 +41,21 @@ pub fn fill_null<A: Allocator + Copy>(
     }
     let alloc = *ctx.allocator();
     if let Some(numbers) = borrowed_values(array) {
-        return fill_lent(array, numbers, value, alloc);
+        return fill_lent(alloc, array, numbers, value);
     }
-    let values = visible_values(array, alloc)?;
+    let values = visible_values(alloc, array)?;
     let filled = values.fill_null(alloc, value);
     drop(values);
     let filled = filled?;
-    over_runs(array, filled, alloc)
+    over_runs(alloc, array, filled)
 }
 
 // A run column whose nulls are filled, where the values are lent: integers, each of which is visible.
 fn fill_lent<A: Allocator + Copy>(
+    alloc: A,
     array: &RunEndArray<A>,
     numbers: &PrimitiveArray<A>,
     value: &Scalar<A>,
-    alloc: A,
 ) -> VortexResult<ArrayRef<A>>
     requires valid { AreRuns array.now }
     requires rows { single_rows (OfNumbers numbers.now) ≡ values_of_visible array.now }
@@ -68,5 +68,5 @@ fn fill_lent<A: Allocator + Copy>(
         (column_of filled)) }
 {
     let filled = numbers.fill_null(alloc, value)?;
-    over_runs(array, FlatColumn::Primitive(filled), alloc)
+    over_runs(alloc, array, FlatColumn::Primitive(filled))
 }

@@ -101,16 +101,16 @@ fn asked_values<A: Allocator + Copy>(
     ensures session { ctx.new ≡ ctx.old }
 {
     match column {
-        ArrayRef::RunEnd(runs) => visible_values(runs, *ctx.allocator()),
+        ArrayRef::RunEnd(runs) => visible_values(*ctx.allocator(), runs),
         _ => flat_rows(column, ctx),
     }
 }
 
 // What the function answers to each row. Refused as `OutOfMemory` alone.
 fn answers_to<S: NativePType, R: Drop, F: Fn(Option<S>) -> R, A: Allocator + Copy>(
+    alloc: A,
     values: &FlatColumn<A>,
     function: &F,
-    alloc: A,
 ) -> VortexResult<Vec<R, A>>
     requires native { is_native S.PTYPE (leaf_dtype (leaf_of values.now)) ≡ true }
     requires callable { MayAsk (number_row S.number) (λ row.
@@ -143,7 +143,7 @@ fn asked_answers<S: NativePType, R: Drop, F: Fn(Option<S>) -> R, A: Allocator + 
     ensures session { ctx.new ≡ ctx.old }
 {
     let values = asked_values(column, ctx)?;
-    let answers = answers_to(&values, function, *ctx.allocator());
+    let answers = answers_to(*ctx.allocator(), &values, function);
     drop(values);
     answers
 }
@@ -168,10 +168,10 @@ fn answered<A: Allocator + Copy>(
         return Ok(array_of(answers));
     };
     if ctx.session().is_registered(Kernel::ScalarFn) {
-        over_visible_runs(runs, answers, alloc)
+        over_visible_runs(alloc, runs, answers)
     } else {
         let prefill_runs = ctx.session().thresholds().prefill_runs;
-        let flat = shown_rows(runs, answers, alloc, prefill_runs)?;
+        let flat = shown_rows(alloc, runs, answers, prefill_runs)?;
         Ok(array_of(flat))
     }
 }

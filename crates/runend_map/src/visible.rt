@@ -20,9 +20,9 @@ use std::alloc::Allocator;
 /// rows start as the value of most runs from `prefill_runs` runs on; the answer is the same. Refused as
 /// `OutOfMemory` alone.
 pub(crate) fn shown_rows<A: Allocator + Copy>(
+    alloc: A,
     array: &RunEndArray<A>,
     values: FlatColumn<A>,
-    alloc: A,
     prefill_runs: usize,
 ) -> VortexResult<FlatColumn<A>>
     requires paired { length (leaf_rows (leaf_of values)) ≡ length (values_of_visible array.now) }
@@ -33,7 +33,7 @@ pub(crate) fn shown_rows<A: Allocator + Copy>(
     ensures dtype { IfOk result (λ flat. leaf_dtype (leaf_of flat) ≡ leaf_dtype (leaf_of values)) }
     ensures computed { IfOk result (λ flat. IsComputedLeaf (leaf_of flat)) }
 {
-    let ends = match ends_of_visible(array, alloc) {
+    let ends = match ends_of_visible(alloc, array) {
         Ok(ends) => ends,
         Err(error) => {
             drop(values);
@@ -70,7 +70,7 @@ pub(crate) fn shown_truths<A: Allocator + Copy>(
     ensures session { ctx.new ≡ ctx.old }
 {
     let alloc = *ctx.allocator();
-    let ends = match ends_of_visible(array, alloc) {
+    let ends = match ends_of_visible(alloc, array) {
         Ok(ends) => ends,
         Err(error) => {
             drop(truths);

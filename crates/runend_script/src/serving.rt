@@ -20,7 +20,7 @@ pub fn serve<R: Read, W: Write, E: Write, A: Allocator + Copy>(
     ensures status { (result ≡ 0) ⊎ (result ≡ 2) ⊎ (result ≡ 3) }
 {
     let mut reads = LimitedReads::new(input);
-    let status = match read_input(&mut reads, *ctx.allocator()) {
+    let status = match read_input(*ctx.allocator(), &mut reads) {
         Ok(bytes) => answer(&bytes, out, err, ctx),
         Err(failure) => report(err, failure),
     };

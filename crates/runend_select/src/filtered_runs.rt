@@ -56,7 +56,7 @@ pub(crate) fn minimal_column<A: Allocator + Copy>(
     ensures form { IfOk result (λ least. IsMinimalForm array.now.ends_type (column_of least)) }
 {
     let numbers = visible_numbers(alloc, array)?;
-    with_minimal_runs(array, numbers, alloc)
+    with_minimal_runs(alloc, array, numbers)
 }
 
 // The values at which the mask is true, as a column.
@@ -169,7 +169,7 @@ fn visible_numbers<A: Allocator + Copy>(
     ensures computed { IfOk result (λ numbers. IsComputed numbers) }
     ensures valid { AreRuns array.now }
 {
-    let values = visible_values(array, alloc)?;
+    let values = visible_values(alloc, array)?;
     let shown = numbers_in(array_of(values));
     let numbers = selected_by(alloc, &shown, &Mask::AllTrue(shown.len()));
     drop(shown);

@@ -40,7 +40,7 @@ pub fn physical_indices<E: UnsignedPType, T: NativePType, A: Allocator + Copy>(
 {
     let alloc = *ctx.allocator();
     let picks = take_thresholds(ctx.session().thresholds());
-    runend_indices::physical_indices(ends, alloc, offset, length, indices, mask, picks)
+    runend_indices::physical_indices(alloc, ends, offset, length, indices, mask, picks)
 }
 
 // The thresholds by which a strategy is picked.

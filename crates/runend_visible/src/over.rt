@@ -23,9 +23,9 @@ use std::alloc::Allocator;
 /// type and flat values: of integers in minimal form, of other values over the visible runs as they are.
 /// Refused as `OutOfMemory` alone.
 pub fn over_runs<A: Allocator + Copy>(
+    alloc: A,
     array: &RunEndArray<A>,
     values: FlatColumn<A>,
-    alloc: A,
 ) -> VortexResult<ArrayRef<A>>
     requires paired { length (leaf_rows (leaf_of values)) ≡ length (values_of_visible array.now) }
     requires computed { IsComputedLeaf (leaf_of values) }
@@ -36,17 +36,17 @@ pub fn over_runs<A: Allocator + Copy>(
     ensures form { IfOk result (λ part. IsRunForm (leaf_dtype (leaf_of values)) array.now (column_of part)) }
 {
     match values {
-        FlatColumn::Primitive(numbers) => with_minimal_runs(array, numbers, alloc),
-        FlatColumn::Bool(truths) => over_visible_runs(array, FlatColumn::Bool(truths), alloc),
+        FlatColumn::Primitive(numbers) => with_minimal_runs(alloc, array, numbers),
+        FlatColumn::Bool(truths) => over_visible_runs(alloc, array, FlatColumn::Bool(truths)),
         FlatColumn::Decimal(numbers) => over_visible_runs(
+            alloc,
             array,
             FlatColumn::Decimal(numbers),
-            alloc,
         ),
         FlatColumn::VarBinView(views) => over_visible_runs(
+            alloc,
             array,
             FlatColumn::VarBinView(views),
-            alloc,
         ),
     }
 }
@@ -54,9 +54,9 @@ pub fn over_runs<A: Allocator + Copy>(
 /// The run column of the visible runs over these values, one for each, with ends of the same type. Refused
 /// as `OutOfMemory` alone.
 pub fn over_visible_runs<A: Allocator + Copy>(
+    alloc: A,
     array: &RunEndArray<A>,
     values: FlatColumn<A>,
-    alloc: A,
 ) -> VortexResult<ArrayRef<A>>
     requires paired { length (leaf_rows (leaf_of values)) ≡ length (values_of_visible array.now) }
     requires computed { IsComputedLeaf (leaf_of values) }
@@ -66,7 +66,7 @@ pub fn over_visible_runs<A: Allocator + Copy>(
     ensures dtype { IfOk result (λ part. dtype_of part ≡ leaf_dtype (leaf_of values)) }
     ensures form { IfOk result (λ part. IsOverVisibleRuns array.now (column_of part)) }
 {
-    let ends = match ends_of_visible(array, alloc) {
+    let ends = match ends_of_visible(alloc, array) {
         Ok(ends) => ArrayRef::Primitive(ends),
         Err(error) => {
             drop(values);
@@ -80,9 +80,9 @@ pub fn over_visible_runs<A: Allocator + Copy>(
 /// The rows that the visible runs show over these integers, one for each, as a run column in minimal form,
 /// with ends of the same type. Refused as `OutOfMemory` alone.
 pub fn with_minimal_runs<A: Allocator + Copy>(
+    alloc: A,
     array: &RunEndArray<A>,
     numbers: PrimitiveArray<A>,
-    alloc: A,
 ) -> VortexResult<ArrayRef<A>>
     requires paired { length (leaf_rows (OfNumbers numbers)) ≡ length (values_of_visible array.now) }
     requires computed { IsComputed numbers }
@@ -92,7 +92,7 @@ pub fn with_minimal_runs<A: Allocator + Copy>(
     ensures dtype { IfOk result (λ part. dtype_of part ≡ primitive_dtype numbers) }
     ensures form { IfOk result (λ part. IsMinimalForm array.now.ends_type (column_of part)) }
 {
-    let ends = match ends_of_visible(array, alloc) {
+    let ends = match ends_of_visible(alloc, array) {
         Ok(ends) => ends,
         Err(error) => {
             drop(numbers);

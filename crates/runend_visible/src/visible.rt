@@ -25,8 +25,8 @@ pub fn visible_offset<A: Allocator + Copy>(array: &RunEndArray<A>) -> usize
 /// The ends of the visible runs, of the same type, shared where those are. Each of these runs shows a row.
 /// Refused as `OutOfMemory` alone.
 pub fn ends_of_visible<A: Allocator + Copy>(
-    array: &RunEndArray<A>,
     alloc: A,
+    array: &RunEndArray<A>,
 ) -> VortexResult<PrimitiveArray<A>>
     ensures only { IsOkUnless result VortexError.OutOfMemory }
     ensures plain { IfOk result (λ ends. IsEndsType (primitive_dtype ends)) }
@@ -45,8 +45,8 @@ pub fn ends_of_visible<A: Allocator + Copy>(
 /// The values of the visible runs, one for each, as a flat column, shared where flat ones are. Refused as
 /// `OutOfMemory` alone.
 pub fn visible_values<A: Allocator + Copy>(
-    array: &RunEndArray<A>,
     alloc: A,
+    array: &RunEndArray<A>,
 ) -> VortexResult<FlatColumn<A>>
     requires single { ¬ IsLists (column_dtype array.now.values) }
     ensures only { IsOkUnless result VortexError.OutOfMemory }

@@ -31,8 +31,8 @@ impl From<AllocError> for Failure {
 /// read fails, or where the input does not end within them, and as `OutOfMemory`.
 #[tactic(auto, using(crate::proofs::KnownInput::consumes_none, crate::proofs::KnownInput::consumes_more, crate::proofs::KnownInput::consumes_end))]
 pub fn read_input<R: Read + Drop, A: Allocator + Copy>(
-    input: &mut LimitedReads<R>,
     alloc: A,
+    input: &mut LimitedReads<R>,
 ) -> Result<Vec<u8, A>, Failure>
     ensures bytes { IfOk result (λ all. Consumes (R.remaining input.old.reader)
         (R.remaining input.new.reader) all.items) }

@@ -137,8 +137,8 @@ impl<A: Allocator + Copy> Maker<A> {
             }
             Maker::Lists(elements, offsets, sizes, validity) => {
                 boxed_lists(
-                    ListViewArray::try_new(elements, offsets, sizes, validity, ctx),
                     ample,
+                    ListViewArray::try_new(elements, offsets, sizes, validity, ctx),
                 )
             }
             Maker::Views(views, buffers, kind, validity) => {

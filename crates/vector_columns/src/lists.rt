@@ -13,8 +13,8 @@ use vortex_runend::{
 
 /// The column of the lists that were made, with memory for its box from `alloc`.
 pub fn boxed_lists<A: Allocator + Copy>(
-    lists: VortexResult<ListViewArray<A>>,
     alloc: A,
+    lists: VortexResult<ListViewArray<A>>,
 ) -> VortexResult<ArrayRef<A>> {
     Ok(ArrayRef::ListView(Box::new(alloc, lists?)?))
 }
@@ -73,7 +73,7 @@ fn lists_over<A: Allocator + Copy>(
     let (offsets, sizes) = (indices_of(listed.offsets), indices_of(listed.sizes));
     drop(listed.elements);
     let lists = ListViewArray::try_new(elements, offsets, sizes, row_validity(validity), ctx);
-    Ok(boxed_lists(lists, *ctx.allocator())?)
+    Ok(boxed_lists(*ctx.allocator(), lists)?)
 }
 
 // The elements of all rows, and where those of each row lie. Bad where a row is no list.

@@ -84,7 +84,7 @@ impl<'a> Workspace<'a> {
             Request::Call(name, call) => settle(name, call, columns, ctx),
             Request::Refuse(name, call) => self.refuse(name, call),
             Request::RefuseOne(place, name, list) => self.refuse_one(place, name, list),
-            Request::Look(name, look) => look_at(name, look, columns, *ctx.allocator()),
+            Request::Look(name, look) => look_at(*ctx.allocator(), name, look, columns),
             _ => {
                 set(request, ctx);
                 Ok(Reply::Done)
@@ -158,10 +158,10 @@ fn set<A: Allocator + Copy>(request: Request<'_>, ctx: &mut ExecutionCtx<A>) {
 
 // What of the column of this name is looked at.
 fn look_at<A: Allocator + Copy>(
+    alloc: A,
     name: &str,
     look: Look,
     columns: &Columns<A>,
-    alloc: A,
 ) -> LineResult<Reply<A>> {
     let Some(column) = columns.get(name) else {
         return Err(LineError::Bad);

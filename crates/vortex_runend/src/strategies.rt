@@ -31,7 +31,7 @@ pub fn physical_indices_binary<E: UnsignedPType, T: NativePType, A: Allocator + 
     ensures untested { OnErr result (ends.new.tests ≡ ends.old.tests) }
     ensures session { ctx.new ≡ ctx.old }
 {
-    runend_indices::physical_indices_binary(ends, *ctx.allocator(), offset, indices, mask)
+    runend_indices::physical_indices_binary(*ctx.allocator(), ends, offset, indices, mask)
 }
 
 /// The run of each valid index, and 0 for a null one, where `offset` is the position of row 0 and no
@@ -56,7 +56,7 @@ pub fn physical_indices_linear_sorted<E: UnsignedPType, T: NativePType, A: Alloc
     ensures untested { OnErr result (ends.new.tests ≡ ends.old.tests) }
     ensures session { ctx.new ≡ ctx.old }
 {
-    runend_indices::physical_indices_linear_sorted(ends, *ctx.allocator(), offset, indices, mask)
+    runend_indices::physical_indices_linear_sorted(*ctx.allocator(), ends, offset, indices, mask)
 }
 
 /// The run of each valid index, and 0 for a null one, where `offset` is the position of row 0. The
@@ -80,7 +80,7 @@ pub fn physical_indices_linear_unsorted<E: UnsignedPType, T: NativePType, A: All
     ensures untested { OnErr result (ends.new.tests ≡ ends.old.tests) }
     ensures session { ctx.new ≡ ctx.old }
 {
-    runend_indices::physical_indices_linear_unsorted(ends, *ctx.allocator(), offset, indices, mask)
+    runend_indices::physical_indices_linear_unsorted(*ctx.allocator(), ends, offset, indices, mask)
 }
 
 /// The run of each of `length` rows, from position `offset` on. It tests an end for each row and one
@@ -99,7 +99,7 @@ pub fn run_index_table<E: UnsignedPType, A: Allocator + Copy>(
     ensures untested { OnErr result (ends.new.tests ≡ ends.old.tests) }
     ensures session { ctx.new ≡ ctx.old }
 {
-    runend_indices::run_index_table(ends, *ctx.allocator(), offset, length)
+    runend_indices::run_index_table(*ctx.allocator(), ends, offset, length)
 }
 
 /// The table's item at each valid index, and its first item at a null one. No end is tested, since
@@ -119,5 +119,5 @@ pub fn physical_indices_table<T: NativePType, A: Allocator + Copy>(
         map (item_of table.now) (optional_indices T.number indices.now (mask_bits mask.now))) }
     ensures session { ctx.new ≡ ctx.old }
 {
-    runend_indices::physical_indices_table(table, *ctx.allocator(), indices, mask)
+    runend_indices::physical_indices_table(*ctx.allocator(), table, indices, mask)
 }

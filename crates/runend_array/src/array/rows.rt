@@ -166,7 +166,7 @@ impl<A: Allocator + Copy> RunEndArray<A> {
         ensures ends { IfOk result (λ part. ends_of part ≡ slice_range self.now.ends first stop) }
         ensures typed { IfOk result (λ part. part.ptype ≡ self.now.ends_type) }
     {
-        ends_in(&self.ends, alloc, first, stop)
+        ends_in(alloc, &self.ends, first, stop)
     }
 
     // The rows from `start` to `stop - 1`, of which there is one at least. Only the values of their runs
@@ -219,8 +219,8 @@ impl<A: Allocator + Copy> RunEndArray<A> {
 
 // The ends from the run `first` to the run `stop - 1`.
 fn ends_in<A: Allocator + Copy>(
-    ends: &ArrayRef<A>,
     alloc: A,
+    ends: &ArrayRef<A>,
     first: usize,
     stop: usize,
 ) -> VortexResult<PrimitiveArray<A>>

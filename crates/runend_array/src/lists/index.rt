@@ -40,8 +40,8 @@ pub(crate) fn plain_number_at<A: Allocator + Copy>(column: &ArrayRef<A>, index: 
 /// shared. Refused as `OutOfMemory`
 /// alone.
 pub(crate) fn plain_numbers_between<A: Allocator + Copy>(
-    column: &ArrayRef<A>,
     alloc: A,
+    column: &ArrayRef<A>,
     start: usize,
     stop: usize,
 ) -> VortexResult<Buffer<u64, A>>

@@ -31,7 +31,7 @@ pub(super) fn numbers_between<A: Allocator + Copy>(
         map (number_in_row (index_of (column_of index.now))) (range_with_len start (stop - start))) }
 {
     match index {
-        ArrayRef::Primitive(_) => plain_numbers_between(index, alloc, start, stop),
+        ArrayRef::Primitive(_) => plain_numbers_between(alloc, index, start, stop),
         ArrayRef::RunEnd(runs) => {
             let numbers = runs.numbers_between(alloc, start, stop)?;
             Ok(Buffer::shared(numbers))

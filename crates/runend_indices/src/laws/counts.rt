@@ -13,8 +13,8 @@ use std::alloc::Allocator;
 
 /// `physical_indices_linear_sorted` of 6 valid indices over 4 runs: at most 9 tests.
 pub fn merge_of_six_indices<E: UnsignedPType, T: NativePType, A: Allocator + Copy>(
-    four_runs: &mut CountedEnds<'_, E>,
     alloc: A,
+    four_runs: &mut CountedEnds<'_, E>,
     offset: usize,
     indices: &[T],
     mask: &Mask<A>,
@@ -31,13 +31,13 @@ pub fn merge_of_six_indices<E: UnsignedPType, T: NativePType, A: Allocator + Cop
     ensures same { four_runs.new.ends ≡ four_runs.old.ends }
     ensures cost { four_runs.new.tests ≤ four_runs.old.tests + 9 }
 {
-    physical_indices_linear_sorted(four_runs, alloc, offset, indices, mask)
+    physical_indices_linear_sorted(alloc, four_runs, offset, indices, mask)
 }
 
 /// `physical_indices_binary` of 6 valid indices over 4 runs: at most 18 tests.
 pub fn search_of_six_indices<E: UnsignedPType, T: NativePType, A: Allocator + Copy>(
-    four_runs: &mut CountedEnds<'_, E>,
     alloc: A,
+    four_runs: &mut CountedEnds<'_, E>,
     offset: usize,
     indices: &[T],
     mask: &Mask<A>,
@@ -53,13 +53,13 @@ pub fn search_of_six_indices<E: UnsignedPType, T: NativePType, A: Allocator + Co
     ensures same { four_runs.new.ends ≡ four_runs.old.ends }
     ensures cost { four_runs.new.tests ≤ four_runs.old.tests + 18 }
 {
-    physical_indices_binary(four_runs, alloc, offset, indices, mask)
+    physical_indices_binary(alloc, four_runs, offset, indices, mask)
 }
 
 /// `physical_indices_linear_unsorted` of 4 valid indices over 4 runs: at most 7 tests.
 pub fn sort_of_four_indices<E: UnsignedPType, T: NativePType, A: Allocator + Copy>(
-    four_runs: &mut CountedEnds<'_, E>,
     alloc: A,
+    four_runs: &mut CountedEnds<'_, E>,
     offset: usize,
     indices: &[T],
     mask: &Mask<A>,
@@ -75,13 +75,13 @@ pub fn sort_of_four_indices<E: UnsignedPType, T: NativePType, A: Allocator + Cop
     ensures same { four_runs.new.ends ≡ four_runs.old.ends }
     ensures cost { four_runs.new.tests ≤ four_runs.old.tests + 7 }
 {
-    physical_indices_linear_unsorted(four_runs, alloc, offset, indices, mask)
+    physical_indices_linear_unsorted(alloc, four_runs, offset, indices, mask)
 }
 
 /// `physical_indices_binary` of 4 valid indices over 4 runs: at most 12 tests.
 pub fn search_of_four_indices<E: UnsignedPType, T: NativePType, A: Allocator + Copy>(
-    four_runs: &mut CountedEnds<'_, E>,
     alloc: A,
+    four_runs: &mut CountedEnds<'_, E>,
     offset: usize,
     indices: &[T],
     mask: &Mask<A>,
@@ -97,14 +97,14 @@ pub fn search_of_four_indices<E: UnsignedPType, T: NativePType, A: Allocator + C
     ensures same { four_runs.new.ends ≡ four_runs.old.ends }
     ensures cost { four_runs.new.tests ≤ four_runs.old.tests + 12 }
 {
-    physical_indices_binary(four_runs, alloc, offset, indices, mask)
+    physical_indices_binary(alloc, four_runs, offset, indices, mask)
 }
 
 /// `physical_indices` of 4 valid indices over 4 runs that show 12 rows, by the thresholds 16, 8, 524288
 /// and 4: at most 15 tests. A table is picked unless the indices are sorted.
 pub fn physical_indices_by_table<E: UnsignedPType, T: NativePType, A: Allocator + Copy>(
-    four_runs: &mut CountedEnds<'_, E>,
     alloc: A,
+    four_runs: &mut CountedEnds<'_, E>,
     offset: usize,
     indices: &[T],
     mask: &Mask<A>,
@@ -126,14 +126,14 @@ pub fn physical_indices_by_table<E: UnsignedPType, T: NativePType, A: Allocator 
         unsorted_min_runs: 524288,
         unsorted_runs_per_index: 4,
     };
-    physical_indices(four_runs, alloc, offset, 12, indices, mask, thresholds)
+    physical_indices(alloc, four_runs, offset, 12, indices, mask, thresholds)
 }
 
 /// `physical_indices` of 4 valid indices over 4 runs that show 12 rows, with 0 for each threshold: at
 /// most 12 tests, since the search is by halves.
 pub fn physical_indices_by_halves<E: UnsignedPType, T: NativePType, A: Allocator + Copy>(
-    four_runs: &mut CountedEnds<'_, E>,
     alloc: A,
+    four_runs: &mut CountedEnds<'_, E>,
     offset: usize,
     indices: &[T],
     mask: &Mask<A>,
@@ -155,5 +155,5 @@ pub fn physical_indices_by_halves<E: UnsignedPType, T: NativePType, A: Allocator
         unsorted_min_runs: 0,
         unsorted_runs_per_index: 0,
     };
-    physical_indices(four_runs, alloc, offset, 12, indices, mask, thresholds)
+    physical_indices(alloc, four_runs, offset, 12, indices, mask, thresholds)
 }
