@@ -6,6 +6,7 @@ pub mod ValidityRows
 pub mod WordDigits
 pub mod WordMasks
 pub mod WordGrowth
+pub mod WordBits
 pub mod WordClears
 pub mod WordFills
 pub mod WordCopies

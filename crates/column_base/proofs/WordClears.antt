@@ -1,11 +1,11 @@
 -- Packed bits behind which the last word is cleared.
-use Rattle.std.proofs.Common.{◌≡◌, ◌≢◌, ◌+◌, ◌-◌, ◌/◌, ◌%◌, ◌^◌, ◌<◌, ◌≤◌, ◌∙◌, ℕ, List, Bool, false, length, set, Vec, refl, sym, ap, arith, get_or, bit_and, length-set, take, length-take, ⊎_elim}
+use Rattle.std.proofs.Common.{◌≡◌, ◌≢◌, ◌+◌, ◌-◌, ◌*◌, ◌/◌, ◌%◌, ◌^◌, ◌<◌, ◌≤◌, ◌∙◌, ℕ, List, Bool, false, length, set, Vec, refl, sym, ap, arith, get_or, bit_and, length-set, take, length-take, ⊎_elim}
 use Rattle.std.specs.Vec.{with_items}
 use Rattle.std.proofs.lemmas.Bool.{cases_eq, cases_lt}
 use Rattle.std.proofs.lemmas.List.{with_items_is, get_or-take}
 use Rattle.std.proofs.lemmas.Nat.Bits.{bit_at-lt, bit_at_and, bit_at_ones, bit_at_ones_above}
-use Rattle.column_base.specs.Words.{digit_at, one_if, IsClearedFrom}
-use Rattle.column_base.proofs.WordDigits.{Holds, digit_in_word, digit_past, digit_set_same, digit_set_other, digit_taken, one_if_past}
+use Rattle.column_base.specs.Words.{digit_at, first_bits, one_if, IsClearedFrom}
+use Rattle.column_base.proofs.WordDigits.{Holds, length-first_bits, digit_of_bit, digit_in_word, digit_past, digit_set_same, digit_set_other, digit_taken, one_if_past}
 
 -- the digits before n, and from n on, in the word that has both
 cleared_before : (words : List ℕ) (n i : ℕ) → length words ≡ (n + 63) / 64 → n % 64 ≢ 0 → i < n
@@ -69,6 +69,25 @@ truncated {n} {words} {was} {more} {bits} k m holds taken enough fewer cleared =
             cleared.before i h ∙ ap (λ ws. digit_at ws i) taken ∙ digit_taken words k i (omega arith) ∙ holds.packs.digit i ∙ sym (ap one_if (get_or-take m bits i false h)))
             (λ (h : m ≤ i). cleared.after i h ∙ sym (one_if_past (take m bits) i (omega arith)))
             (cases_lt i m);
+      };
+      len = size;
+    }
+
+-- the first bits of words that may be more: how many words they need, and that these, cleared, hold them
+cut-least : (k n : ℕ) (words was : List ℕ) → was ≡ take k words → k ≡ (n + 63) / 64 → n ≤ length words * 64 → length was ≡ (n + 63) / 64
+cut-least k n words was taken enough within = omega (arith, ap length taken, length-take k words)
+
+pub cut_of : {was more : List ℕ} (k n : ℕ) (words : List ℕ) → was ≡ take k words → k ≡ (n + 63) / 64 → n ≤ length words * 64 → IsClearedFrom was more n → Holds n more (first_bits n words)
+cut_of {was} {more} k n words taken enough within cleared =
+    let bits = first_bits n words in
+    let size : length bits ≡ n = length-first_bits n words in
+    record {
+      packs = record {
+        least = cleared.len ∙ cut-least k n words was taken enough within ∙ ap (λ c. (c + 63) / 64) (sym size);
+        digit = λ i. ⊎_elim
+            (λ (h : i < n). cleared.before i h ∙ ap (λ ws. digit_at ws i) taken ∙ digit_taken words k i (omega arith) ∙ digit_of_bit n words i h)
+            (λ (h : n ≤ i). cleared.after i h ∙ sym (one_if_past bits i (omega arith)))
+            (cases_lt i n);
       };
       len = size;
     }

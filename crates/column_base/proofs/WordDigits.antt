@@ -1,10 +1,10 @@
 -- Bits in words of 64, digit by digit.
-use Rattle.std.proofs.Common.{◌≡◌, ◌≢◌, ◌+◌, ◌-◌, ◌*◌, ◌/◌, ◌%◌, ◌^◌, ◌<◌, ◌≤◌, ◌∙◌, ◌∷◌, ◌++◌, ◌↔◌, [], ℕ, List, Bool, true, false, length, set, replicate, Some, Vec, IsTrue, eqb, refl, sym, ap, arith, get_or, bit_and, slice_get, take, drop}
+use Rattle.std.proofs.Common.{◌≡◌, ◌≢◌, ◌+◌, ◌-◌, ◌*◌, ◌/◌, ◌%◌, ◌^◌, ◌<◌, ◌≤◌, ◌∙◌, ◌∷◌, ◌++◌, ◌↔◌, [], ℕ, zero, suc, List, Bool, true, false, length, set, replicate, Some, Vec, IsTrue, eqb, refl, sym, ap, arith, get_or, bit_and, slice_get, take, drop}
 use Rattle.std.specs.Int.{bit_at}
 use Rattle.std.specs.Vec.{with_items}
 use Rattle.std.proofs.lemmas.Bool.{eqb-true}
 use Rattle.std.proofs.lemmas.List.{with_items_is, get_or_read, get_or_past, get_or-replicate, get_or-append_right, get_or_append_left, get_or_push, get_or-set_same, get_or-set_other, get_or-drop, get_or-take}
-use Rattle.std.proofs.lemmas.List.FromFn.{fill_by_all, length-map-range_with_len}
+use Rattle.std.proofs.lemmas.List.FromFn.{fill_by_all, get_or-map-range_with_len, length-map-range_with_len}
 use Rattle.std.proofs.lemmas.Nat.Bits.{shr_and_one, bit_at-lt, bit_at-zero}
 use Rattle.std.proofs.lemmas.Option.{slice_get-get_or}
 use Rattle.column_base.specs.Words.{digit_at, first_bits, one_if, Packs}
@@ -24,6 +24,17 @@ pub first_bits_packed : (n : ℕ) (words : List ℕ) (bits : List Bool) → Pack
 unfolding first_bits
 first_bits_packed n words bits packs same =
     sym (fill_by_all (λ i. eqb (digit_at words i) 1) bits n false same (λ i h. one_if-test (get_or bits i false) ∙ ap (λ d. eqb d 1) (sym (packs.digit i))))
+
+-- a digit is the number of the bit at its place
+one_if-digit : (d : ℕ) → d < 2 → one_if (eqb d 1) ≡ d
+one_if-digit zero h = refl
+one_if-digit (suc zero) h = refl
+one_if-digit (suc (suc d)) h = absurd (omega arith)
+
+pub digit_of_bit : (n : ℕ) (words : List ℕ) (i : ℕ) → i < n → digit_at words i ≡ one_if (get_or (first_bits n words) i false)
+unfolding first_bits digit_at
+digit_of_bit n words i h =
+    sym (ap one_if (get_or-map-range_with_len (λ i. eqb (digit_at words i) 1) 0 n i i false h (omega arith)) ∙ one_if-digit (digit_at words i) (bit_at-lt (get_or words (i / 64) 0) (i % 64)))
 
 -- a buffer of n bits in these words has these bits
 pub record Holds (n : ℕ) (words : List ℕ) (bits : List Bool) : Type 0 where

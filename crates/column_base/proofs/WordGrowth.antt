@@ -38,11 +38,11 @@ Packs-grown words more bits m b packs least before inside after =
     }
 
 -- a bit, shifted
-shifted_bit-same : (b : Bool) (k : ℕ) → k < 64 → bit_at (one_if b * 2 ^ k % 2 ^ 64) k ≡ one_if b
+pub shifted_bit-same : (b : Bool) (k : ℕ) → k < 64 → bit_at (one_if b * 2 ^ k % 2 ^ 64) k ≡ one_if b
 shifted_bit-same true k h = rw one_shl (bit_at-pow_same k)
 shifted_bit-same false k h = let none : 0 * 2 ^ k % 2 ^ 64 ≡ 0 = omega arith in rw none (bit_at-zero k)
 
-shifted_bit-other : (b : Bool) (k j : ℕ) → k < 64 → j ≢ k → bit_at (one_if b * 2 ^ k % 2 ^ 64) j ≡ 0
+pub shifted_bit-other : (b : Bool) (k j : ℕ) → k < 64 → j ≢ k → bit_at (one_if b * 2 ^ k % 2 ^ 64) j ≡ 0
 shifted_bit-other true k j h other = rw one_shl (bit_at-pow_other k j other)
 shifted_bit-other false k j h other = let none : 0 * 2 ^ k % 2 ^ 64 ≡ 0 = omega arith in rw none (bit_at-zero j)
 
@@ -96,7 +96,7 @@ Packs-or words bits b packs part =
     (cases_eq (i / 64) (length bits / 64)))
 
 -- a bool as a number is its byte
-one_if-byte : (b : Bool) → bool_byte b ≡ one_if b
+pub one_if-byte : (b : Bool) → bool_byte b ≡ one_if b
 one_if-byte true = refl
 one_if-byte false = refl
 

@@ -15,6 +15,10 @@ digit_at words i = bit_at (slice_index words (i / 64)) (i % 64)
 unfoldable pub first_bits : ℕ → List ℕ → List Bool
 first_bits n words = map (λ i. nat_eq (digit_at words i) 1) (range_with_len 0 n)
 
+-- the word holds the bits from its lowest one up, and 0 behind the last
+abbrev pub IsWordOf : ℕ → List Bool → Type 0
+IsWordOf word bits = (j : ℕ) → bit_at word j ≡ one_if (slice_index_or bits j false)
+
 -- the words hold the bits: as few words as can, with 0 behind the last bit
 pub record Packs (words : List ℕ) (bits : List Bool) : Type 0 where
   pub least : length words ≡ (length bits + 63) / 64

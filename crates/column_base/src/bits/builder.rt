@@ -1,5 +1,6 @@
 //! A list of bits that grows, 64 to a word.
-ghost use Rattle.std.specs.Prelude.{◌≡◌, ◌-◌, ◌≤◌, ◌↔◌, IsTrue, [], ◌∷◌, ◌++◌, length, replicate, take, drop, IfOk, OnOk, OnErr, IsOkUnless};
+ghost use Rattle.std.specs.Prelude.{◌≡◌, ◌-◌, ◌*◌, ◌≤◌, ◌↔◌, IsTrue, [], ◌∷◌, ◌++◌, length, replicate, take, drop, IfOk, OnOk, OnErr, IsOkUnless};
+ghost use Rattle.column_base.specs.Words.{first_bits};
 
 use crate::bits::buffer::BitBuffer;
 use crate::bits::fills::{clear_from, fill_bits, fill_rest_of_word};
@@ -46,6 +47,17 @@ impl<A: Allocator + Copy> BitBufferMut<A> {
         let mut words = vec![in alloc; splat(value); words_for(count)]?;
         clear_from(&mut words, count);
         Ok(BitBufferMut { words, count })
+    }
+
+    /// The first `count` bits of the words, 64 to a word from its lowest bit up. What stands behind them in the words
+    /// is let go, whatever it is. Takes no memory.
+    pub fn from_words(mut words: Vec<u64, A>, count: usize) -> Self
+        requires in_words { count ≤ length words.items * 64 }
+        ensures { result ≡ first_bits count words.items }
+    {
+        words.truncate(words_for(count));
+        clear_from(words.as_mut_slice(), count);
+        BitBufferMut { words, count }
     }
 
     /// How many bits there are.
