@@ -140,7 +140,7 @@ HV_ANSWER int32_t hv_i8(const int8_t *items, size_t len, HV_VALIDITY, hv_column 
 HV_ANSWER int32_t hv_i16(const int16_t *items, size_t len, HV_VALIDITY, hv_column *out, hv_error *error);
 HV_ANSWER int32_t hv_i32(const int32_t *items, size_t len, HV_VALIDITY, hv_column *out, hv_error *error);
 HV_ANSWER int32_t hv_i64(const int64_t *items, size_t len, HV_VALIDITY, hv_column *out, hv_error *error);
-/* `count` truth values, row i by bit `start + i` of `truths`; 11 (rows, bytes) where there are fewer bits */
+/* `count` booleans, row i by bit `start + i` of `truths`; 11 (rows, bytes) where there are fewer bits */
 HV_ANSWER int32_t hv_bools(const uint8_t *truths, size_t truths_len, size_t start, size_t count, HV_VALIDITY, hv_column *out, hv_error *error);
 HV_ANSWER int32_t hv_decimals(const hv_pair *pairs, size_t len, uint8_t precision, int8_t scale, HV_VALIDITY, hv_column *out, hv_error *error);
 /* Row i is the bytes from offsets[i] to offsets[i + 1] - 1; there is one offset more than rows. 4 for offsets that fall,
@@ -162,22 +162,22 @@ HV_ANSWER int32_t hv_compact(hv_column *column, hv_column *out, hv_error *error)
 
 /* ---- Commands: what they leave goes to `out` ----
  * Refused exactly as is said here, with these fields, or as 21. */
-/* as few runs as there can be, with ends of the least type; 20 unless the rows are whole numbers */
+/* as few runs as there can be, with ends of the least type; 20 unless the rows are integers */
 HV_ANSWER int32_t hv_encode(const hv_session *session, hv_column *column, hv_column *out, hv_error *error);
 /* the rows written out in a flat form */
 HV_ANSWER int32_t hv_decode(const hv_session *session, hv_column *column, hv_column *out, hv_error *error);
 /* the rows from start to stop - 1; 9 (start, stop, length) where start is above stop, or stop above the length */
 HV_ANSWER int32_t hv_slice(const hv_session *session, hv_column *column, size_t start, size_t stop, hv_column *out, hv_error *error);
-/* each row as the same value of this type: 13 unless both types are of whole numbers or of one kind that is no list; at the
+/* each row as the same value of this type: 13 unless both types are of integers or of one kind that is no list; at the
  * first row that is no value of the type 15 for null and 14 for a number; 23 where kind names no type, or lists */
 HV_ANSWER int32_t hv_cast(const hv_session *session, hv_column *column, const hv_kind *kind, hv_column *out, hv_error *error);
-/* the rows at the indices, whole numbers in any form (else 12): null at a null index; 8 (index, length) */
+/* the rows at the indices, integers in any form (else 12): null at a null index; 8 (index, length) */
 HV_ANSWER int32_t hv_take(const hv_session *session, hv_column *column, hv_column *indices, hv_column *out, hv_error *error);
-/* the rows at which the mask, truth values in any form (else 12), is true: a null in the mask selects nothing, as in SQL's
+/* the rows at which the mask, booleans in any form (else 12), is true: a null in the mask selects nothing, as in SQL's
  * WHERE; 10 (mask, length) */
 HV_ANSWER int32_t hv_filter(const hv_session *session, hv_column *column, hv_column *mask, hv_column *out, hv_error *error);
 /* each row of `codes` is replaced by the row of the dictionary that it numbers from 0, null stays null; 12 unless the codes
- * are whole numbers, 8 (code, length of the dictionary) */
+ * are integers, 8 (code, length of the dictionary) */
 HV_ANSWER int32_t hv_take_from(const hv_session *session, hv_column *codes, hv_column *dictionary, hv_column *out, hv_error *error);
 /* row by row whether `left operator right`, null where either is null; 13 for lists, 12 for two types that differ in more
  * than null, 11 (left, right) for another number of rows, 23 for no operator */
@@ -190,7 +190,7 @@ HV_ANSWER int32_t hv_fill(const hv_session *session, hv_column *column, const hv
 
 /* ---- Questions ----
  * Refused exactly as is said here, with these fields, or, but for hv_at, as 21. */
-/* the sum of the rows that are not null; 13 unless they are whole numbers */
+/* the sum of the rows that are not null; 13 unless they are integers */
 HV_ANSWER int32_t hv_sum(const hv_session *session, hv_column *column, hv_total *total, hv_error *error);
 /* are any two rows equal, null equal to null? 13 for lists */
 HV_ANSWER int32_t hv_is_constant(const hv_session *session, hv_column *column, uint8_t *truth, hv_error *error);
@@ -214,7 +214,7 @@ HV_LENT size_t hv_offset(hv_column *column);       /* of runs: how many of their
  * any other form are written flat first, these alone, which may be refused as 21; under null any number may stand.
  * Refused exactly as is said here, with these fields; 9 also where no row is asked for, from a row past the end on, and its
  * stop is 2^64 - 1 where no uint64_t has it. */
-/* as many whole numbers as there is room for, from row `start` on: 13 unless the rows are whole numbers, 12 where they are
+/* as many integers as there is room for, from row `start` on: 13 unless the rows are integers, 12 where they are
  * of another type, 9 (start, stop, length) past the end; of decimals 13 unless they are decimals, 9 */
 HV_ANSWER int32_t hv_read_u8(hv_column *column, size_t start, uint8_t *items, size_t len, hv_error *error);
 HV_ANSWER int32_t hv_read_u16(hv_column *column, size_t start, uint16_t *items, size_t len, hv_error *error);
@@ -225,12 +225,12 @@ HV_ANSWER int32_t hv_read_i16(hv_column *column, size_t start, int16_t *items, s
 HV_ANSWER int32_t hv_read_i32(hv_column *column, size_t start, int32_t *items, size_t len, hv_error *error);
 HV_ANSWER int32_t hv_read_i64(hv_column *column, size_t start, int64_t *items, size_t len, hv_error *error);
 HV_ANSWER int32_t hv_read_decimals(hv_column *column, size_t start, hv_pair *pairs, size_t len, hv_error *error);
-/* Bits, 64 to a word, all rows of the column, and 0 behind the last: 13 unless they are flat truth values, for validity
+/* Bits, 64 to a word, all rows of the column, and 0 behind the last: 13 unless they are flat booleans, for validity
  * unless the column is flat; 11 (needed, len) unless len is (length + 63) / 64. No memory is taken. On a little-endian
  * machine the words are the bytes of Arrow's bitmaps. */
 HV_ANSWER int32_t hv_read_bools(hv_column *column, uint64_t *words, size_t len, hv_error *error);
 HV_ANSWER int32_t hv_read_validity(hv_column *column, uint64_t *words, size_t len, hv_error *error);
-/* The same of `rows` rows from row `start` on, in any form, the bit of row `start` first: 13 unless they are truth values,
+/* The same of `rows` rows from row `start` on, in any form, the bit of row `start` first: 13 unless they are booleans,
  * for validity 13 for lists; 9, then 11 (needed, len) unless len is (rows + 63) / 64, or 21. */
 HV_ANSWER int32_t hv_read_bools_from(hv_column *column, size_t start, size_t rows, uint64_t *words, size_t len, hv_error *error);
 HV_ANSWER int32_t hv_read_validity_from(hv_column *column, size_t start, size_t rows, uint64_t *words, size_t len, hv_error *error);

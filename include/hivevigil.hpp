@@ -35,18 +35,18 @@ public:
 
     // ---- Made of rows ----
 
-    // Whole numbers, of which none is null: of a vector, an array, a view or a span.
+    // Integers, of which none is null: of a vector, an array, a view or a span.
     template <class Items, class T = detail::Item<Items>, class = std::enable_if_t<detail::is_number<T>>>
     static Column of(const Items &items) {
         return of(std::data(items), std::size(items), nullptr);
     }
-    // The same of a list of whole numbers, truth values or texts.
+    // The same of a list of integers, booleans or texts.
     template <class T> static Column of(std::initializer_list<T> items) {
         static_assert(detail::is_row<T>, "rows are whole numbers, truth values or texts, or std::optional of these");
         if constexpr (detail::is_number<T>) return of(items.begin(), items.size(), nullptr);
         else return of_rows(items);
     }
-    // Whole numbers, null where the flag is false.
+    // Integers, null where the flag is false.
     template <class Items, class T = detail::Item<Items>, class = std::enable_if_t<detail::is_number<T>>>
     static Column of(const Items &items, const std::vector<bool> &valid) {
         return of(std::data(items), std::size(items), &valid);
@@ -54,7 +54,7 @@ public:
     template <class T> static Column of(std::initializer_list<T> items, const std::vector<bool> &valid) {
         return of(items.begin(), items.size(), &valid);
     }
-    // Truth values or texts; std::optional of these or of whole numbers, null where there is none.
+    // Booleans or texts; std::optional of these or of integers, null where there is none.
     template <class Items, class T = detail::Row<Items>,
               class = std::enable_if_t<detail::is_row<T> && !detail::is_number<T>>, class = void>
     static Column of(const Items &rows) {
@@ -95,7 +95,7 @@ public:
             return hv_deserialize(&kind, rows, some.data(), record.size(), &ends.handle, other, out, error);
         });
     }
-    // The value in each of `rows` rows of a type, in memory for one; of a whole number or a text as it is written.
+    // The value in each of `rows` rows of a type, in memory for one; of an integer or a text as it is written.
     template <class T, class = std::enable_if_t<detail::is_number<T> || detail::is_text<T>>>
     static Column constant(hv_kind kind, const T &value, size_t rows) {
         return constant(kind, detail::written(value, kind), rows);
@@ -162,7 +162,7 @@ public:
                                      passed.size, out, error);
         });
     }
-    // The same beside a whole number or a text as it is written: column.compare(hv::Operator::less, 4).
+    // The same beside an integer or a text as it is written: column.compare(hv::Operator::less, 4).
     template <class T, class = std::enable_if_t<detail::is_number<T> || detail::is_text<T>>>
     Column compare(Operator by, const T &right, const hv_session &session = initial_session()) const {
         return compare(by, detail::written(right, kind()), session);
@@ -194,7 +194,7 @@ public:
         });
     }
     Value operator[](size_t row) const { return at(row); }
-    // The row as T (a whole number of the column's sign, bool, Decimal, std::string, Bytes), none where it is null.
+    // The row as T (an integer of the column's sign, bool, Decimal, std::string, Bytes), none where it is null.
     template <class T> std::optional<T> get(size_t row) const { return detail::optional_of<T>(at(row)); }
 
     // ---- Iterated ----
@@ -271,7 +271,7 @@ public:
             return detail::Native<T>::read(&handle, start, count ? items : &none, count, error);
         });
     }
-    // The rows as T (as get has them), none where a row is null; whole numbers by one call for all.
+    // The rows as T (as get has them), none where a row is null; integers by one call for all.
     template <class T> std::vector<std::optional<T>> optionals() const {
         if constexpr (detail::is_number<T>) return number_optionals<T>();
         std::vector<std::optional<T>> rows;

@@ -1,8 +1,8 @@
 /* Columns in and out of Arrow's C data interface and C stream interface, over hivevigil.h. Plain C in headers, which
  * C++ reads too; nothing here is proved. Little-endian machines alone, as hivevigil.h.
  *
- * IN come whole numbers of 8 to 64 bits, dates, times, timestamps, durations and months (as the whole numbers that they
- * are), truth values, decimals of 32, 64 and 128 bits, texts and bytes (with offsets of 32 or 64 bits, as views, or of
+ * IN come integers of 8 to 64 bits, dates, times, timestamps, durations and months (as the integers that they
+ * are), booleans, decimals of 32, 64 and 128 bits, texts and bytes (with offsets of 32 or 64 bits, as views, or of
  * one size), a dictionary over any of these, and run ends ("+r") over any of these, to a depth of HV_ARROW_DEPTH. Only
  * the rows that an array shows are copied; the array stays the producer's.
  *
@@ -12,9 +12,9 @@
  *
  * NEITHER in nor out go lists, structs (but as batches), maps, unions, the null type, intervals of more than months,
  * and decimals of 256 bits: HV_UNSUPPORTED. Floating-point numbers are no values of this library. They come in by
- * hv_arrow_import_bits alone, as whole numbers without sign of the same bits, and go out by hv_arrow_export_bits: equal
+ * hv_arrow_import_bits alone, as integers without sign of the same bits, and go out by hv_arrow_export_bits: equal
  * bits are equal rows (so 0.0 and -0.0 differ, and a NaN equals the same NaN), while sums, order, least and greatest of
- * such a column are those of the whole numbers and say nothing of the floats.
+ * such a column are those of the integers and say nothing of the floats.
  *
  * Columns that are lent in an array may be lent by copies of their handles, which are not used after the call.
  *
@@ -97,7 +97,7 @@ enum { HV_ARROW_DEPTH = 1000 };
 /* The column of all rows of an array. */
 static inline int32_t hv_arrow_import(const hv_session *session, const struct ArrowSchema *schema,
                                       const struct ArrowArray *array, hv_column *out, hv_error *error);
-/* The same, and floats, at any depth, as whole numbers of 16, 32 or 64 bits without sign that have their bits. */
+/* The same, and floats, at any depth, as integers of 16, 32 or 64 bits without sign that have their bits. */
 static inline int32_t hv_arrow_import_bits(const hv_session *session, const struct ArrowSchema *schema,
                                            const struct ArrowArray *array, hv_column *out, hv_error *error);
 /* The column of one child of a batch ("+s"): the rows that the batch shows, null also where the batch's row is null. */
@@ -125,7 +125,7 @@ typedef struct hv_arrow_options {
 /* The column as an array with its schema, both the caller's to release; `name` may be null. The column stays.
  * 102 and 14 (CAST_OUT_OF_RANGE) where ends or offsets do not fit the width that was asked for; 12 where `format` is
  * not one of the column's type; 13 (precision) for decimals of a precision that Arrow has not, 0 or past 38; 23 for a
- * number of `options` that is none of those above. With a dictionary: 12 unless the codes are whole numbers, and 8
+ * number of `options` that is none of those above. With a dictionary: 12 unless the codes are integers, and 8
  * (code, length of the dictionary) where a code that is not null numbers no row of it. */
 static inline int32_t hv_arrow_export_with(const hv_session *session, hv_column *column, const char *name,
                                            const hv_arrow_options *options, struct ArrowSchema *schema,
@@ -137,7 +137,7 @@ static inline int32_t hv_arrow_export(const hv_session *session, hv_column *colu
 static inline int32_t hv_arrow_export_as(const hv_session *session, hv_column *column, const char *name,
                                          const char *format, struct ArrowSchema *schema, struct ArrowArray *array,
                                          hv_error *error);
-/* whole numbers of 16, 32 or 64 bits without sign as the floats of these bits */
+/* integers of 16, 32 or 64 bits without sign as the floats of these bits */
 static inline int32_t hv_arrow_export_bits(const hv_session *session, hv_column *column, const char *name,
                                            struct ArrowSchema *schema, struct ArrowArray *array, hv_error *error);
 /* codes, or runs of codes, over their dictionary */

@@ -291,7 +291,7 @@ static inline int64_t hv_arrow_end_at(const hv_arrow_rows *ends, size_t run) {
     return narrow;
 }
 
-/* The run ends, all of them: whole numbers of 16, 32 or 64 bits with sign, none of them null. */
+/* The run ends, all of them: integers of 16, 32 or 64 bits with sign, none of them null. */
 static inline int32_t hv_arrow_select_ends(const struct ArrowSchema *schema, const struct ArrowArray *array,
                                            hv_arrow_rows *ends, hv_error *error) {
     int32_t answer = hv_arrow_select(schema, array, 0, SIZE_MAX, ends, error);

@@ -400,7 +400,7 @@ static inline int32_t hv_arrow_write(const hv_arrow_writing *writing, hv_column 
     return hv_arrow_write_run_column(writing, column, schema, array);
 }
 
-/* Codes are whole numbers, and within their dictionary. */
+/* Codes are integers, and within their dictionary. */
 static inline int32_t hv_arrow_check_dictionary(const hv_arrow_writing *writing, hv_column *codes) {
     hv_column *dictionary = writing->options.dictionary;
     if (!dictionary || hv_form(codes) == HV_ARROW_NO_FORM) return HV_OK;

@@ -76,7 +76,7 @@ static inline const hv_arrow_named_layout *hv_arrow_layouts(size_t *count) {
     return layouts;
 }
 
-/* A whole number of up to nine digits at the front of a text, which then begins behind it. */
+/* An integer of up to nine digits at the front of a text, which then begins behind it. */
 static inline bool hv_arrow_take_number(const char **text, int *number) {
     bool negative = **text == '-';
     const char *digits = *text + negative, *end = digits;

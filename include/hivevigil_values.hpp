@@ -44,7 +44,7 @@ struct Decimal {
 using Null = std::monostate;
 using Bytes = std::vector<uint8_t>;
 
-// A row: null, a whole number, a truth value, a decimal, a text or bytes.
+// A row: null, an integer, a boolean, a decimal, a text or bytes.
 using Value = std::variant<Null, uint64_t, int64_t, bool, Decimal, std::string, Bytes>;
 
 // A sum: the number, or Null where it left the range of 64 bits. `empty`: no row is valid, and the sum is 0.
@@ -269,7 +269,7 @@ template <class T> inline constexpr bool is_optional = !std::is_same_v<T, InnerO
 template <class T>
 inline constexpr bool is_row = is_number<InnerOf<T>> || is_text<InnerOf<T>> || std::is_same_v<InnerOf<T>, bool>;
 
-// A whole number or a text as a value of the column's type, or of its own where it is none of that.
+// An integer or a text as a value of the column's type, or of its own where it is none of that.
 template <class T> Value written(const T &item, hv_kind kind) {
     if constexpr (is_text<T>) {
         const std::string_view text = item;

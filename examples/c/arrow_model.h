@@ -11,7 +11,7 @@
 
 /* ---- Rows ---- */
 
-/* A row: null, or its bytes. A number has those of its type, a decimal 16, a truth value one. */
+/* A row: null, or its bytes. A number has those of its type, a decimal 16, a boolean one. */
 typedef struct row {
     bool null;
     uint8_t size;

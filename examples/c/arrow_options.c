@@ -29,7 +29,7 @@ static struct ArrowArray array_of(int64_t rows, int64_t offset, int64_t count, c
                                .release = release_array};
 }
 
-/* ---- Floats, as the whole numbers of their bits ---- */
+/* ---- Floats, as the integers of their bits ---- */
 
 static void check_floats(void) {
     const double items[4] = {0.0, -0.0, 1.5, -2.0};

@@ -43,7 +43,7 @@ static void write_items(void) {
     }
 }
 
-/* truth values, places and texts as runs of 40 and of 40 rows, and the places of five and of four */
+/* booleans, places and texts as runs of 40 and of 40 rows, and the places of five and of four */
 static void make_run_columns(void) {
     const uint8_t two_ends[2] = {ROWS / 2, ROWS}, place_ends[2] = {5, 9}, truth[1] = {1};
     hv_column last = HV_EMPTY, two = HV_EMPTY;

@@ -23,7 +23,7 @@ uint64_t run_list_valid_rows(const run_list *list) {
     return rows;
 }
 
-/* The runs that a flat mask of a truth value for each keeps; a null keeps none. */
+/* The runs that a flat mask of a boolean for each keeps; a null keeps none. */
 static int32_t keep_runs(const run_list *list, hv_column *mask, run_list *kept, hv_error *error) {
     const size_t words = (list->runs + 63) / 64;
     uint64_t *truths = calloc(words + 1, sizeof *truths), *valid = calloc(words + 1, sizeof *valid);

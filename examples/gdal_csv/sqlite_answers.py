@@ -10,7 +10,7 @@ def quoted(name):
 
 
 def load(database, path, numbers):
-    """The CSV as the table `readings`; an empty field is null, and a column of `numbers` has whole numbers."""
+    """The CSV as the table `readings`; an empty field is null, and a column of `numbers` has integers."""
     with open(path, newline="", encoding="utf-8-sig") as file:
         reader = csv.reader(file)
         names = next(reader)

@@ -14,7 +14,7 @@ if TYPE_CHECKING:
 
 
 def _stored(flat: Column) -> tuple[Any, Any]:
-    """The numbers or truth values of a flat column, and which of them are null, None where the type has no null."""
+    """The numbers or booleans of a flat column, and which of them are null, None where the type has no null."""
     import numpy
 
     name, rows = TYPES[flat._kind.number], len(flat)
@@ -91,7 +91,7 @@ def reduced(column: Column) -> Any:
 
 
 def _bytes(flat: Column) -> tuple[bytes, ...]:
-    """Items, truth values, or offsets and texts."""
+    """Items, booleans, or offsets and texts."""
     name, rows = TYPES[flat._kind.number], len(flat)
     if name in LETTERS:
         return (flat.to_array().tobytes(),)

@@ -14,7 +14,7 @@ if TYPE_CHECKING:
 
 
 def selected(column: Column, key: Any) -> Any:
-    """The row at a whole number; else the column of a slice, of a mask's rows, or of the rows at indices."""
+    """The row at an integer; else the column of a slice, of a mask's rows, or of the rows at indices."""
     if isinstance(key, slice):
         return _sliced(column, key)
     if is_truth(key):
@@ -38,7 +38,7 @@ def _sliced(column: Column, key: slice) -> Column:
 
 
 def mask_of(column: Column, mask: Any) -> Column:
-    """A column of truth values in any form, of a list, or of an array of another library."""
+    """A column of booleans in any form, of a list, or of an array of another library."""
     beside = _column_of(column, mask)
     if beside is None:
         return column.of(list(mask), "bool")
@@ -48,7 +48,7 @@ def mask_of(column: Column, mask: Any) -> Column:
 
 
 def indices_of(column: Column, indices: Any) -> Column:
-    """A column of whole numbers in any form. Of a list or an array negative ones count from the end, as Python's do."""
+    """A column of integers in any form. Of a list or an array negative ones count from the end, as Python's do."""
     beside = _column_of(column, indices)
     if beside is None:
         return column.of(_rows(list(indices), column._length), "u64")

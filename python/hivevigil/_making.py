@@ -140,7 +140,7 @@ def _encoded(rows: Sequence[Any], name: str) -> list[bytes]:
 
 
 def numbers_of(items: Any, validity: tuple[Any, ...]) -> Made:
-    """A buffer of whole numbers in one dimension."""
+    """A buffer of integers in one dimension."""
     view = memoryview(items)
     name = type_of_view(view)
     if not view.contiguous:

@@ -41,7 +41,7 @@ def validity(column: Column, start: int, stop: int) -> bytes:
 
 
 def truths(column: Column, start: int, stop: int) -> bytes:
-    """The truth values of rows as bits."""
+    """The booleans of rows as bits."""
     return bitmap(column, calls.hv_read_bools_from, start, stop)
 
 

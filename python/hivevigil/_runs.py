@@ -100,7 +100,7 @@ def null_count(column: Column) -> int:
 
 
 def to_runs(column: Column) -> Column:
-    """The column in as few runs as there can be. Whole numbers are encoded by the library; of other types the last row
+    """The column in as few runs as there can be. Integers are encoded by the library; of other types the last row
     of each run is found by comparing each row with the next, where null is equal to null."""
     if column.type.rstrip("?") in WHOLE_NUMBERS:
         return column.encode()

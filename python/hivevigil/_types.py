@@ -57,6 +57,6 @@ def checked_places(precision: int, scale: int) -> tuple[int, int]:
 
 
 def range_of(name: str) -> range:
-    """The values of a type of whole numbers."""
+    """The values of a type of integers."""
     bits = int(name[1:])
     return range(0, 2**bits) if name[0] == "u" else range(-(2 ** (bits - 1)), 2 ** (bits - 1))

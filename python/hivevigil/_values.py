@@ -21,7 +21,7 @@ def is_truth(value: Any) -> bool:
 
 
 def whole(value: Any, what: str) -> int:
-    """A whole number, NumPy's too; truth values and floats are none."""
+    """An integer, NumPy's too; booleans and floats are none."""
     if is_truth(value) or not hasattr(value, "__index__"):
         raise TypeError(f"{what} is a whole number, not {type(value).__name__}")
     return operator.index(value)
@@ -54,7 +54,7 @@ def operator_of(sign: Any) -> int:
 
 
 def unscaled(value: Any, precision: int, scale: int) -> int:
-    """A decimal as the whole number of its least place: 1.5 with scale 2 is 150. Never rounded."""
+    """A decimal as the integer of its least place: 1.5 with scale 2 is 150. Never rounded."""
     if is_truth(value) or not (isinstance(value, Decimal) or hasattr(value, "__index__")):
         raise TypeError(f"a decimal is a decimal.Decimal or a whole number, not {type(value).__name__}")
     sign, digits, exponent = Decimal(value).as_tuple()
@@ -73,7 +73,7 @@ def unscaled(value: Any, precision: int, scale: int) -> int:
 
 
 def decimal_of(number: int, scale: int) -> Decimal:
-    """The decimal of a whole number of its least place, exact in every context."""
+    """The decimal of an integer of its least place, exact in every context."""
     digits = tuple(map(int, str(abs(number))))
     return Decimal((int(number < 0), digits, -scale))
 

@@ -94,7 +94,7 @@ class Column:
         """The column of a list, any iterable, or an array of NumPy, pandas or an Arrow library; None (or masked, or
         missing) is null.
 
-        The type is inferred where none is given: whole numbers are i64 (u64 where one needs it) or as the array has
+        The type is inferred where none is given: integers are i64 (u64 where one needs it) or as the array has
         them, decimal.Decimal the least decimal that has all of them, then bool, utf8 and binary. A type is given as
         'i32', 'decimal(10, 2)', int, str or a dtype; 'i32?' may be null also where no row is.
         """
@@ -129,14 +129,14 @@ class Column:
 
     @classmethod
     def from_buffer(cls, items: Any, valid: Optional[Sequence[Any]] = None) -> Column:
-        """The flat column of a buffer of whole numbers: an array, a memoryview, a NumPy array. Null where a flag of
+        """The flat column of a buffer of integers: an array, a memoryview, a NumPy array. Null where a flag of
         `valid` is false. The items are copied."""
         return cls._made(*_making.numbers_of(items, _making.validity_of(valid, len(memoryview(items)))))
 
     @classmethod
     def from_runs(cls, ends: Any, values: Any, offset: int = 0, rows: Optional[int] = None) -> Column:
         """The runs that end before these rows, with a value for each, of which `rows` rows from row `offset` on are
-        shown; without `rows` all to the last end. Both are copied; ends are whole numbers without sign."""
+        shown; without `rows` all to the last end. Both are copied; ends are integers without sign."""
         end_column = ends if isinstance(ends, Column) else cls.of(ends, None if hasattr(ends, "dtype") else "u64")
         end_column = end_column._as(kind_of("u64")) if end_column.type in SIGNED else end_column
         value_column = values if isinstance(values, Column) else cls.of(values)
@@ -187,7 +187,7 @@ class Column:
     # ---- Commands ----
 
     def encode(self) -> Column:
-        """As few runs as there can be, of whole numbers alone; to_runs() serves every type."""
+        """As few runs as there can be, of integers alone; to_runs() serves every type."""
         return self._made(calls.hv_encode, session, self)
 
     def to_runs(self) -> Column:
@@ -346,7 +346,7 @@ class Column:
 
     def __getitem__(self, key: Any) -> Any:
         """A row by its number, from the end where it is negative; else a column: of a slice, of a mask's rows (a
-        column, a list, or an array of truth values), or of the rows at indices."""
+        column, a list, or an array of booleans), or of the rows at indices."""
         return _indexing.selected(self, key)
 
     def at(self, row: int) -> Scalar:
@@ -387,7 +387,7 @@ class Column:
 
     def to_numpy(self, null: Any = None) -> Any:
         """The rows as a NumPy array of the type's dtype; of decimals, texts and bytes an array of objects, in which
-        null is None. Whole numbers and truth values that may be null are a masked array, or, with `null`, a plain one
+        null is None. Integers and booleans that may be null are a masked array, or, with `null`, a plain one
         that has this value in place of null."""
         return _copying.to_numpy(self, null)
 
@@ -402,7 +402,7 @@ class Column:
         return _copying.to_pandas(self)
 
     def to_array(self) -> array.array[int]:
-        """The numbers of a column of whole numbers in any form, which NumPy reads without a copy; where a row is null
+        """The numbers of a column of integers in any form, which NumPy reads without a copy; where a row is null
         any number may stand."""
         if TYPES[self._kind.number] not in LETTERS:
             raise Unsupported().about("to_array", self)
@@ -413,7 +413,7 @@ class Column:
         return _reading.validity(self, 0, len(self))
 
     def truths(self) -> bytes:
-        """The truth values as a bitmap; where a row is null any may stand."""
+        """The booleans as a bitmap; where a row is null any may stand."""
         return _reading.truths(self, 0, len(self))
 
     def runs(self) -> Iterator[Run]:

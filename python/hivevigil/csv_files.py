@@ -42,7 +42,7 @@ _TESTS: dict[str, Callable[[str], Any]] = {
 
 @dataclass
 class Guess:
-    """What all fields of a column are, so far: truth values, whole numbers, decimals, dates; else texts."""
+    """What all fields of a column are, so far: booleans, integers, decimals, dates; else texts."""
 
     could_be: set[str] = field(default_factory=lambda: set(_TESTS))
     least: int = 0

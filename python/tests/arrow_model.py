@@ -116,7 +116,7 @@ class Made:
 
 
 def numbers(rows, format="l", name=b""):
-    """An array of whole numbers; None is null."""
+    """An array of integers; None is null."""
     width = WIDTHS[format]
     signed = format.islower()
     data = b"".join((row or 0).to_bytes(width, "little", signed=signed) for row in rows)

@@ -75,12 +75,12 @@ impl Column {
         Column::made(|out, fields| call(other.handle.get(), out, fields))
     }
 
-    /// Whole numbers, of which none is null.
+    /// Integers, of which none is null.
     pub fn new<T: Native>(items: &[T]) -> Result<Column, Error> {
         Column::with_validity(items, None)
     }
 
-    /// Whole numbers, null where the flag is false.
+    /// Integers, null where the flag is false.
     pub fn with_validity<T: Native>(items: &[T], valid: Option<&[bool]>) -> Result<Column, Error> {
         let nulls = Nulls::of(items.len(), valid)?;
         Column::made(|out, fields| unsafe {
@@ -88,7 +88,7 @@ impl Column {
         })
     }
 
-    /// Truth values, null where `valid` is given and false.
+    /// Booleans, null where `valid` is given and false.
     pub fn truths(rows: &[bool], valid: Option<&[bool]>) -> Result<Column, Error> {
         let (nulls, truths) = (Nulls::of(rows.len(), valid)?, bits_of(rows));
         let (bits, count) = (nulls.bits.as_ptr(), nulls.bits.len());

@@ -13,8 +13,8 @@ impl Column {
         Column::made(|out, fields| call(&session, self.handle.get(), out, fields))
     }
 
-    /// As few runs as there can be, with ends of the least type; refused as `OnlyPrimitive` unless the rows are whole
-    /// numbers.
+    /// As few runs as there can be, with ends of the least type; refused as `OnlyPrimitive` unless the rows are integers.
+    /// 
     pub fn encode(&self) -> Result<Column, Error> {
         self.command(|session, column, out, fields| unsafe {
             raw::hv_encode(session, column, out, fields)
@@ -37,14 +37,14 @@ impl Column {
     }
 
     /// Each row as the same value of another type; refused as `CastOutOfRange` or `NullNotAllowed` at the first row
-    /// that is none, and as `Unsupported` unless both types are of whole numbers or of one kind that is no list.
+    /// that is none, and as `Unsupported` unless both types are of integers or of one kind that is no list.
     pub fn cast(&self, kind: Kind) -> Result<Column, Error> {
         self.command(|session, column, out, fields| unsafe {
             raw::hv_cast(session, column, &kind, out, fields)
         })
     }
 
-    /// The rows at the indices, whole numbers in any form: null at a null index; refused as `OutOfBounds`.
+    /// The rows at the indices, integers in any form: null at a null index; refused as `OutOfBounds`.
     pub fn take(&self, indices: &Column) -> Result<Column, Error> {
         let (session, column) = (Session::initial(), self.handle.get());
         self.beside(indices, |indices, out, fields| unsafe {
@@ -52,7 +52,7 @@ impl Column {
         })
     }
 
-    /// The rows at which the mask, truth values in any form, is true: a null in the mask selects nothing.
+    /// The rows at which the mask, booleans in any form, is true: a null in the mask selects nothing.
     pub fn filter(&self, mask: &Column) -> Result<Column, Error> {
         let (session, column) = (Session::initial(), self.handle.get());
         self.beside(mask, |mask, out, fields| unsafe {
@@ -76,7 +76,7 @@ impl Column {
         })
     }
 
-    /// The same against one value, of the column's type or null. A whole number is passed as the column's type has it.
+    /// The same against one value, of the column's type or null. An integer is passed as the column's type has it.
     ///
     /// ```
     /// use hivevigil::{Column, Operator, Value};

@@ -1,7 +1,7 @@
 //! Columns made of slices by `try_from`, and rows as values of Rust's own types.
 use crate::{Column, Error, ErrorKind, Native, Value};
 
-/// What a row may be in a slice, an array or a vector of which a column is made: a whole number, a truth value, a text,
+/// What a row may be in a slice, an array or a vector of which a column is made: an integer, a boolean, a text,
 /// bytes, or an `Option` of these, of which `None` is null.
 ///
 /// ```
@@ -110,7 +110,7 @@ macro_rules! wholes {
             }
         }
 
-        /// Of the same number in any type of whole numbers; refused as `TypeMismatch` where this one does not have it.
+        /// Of the same number in any type of integers; refused as `TypeMismatch` where this one does not have it.
         impl TryFrom<Value> for $type {
             type Error = Error;
 

@@ -92,12 +92,12 @@ impl Kind {
         self.nullable != 0
     }
 
-    /// Are the rows whole numbers from 0 on?
+    /// Are the rows integers from 0 on?
     pub const fn is_unsigned(self) -> bool {
         self.number <= Kind::U64.number
     }
 
-    /// Are the rows whole numbers that may be negative?
+    /// Are the rows integers that may be negative?
     pub const fn is_signed(self) -> bool {
         Kind::I8.number <= self.number && self.number <= Kind::I64.number
     }

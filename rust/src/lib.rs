@@ -41,7 +41,7 @@ pub use value::{Operator, Sum, Value};
 #[repr(C)]
 #[derive(Clone, Copy, Debug, Default, PartialEq, Eq)]
 pub struct Session {
-    /// From this many runs on a decoder of truth values first writes all rows as those of most runs.
+    /// From this many runs on a decoder of booleans first writes all rows as those of most runs.
     pub prefill_runs: usize,
     /// A filter that keeps fewer rows than this takes them one by one.
     pub min_run_filter_rows: usize,

@@ -1,8 +1,8 @@
-//! The whole numbers that columns hold.
+//! The integers that columns hold.
 use crate::raw::{self, Handle};
 use crate::{Fields, Kind};
 
-/// A whole number of 8 to 64 bits.
+/// An integer of 8 to 64 bits.
 pub trait Native: Copy + Default + sealed::Calls {
     /// Its type in columns, without null.
     const KIND: Kind;

@@ -34,7 +34,7 @@ impl Column {
         unsafe { raw::hv_offset(self.handle.get()) }
     }
 
-    /// The sum of the rows that are not null; refused as `Unsupported` unless they are whole numbers.
+    /// The sum of the rows that are not null; refused as `Unsupported` unless they are integers.
     pub fn sum(&self) -> Result<Sum, Error> {
         let (session, mut total) = (Session::initial(), RawTotal::default());
         ask(|fields| unsafe { raw::hv_sum(&session, self.handle.get(), &mut total, fields) })?;
@@ -146,7 +146,7 @@ impl Column {
 
 /// Rows and parts read out.
 impl Column {
-    /// Row `row` as `T`, `None` where it is null: a whole number, `bool`, `String` or `Vec<u8>`; refused as
+    /// Row `row` as `T`, `None` where it is null: an integer, `bool`, `String` or `Vec<u8>`; refused as
     /// `TypeMismatch` where it is none.
     ///
     /// ```
@@ -174,7 +174,7 @@ impl Column {
         ask(|fields| unsafe { T::read(self.handle.get(), start, items, fields) })
     }
 
-    /// The rows of a column of whole numbers, `None` where a row is null.
+    /// The rows of a column of integers, `None` where a row is null.
     pub fn options<T: Native>(&self) -> Result<Vec<Option<T>>, Error> {
         let rows = self.numbers()?.into_iter().zip(self.validity()?);
         Ok(rows.map(|(item, valid)| valid.then_some(item)).collect())

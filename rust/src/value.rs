@@ -12,7 +12,7 @@ pub enum Value {
     Unsigned(u64),
     /// Of a signed type.
     Signed(i64),
-    /// A truth value.
+    /// A boolean.
     Truth(bool),
     /// The digits of a decimal, whose scale is the column's.
     Decimal(i128),
@@ -22,7 +22,7 @@ pub enum Value {
     Bytes(Vec<u8>),
 }
 
-/// Numbers and truth values as Rust writes them, texts and bytes quoted, `null`. A decimal is its digits alone: its scale
+/// Numbers and booleans as Rust writes them, texts and bytes quoted, `null`. A decimal is its digits alone: its scale
 /// is the column's.
 impl fmt::Display for Value {
     fn fmt(&self, formatter: &mut fmt::Formatter<'_>) -> fmt::Result {
@@ -85,7 +85,7 @@ impl Value {
         }
     }
 
-    /// A whole number as one of the sign of a column's type, where that has it.
+    /// An integer as one of the sign of a column's type, where that has it.
     pub(crate) fn beside(self, kind: Kind) -> Value {
         match self {
             Value::Signed(item) if kind.is_unsigned() => {
