@@ -24,7 +24,7 @@ use column_core::{
 use runend_array::{
     ArrayRef, Canonical, ExecutionCtx, RunEndArray, RunEndArrayExt, RunEndArraySlotsExt,
 };
-use runend_decode::copies_of;
+use runend_decode::repeated_items;
 use std::alloc::Allocator;
 
 /// The rows at the indices, null for null, in a flat form. Refused as `OutOfMemory` alone.
@@ -137,7 +137,7 @@ fn runs_of_indices<T: NativePType, A: Allocator + Copy>(
     let alloc = *ctx.allocator();
     if array.is_empty() {
         // No index is valid.
-        return copies_of(alloc, 0, indices.len());
+        return repeated_items(alloc, 0, indices.len());
     }
     let mask = mask_of(alloc, validity, indices.len())?;
     let ends = match array.ends() {

@@ -101,7 +101,7 @@ fn read_call<'a>(verb: &str, words: &'a [&'a str]) -> Option<Call<'a>> {
         "run" => Some(Call::Run(words)),
         "row" => Some(Call::Row(only_count(words)?)),
         "probe" => Some(Call::Probe(only_count(words)?)),
-        _ => Some(Call::VectorCommand(read_worded(verb, first, rest)?)),
+        _ => Some(Call::Command(read_worded(verb, first, rest)?)),
     }
 }
 
@@ -110,6 +110,6 @@ fn read_alone<'a>(verb: &str) -> Option<Call<'a>> {
     match verb {
         "validity" => Some(Call::Validity),
         "meta" => Some(Call::Meta),
-        _ => Some(Call::VectorCommand(read_bare(verb)?)),
+        _ => Some(Call::Command(read_bare(verb)?)),
     }
 }

@@ -51,7 +51,7 @@ pub enum Call<'a> {
     Lists(Lists<'a>),
     Views(Views<'a>),
     Deserialize(Record<'a>),
-    VectorCommand(VectorCommand<'a>),
+    Command(VectorCommand<'a>),
     /// The words of commands, to be run as one list, parted by `NEXT`.
     Run(&'a [&'a str]),
     Row(usize),
@@ -70,7 +70,7 @@ impl<'a> Call<'a> {
             Call::Copy(_) | Call::Encode(_) | Call::EncodeRows(_) => true,
             Call::Runs(_) | Call::Whole(_) => true,
             Call::Lists(_) | Call::Views(_) | Call::Deserialize(_) => true,
-            Call::VectorCommand(_) | Call::Run(_) | Call::Row(_) | Call::Probe(_) => false,
+            Call::Command(_) | Call::Run(_) | Call::Row(_) | Call::Probe(_) => false,
             Call::Validity | Call::Meta | Call::Read(_) => false,
         }
     }

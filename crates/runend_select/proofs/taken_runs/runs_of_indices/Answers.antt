@@ -10,7 +10,7 @@ use Rattle.array_rowwise.proofs.PassedOn.{no_value, only_error}
 use Rattle.runend_select.proofs.taken_runs.runs_of_indices.Goals as goal
 
 pub returns-then-is_empty-clause-only : goal.returns-then-is_empty-clause-only
-returns-then-is_empty-clause-only g c = c.copies_of.ensures.only
+returns-then-is_empty-clause-only g c = c.repeated_items.ensures.only
 
 pub returns-then-is_empty-clause-runs : goal.returns-then-is_empty-clause-runs
 returns-then-is_empty-clause-runs g c =
@@ -21,7 +21,7 @@ returns-then-is_empty-clause-runs g c =
     let none : c.args.array.now.count ≡ 0 = c.is_empty.ensures.0 c.if-is_empty.true in
     let bounds = subst (λ (n : ℕ). AreInBounds (optional_indices number indices (flags form (length indices))) n) none c.requires.in_bounds in
     let nulls = runs-of_no_rows c.args.array.now.ends c.args.array.now.offset (map number indices) (flags form (length indices)) (length-flags form (length indices) c.requires.fits ∙ sym long) bounds in
-    ok_then c.copies_of.result _ _ (λ zeros items. record { null = 0; answer = items ∙ ap (λ (n : ℕ). replicate n 0) (sym long) ∙ nulls }) c.copies_of.ensures.items
+    ok_then c.repeated_items.result _ _ (λ zeros items. record { null = 0; answer = items ∙ ap (λ (n : ℕ). replicate n 0) (sym long) ∙ nulls }) c.repeated_items.ensures.items
 
 pub returns-in_err-mask-clause-only : goal.returns-in_err-mask-clause-only
 returns-in_err-mask-clause-only g c = only_error c.from_residual.result c.in_err-mask.field-0.0 _ c.from_residual.ensures.1 c.in_err-mask.ensures.only
