@@ -20,7 +20,7 @@ pub record AreComputed {B : Type 0} (blank : B) (items : List B) (validity : Val
   pub some : HasRowIfAllNull validity (length items)
 
 -- items as a constant is written out, of which there may be none
-pub record AreComputed {B : Type 0} (blank : B) (items : List B) (validity : ValidityForm) : Type 0 where
+pub record AreWrittenOut {B : Type 0} (blank : B) (items : List B) (validity : ValidityForm) : Type 0 where
   pub blanked : AreBlankAtNulls blank items (flags validity (length items))
   pub normal : IsNormal validity
 
@@ -37,10 +37,10 @@ IsComputedLeaf (OfVarBins form) = AreComputed zero_view form.views form.validity
 
 -- a flat column as a constant is written out
 abbrev pub IsWrittenLeaf : Leaf → Type 0
-IsWrittenLeaf (OfNumbers form) = AreComputed (pos 0) form.numbers form.validity
-IsWrittenLeaf (OfTruths form) = AreComputed false form.bits form.validity
-IsWrittenLeaf (OfDecimals form) = AreComputed (pos 0) form.numbers form.validity
-IsWrittenLeaf (OfVarBins form) = AreComputed zero_view form.views form.validity
+IsWrittenLeaf (OfNumbers form) = AreWrittenOut (pos 0) form.numbers form.validity
+IsWrittenLeaf (OfTruths form) = AreWrittenOut false form.bits form.validity
+IsWrittenLeaf (OfDecimals form) = AreWrittenOut (pos 0) form.numbers form.validity
+IsWrittenLeaf (OfVarBins form) = AreWrittenOut zero_view form.views form.validity
 
 -- the validity of rows of which none is null
 abbrev pub without_nulls : Nullability → ValidityForm

@@ -8,7 +8,7 @@ use Rattle.column_base.specs.declared.dtype.Nullability.TheVariants.{NonNullable
 use Rattle.column_base.specs.ValidityForm.{ValidityForm, HasLength, AllNull, IsNormal, flags, nullability_in}
 use Rattle.column_core.specs.Value.{FlatValue, Value, Single, MayBeNull}
 use Rattle.column_core.specs.Optionals.{optionals, AreBlankAtNulls}
-use Rattle.column_core.specs.Computed.{without_nulls, AreComputed, HasRowIfAllNull}
+use Rattle.column_core.specs.Computed.{without_nulls, AreWrittenOut, HasRowIfAllNull}
 use Rattle.runend_windows.proofs.DecodedItems.{rows_of}
 
 -- copies, none of them null
@@ -64,14 +64,14 @@ nullable Nullable may = refl
 pub rows-written_null : {B : Type 0} (value : B → FlatValue) (n : ℕ) (x : B) → map (option_map Single) (rows_of value (replicate n x) AllNull) ≡ replicate n None
 rows-written_null value n x = rw (length-replicate n x) (rows-of_nulls value n x)
 
-pub computed-written_null : {B : Type 0} (blank : B) (n : ℕ) → AreComputed blank (replicate n blank) AllNull
+pub computed-written_null : {B : Type 0} (blank : B) (n : ℕ) → AreWrittenOut blank (replicate n blank) AllNull
 computed-written_null blank n = record { blanked = blanked-of_nulls blank n _; normal = tt }
 
 -- a value, written out
 pub rows-written : {B : Type 0} (value : B → FlatValue) (n : ℕ) (x : B) (nullability : Nullability) → map (option_map Single) (rows_of value (replicate n x) (without_nulls nullability)) ≡ replicate n (Some (Single (value x)))
 rows-written value n x nullability = rw (length-replicate n x, flags-without_nulls nullability n) (rows-of_copies value n x)
 
-pub computed-written : {B : Type 0} (blank : B) (n : ℕ) (x : B) (nullability : Nullability) → AreComputed blank (replicate n x) (without_nulls nullability)
+pub computed-written : {B : Type 0} (blank : B) (n : ℕ) (x : B) (nullability : Nullability) → AreWrittenOut blank (replicate n x) (without_nulls nullability)
 computed-written blank n x nullability = record {
   blanked = rw (length-replicate n x, flags-without_nulls nullability n) (blanked-of_copies blank n x);
   normal = normal-without_nulls nullability;

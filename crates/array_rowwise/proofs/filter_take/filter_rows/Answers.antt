@@ -6,7 +6,7 @@ use Rattle.runend_array.specs.Encoding.{IsComputedFlat}
 use Rattle.array_rowwise.proofs.FilterFaults.{fault_here, no_fault}
 use Rattle.array_rowwise.proofs.ComputedRows.{ok_then}
 use Rattle.array_rowwise.proofs.PassedOn.{no_value, refused_by_none}
-use Rattle.array_rowwise.proofs.any_rows.filter_rows.Goals as goal
+use Rattle.array_rowwise.proofs.filter_take.filter_rows.Goals as goal
 
 pub returns-then-len-clause-refused : goal.returns-then-len-clause-refused
 returns-then-len-clause-refused g c =

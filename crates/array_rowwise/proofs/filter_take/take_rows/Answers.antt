@@ -14,7 +14,7 @@ use Rattle.runend_array.specs.Column.{column_dtype, column_rows}
 use Rattle.runend_array.specs.Encoding.{IsComputedFlat}
 use Rattle.array_rowwise.proofs.ComputedRows.{ok_then}
 use Rattle.array_rowwise.proofs.PassedOn.{no_value, refused_by_none}
-use Rattle.array_rowwise.proofs.any_rows.take_rows.Goals as goal
+use Rattle.array_rowwise.proofs.filter_take.take_rows.Goals as goal
 
 pub take_values-taken-requires-clause-counted : goal.take_values-taken-requires-clause-counted
 take_values-taken-requires-clause-counted g c =

@@ -7,7 +7,7 @@ use Rattle.runend_windows.specs.Window.{run_at}
 use Rattle.runend_indices.specs.Indices.{optional_indices, run_of, valid_count}
 use Rattle.runend_indices.proofs.Bounds.{in_bounds_of_window, position_if}
 use Rattle.runend_indices.proofs.Places.{AreFour, answered-all, answered-four, answered-more, counted-all, counted-four, four_searches_more, length-optional_indices, one_index_more}
-use Rattle.runend_indices.proofs.halves.searched_runs.Goals as goal
+use Rattle.runend_indices.proofs.binary_search.searched_runs.Goals as goal
 
 pub four_rows-requires-clause-in_bounds : goal.four_rows-requires-clause-in_bounds
 four_rows-requires-clause-in_bounds g c =

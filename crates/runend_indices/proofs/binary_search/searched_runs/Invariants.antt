@@ -2,7 +2,7 @@ use Rattle.std.proofs.Common.{◌≡◌, ◌+◌, ◌-◌, ◌*◌, ◌≤◌, l
 use Rattle.column_base.specs.Mask.{mask_bits}
 use Rattle.column_core.specs.Digits.{digits}
 use Rattle.runend_indices.specs.Indices.{optional_indices, run_of, valid_count}
-use Rattle.runend_indices.proofs.halves.searched_runs.Given as goal
+use Rattle.runend_indices.proofs.binary_search.searched_runs.Given as goal
 
 -- the indices before this place are answered, and each valid one of them has cost one search
 abbrev pub invariant-loop-place : goal.invariant-loop-place

@@ -1,6 +1,6 @@
 use Rattle.std.proofs.Common.{◌≡◌, ◌-◌, ◌∙◌, ◌^◌, ap, arith}
 use Rattle.std.proofs.lemmas.Nat.Bits.{ones_shr}
-use Rattle.runend_select.proofs.ones.low_mask.Goals as goal
+use Rattle.runend_select.proofs.rank.low_mask.Goals as goal
 
 pub returns : goal.returns
 returns c =

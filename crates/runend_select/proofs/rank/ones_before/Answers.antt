@@ -2,7 +2,7 @@ use Rattle.std.proofs.Common.{◌≡◌, ◌+◌, ◌*◌, ◌≤◌, ℕ, Fits,
 use Rattle.std.specs.Prelude.{count_ones}
 use Rattle.runend_select.proofs.FirstBits.{set_bits-few, set_bits-word}
 use Rattle.runend_select.proofs.Selected.{set_bits}
-use Rattle.runend_select.proofs.ones.ones_before.Goals as goal
+use Rattle.runend_select.proofs.rank.ones_before.Goals as goal
 
 -- the bits before the next word are those before this one and its own
 pub loop-word-preserved : goal.loop-word-preserved

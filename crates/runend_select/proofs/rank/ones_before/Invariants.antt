@@ -1,5 +1,5 @@
 use Rattle.std.proofs.Common.{◌≡◌, ◌*◌, count_by, take}
-use Rattle.runend_select.proofs.ones.ones_before.Given as goal
+use Rattle.runend_select.proofs.rank.ones_before.Given as goal
 
 -- the bits before this word are counted
 abbrev pub invariant-loop-word : goal.invariant-loop-word

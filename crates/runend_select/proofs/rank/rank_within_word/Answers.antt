@@ -1,6 +1,6 @@
 use Rattle.std.proofs.Common.{ℕ, Fits, w64, arith, subst, sym}
 use Rattle.runend_select.proofs.FirstBits.{set_bits-few, set_bits-to}
-use Rattle.runend_select.proofs.ones.rank_within_word.Goals as goal
+use Rattle.runend_select.proofs.rank.rank_within_word.Goals as goal
 
 pub returns : goal.returns
 returns g c = set_bits-to c.words.result.now c.args.bits.now c.args.place c.args.before c.low_mask.result c.words.ensures c.requires.within c.requires.counted c.low_mask.ensures

@@ -34,10 +34,10 @@ use Rattle.std.proofs.raw_atomic.Walks.{proved_at, leaves}
 use Rattle.c_columns.proofs.MachineValues.{RawBox, as_one, open_parked, pair_value, parked_fits}
 use Rattle.std_alloc.specs.contracts.boxed.Box.from_raw as from_raw
 use Rattle.std_alloc.proofs.boxed.Box.from_raw.Met.{met}
-use Rattle.c_columns.specs.contracts.parked.RawBox.from_raw.{ended, clauses}
-use Rattle.c_columns.specs.contracts.parked.RawBox.from_raw.Key.{name as #self}
-use Rattle.c_columns.proofs.parked.RawBox.from_raw.Statement.{statement}
-use Rattle.c_columns.proofs.parked.RawBox.from_raw.Code as code
+use Rattle.c_columns.specs.contracts.raw_box.RawBox.from_raw.{ended, clauses}
+use Rattle.c_columns.specs.contracts.raw_box.RawBox.from_raw.Key.{name as #self}
+use Rattle.c_columns.proofs.raw_box.RawBox.from_raw.Statement.{statement}
+use Rattle.c_columns.proofs.raw_box.RawBox.from_raw.Code as code
 
 pub unpark_spec : {M : Type 1} → statement M
 unpark_spec 𝓤 𝓛 𝓜 𝓡 wired T A L LA g d dx dd allocator glue glued =

@@ -35,10 +35,10 @@ use Rattle.std.proofs.raw_atomic.Walks.{proved_at, leaves}
 use Rattle.c_columns.proofs.MachineValues.{as_one, close_parked, pair_value, parked_fits}
 use Rattle.std_alloc.specs.contracts.boxed.Box.into_raw_with_allocator as into_raw
 use Rattle.std_alloc.proofs.boxed.Box.into_raw_with_allocator.Met.{met}
-use Rattle.c_columns.specs.contracts.parked.RawBox.into_raw.{ended, clauses}
-use Rattle.c_columns.specs.contracts.parked.RawBox.into_raw.Key.{name as #self}
-use Rattle.c_columns.proofs.parked.RawBox.into_raw.Statement.{statement}
-use Rattle.c_columns.proofs.parked.RawBox.into_raw.Code as code
+use Rattle.c_columns.specs.contracts.raw_box.RawBox.into_raw.{ended, clauses}
+use Rattle.c_columns.specs.contracts.raw_box.RawBox.into_raw.Key.{name as #self}
+use Rattle.c_columns.proofs.raw_box.RawBox.into_raw.Statement.{statement}
+use Rattle.c_columns.proofs.raw_box.RawBox.into_raw.Code as code
 
 pub park_spec : {M : Type 1} → statement M
 park_spec 𝓤 𝓛 𝓜 𝓡 wired T A L LA g d dx dd allocator glue glued =
