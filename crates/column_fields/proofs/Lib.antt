@@ -2,6 +2,7 @@ pub mod FieldLaws
 pub mod TypeLaws
 pub mod NumberLaws
 pub mod NumberSame
+pub mod DecimalLaws
 pub mod BitLaws
 pub mod BitReading
 pub mod Refusals
@@ -11,3 +12,4 @@ pub mod EndReading
 pub mod HeaderLaws
 pub mod FlatFieldLaws
 pub mod RunFieldLaws
+pub mod DecimalFieldLaws

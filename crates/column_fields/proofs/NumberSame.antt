@@ -65,7 +65,7 @@ below_32 z h = omega (arith, ints)
 below_64 : (z : ℤ) → FitsSigned w64 z → cast_unsigned w64 z < 2 ^ 64
 below_64 z h = omega (arith, ints)
 
-number_same : (t : PType) (n m : ℤ) → HasNumber t n → HasNumber t m → number_bytes t n ≡ number_bytes t m → n ≡ m
+pub number_same : (t : PType) (n m : ℤ) → HasNumber t n → HasNumber t m → number_bytes t n ≡ number_bytes t m → n ≡ m
 number_same U8 n m p q e = let a = unsigned_is w8 n p in let b = unsigned_is w8 m q in a.0 ∙ ap pos (bytes_same_8 _ _ a.1 b.1 e) ∙ sym b.0
 number_same U16 n m p q e = let a = unsigned_is w16 n p in let b = unsigned_is w16 m q in a.0 ∙ ap pos (bytes_same_16 _ _ a.1 b.1 e) ∙ sym b.0
 number_same U32 n m p q e = let a = unsigned_is w32 n p in let b = unsigned_is w32 m q in a.0 ∙ ap pos (bytes_same_32 _ _ a.1 b.1 e) ∙ sym b.0

@@ -2,9 +2,11 @@ pub mod Field
 pub mod Types
 pub mod NumberBytes
 pub mod BitBytes
+pub mod DecimalBytes
 pub mod Refusal
 pub mod Validity
 pub mod Lengths
 pub mod Header
 pub mod FlatFields
+pub mod DecimalFields
 pub mod RunFields

@@ -1,8 +1,10 @@
-//! The fields of a message that holds a column, each in its one spelling: numbers, bytes, native numbers, bits, run
-//! lengths, and which rows are null.
+//! The fields of a message that holds a column, each in its one spelling: numbers, bytes, native numbers, bits,
+//! decimals, run lengths, and which rows are null.
 #![tactic(auto)]
 
 mod bit_bytes;
+mod decimal_fields;
+mod decimals;
 mod fields;
 mod flat_fields;
 mod header;
@@ -15,13 +17,15 @@ mod validity;
 
 pub use bit_bytes::{bytes_for, load_bits, put_bits};
 pub use column_base::{VortexError, VortexResult};
+pub use decimal_fields::{put_decimal_type, read_decimal_fields};
+pub use decimals::{DECIMAL_SIZE, load_decimals, put_decimals};
 pub use fields::{
     put_bytes, put_bytes_key, put_number, read_bytes, read_constant, read_last_bytes, read_number,
 };
 pub use flat_fields::read_flat_fields;
 pub use header::{Header, put_header, read_header};
 pub use lengths::{ends_values, load_ends, put_lengths_of};
-pub use numbers::{load_values, put_values, size_of_type};
+pub use numbers::{load_value, load_values, put_value, put_values, size_of_type};
 pub use run_fields::{RunFields, put_run_fields, read_run_fields};
 pub use types::{number_of_type, type_of_number};
 pub use validity::{put_validity, read_validity};

@@ -2,7 +2,7 @@
 ghost use Rattle.std.specs.Prelude.{◌≡◌, ◌+◌, ◌*◌, ◌++◌, length, map, All, OnOk, IfOk, IsOkUnless, vec_capacity};
 ghost use Rattle.column_base.specs.Types.{HasNumber};
 ghost use Rattle.column_base.specs.Numbers.{numbers, ptype_of};
-ghost use Rattle.column_fields.specs.NumberBytes.{numbers_bytes, size_of};
+ghost use Rattle.column_fields.specs.NumberBytes.{number_bytes, numbers_bytes, size_of};
 
 use crate::stored::StoredNumber;
 use column_base::{PType, PrimitiveValues, VortexError, VortexResult, match_each_native};
@@ -18,6 +18,62 @@ pub fn size_of_type(ptype: PType) -> usize
         PType::U32 | PType::I32 => 4,
         PType::U64 | PType::I64 => 8,
     }
+}
+
+/// Writes one number of a type at the end.
+pub fn put_value<A: Allocator>(out: &mut Vec<u8, A>, ptype: PType, number: i128) -> VortexResult<()>
+    requires { HasNumber ptype number }
+    ensures ok { OnOk result (out.new.items ≡ out.old.items ++ number_bytes ptype number) }
+    ensures only { IsOkUnless result VortexError.OutOfMemory }
+{
+    match ptype {
+        PType::U8 => put_one::<u8, A>(out, number),
+        PType::U16 => put_one::<u16, A>(out, number),
+        PType::U32 => put_one::<u32, A>(out, number),
+        PType::U64 => put_one::<u64, A>(out, number),
+        PType::I8 => put_one::<i8, A>(out, number),
+        PType::I16 => put_one::<i16, A>(out, number),
+        PType::I32 => put_one::<i32, A>(out, number),
+        PType::I64 => put_one::<i64, A>(out, number),
+    }
+}
+
+fn put_one<T: StoredNumber, A: Allocator>(out: &mut Vec<u8, A>, number: i128) -> VortexResult<()>
+    requires { HasNumber T.PTYPE number }
+    ensures ok { OnOk result (out.new.items ≡ out.old.items ++ number_bytes T.PTYPE number) }
+    ensures only { IsOkUnless result VortexError.OutOfMemory }
+{
+    let Some(item) = T::narrow(number) else {
+        unreachable!()
+    };
+    item.put(out)?;
+    Ok(())
+}
+
+/// The number of a type of which these are the bytes.
+pub fn load_value(ptype: PType, bytes: &[u8]) -> i128
+    requires { length bytes.now ≡ size_of ptype }
+    ensures shows { number_bytes ptype result ≡ bytes.now }
+    ensures fits { HasNumber ptype result }
+{
+    match ptype {
+        PType::U8 => load_one::<u8>(bytes),
+        PType::U16 => load_one::<u16>(bytes),
+        PType::U32 => load_one::<u32>(bytes),
+        PType::U64 => load_one::<u64>(bytes),
+        PType::I8 => load_one::<i8>(bytes),
+        PType::I16 => load_one::<i16>(bytes),
+        PType::I32 => load_one::<i32>(bytes),
+        PType::I64 => load_one::<i64>(bytes),
+    }
+}
+
+fn load_one<T: StoredNumber>(bytes: &[u8]) -> i128
+    requires { length bytes.now ≡ size_of T.PTYPE }
+    ensures shows { number_bytes T.PTYPE result ≡ bytes.now }
+    ensures fits { HasNumber T.PTYPE result }
+{
+    T::load(bytes).widen()
 }
 
 /// Writes the numbers at the end.

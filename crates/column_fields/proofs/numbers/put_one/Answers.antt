@@ -1,0 +1,12 @@
+use Rattle.std.proofs.Common.{◌≡◌, ◌∙◌, ℕ, ℤ, FitsSigned, List, ◌++◌, ap, rules}
+use Rattle.std.specs.Int.{w128}
+use Rattle.std.proofs.lemmas.Int.{to_z-of_z}
+use Rattle.column_fields.specs.NumberBytes.{number_bytes}
+use Rattle.column_fields.proofs.numbers.put_one.Goals as goal
+
+pub returns-clause-ok : goal.returns-clause-ok
+returns-clause-ok g c =
+    let t = g.T.NativePType.PTYPE in
+    let fits : FitsSigned w128 c.args.number = search rules in
+    let same : g.T.NativePType.number c.in-Some.item ≡ c.args.number = c.in-Some.ensures.1 ∙ to_z-of_z w128 c.args.number fits in
+    c.in_ok-put.ensures.ok ∙ ap (λ (n : ℤ). c.args.out.now.items ++ number_bytes t n) same

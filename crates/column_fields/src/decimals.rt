@@ -1,0 +1,79 @@
+//! Decimals as bytes.
+ghost use Rattle.std.specs.Prelude.{◌≡◌, ◌*◌, ◌++◌, length, All, OnOk, IfOk, IsOkUnless, FitsSigned, vec_capacity};
+ghost use Rattle.std.specs.Int.{w64, w128, to_le_bytes};
+ghost use Rattle.column_fields.specs.DecimalBytes.{decimal_bytes, decimals_bytes};
+
+use column_base::{VortexError, VortexResult};
+use std::alloc::Allocator;
+
+/// How many bytes a decimal has.
+pub const DECIMAL_SIZE: usize = 16;
+
+// What the upper half of a decimal counts by.
+const WORD: u128 = 1 << 64;
+
+/// Writes the integers of decimals at the end.
+pub fn put_decimals<A: Allocator>(out: &mut Vec<u8, A>, numbers: &[i128]) -> VortexResult<()>
+    ensures ok { OnOk result (out.new.items ≡ out.old.items ++ decimals_bytes numbers.now) }
+    ensures fits { OnOk result (All (λ n. FitsSigned w128 n) numbers.now) }
+    ensures only { IsOkUnless result VortexError.OutOfMemory }
+{
+    for number in numbers {
+        put_decimal(out, *number)?;
+    }
+    Ok(())
+}
+
+// Writes the integer of one decimal at the end.
+fn put_decimal<A: Allocator>(out: &mut Vec<u8, A>, number: i128) -> VortexResult<()>
+    ensures ok { OnOk result (out.new.items ≡ out.old.items ++ decimal_bytes number) }
+    ensures fits { FitsSigned w128 number }
+    ensures only { IsOkUnless result VortexError.OutOfMemory }
+{
+    out.extend_from_slice(&number.to_le_bytes())?;
+    Ok(())
+}
+
+/// The integers of so many decimals, of which these are the bytes. Takes memory for them, and for no more.
+pub fn load_decimals<A: Allocator>(
+    alloc: A,
+    bytes: &[u8],
+    count: usize,
+) -> VortexResult<Vec<i128, A>>
+    requires { length bytes.now ≡ count * 16 }
+    ensures shows { IfOk result (λ v. decimals_bytes v.items ≡ bytes.now) }
+    ensures counted { IfOk result (λ v. length v.items ≡ count) }
+    ensures fits { IfOk result (λ v. All (λ n. FitsSigned w128 n) v.items) }
+    ensures memory { IfOk result (λ v. vec_capacity v ≡ count) }
+    ensures only { IsOkUnless result VortexError.OutOfMemory }
+{
+    let mut numbers = Vec::with_capacity(alloc, count)?;
+    let mut rest = bytes;
+    for _row in 0..count {
+        let (front, back) = rest.split_at(DECIMAL_SIZE);
+        numbers.push_reserved(load_decimal(front));
+        rest = back;
+    }
+    Ok(numbers)
+}
+
+// The integer of the decimal of which these are the bytes.
+fn load_decimal(bytes: &[u8]) -> i128
+    requires { length bytes.now ≡ 16 }
+    ensures shows { decimal_bytes result ≡ bytes.now }
+    ensures fits { FitsSigned w128 result }
+{
+    let (front, back) = bytes.split_at(8);
+    let (low, high) = (load_word(front), load_word(back));
+    (u128::from(high) * WORD + u128::from(low)).cast_signed()
+}
+
+// The number of which these are the bytes, the lowest first.
+fn load_word(bytes: &[u8]) -> u64
+    requires { length bytes.now ≡ 8 }
+    ensures { to_le_bytes w64 result ≡ bytes.now }
+{
+    u64::from_le_bytes([
+        bytes[0], bytes[1], bytes[2], bytes[3], bytes[4], bytes[5], bytes[6], bytes[7],
+    ])
+}
