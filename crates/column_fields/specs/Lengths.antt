@@ -1,5 +1,5 @@
 -- Run lengths: how many rows each run has.
-use Rattle.std.specs.Prelude.{◌≡◌, ℕ, pos, ◌-◌, ◌^◌, ◌<◌, ◌≤◌, Bool, true, false, List, [], ◌∷◌, ◌++◌, All}
+use Rattle.std.specs.Prelude.{◌≡◌, ℕ, pos, ◌-◌, ◌^◌, ◌<◌, ◌≤◌, Bool, true, false, List, [], ◌∷◌, All}
 use Rattle.std.specs.List.{flat_map}
 use Rattle.column_base.specs.declared.dtype.PType.{PType}
 use Rattle.column_base.specs.Types.{HasNumber, IsUnsigned}

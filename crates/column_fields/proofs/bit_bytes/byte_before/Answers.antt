@@ -1,4 +1,4 @@
-use Rattle.std.proofs.Common.{◌≡◌, ◌∙◌, ap, arith, ◌+◌, ◌*◌, ℕ, refl, sym}
+use Rattle.std.proofs.Common.{◌∙◌, ap, arith, ◌+◌, ◌*◌, ℕ}
 use Rattle.column_fields.proofs.BitLaws.{one_lower, still_small, grows, number_none, byte_is_bit}
 use Rattle.column_fields.proofs.bit_bytes.byte_before.Goals as goal
 

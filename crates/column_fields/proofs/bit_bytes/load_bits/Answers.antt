@@ -1,6 +1,5 @@
-use Rattle.std.proofs.Common.{◌≡◌, ◌∙◌, ap, arith, ℕ, refl, sym}
-use Rattle.column_fields.specs.BitBytes.{bit_bytes}
-use Rattle.column_fields.proofs.BitReading.{started, one_more, not_padded, all_read}
+use Rattle.std.proofs.Common.{arith, refl}
+use Rattle.column_fields.proofs.BitReading.{one_more, not_padded, all_read}
 use Rattle.column_fields.proofs.bit_bytes.load_bits.Goals as goal
 
 pub returns-then-from-limit-clause-bad : goal.returns-then-from-limit-clause-bad

@@ -1,4 +1,4 @@
-use Rattle.std.proofs.Common.{◌≡◌, ◌+◌, ℤ, pos, rules, ap, ◌∙◌, sym, get_or, take, arith, List, ℕ, ◌++◌, [], ◌∷◌}
+use Rattle.std.proofs.Common.{◌≡◌, ℤ, pos, rules, ap, ◌∙◌, sym, get_or, take, arith, List, ℕ, ◌++◌}
 use Rattle.std.proofs.lemmas.List.{take_more, take_all, append-nil}
 use Rattle.std.proofs.lemmas.List.Elements.{All-more, All-nil, All-same}
 use Rattle.std.specs.Int.{w128, cast_signed, cast_unsigned}

@@ -1,4 +1,4 @@
-use Rattle.std.proofs.Common.{arith, refl}
+use Rattle.std.proofs.Common.{refl}
 use Rattle.column_fields.proofs.LengthLaws.{puts_bytes}
 use Rattle.column_fields.proofs.fields.put_bytes.Goals as goal
 

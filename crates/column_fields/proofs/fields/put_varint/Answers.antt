@@ -1,5 +1,5 @@
-use Rattle.std.proofs.Common.{ap, ◌∙◌, arith, List, ℕ, ◌++◌}
-use Rattle.varints.proofs.Forms.{is_written, room}
+use Rattle.std.proofs.Common.{ap, ◌∙◌, List, ℕ, ◌++◌}
+use Rattle.varints.proofs.Forms.{is_written}
 use Rattle.varints.specs.Varint.{varint}
 use Rattle.column_fields.proofs.fields.put_varint.Goals as goal
 

@@ -1,8 +1,8 @@
-use Rattle.std.proofs.Common.{◌≡◌, ap, ◌∙◌, sym, refl, map, take, length, arith, List, ℕ, ◌++◌, [], ◌∷◌}
+use Rattle.std.proofs.Common.{◌≡◌, ap, ◌∙◌, sym, map, length, arith, List, ℕ, ◌++◌, [], ◌∷◌}
 use Rattle.std.proofs.lemmas.List.{map-append, append-nil, nil_from_length}
 use Rattle.std.proofs.lemmas.List.Elements.{All-push, All-nil, All-same}
 use Rattle.column_base.specs.Types.{HasNumber}
-use Rattle.column_fields.specs.NumberBytes.{numbers_bytes, size_of}
+use Rattle.column_fields.specs.NumberBytes.{numbers_bytes}
 use Rattle.column_fields.proofs.NumberLaws.{load_step, next_fits, next_left, none_left, numbers_none}
 use Rattle.column_fields.proofs.numbers.load_all.Goals as goal
 

@@ -1,4 +1,4 @@
-use Rattle.std.proofs.Common.{◌≡◌, ◌∙◌, ℕ, ℤ, FitsSigned, List, ◌++◌, ap, rules}
+use Rattle.std.proofs.Common.{◌≡◌, ◌∙◌, ℤ, FitsSigned, ◌++◌, ap, rules}
 use Rattle.std.specs.Int.{w128}
 use Rattle.std.proofs.lemmas.Int.{to_z-of_z}
 use Rattle.column_fields.specs.NumberBytes.{number_bytes}

@@ -1,6 +1,6 @@
-use Rattle.std.proofs.Common.{arith, refl, sym, ap, ◌∙◌, [], List, ℕ}
+use Rattle.std.proofs.Common.{arith, refl, sym, ◌∙◌}
 use Rattle.std.proofs.lemmas.Result.{err_from_is_err_and}
-use Rattle.column_base.specs.ValidityForm.{NeverNull, NoneNull, AllNull, ByBits}
+use Rattle.column_base.specs.ValidityForm.{NeverNull, NoneNull, AllNull}
 use Rattle.column_fields.proofs.ValidityLaws.{no_kind, other_kind, no_content, other_length, no_bits, is_plain, is_bits}
 use Rattle.column_fields.proofs.Refusals.{same_error}
 use Rattle.column_fields.proofs.validity.read_validity.Goals as goal
