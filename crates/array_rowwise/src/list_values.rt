@@ -12,7 +12,7 @@ ghost use Rattle.runend_array.specs.Column.{OfLists};
 ghost use Rattle.runend_array.specs.Lists.{list_count, list_dtype, list_rows};
 ghost use Rattle.array_rowwise.specs.Computed.{IsComputedAs};
 
-use crate::set_bit_indices::set_bit_indices;
+use crate::bit_indices::set_bit_indices;
 use column_core::{BitBuffer, Mask, Validity, VortexError, VortexResult};
 use runend_array::ListViewArray;
 use std::alloc::Allocator;

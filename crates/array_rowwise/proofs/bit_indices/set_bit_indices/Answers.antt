@@ -1,7 +1,7 @@
 use Rattle.std.proofs.Common.{◌++◌, ◌∷◌, [], ◌∙◌, ap, sym, length, length-append, arith}
 use Rattle.std.proofs.lemmas.List.{append_assoc, append-nil}
 use Rattle.array_rowwise.proofs.SetPlaces.{length-places}
-use Rattle.array_rowwise.proofs.set_bit_indices.set_bit_indices.Goals as goal
+use Rattle.array_rowwise.proofs.bit_indices.set_bit_indices.Goals as goal
 
 pub push_reserved-requires : goal.push_reserved-requires
 push_reserved-requires g c =

@@ -1,6 +1,6 @@
 use Rattle.std.proofs.Common.{◌≡◌, ◌++◌, ◌≤◌, count_by, vec_capacity}
 use Rattle.column_base.specs.Bits.{set_indices_of}
-use Rattle.array_rowwise.proofs.set_bit_indices.set_bit_indices.Given as goal
+use Rattle.array_rowwise.proofs.bit_indices.set_bit_indices.Given as goal
 
 -- the places so far are written, the iterator has the others, and there is room for all
 abbrev pub invariant-loop-place : goal.invariant-loop-place

@@ -3,7 +3,7 @@ use Rattle.std.specs.Prelude.{option_map}
 use Rattle.std.proofs.lemmas.List.{length-replicate}
 use Rattle.column_base.proofs.Ranges.{slice_range-replicate}
 use Rattle.column_core.specs.Value.{FlatValue, Single}
-use Rattle.array_rowwise.proofs.slice_rows.part_within.Goals as goal
+use Rattle.array_rowwise.proofs.slices.part_within.Goals as goal
 
 pub returns-in_ok-part-in-Constant-clause-rows : goal.returns-in_ok-part-in-Constant-clause-rows
 returns-in_ok-part-in-Constant-clause-rows g c =
