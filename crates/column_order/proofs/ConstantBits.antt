@@ -3,7 +3,6 @@ use Rattle.std.proofs.Common.{◌≡◌, ◌∙◌, ◌+◌, ◌<◌, ℕ, ℤ, 
 use Rattle.std.specs.Prelude.{◌&&◌, Result, IfOk, is_some, is_none, option_map, slice_get, unwrap_or, if◌then◌else◌}
 use Rattle.std.specs.Ordering.{int_cmp}
 use Rattle.std.specs.declared.cmp.Ordering.{Ordering}
-use Rattle.std.specs.declared.cmp.Ordering.TheVariants.{Less, Equal, Greater}
 use Rattle.std.proofs.lemmas.Bool.{false≢true}
 use Rattle.std.proofs.lemmas.List.{length-map, length-replicate, map-id, map_push, take_more}
 use Rattle.std.proofs.lemmas.Option.{slice_get_within}
@@ -26,7 +25,7 @@ use Rattle.column_core.specs.declared.varbinview.VarBinKind.{VarBinKind}
 use Rattle.column_core.specs.declared.varbinview.VarBinKind.TheVariants.{Utf8, Binary}
 use Rattle.column_core.specs.declared.view.ScalarView.{ScalarView}
 use Rattle.column_core.specs.declared.view.ScalarView.TheVariants as view
-use Rattle.column_order.specs.Comparing.{answer_bit, answer_bits, compare_dtype, compare_with, compared, either_nullability, holds_of, is_held, outcome_of, IsStoredComparison}
+use Rattle.column_order.specs.Comparing.{answer_bit, answer_bits, compare_dtype, compare_with, compared, either_nullability, holds_of, is_held, IsStoredComparison}
 use Rattle.column_order.specs.Order.{flat_cmp}
 use Rattle.column_order.specs.declared.operator.CompareOperator.{CompareOperator}
 use Rattle.column_order.proofs.RowRanges.{get_or-read}
@@ -34,14 +33,6 @@ use Rattle.column_order.proofs.RowRanges.{get_or-read}
 -- a flat value as a value, and an optional one as a row
 abbrev pub row_of : Option FlatValue → Option Value
 row_of = option_map (λ (v : FlatValue). Single v)
-
--- what an operator says of an ordering, of what it says of all three
-pub outcome_holds : (operator : CompareOperator) (ordering : Ordering) (below equal above : Bool)
-    → below ≡ holds_of operator Less → equal ≡ holds_of operator Equal → above ≡ holds_of operator Greater
-    → outcome_of ordering below equal above ≡ holds_of operator ordering
-outcome_holds operator Less below equal above b e a = b
-outcome_holds operator Equal below equal above b e a = e
-outcome_holds operator Greater below equal above b e a = a
 
 -- where no item is null, a test holds of an item where it does
 pub is_held-all : {B : Type 0} (test : B → Bool) (xs : List B) → map (is_held test) (optionals xs (replicate (length xs) true)) ≡ map test xs
@@ -202,11 +193,6 @@ mapped-next f xs k x old y here is told =
 pub bit_of-truth : (truth : Option Bool) (answer : Option Value) → option_map (λ (b : Bool). Single (Truth b)) truth ≡ answer → unwrap_or truth false ≡ answer_bit answer
 bit_of-truth None answer says = ap answer_bit says
 bit_of-truth (Some b) answer says = ap answer_bit says
-
--- the bit of an optional item is whether it is valid and the test holds of it
-pub bit_of-item : {B : Type 0} (test : B → Bool) (flag holds : Bool) (x : B) → holds ≡ test x → (flag && holds) ≡ is_held test (if flag then Some x else None)
-bit_of-item test true holds x is = is
-bit_of-item test false holds x is = refl
 
 -- bits of items, which are numbers as they are, by a number that was passed on
 pub bits-shown : {E : Type 0} (result : Result (List Bool) E) (operator : CompareOperator) (sent right : ℤ) (form : ValidityForm) (items numbers : List ℤ) → sent ≡ right → items ≡ numbers

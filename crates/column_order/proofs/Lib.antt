@@ -1,3 +1,4 @@
+pub mod AnswerWords
 pub mod OrderLaws
 pub mod RowRanges
 pub mod BestRows

@@ -1,7 +1,6 @@
 -- What a comparison answers, row by row, and how the answer is stored.
 use Rattle.std.specs.Prelude.{◌≡◌, ◌<◌, List, [], ◌∷◌, Bool, false, Option, Some, None, length, map}
 use Rattle.std.specs.declared.cmp.Ordering.{Ordering}
-use Rattle.std.specs.declared.cmp.Ordering.TheVariants.{Less, Equal, Greater}
 use Rattle.std.specs.Ordering.{is_eq, is_ne, is_gt, is_ge, is_lt, is_le}
 use Rattle.column_base.specs.declared.dtype.Nullability.{Nullability}
 use Rattle.column_base.specs.declared.dtype.Nullability.TheVariants.{NonNullable, Nullable}
@@ -23,12 +22,6 @@ holds_of Gt ordering = is_gt ordering
 holds_of Gte ordering = is_ge ordering
 holds_of Lt ordering = is_lt ordering
 holds_of Lte ordering = is_le ordering
-
--- of three answers, that to an ordering
-abbrev pub outcome_of : Ordering → Bool → Bool → Bool → Bool
-outcome_of Less below equal above = below
-outcome_of Equal below equal above = equal
-outcome_of Greater below equal above = above
 
 -- null where either row is null, else whether the operator holds of the two values
 abbrev pub compared : CompareOperator → Option Value → Option Value → Option Value

@@ -1,5 +1,5 @@
 //! The bits of a comparison with a constant, by one loop over the items as they are stored: types,
-//! operator and validity are matched once, outside of it.
+//! operator and validity are matched once, outside of it, and validity is applied word by word.
 ghost use Rattle.std.specs.Prelude.{◌≡◌, false, is_none, length, map, IfOk, IsOkUnless};
 ghost use Rattle.std.specs.Ordering.{int_cmp};
 ghost use Rattle.column_base.specs.Numbers.{numbers, ptype_of};
@@ -12,7 +12,8 @@ ghost use Rattle.column_core.specs.Optionals.{optionals};
 ghost use Rattle.column_core.specs.ScalarView.{sees, IsViewOf};
 ghost use Rattle.column_order.specs.Comparing.{answer_bits, compare_with, holds_of, is_held};
 
-use crate::operator::{CompareOperator, Outcomes};
+use crate::answer_words::{clear_unset, words_of_answers};
+use crate::operator::CompareOperator;
 use crate::truths::truth_of;
 use column_base::match_each_native;
 use column_core::{
@@ -138,12 +139,8 @@ fn bits_of_all<T: Copy + Ord + Drop, A: Allocator + Copy>(
     ensures only { IsOkUnless result VortexError.OutOfMemory }
     ensures bits { IfOk result (λ bits. bits ≡ map (λ item. holds_of operator (T.cmp item right)) items.now) }
 {
-    let outcomes = Outcomes::of(operator);
-    let mut bits = BitBufferMut::with_capacity(alloc, items.len())?;
-    for item in items {
-        bits.append(outcomes.at(item.cmp(&right)))?;
-    }
-    Ok(bits)
+    let words = words_of_answers(alloc, items, operator, right)?;
+    Ok(BitBufferMut::from_words(words, items.len()))
 }
 
 // Of items that are null where their bit is false.
@@ -159,11 +156,7 @@ fn bits_of_valid<T: Copy + Ord + Drop, A: Allocator + Copy>(
     ensures bits { IfOk result (λ bits. bits ≡ map (is_held (λ item. holds_of operator (T.cmp item right)))
         (optionals items.now valid.now)) }
 {
-    let outcomes = Outcomes::of(operator);
-    let mut bits = BitBufferMut::with_capacity(alloc, items.len())?;
-    for index in 0..items.len() {
-        let holds = outcomes.at(items[index].cmp(&right));
-        bits.append(valid.value(index) & holds)?;
-    }
-    Ok(bits)
+    let mut words = words_of_answers(alloc, items, operator, right)?;
+    clear_unset(words.as_mut_slice(), valid.words());
+    Ok(BitBufferMut::from_words(words, items.len()))
 }

@@ -2,6 +2,7 @@
 //! whether rows are constant, and whether they are sorted.
 #![tactic(auto)]
 
+mod answer_words;
 mod compare;
 mod constants;
 mod extremes;
