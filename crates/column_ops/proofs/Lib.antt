@@ -13,6 +13,7 @@ pub mod Columns
 pub mod CastRows
 pub mod CastViews
 pub mod CodeRows
+pub mod WordsAt
 pub mod BitItems
 pub mod Lowest
 pub mod NoFaults

@@ -1,7 +1,7 @@
 -- Lemmas on rows that are taken: their items, and whether each is valid.
 use Rattle.std.proofs.Common.{◌≡◌, ◌∙◌, ◌+◌, ◌<◌, ℕ, zero, suc, pos, List, [], ◌∷◌, ◌++◌, Bool, true, false, Option, Some, None, get_or, length, map, take, replicate, refl, sym, ap, subst, arith}
 use Rattle.std.specs.Prelude.{Result, Ok, Err, IfOk, IfSome, All, is_some, option_map, slice_get, unwrap_or}
-use Rattle.std.proofs.lemmas.List.{length-map, map_push}
+use Rattle.std.proofs.lemmas.List.{get_or-replicate, length-map}
 use Rattle.std.proofs.lemmas.List.Elements.{All-cons, All-head, All-nil, All-tail}
 use Rattle.column_base.specs.declared.dtype.Nullability.{Nullability}
 use Rattle.column_base.specs.declared.dtype.Nullability.TheVariants.{NonNullable, Nullable}
@@ -10,11 +10,11 @@ use Rattle.column_base.proofs.ValidityRows.{nullable-of_bits}
 use Rattle.column_core.specs.Optionals.{optionals, AreBlankAtNulls}
 use Rattle.column_core.proofs.OptionalRows.{length-optionals}
 use Rattle.column_ops.specs.Nullable.{either_nullable}
-use Rattle.column_ops.specs.Take.{ArePositions, position_numbers, take_rows, taken_row}
+use Rattle.column_ops.specs.Take.{ArePositions, position_numbers, take_rows, taken_bit, taken_row}
 use Rattle.column_ops.specs.Written.{AreStoredAs, IsValidityOf}
 use Rattle.column_ops.proofs.Blanked.{items_or, optionals-valid}
 use Rattle.column_ops.proofs.Passed.{take_rows-more}
-use Rattle.std.specs.Prelude.{◌↔◌}
+use Rattle.std.specs.Prelude.{◌↔◌, if◌then◌else◌}
 
 -- what follows of an answer
 pub IfOk-since : {T E : Type 0} (result : Result T E) (P Q : T → Type 0) → ((x : T) → P x → Q x) → IfOk result P → IfOk result Q
@@ -86,12 +86,6 @@ pub length-taken : {B : Type 0} (rows : List (Option B)) (positions : List ℕ) 
 length-taken rows positions marks long =
     length-map (position_numbers (optionals positions marks)) (taken_row rows) ∙ length-map (optionals positions marks) (option_map (λ k. pos k)) ∙ length-optionals positions marks long
 
--- one position more gives one row more, whatever is read of it
-pub taken-more : {B C : Type 0} (read : Option B → C) (rows : List (Option B)) (positions : List (Option ℕ)) (k : ℕ) (position : Option ℕ) → slice_get positions k ≡ Some position
-    → map read (take_rows rows (position_numbers (take (k + 1) positions))) ≡ map read (take_rows rows (position_numbers (take k positions))) ++ read (taken_row rows (option_map (λ n. pos n) position)) ∷ []
-taken-more read rows positions k position here =
-    ap (map read) (take_rows-more rows positions k position here) ∙ map_push read (take_rows rows (position_numbers (take k positions))) (taken_row rows (option_map (λ n. pos n) position))
-
 -- the row of a number is the item there, where no row is null
 row-read : {B : Type 0} (items : List B) (k : ℕ) → get_or (map (λ x. Some x) items) k None ≡ slice_get items k
 row-read [] k = refl
@@ -128,37 +122,80 @@ pub positions-valid : (positions : List ℕ) (marks : List Bool) (count : ℕ) �
 positions-valid positions marks count all_marks within =
     positions-within positions count (subst (λ (rows : List (Option ℕ)). ArePositions rows count) (ap (optionals positions) all_marks ∙ optionals-valid positions) within)
 
-some-at : {B : Type 0} (items : List B) (k : ℕ) → k < length items → is_some (get_or (map (λ x. Some x) items) k None) ≡ true
-some-at [] k within = absurd (omega arith)
-some-at (x ∷ items) zero within = refl
-some-at (x ∷ items) (suc k) within = some-at items k (omega arith)
+-- the row at a place is its item where its bit is true
+row-at : {B : Type 0} (items : List B) (bits : List Bool) (k : ℕ) (blank : B) → length bits ≡ length items
+    → get_or (optionals items bits) k None ≡ (if get_or bits k false then Some (get_or items k blank) else None)
+row-at [] [] k blank long = refl
+row-at [] (b ∷ bits) k blank long = cc
+row-at (x ∷ items) [] k blank long = cc
+row-at (x ∷ items) (b ∷ bits) zero blank long = refl
+row-at (x ∷ items) (b ∷ bits) (suc k) blank long = row-at items bits k blank (omega arith)
 
-flags-at : {B : Type 0} (items : List B) (positions : List (Option ℕ)) → ArePositions positions (length items) → map is_some (take_rows (map (λ x. Some x) items) (position_numbers positions)) ≡ map is_some positions
-flags-at items [] within = refl
-flags-at items (None ∷ positions) within = ap (λ rest. false ∷ rest) (flags-at items positions (All-tail (λ p. IfSome p (λ k. k < length items)) None positions within))
-flags-at items (Some k ∷ positions) within =
-    let here = All-head (λ p. IfSome p (λ j. j < length items)) (Some k) positions within in
-    let rest = flags-at items positions (All-tail (λ p. IfSome p (λ j. j < length items)) (Some k) positions within) in
-    ap (λ b. b ∷ map is_some (take_rows (map (λ x. Some x) items) (position_numbers positions))) (some-at items k here) ∙ ap (λ bits. true ∷ bits) rest
+valid-at : {B : Type 0} (items : List B) (bits : List Bool) (k : ℕ) → length bits ≡ length items → is_some (get_or (optionals items bits) k None) ≡ get_or bits k false
+valid-at [] [] k long = refl
+valid-at [] (b ∷ bits) k long = cc
+valid-at (x ∷ items) [] k long = cc
+valid-at (x ∷ items) (true ∷ bits) zero long = refl
+valid-at (x ∷ items) (false ∷ bits) zero long = refl
+valid-at (x ∷ items) (b ∷ bits) (suc k) long = valid-at items bits k (omega arith)
 
--- which taken rows are null is told by the positions, where no row of the items is
-pub flags-taken : {B : Type 0} (items : List B) (bits : List Bool) (positions : List ℕ) (marks : List Bool) → bits ≡ replicate (length items) true → length marks ≡ length positions → ArePositions (optionals positions marks) (length items)
-    → map is_some (take_rows (optionals items bits) (position_numbers (optionals positions marks))) ≡ marks
-flags-taken items bits positions marks all_items long within =
-    ap (λ rows. map is_some (take_rows rows (position_numbers (optionals positions marks)))) (ap (optionals items) all_items ∙ optionals-valid items)
-    ∙ flags-at items (optionals positions marks) within ∙ flags-of_rows positions marks long
+-- whether each taken row is valid is told by the bits at the positions
+pub flags-taken : {B : Type 0} (items : List B) (bits : List Bool) (positions : List (Option ℕ)) → length bits ≡ length items
+    → map is_some (take_rows (optionals items bits) (position_numbers positions)) ≡ map (taken_bit bits) positions
+flags-taken items bits [] long = refl
+flags-taken items bits (None ∷ positions) long = ap (λ rest. false ∷ rest) (flags-taken items bits positions long)
+flags-taken items bits (Some k ∷ positions) long =
+    ap (λ b. b ∷ map is_some (take_rows (optionals items bits) (position_numbers positions))) (valid-at items bits k long)
+    ∙ ap (λ rest. get_or bits k false ∷ rest) (flags-taken items bits positions long)
 
-item-or_blank : {B : Type 0} (items : List B) (k : ℕ) (blank : B) → get_or items k blank ≡ unwrap_or (get_or (map (λ x. Some x) items) k None) blank
-item-or_blank [] k blank = refl
-item-or_blank (x ∷ items) zero blank = refl
-item-or_blank (x ∷ items) (suc k) blank = item-or_blank items k blank
+-- bits that are all true are true at each position
+pub bits-valid : (n : ℕ) (positions : List ℕ) (marks : List Bool) → length marks ≡ length positions → ArePositions (optionals positions marks) n
+    → map (taken_bit (replicate n true)) (optionals positions marks) ≡ marks
+bits-valid n [] [] long within = refl
+bits-valid n [] (b ∷ marks) long within = cc
+bits-valid n (k ∷ positions) [] long within = cc
+bits-valid n (k ∷ positions) (true ∷ marks) long within =
+    let here : k < n = All-head (λ p. IfSome p (λ j. j < n)) (Some k) (optionals positions marks) within in
+    let rest = bits-valid n positions marks (omega arith) (All-tail (λ p. IfSome p (λ j. j < n)) (Some k) (optionals positions marks) within) in
+    ap (λ b. b ∷ map (taken_bit (replicate n true)) (optionals positions marks)) (get_or-replicate n k true false here) ∙ ap (λ bits. true ∷ bits) rest
+bits-valid n (k ∷ positions) (false ∷ marks) long within =
+    ap (λ bits. false ∷ bits) (bits-valid n positions marks (omega arith) (All-tail (λ p. IfSome p (λ j. j < n)) None (optionals positions marks) within))
 
--- the items at marked positions, with the blank one for null, where no row of the items is null
-pub marked-items : {B : Type 0} (items : List B) (positions : List ℕ) (marks : List Bool) (blank : B)
-    → items_or (map (λ k. get_or items k blank) positions) marks blank ≡ map (λ row. unwrap_or row blank) (take_rows (map (λ x. Some x) items) (position_numbers (optionals positions marks)))
-marked-items items [] marks blank = refl
-marked-items items (k ∷ positions) [] blank = refl
-marked-items items (k ∷ positions) (true ∷ marks) blank =
-    ap (λ x. x ∷ items_or (map (λ j. get_or items j blank) positions) marks blank) (item-or_blank items k blank)
-    ∙ ap (λ xs. unwrap_or (get_or (map (λ x. Some x) items) k None) blank ∷ xs) (marked-items items positions marks blank)
-marked-items items (k ∷ positions) (false ∷ marks) blank = ap (λ xs. blank ∷ xs) (marked-items items positions marks blank)
+false-at : (n k : ℕ) → get_or (replicate n false) k false ≡ false
+false-at zero k = refl
+false-at (suc n) zero = refl
+false-at (suc n) (suc k) = false-at n k
+
+-- bits that are all false are false there
+pub bits-null : (n : ℕ) (positions : List ℕ) (marks : List Bool) → length marks ≡ length positions
+    → map (taken_bit (replicate n false)) (optionals positions marks) ≡ replicate (length positions) false
+bits-null n [] [] long = refl
+bits-null n [] (b ∷ marks) long = cc
+bits-null n (k ∷ positions) [] long = cc
+bits-null n (k ∷ positions) (true ∷ marks) long =
+    ap (λ b. b ∷ map (taken_bit (replicate n false)) (optionals positions marks)) (false-at n k) ∙ ap (λ bits. false ∷ bits) (bits-null n positions marks (omega arith))
+bits-null n (k ∷ positions) (false ∷ marks) long = ap (λ bits. false ∷ bits) (bits-null n positions marks (omega arith))
+
+-- the items at all positions, with the blank one where the row is null, are those of the rows
+pub items-shown : {B : Type 0} (blank : B) (items : List B) (bits : List Bool) (positions : List ℕ) (marks : List Bool) → length bits ≡ length items
+    → items_or (map (λ k. get_or items k blank) positions) (map (taken_bit bits) (optionals positions marks)) blank
+    ≡ map (λ row. unwrap_or row blank) (take_rows (optionals items bits) (position_numbers (optionals positions marks)))
+items-shown blank items bits [] marks long = refl
+items-shown blank items bits (k ∷ positions) [] long = refl
+items-shown blank items bits (k ∷ positions) (true ∷ marks) long =
+    ap (λ row. unwrap_or row blank ∷ items_or (map (λ j. get_or items j blank) positions) (map (taken_bit bits) (optionals positions marks)) blank) (sym (row-at items bits k blank long))
+    ∙ ap (λ xs. unwrap_or (get_or (optionals items bits) k None) blank ∷ xs) (items-shown blank items bits positions marks long)
+items-shown blank items bits (k ∷ positions) (false ∷ marks) long = ap (λ xs. blank ∷ xs) (items-shown blank items bits positions marks long)
+
+-- bits at positions that are null where a mark is false
+bits-shown : (bits : List Bool) (positions : List ℕ) (marks : List Bool) → map (taken_bit bits) (optionals positions marks) ≡ items_or (map (λ k. get_or bits k false) positions) marks false
+bits-shown bits [] marks = refl
+bits-shown bits (k ∷ positions) [] = refl
+bits-shown bits (k ∷ positions) (true ∷ marks) = ap (λ xs. get_or bits k false ∷ xs) (bits-shown bits positions marks)
+bits-shown bits (k ∷ positions) (false ∷ marks) = ap (λ xs. false ∷ xs) (bits-shown bits positions marks)
+
+-- bits at the valid rows are those of the rows, with false for null
+pub bits-taken : (values bits : List Bool) (positions : List ℕ) (marks rows : List Bool) → length bits ≡ length values → rows ≡ map (taken_bit bits) (optionals positions marks)
+    → map (taken_bit values) (optionals positions rows) ≡ map (λ row. unwrap_or row false) (take_rows (optionals values bits) (position_numbers (optionals positions marks)))
+bits-taken values bits positions marks rows long told =
+    bits-shown values positions rows ∙ ap (λ own. items_or (map (λ k. get_or values k false) positions) own false) told ∙ items-shown false values bits positions marks long

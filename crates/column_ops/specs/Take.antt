@@ -1,5 +1,5 @@
 -- Rows taken by their numbers.
-use Rattle.std.specs.Prelude.{◌≡◌, ℕ, ◌<◌, ℤ, pos, negsuc, List, Option, Some, None, All, IfSome, length, map, option_map, cond, nat_lt, slice_index_or}
+use Rattle.std.specs.Prelude.{◌≡◌, ℕ, ◌<◌, ℤ, pos, negsuc, List, Bool, false, Option, Some, None, All, IfSome, length, map, option_map, cond, nat_lt, slice_index_or}
 use Rattle.column_base.specs.declared.error.VortexError.{VortexError}
 use Rattle.column_base.specs.declared.error.VortexError.TheVariants.{OutOfBounds}
 use Rattle.column_base.specs.declared.dtype.Nullability.{Nullability}
@@ -12,6 +12,11 @@ abbrev pub taken_row : {B : Type 0} → List (Option B) → Option ℤ → Optio
 taken_row rows None = None
 taken_row rows (Some (pos k)) = slice_index_or rows k None
 taken_row rows (Some (negsuc k)) = None
+
+-- the bit at an optional position: false for null, and where there is no such bit
+abbrev pub taken_bit : List Bool → Option ℕ → Bool
+taken_bit bits None = false
+taken_bit bits (Some k) = slice_index_or bits k false
 
 -- null for a null index, else the item at the index
 abbrev pub take_rows : {B : Type 0} → List (Option B) → List (Option ℤ) → List (Option B)

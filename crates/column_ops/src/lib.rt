@@ -1,6 +1,7 @@
 //! Operations on flat columns: take, filter, cast and the filling of nulls.
 #![tactic(auto)]
 
+mod bits_at;
 mod blanks;
 mod cast_numbers;
 mod computed_validity;

@@ -1,16 +1,15 @@
 //! Rows taken by their numbers, of any kind of item.
-ghost use Rattle.std.specs.Prelude.{◌≡◌, ◌<◌, pos, All, IfOk, IfSome, IsOkUnless, IsSome, Some, is_some, length, map, option_map, slice_get, slice_index_or, unwrap_or};
-ghost use Rattle.column_base.specs.declared.dtype.Nullability.TheVariants.{NonNullable};
+ghost use Rattle.std.specs.Prelude.{◌≡◌, ◌<◌, false, All, IfOk, IsOkUnless, Some, is_some, length, map, slice_get, slice_index_or, unwrap_or};
 ghost use Rattle.column_base.specs.ValidityForm.{HasLength, flags, nullability_in};
 ghost use Rattle.column_base.specs.Validity.{form_of};
 ghost use Rattle.column_core.specs.Optionals.{optionals};
 ghost use Rattle.column_ops.specs.Nullable.{either_nullable};
-ghost use Rattle.column_ops.specs.Take.{ArePositions, position_numbers, take_rows, taken_row};
+ghost use Rattle.column_ops.specs.Take.{ArePositions, position_numbers, take_rows, taken_bit};
 ghost use Rattle.column_ops.specs.Written.{AreStoredAs, IsValidityOf};
 
+use crate::bits_at::bits_at;
 use crate::computed_validity::{computed_validity, is_all_valid};
-use crate::items_or::with_item_at_nulls;
-use crate::rows::item_at;
+use crate::items_or::{filled_vec, with_item_at_nulls};
 use column_core::{BitBuffer, BitBufferMut, Nullability, Validity, VortexError, VortexResult};
 use std::alloc::Allocator;
 
@@ -36,11 +35,42 @@ pub(crate) fn take_items<T: Copy + Drop, A: Allocator + Copy>(
         parts.0.items (form_of parts.1)) }
 {
     let nullability = either(validity.nullability(), places.nullability());
-    let taken = taken_items(alloc, items, validity, blank, positions, places)?;
-    match taken_validity(alloc, items, validity, positions, places, nullability) {
-        Ok(rows) => Ok((taken, rows)),
+    let rows = taken_validity(alloc, validity, items.len(), positions, places, nullability)?;
+    match taken_items(alloc, items, validity, blank, positions, places, &rows) {
+        Ok(taken) => Ok((taken, rows)),
         Err(error) => {
-            drop(taken);
+            drop(rows);
+            Err(error)
+        }
+    }
+}
+
+/// The bits at these positions and their validity, null for null, with false stored under null. Refused as
+/// `OutOfMemory` alone.
+pub(crate) fn take_bits<A: Allocator + Copy>(
+    alloc: A,
+    bits: &BitBuffer<A>,
+    validity: &Validity<A>,
+    positions: &[u64],
+    places: &Validity<A>,
+) -> VortexResult<(BitBuffer<A>, Validity<A>)>
+    requires fits { HasLength (form_of validity.now) (length bits.now) }
+    requires counted { HasLength (form_of places.now) (length positions.now) }
+    requires within { ArePositions (optionals positions.now (flags (form_of places.now) (length positions.now)))
+        (length bits.now) }
+    ensures only { IsOkUnless result VortexError.OutOfMemory }
+    ensures taken { IfOk result (λ parts. AreStoredAs false
+        (take_rows (optionals bits.now (flags (form_of validity.now) (length bits.now)))
+        (position_numbers (optionals positions.now (flags (form_of places.now) (length positions.now)))))
+        (either_nullable (nullability_in (form_of validity.now)) (nullability_in (form_of places.now)))
+        parts.0 (form_of parts.1)) }
+{
+    let nullability = either(validity.nullability(), places.nullability());
+    let rows = taken_validity(alloc, validity, bits.len(), positions, places, nullability)?;
+    match bits_at(alloc, bits, positions, &rows) {
+        Ok(taken) => Ok((taken, rows)),
+        Err(error) => {
+            drop(rows);
             Err(error)
         }
     }
@@ -56,25 +86,8 @@ fn either(left: Nullability, right: Nullability) -> Nullability
     }
 }
 
-// The row at a position, null for null.
-fn taken_at<T: Copy + Drop, A: Allocator>(
-    items: &[T],
-    validity: &Validity<A>,
-    position: Option<u64>,
-) -> Option<T>
-    requires within { IfSome position (λ k. k < length items.now) }
-    requires fits { HasLength (form_of validity.now) (length items.now) }
-    ensures row { result ≡ taken_row (optionals items.now (flags (form_of validity.now) (length items.now)))
-        (option_map (λ k. pos k) position) }
-    ensures valid { nullability_in (form_of validity.now) ≡ NonNullable → IsSome position → IsSome result }
-{
-    match position {
-        None => None,
-        Some(position) => item_at(items, validity, position as usize),
-    }
-}
-
-// The items at these positions, with the blank one for null. What is valid is asked once, where no row is null.
+// The items at these positions, whose rows are valid where `rows` says so, with the blank one for null. What is valid
+// is asked once, where no row is null.
 fn taken_items<T: Copy + Drop, A: Allocator + Copy>(
     alloc: A,
     items: &[T],
@@ -82,11 +95,16 @@ fn taken_items<T: Copy + Drop, A: Allocator + Copy>(
     blank: T,
     positions: &[u64],
     places: &Validity<A>,
+    rows: &Validity<A>,
 ) -> VortexResult<Vec<T, A>>
     requires fits { HasLength (form_of validity.now) (length items.now) }
     requires counted { HasLength (form_of places.now) (length positions.now) }
     requires within { ArePositions (optionals positions.now (flags (form_of places.now) (length positions.now)))
         (length items.now) }
+    requires sized { HasLength (form_of rows.now) (length positions.now) }
+    requires shown { flags (form_of rows.now) (length positions.now) ≡
+        map (taken_bit (flags (form_of validity.now) (length items.now)))
+        (optionals positions.now (flags (form_of places.now) (length positions.now))) }
     ensures only { IsOkUnless result VortexError.OutOfMemory }
     ensures items { IfOk result (λ taken. taken.items ≡ map (λ row. unwrap_or row blank)
         (take_rows (optionals items.now (flags (form_of validity.now) (length items.now)))
@@ -95,12 +113,7 @@ fn taken_items<T: Copy + Drop, A: Allocator + Copy>(
     if is_all_valid(validity) && is_all_valid(places) {
         return items_at(alloc, items, positions);
     }
-    if is_all_valid(validity) {
-        if let Validity::Bits(marks) = places {
-            return marked_items(alloc, items, blank, positions, marks);
-        }
-    }
-    items_by_rows(alloc, items, validity, blank, positions, places)
+    shown_items(alloc, items, blank, positions, rows)
 }
 
 // The items at positions of which none is null.
@@ -121,25 +134,48 @@ fn items_at<T: Copy + Drop, A: Allocator>(
     Ok(taken)
 }
 
-// The items at positions that are null where their mark is false, with the blank item at null. What stands under null
-// may be no position.
-fn marked_items<T: Copy + Drop, A: Allocator + Copy>(
+// The item at the position of each valid row, and the blank one elsewhere: all items are taken in one loop, and null is
+// blanked then. What stands under null may be no position.
+fn shown_items<T: Copy + Drop, A: Allocator + Copy>(
     alloc: A,
     items: &[T],
     blank: T,
     positions: &[u64],
-    marks: &BitBuffer<A>,
+    rows: &Validity<A>,
 ) -> VortexResult<Vec<T, A>>
-    requires { length marks.now ≡ length positions.now }
+    requires { HasLength (form_of rows.now) (length positions.now) }
     ensures only { IsOkUnless result VortexError.OutOfMemory }
     ensures items { IfOk result (λ taken. taken.items ≡ map (λ row. unwrap_or row blank)
-        (take_rows (map Some items.now) (position_numbers (optionals positions.now marks.now)))) }
+        (optionals (map (λ position. slice_index_or items.now position blank) positions.now)
+        (flags (form_of rows.now) (length positions.now)))) }
+{
+    match rows {
+        Validity::NonNullable => items_or_blank(alloc, items, blank, positions),
+        Validity::AllValid => items_or_blank(alloc, items, blank, positions),
+        Validity::AllInvalid => filled_vec(alloc, blank, positions.len()),
+        Validity::Bits(marks) => {
+            let taken = items_or_blank(alloc, items, blank, positions)?;
+            Ok(with_item_at_nulls(taken, marks, blank))
+        }
+    }
+}
+
+// The items at positions, with the blank one where there is none.
+fn items_or_blank<T: Copy + Drop, A: Allocator>(
+    alloc: A,
+    items: &[T],
+    blank: T,
+    positions: &[u64],
+) -> VortexResult<Vec<T, A>>
+    ensures only { IsOkUnless result VortexError.OutOfMemory }
+    ensures items { IfOk result (λ taken. taken.items ≡
+        map (λ position. slice_index_or items.now position blank) positions.now) }
 {
     let mut taken = Vec::with_capacity(alloc, positions.len())?;
     for position in positions {
         taken.push_reserved(item_or(items, *position, blank));
     }
-    Ok(with_item_at_nulls(taken, marks, blank))
+    Ok(taken)
 }
 
 // The item at a position, and the blank one where there is none.
@@ -153,81 +189,36 @@ fn item_or<T: Copy + Drop>(items: &[T], position: u64, blank: T) -> T
     }
 }
 
-// The items at positions, row by row, with the blank item where the position or the item is null.
-fn items_by_rows<T: Copy + Drop, A: Allocator + Copy>(
+// The validity of the rows at these positions of `count` rows.
+fn taken_validity<A: Allocator + Copy>(
     alloc: A,
-    items: &[T],
     validity: &Validity<A>,
-    blank: T,
-    positions: &[u64],
-    places: &Validity<A>,
-) -> VortexResult<Vec<T, A>>
-    requires fits { HasLength (form_of validity.now) (length items.now) }
-    requires counted { HasLength (form_of places.now) (length positions.now) }
-    requires within { ArePositions (optionals positions.now (flags (form_of places.now) (length positions.now)))
-        (length items.now) }
-    ensures only { IsOkUnless result VortexError.OutOfMemory }
-    ensures items { IfOk result (λ taken. taken.items ≡ map (λ row. unwrap_or row blank)
-        (take_rows (optionals items.now (flags (form_of validity.now) (length items.now)))
-        (position_numbers (optionals positions.now (flags (form_of places.now) (length positions.now)))))) }
-{
-    let mut taken = Vec::with_capacity(alloc, positions.len())?;
-    for place in 0..positions.len() {
-        let position = item_at(positions, places, place);
-        taken.push_reserved(taken_at(items, validity, position).unwrap_or(blank));
-    }
-    Ok(taken)
-}
-
-// The validity of the rows at these positions.
-fn taken_validity<T: Copy + Drop, A: Allocator + Copy>(
-    alloc: A,
-    items: &[T],
-    validity: &Validity<A>,
+    count: usize,
     positions: &[u64],
     places: &Validity<A>,
     nullability: Nullability,
 ) -> VortexResult<Validity<A>>
-    requires fits { HasLength (form_of validity.now) (length items.now) }
+    requires fits { HasLength (form_of validity.now) count }
     requires counted { HasLength (form_of places.now) (length positions.now) }
-    requires within { ArePositions (optionals positions.now (flags (form_of places.now) (length positions.now)))
-        (length items.now) }
+    requires within { ArePositions (optionals positions.now (flags (form_of places.now) (length positions.now))) count }
     requires wanted { nullability ≡ either_nullable (nullability_in (form_of validity.now))
         (nullability_in (form_of places.now)) }
     ensures only { IsOkUnless result VortexError.OutOfMemory }
-    ensures flags { IfOk result (λ rows. IsValidityOf (map is_some
-        (take_rows (optionals items.now (flags (form_of validity.now) (length items.now)))
-        (position_numbers (optionals positions.now (flags (form_of places.now) (length positions.now))))))
+    ensures flags { IfOk result (λ rows. IsValidityOf
+        (map (taken_bit (flags (form_of validity.now) count))
+        (optionals positions.now (flags (form_of places.now) (length positions.now))))
         nullability (length positions.now) (form_of rows)) }
 {
-    if is_all_valid(validity) {
-        return computed_validity(alloc, places, positions.len(), nullability);
+    match validity {
+        Validity::NonNullable => computed_validity(alloc, places, positions.len(), nullability),
+        Validity::AllValid => computed_validity(alloc, places, positions.len(), nullability),
+        Validity::AllInvalid => {
+            let flags = BitBufferMut::full(alloc, false, positions.len())?;
+            Ok(Validity::from_bits(flags.freeze()))
+        }
+        Validity::Bits(marks) => {
+            let flags = bits_at(alloc, marks, positions, places)?;
+            Ok(Validity::from_bits(flags))
+        }
     }
-    let flags = taken_flags(alloc, items, validity, positions, places)?;
-    Ok(Validity::from_bits(flags))
-}
-
-// Whether there is an item at each of these positions.
-fn taken_flags<T: Copy + Drop, A: Allocator + Copy>(
-    alloc: A,
-    items: &[T],
-    validity: &Validity<A>,
-    positions: &[u64],
-    places: &Validity<A>,
-) -> VortexResult<BitBuffer<A>>
-    requires fits { HasLength (form_of validity.now) (length items.now) }
-    requires counted { HasLength (form_of places.now) (length positions.now) }
-    requires within { ArePositions (optionals positions.now (flags (form_of places.now) (length positions.now)))
-        (length items.now) }
-    ensures only { IsOkUnless result VortexError.OutOfMemory }
-    ensures flags { IfOk result (λ taken. taken ≡ map is_some
-        (take_rows (optionals items.now (flags (form_of validity.now) (length items.now)))
-        (position_numbers (optionals positions.now (flags (form_of places.now) (length positions.now)))))) }
-{
-    let mut taken = BitBufferMut::with_capacity(alloc, positions.len())?;
-    for place in 0..positions.len() {
-        let position = item_at(positions, places, place);
-        taken.append(taken_at(items, validity, position).is_some())?;
-    }
-    Ok(taken.freeze())
 }

@@ -9,7 +9,7 @@ use crate::fill_items::fill_items;
 use crate::filter_items::filter_items;
 use crate::keep_items::keep_items;
 use crate::ops::ColumnOps;
-use crate::take_items::take_items;
+use crate::take_items::take_bits;
 use column_core::{
     BitBuffer, BitBufferMut, BoolArray, DType, Mask, ScalarValue, Validity, VortexError,
     VortexResult,
@@ -33,12 +33,9 @@ impl<A: Allocator + Copy> ColumnOps<A> for BoolArray<A> {
         positions: &[u64],
         validity: &Validity<A>,
     ) -> VortexResult<BoolArray<A>> {
-        let own = items_of(alloc, self.values())?;
-        let items = own.as_slice();
-        let taken = take_items(alloc, items, self.validity(), false, positions, validity);
-        drop(own);
-        let (taken, rows) = taken?;
-        array_of(alloc, taken, rows)
+        let own = self.validity();
+        let (bits, rows) = take_bits(alloc, self.values(), own, positions, validity)?;
+        Ok(BoolArray::new_unchecked(bits, rows))
     }
 
     fn filter(&self, alloc: A, mask: &Mask<A>) -> VortexResult<BoolArray<A>> {

@@ -1,11 +1,12 @@
-use Rattle.std.proofs.Common.{◌≡◌, ◌∙◌, Some, length, map, sym, ap}
+use Rattle.std.proofs.Common.{◌≡◌, ◌∙◌, get_or, length, map, sym, ap}
 use Rattle.std.specs.Prelude.{unwrap_or}
 use Rattle.column_base.specs.ValidityForm.{flags}
 use Rattle.column_base.specs.Validity.{form_of}
+use Rattle.column_base.proofs.ValidityRows.{length-flags}
 use Rattle.column_core.specs.Optionals.{optionals}
 use Rattle.column_ops.specs.Take.{position_numbers, take_rows}
-use Rattle.column_ops.proofs.Blanked.{optionals-valid}
-use Rattle.column_ops.proofs.TakenRows.{IfOk-since, items-at, positions-valid}
+use Rattle.column_ops.proofs.Blanked.{items_or}
+use Rattle.column_ops.proofs.TakenRows.{IfOk-since, items-at, items-shown, positions-valid}
 use Rattle.column_ops.proofs.take_items.taken_items.Goals as goal
 
 pub items_at-requires : goal.items_at-requires
@@ -25,14 +26,13 @@ returns-then-is_all_valid-2-clause-items g c =
     IfOk-since c.items_at.result _ (λ taken. taken.items ≡ map (λ row. unwrap_or row c.args.blank) (take_rows (optionals items bits) (position_numbers (optionals positions marks))))
     (λ taken same. items-at c.args.blank items bits positions marks taken.items all_items all_marks same) c.items_at.ensures.items
 
-pub returns-in-Bits-clause-items : goal.returns-in-Bits-clause-items
-returns-in-Bits-clause-items g c =
+pub returns-clause-items : goal.returns-clause-items
+returns-clause-items g c =
     let items = c.args.items.now in
     let positions = c.args.positions.now in
     let bits = flags (form_of c.args.validity.now) (length items) in
     let marks = flags (form_of c.args.places.now) (length positions) in
-    let all_items : optionals items bits ≡ map (λ x. Some x) items = ap (optionals items) (c.is_all_valid-2.ensures.valid (length items) c.if-is_all_valid-3.true) ∙ optionals-valid items in
-    let told = ap (λ own. flags (form_of own) (length positions)) c.in-Bits.is in
-    IfOk-since c.marked_items.result _ (λ taken. taken.items ≡ map (λ row. unwrap_or row c.args.blank) (take_rows (optionals items bits) (position_numbers (optionals positions marks))))
-    (λ taken same. same ∙ sym (ap (λ ms. map (λ row. unwrap_or row c.args.blank) (take_rows (map (λ x. Some x) items) (position_numbers (optionals positions ms)))) told)
-    ∙ sym (ap (λ rs. map (λ row. unwrap_or row c.args.blank) (take_rows rs (position_numbers (optionals positions marks)))) all_items)) c.marked_items.ensures.items
+    let all = map (λ k. get_or items k c.args.blank) positions in
+    let told = ap (λ rows. items_or all rows c.args.blank) c.requires.shown ∙ items-shown c.args.blank items bits positions marks (length-flags (form_of c.args.validity.now) (length items) c.requires.fits) in
+    IfOk-since c.shown_items.result _ (λ taken. taken.items ≡ map (λ row. unwrap_or row c.args.blank) (take_rows (optionals items bits) (position_numbers (optionals positions marks))))
+    (λ taken same. same ∙ told) c.shown_items.ensures.items

@@ -19,26 +19,6 @@ returns-clause-made g c =
     let own = c.args.self.now in
     let indices = position_numbers (optionals c.args.positions.now (flags (form_of c.args.validity.now) (length c.args.positions.now))) in
     let wanted = either_nullable (nullability_in own.validity) (nullability_in (form_of c.args.validity.now)) in
-    let written = rw (c.as_slice-items.ensures.value, c.in_ok-own.ensures.same, c.values.ensures, c.validity.ensures.form) at c.in_ok-taken.ensures.taken in
-    IfOk-same c.array_of.result (bool_with c.in_ok-taken.taken.items (form_of c.in_ok-taken.rows))
-    (λ (made : BoolForm). IsMade (take_rows (bool_rows own) indices) (column.Bool wanted) (OfTruths made)) c.array_of.ensures.same
-    (rw (take_rows-map (λ (b : Bool). Truth b) (optional_truths own) indices)
-    (IsMade-truths (take_rows (optional_truths own) indices) wanted c.in_ok-taken.taken.items (form_of c.in_ok-taken.rows) written))
-
-pub returns-clause-only : goal.returns-clause-only
-returns-clause-only g c = c.array_of.ensures.only
-
-pub take_items-taken-requires-clause-fits : goal.take_items-taken-requires-clause-fits
-take_items-taken-requires-clause-fits g c = HasLength-arm _ _ _ _ c.validity.ensures.form (ap length (c.as_slice-items.ensures.value ∙ c.in_ok-own.ensures.same ∙ c.values.ensures)) c.validity.ensures.counted
-
-pub take_items-taken-requires-clause-counted : goal.take_items-taken-requires-clause-counted
-take_items-taken-requires-clause-counted g c = c.requires.counted
-
-pub take_items-taken-requires-clause-within : goal.take_items-taken-requires-clause-within
-take_items-taken-requires-clause-within g c =
-    subst (ArePositions (optionals c.args.positions.now (flags (form_of c.args.validity.now) (length c.args.positions.now))))
-    (length-rows (λ (b : Bool). Truth b) c.args.self.now.bits c.args.self.now.validity c.validity.ensures.counted
-    ∙ sym (ap length (c.as_slice-items.ensures.value ∙ c.in_ok-own.ensures.same ∙ c.values.ensures))) c.requires.within
-
-pub array_of-requires : goal.array_of-requires
-array_of-requires g c = c.in_ok-taken.ensures.taken.fits
+    let written = rw (c.values.ensures, c.validity-own.ensures.form) at c.in_ok-take_bits.ensures.taken in
+    rw (take_rows-map (λ (b : Bool). Truth b) (optional_truths own) indices)
+    (IsMade-truths (take_rows (optional_truths own) indices) wanted c.in_ok-take_bits.bits (form_of c.in_ok-take_bits.rows) written)

@@ -1,5 +1,5 @@
 use Rattle.std.proofs.Common.{◌≡◌, ◌≤◌, get_or, length, map, take, vec_capacity, vec_len}
-use Rattle.column_ops.proofs.take_items.marked_items.Given as goal
+use Rattle.column_ops.proofs.take_items.items_or_blank.Given as goal
 
 abbrev pub invariant-loop-position : goal.invariant-loop-position
 invariant-loop-position g l = record {

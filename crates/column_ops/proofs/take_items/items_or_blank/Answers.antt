@@ -1,8 +1,6 @@
 use Rattle.std.proofs.Common.{◌∙◌, ◌+◌, ◌++◌, ◌∷◌, [], get_or, map, take, sym, ap, arith}
 use Rattle.std.proofs.lemmas.List.{map_more, take_all}
-use Rattle.column_ops.proofs.Blanked.{items_or}
-use Rattle.column_ops.proofs.TakenRows.{marked-items}
-use Rattle.column_ops.proofs.take_items.marked_items.Goals as goal
+use Rattle.column_ops.proofs.take_items.items_or_blank.Goals as goal
 
 pub loop-position-preserved : goal.loop-position-preserved
 loop-position-preserved g c =
@@ -18,9 +16,5 @@ loop-position-preserved g c =
 
 pub returns-clause-items : goal.returns-clause-items
 returns-clause-items g c =
-    let items = c.args.items.now in
-    let positions = c.args.positions.now in
-    let all = take_all c.loop-position.position-index positions (omega arith) in
-    c.with_item_at_nulls.ensures
-    ∙ ap (λ xs. items_or xs c.args.marks.now c.args.blank) (c.loop-position.invariant.items ∙ ap (map (λ k. get_or items k c.args.blank)) all)
-    ∙ marked-items items positions c.args.marks.now c.args.blank
+    let all = take_all c.loop-position.position-index c.args.positions.now (omega arith) in
+    c.loop-position.invariant.items ∙ ap (map (λ k. get_or c.args.items.now k c.args.blank)) all
