@@ -1,6 +1,7 @@
 //! Plain Rust kernels over runs of `Vec`, each in the strongest form that is known here. Where the library must leave
 //! nulls blank and neighbours joined, so must they.
 mod aggregate;
+mod arrays;
 mod compare;
 mod decode;
 mod encode;
@@ -12,6 +13,7 @@ mod shared;
 mod take;
 
 pub use aggregate::{is_constant, is_sorted, least, least_and_greatest, sum, Addend};
+pub use arrays::{ArrayColumn, NumberType, RunArray};
 pub use compare::{less_by_runs, less_by_turns};
 pub use decode::{decode, decode_truths, decode_truths_by_turns};
 pub use encode::{encode, encode_by_words};

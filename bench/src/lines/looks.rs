@@ -2,7 +2,8 @@
 use super::{again, session};
 use crate::data::Runs;
 use crate::kernels::{
-    look_up, look_up_by_halves, run_of, slice, window, SharedRuns, SharedSlice, Slice,
+    look_up, look_up_by_halves, run_of, slice, window, ArrayColumn, NumberType, RunArray,
+    SharedRuns, SharedSlice, Slice,
 };
 use crate::library::{Column, Item, Windows};
 use crate::line::{Bench, Shape};
@@ -116,6 +117,7 @@ fn ranges(bench: &mut Bench, nulls: bool) {
     let load = Load::new(bench.rows * 4, 16, nulls);
     let (session, runs) = (session(), load.runs(|number| number));
     let (column, shared) = (Column::of_runs(&runs), SharedRuns::of(runs.clone()));
+    let arrays = RunArray::of(runs.clone());
     let (rows, one) = (load.rows(), load.ends[load.ends.len() / 2] as usize);
     let ranges = [
         ("half", rows / 4..rows / 4 * 3, 1),
@@ -140,11 +142,26 @@ fn ranges(bench: &mut Bench, nulls: bool) {
         );
         let name = "slice, beside shared buffers";
         bench.line(shape(name), (TIMES, "call"), ours, rust, same);
+        let same = |ours: &Column, rust: &Option<Box<ArrayColumn<u64>>>| {
+            rust.as_ref()
+                .is_some_and(|part| same_array(ours, part, range.clone(), nulls))
+        };
+        let (ours, rust) = (
+            again(TIMES, cut),
+            again(TIMES, || arrays.slice(range.clone())),
+        );
+        let name = "slice, beside arrays";
+        bench.line(shape(name), (TIMES, "call"), ours, rust, same);
     }
-    copies(bench, &column, &runs, &shared);
+    copies(bench, &column, &runs, (&shared, &arrays));
 }
 
-fn copies(bench: &mut Bench, column: &Column, runs: &Runs<u64>, shared: &SharedRuns<u64>) {
+fn copies(
+    bench: &mut Bench,
+    column: &Column,
+    runs: &Runs<u64>,
+    (shared, arrays): (&SharedRuns<u64>, &RunArray<u64>),
+) {
     let (size, nulls) = (
         format!("{} runs", runs.ends.len()),
         runs.values.flags.is_some(),
@@ -157,6 +174,30 @@ fn copies(bench: &mut Bench, column: &Column, runs: &Runs<u64>, shared: &SharedR
     let (ours, rust) = (again(TIMES, ours), again(TIMES, || shared.clone()));
     let name = "clone, beside shared buffers";
     bench.line(shape(name), (TIMES, "call"), ours, rust, same);
+    let same =
+        |ours: &Column, rust: &Box<ArrayColumn<u64>>| same_array(ours, rust, 0..runs.rows(), nulls);
+    let ours = again(TIMES, || column.try_clone());
+    let rust = again(TIMES, || arrays.owner());
+    bench.line(
+        shape("clone, beside arrays"),
+        (TIMES, "call"),
+        ours,
+        rust,
+        same,
+    );
+}
+
+/// Do both have the rows of this range, and has the array their type?
+fn same_array(
+    column: &Column,
+    array: &ArrayColumn<u64>,
+    range: Range<usize>,
+    nullable: bool,
+) -> bool {
+    let dtype = NumberType { bytes: 8, nullable };
+    array.dtype() == dtype
+        && array.len() == range.len()
+        && same_slice(column, &array.copied(), range)
 }
 
 /// Does the library's column have the rows of this range?
