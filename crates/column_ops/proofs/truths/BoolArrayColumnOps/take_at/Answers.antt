@@ -2,7 +2,10 @@ use Rattle.std.proofs.Common.{Bool, length, sym, ap, subst, ◌∙◌}
 use Rattle.column_base.specs.ValidityForm.{flags, nullability_in}
 use Rattle.column_base.specs.Validity.{form_of}
 use Rattle.column_core.specs.Value.{Truth}
-use Rattle.column_core.specs.BoolForm.{optional_truths}
+use Rattle.column_base.specs.declared.dtype.DType.TheVariants as column
+use Rattle.column_core.specs.BoolForm.{BoolForm, bool_rows, optional_truths}
+use Rattle.column_core.specs.Leaf.{OfTruths}
+use Rattle.column_ops.specs.Computed.{IsMade}
 use Rattle.column_core.specs.Optionals.{optionals}
 use Rattle.column_ops.specs.Nullable.{either_nullable}
 use Rattle.column_ops.specs.Take.{ArePositions, position_numbers, take_rows}
@@ -22,5 +25,6 @@ returns-clause-made g c =
     let indices = position_numbers (optionals c.args.positions.now (flags (form_of c.args.validity.now) (length c.args.positions.now))) in
     let wanted = either_nullable (nullability_in own.validity) (nullability_in (form_of c.args.validity.now)) in
     let written = rw (c.values.ensures, c.validity-own.ensures.form) at c.in_ok-bits.ensures.taken in
-    rw (take_rows-map (λ (b : Bool). Truth b) (optional_truths own) indices)
-    (IsMade-truths (take_rows (optional_truths own) indices) wanted c.in_ok-bits.bits (form_of c.in_ok-bits.rows) written)
+    subst (λ (made : BoolForm). IsMade (take_rows (bool_rows own) indices) (column.Bool wanted) (OfTruths made)) (sym c.new_unchecked.ensures)
+    (rw (take_rows-map (λ (b : Bool). Truth b) (optional_truths own) indices)
+    (IsMade-truths (take_rows (optional_truths own) indices) wanted c.in_ok-bits.bits (form_of c.in_ok-bits.rows) written))
