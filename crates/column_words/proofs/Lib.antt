@@ -1,3 +1,4 @@
 pub mod BitWords
+pub mod ByteWords
 pub mod HexPairs
 pub mod TypeNames

@@ -3,7 +3,8 @@ ghost use Rattle.std.specs.Prelude.{◌≡◌, ◌↔◌, ◌++◌, [], ◌∷�
 ghost use Rattle.std.specs.Iterator.{IsFinite};
 ghost use Rattle.std.specs.String.{string_bytes};
 ghost use Rattle.hex.specs.Hex.{decode_of, encode_upper};
-ghost use Rattle.column_words.specs.Bytes.{IsByteWord};
+ghost use Rattle.column_words.specs.Bytes.{IsByteWord, byte_words};
+ghost use Rattle.column_words.specs.Refusals.{behind_spaces};
 
 use column_base::{VortexError, VortexResult};
 use hex::FromHex;
@@ -41,6 +42,17 @@ fn decode_byte(word: &str) -> Option<[u8; 1]>
     ensures found { IsSome result ↔ IsByteWord word.now }
 {
     <[u8; 1] as FromHex>::from_hex(word).ok()
+}
+
+/// Puts the bytes right behind the text, each as two upper case hexadecimal digits behind a space.
+pub fn push_bytes<A: Allocator + Copy>(text: &mut String<A>, bytes: &[u8]) -> Result<(), AllocError>
+    ensures { OnOk result (string_bytes text.new ≡ string_bytes text.old ++ behind_spaces (byte_words bytes.now)) }
+{
+    for byte in bytes {
+        text.push_str(" ")?;
+        push_byte(text, *byte)?;
+    }
+    Ok(())
 }
 
 /// Puts two upper case hexadecimal digits of the byte right behind the text.

@@ -9,7 +9,7 @@ mod rows;
 mod types;
 
 pub use bits::parse_bits;
-pub use bytes::{parse_byte, parse_bytes, push_byte};
+pub use bytes::{parse_byte, parse_bytes, push_byte, push_bytes};
 pub use numbers::{parse_count, parse_integer};
 pub use refusals::push_refusal_words;
 pub use rows::{is_null_or_number, push_row_word, push_total_word};
