@@ -72,6 +72,7 @@ fn read_made<'a>(maker: &str, words: &'a [&'a str]) -> Option<Call<'a>> {
         "lists" => read_lists(words),
         "views" => read_views(words),
         "deserialize" => read_record(words),
+        "from" => read_from(words),
         _ => read_of_column(maker, words),
     }
 }
@@ -83,6 +84,14 @@ fn read_of_column<'a>(maker: &str, words: &'a [&'a str]) -> Option<Call<'a>> {
         "copy" => Some(Call::Copy(name)),
         "encode" => Some(Call::Encode(name)),
         "encode_rows" => Some(Call::EncodeRows(name)),
+        _ => None,
+    }
+}
+
+// The column of a message, whose bytes stand behind the word `bytes`.
+fn read_from<'a>(words: &'a [&'a str]) -> Option<Call<'a>> {
+    match words {
+        ["bytes", bytes @ ..] => Some(Call::FromBytes(bytes)),
         _ => None,
     }
 }

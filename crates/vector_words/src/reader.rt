@@ -110,6 +110,7 @@ fn read_alone<'a>(verb: &str) -> Option<Call<'a>> {
     match verb {
         "validity" => Some(Call::Validity),
         "meta" => Some(Call::Meta),
+        "bytes" => Some(Call::Bytes),
         _ => Some(Call::Command(read_bare(verb)?)),
     }
 }

@@ -51,6 +51,8 @@ pub enum Call<'a> {
     Lists(Lists<'a>),
     Views(Views<'a>),
     Deserialize(Record<'a>),
+    /// The column of which these are the bytes of the message.
+    FromBytes(&'a [&'a str]),
     Command(VectorCommand<'a>),
     /// The words of commands, to be run as one list, parted by `NEXT`.
     Run(&'a [&'a str]),
@@ -59,6 +61,8 @@ pub enum Call<'a> {
     Validity,
     /// The record of a run column.
     Meta,
+    /// The message of a column.
+    Bytes,
     /// What a record says. It is asked of no column, so its request is named `read`, as no column is.
     Read(&'a [&'a str]),
 }
@@ -69,9 +73,10 @@ impl<'a> Call<'a> {
         match self {
             Call::Copy(_) | Call::Encode(_) | Call::EncodeRows(_) => true,
             Call::Runs(_) | Call::Whole(_) => true,
-            Call::Lists(_) | Call::Views(_) | Call::Deserialize(_) => true,
+            Call::Lists(_) | Call::Views(_) => true,
+            Call::Deserialize(_) | Call::FromBytes(_) => true,
             Call::Command(_) | Call::Run(_) | Call::Row(_) | Call::Probe(_) => false,
-            Call::Validity | Call::Meta | Call::Read(_) => false,
+            Call::Validity | Call::Meta | Call::Bytes | Call::Read(_) => false,
         }
     }
 }
