@@ -3,34 +3,42 @@ use Rattle.std.proofs.Common.{◌≡◌, ℕ, ◌+◌, ◌*◌, ◌/◌, ◌^◌
 use Rattle.std.specs.List.{AllByRecursion}
 use Rattle.std.proofs.lemmas.List.{length-append}
 use Rattle.std.proofs.lemmas.List.Elements.{recursion_from_All}
+use Rattle.std.specs.Int.{w128}
+use Rattle.std.specs.Int.RustNames.{FitsSigned}
+use Rattle.column_base.specs.declared.dtype.DecimalDType.{DecimalDType}
 use Rattle.column_base.specs.declared.dtype.PType.{PType}
 use Rattle.column_base.specs.declared.dtype.PType.TheVariants.{U8, U16, U32, U64, I8, I16, I32, I64}
 use Rattle.column_base.specs.Types.{HasNumber}
 use Rattle.column_base.specs.ValidityForm.{ValidityForm, HasLength}
 use Rattle.column_core.specs.PrimitiveForm.{PrimitiveForm, primitive_with}
 use Rattle.column_core.specs.BoolForm.{BoolForm, bool_with}
+use Rattle.column_core.specs.DecimalForm.{DecimalForm, decimal_with}
 use Rattle.column_core.specs.Leaf.{Leaf, OfNumbers, OfTruths, OfDecimals, OfVarBins}
 use Rattle.varints.specs.Varint.{varint}
 use Rattle.column_fields.specs.Field.{bytes_field}
 use Rattle.column_fields.specs.Validity.{validity_field}
 use Rattle.column_fields.specs.NumberBytes.{numbers_bytes, size_of}
 use Rattle.column_fields.specs.BitBytes.{bit_bytes, HasNoBits}
+use Rattle.column_fields.specs.DecimalBytes.{decimals_bytes}
+use Rattle.column_fields.specs.DecimalFields.{IsDecimalType, decimal_type, decimal_items, decimal_fields, AreNoDecimalFields}
 use Rattle.column_fields.specs.FlatFields.{flat_fields, AreNoFlatFields}
 use Rattle.column_fields.specs.Types.{type_number, HasNoType}
+use Rattle.column_fields.proofs.DecimalFieldLaws.{decimals_same}
+use Rattle.column_fields.proofs.DecimalLaws.{length-decimals_bytes, decimal_numbers_same}
 use Rattle.column_fields.proofs.FlatFieldLaws.{flat_same}
 use Rattle.column_fields.proofs.NumberSame.{length-numbers_bytes, numbers_same}
 use Rattle.column_fields.proofs.BitReading.{bit_bytes_same, length-bit_bytes}
 use Rattle.column_fields.proofs.TypeLaws.{type_same}
 use Rattle.runend_array.specs.Column.{Column, OfLeaf, OfConstant, OfLists, OfRuns}
 use Rattle.column_bytes.specs.Bytes.{leaf_fields, column_body}
-use Rattle.column_bytes.specs.Stored.{AreNumbers, AreTruths}
-use Rattle.column_bytes.specs.Read.{IsBody, IsNoBody, AreNumbersOf, AreNoNumbersOf, AreTruthsOf, AreNoTruthsOf}
+use Rattle.column_bytes.specs.Stored.{AreNumbers, AreTruths, AreDecimals}
+use Rattle.column_bytes.specs.Read.{IsBody, IsNoBody, AreNumbersOf, AreNoNumbersOf, AreTruthsOf, AreNoTruthsOf, AreDecimalsOf, AreNoDecimalsOf}
 
 items_long : (v : ValidityForm) (items : List ℕ) → length items ≤ length (flat_fields v items)
 unfolding flat_fields bytes_field
 items_long v items = omega (arith, length-append (validity_field v) (varint (7 * 8 + 2) ++ (varint (length items) ++ items)), length-append (varint (7 * 8 + 2)) (varint (length items) ++ items), length-append (varint (length items)) items)
 
-items_small : (v : ValidityForm) (items bytes : List ℕ) → length bytes < 2 ^ 64 → bytes ≡ flat_fields v items → length items < 2 ^ 64
+pub items_small : (v : ValidityForm) (items bytes : List ℕ) → length bytes < 2 ^ 64 → bytes ≡ flat_fields v items → length items < 2 ^ 64
 items_small v items bytes lt e = omega (arith, items_long v items, ap length e)
 
 -- ---- integers
@@ -91,9 +99,46 @@ are_truths form rows v bits items bytes is len small counted b shows =
       spelt = b ∙ ap (λ (x : List ℕ). flat_fields v x) (sym shows);
     })
 
+-- ---- decimals
+
+decimals_long : (v : ValidityForm) (d : DecimalDType) (items : List ℕ) → length items ≤ length (decimal_fields v d items)
+unfolding decimal_fields decimal_items bytes_field
+decimals_long v d items = omega (
+  arith,
+  length-append (validity_field v) ((varint (7 * 8 + 2) ++ (varint (length items) ++ items)) ++ decimal_type d),
+  length-append (varint (7 * 8 + 2) ++ (varint (length items) ++ items)) (decimal_type d),
+  length-append (varint (7 * 8 + 2)) (varint (length items) ++ items),
+  length-append (varint (length items)) items,
+)
+
+decimals_small : (v : ValidityForm) (d : DecimalDType) (items bytes : List ℕ) → length bytes < 2 ^ 64 → bytes ≡ decimal_fields v d items → length items < 2 ^ 64
+decimals_small v d items bytes lt e = omega (arith, decimals_long v d items, ap length e)
+
+pub no_decimals_fields : (rows : ℕ) (bytes : List ℕ) → length bytes < 2 ^ 64 → AreNoDecimalFields rows bytes → AreNoDecimalsOf rows bytes
+no_decimals_fields rows bytes lt absent = record {
+  none = λ form h. absent.none form.validity form.decimal (decimals_bytes form.numbers) (subst (λ (n : ℕ). HasLength form.validity n) h.counted h.stored.counted) h.stored.typed (decimals_small form.validity form.decimal (decimals_bytes form.numbers) bytes lt h.spelt) h.spelt;
+}
+
+decimals_items : (rows : ℕ) (v : ValidityForm) (d : DecimalDType) (items bytes : List ℕ) (form : DecimalForm) → rows < 2 ^ 64 → length bytes < 2 ^ 64 → bytes ≡ decimal_fields v d items → HasLength v rows → IsDecimalType d → AreDecimalsOf rows bytes form → (v ≡ form.validity) × (d ≡ form.decimal) × (items ≡ decimals_bytes form.numbers)
+decimals_items rows v d items bytes form small lt b len typed h =
+    decimals_same v form.validity rows d form.decimal items (decimals_bytes form.numbers) small len (subst (λ (n : ℕ). HasLength form.validity n) h.counted h.stored.counted) typed h.stored.typed (decimals_small v d items bytes lt b) (decimals_small form.validity form.decimal (decimals_bytes form.numbers) bytes lt h.spelt) (sym b ∙ h.spelt)
+
+pub other_decimals : (rows : ℕ) (v : ValidityForm) (d : DecimalDType) (items bytes : List ℕ) → rows < 2 ^ 64 → length bytes < 2 ^ 64 → bytes ≡ decimal_fields v d items → HasLength v rows → IsDecimalType d → (length items ≡ rows * 16 → ⊥) → AreNoDecimalsOf rows bytes
+other_decimals rows v d items bytes small lt b len typed ne = record {
+  none = λ form h. ne (ap length (decimals_items rows v d items bytes form small lt b len typed h).2 ∙ length-decimals_bytes form.numbers ∙ ap (λ (n : ℕ). n * 16) h.counted);
+}
+
+pub are_decimals : (form : DecimalForm) (rows : ℕ) (v : ValidityForm) (d : DecimalDType) (ns : List ℤ) (items bytes : List ℕ) → form ≡ decimal_with d ns v → length ns ≡ rows → rows < 2 ^ 64 → All (λ n. FitsSigned w128 n) ns → HasLength v rows → IsDecimalType d → bytes ≡ decimal_fields v d items → decimals_bytes ns ≡ items → AreDecimalsOf rows bytes form
+are_decimals form rows v d ns items bytes is len small fit counted typed b shows =
+    subst (λ (f : DecimalForm). AreDecimalsOf rows bytes f) (sym is) (record {
+      counted = len;
+      stored = record { typed = typed; fit = fit; counted = subst (λ (n : ℕ). HasLength v n) (sym len) counted; small = omega (arith, len) };
+      spelt = b ∙ ap (λ (x : List ℕ). decimal_fields v d x) (sym shows);
+    })
+
 -- ---- either
 
-type_at_most : (t : PType) → type_number t ≤ 8
+pub type_at_most : (t : PType) → type_number t ≤ 8
 type_at_most U8 = omega arith
 type_at_most U16 = omega arith
 type_at_most U32 = omega arith
@@ -119,9 +164,9 @@ numbers_at (OfLeaf (OfNumbers form)) t levels kind rows bytes k h = record {
   are = record { typed = type_same form.ptype t (h.kind_is ∙ sym k); counted = h.rows_is; stored = h.writable.stored; spelt = h.spelt ∙ leaf_body (OfNumbers form) };
 }
 numbers_at (OfLeaf (OfTruths form)) t levels kind rows bytes k h = absurd (omega (arith, type_at_most t, k, h.kind_is))
-numbers_at (OfLeaf (OfDecimals form)) t levels kind rows bytes k h = absurd h.writable.stored
+numbers_at (OfLeaf (OfDecimals form)) t levels kind rows bytes k h = absurd (omega (arith, type_at_most t, k, h.kind_is))
 numbers_at (OfLeaf (OfVarBins form)) t levels kind rows bytes k h = absurd h.writable.stored
-numbers_at (OfConstant constant) t levels kind rows bytes k h = absurd h.writable.stored
+numbers_at (OfConstant constant) t levels kind rows bytes k h = absurd (omega (arith, h.form_is))
 numbers_at (OfLists lists) t levels kind rows bytes k h = absurd h.writable.stored
 numbers_at (OfRuns ends_type ends values offset count) t levels kind rows bytes k h = absurd (omega (arith, h.form_is))
 
@@ -137,30 +182,60 @@ truths_at (OfLeaf (OfTruths form)) levels kind rows bytes k h = record {
   is = refl;
   are = record { counted = h.rows_is; stored = h.writable.stored; spelt = h.spelt ∙ leaf_body (OfTruths form) };
 }
-truths_at (OfLeaf (OfDecimals form)) levels kind rows bytes k h = absurd h.writable.stored
+truths_at (OfLeaf (OfDecimals form)) levels kind rows bytes k h = absurd (omega (arith, k, h.kind_is))
 truths_at (OfLeaf (OfVarBins form)) levels kind rows bytes k h = absurd h.writable.stored
-truths_at (OfConstant constant) levels kind rows bytes k h = absurd h.writable.stored
+truths_at (OfConstant constant) levels kind rows bytes k h = absurd (omega (arith, h.form_is))
 truths_at (OfLists lists) levels kind rows bytes k h = absurd h.writable.stored
 truths_at (OfRuns ends_type ends values offset count) levels kind rows bytes k h = absurd (omega (arith, h.form_is))
 
--- a body of a flat column is one of numbers or of booleans
-no_type_at : (c : Column) (levels kind rows : ℕ) (bytes : List ℕ) → (kind ≡ 9 → ⊥) → HasNoType kind → IsBody levels kind 1 rows bytes c → ⊥
-no_type_at (OfLeaf (OfNumbers form)) levels kind rows bytes ne absent h = absent.none form.ptype h.kind_is
-no_type_at (OfLeaf (OfTruths form)) levels kind rows bytes ne absent h = ne (sym h.kind_is)
-no_type_at (OfLeaf (OfDecimals form)) levels kind rows bytes ne absent h = h.writable.stored
-no_type_at (OfLeaf (OfVarBins form)) levels kind rows bytes ne absent h = h.writable.stored
-no_type_at (OfConstant constant) levels kind rows bytes ne absent h = h.writable.stored
-no_type_at (OfLists lists) levels kind rows bytes ne absent h = h.writable.stored
-no_type_at (OfRuns ends_type ends values offset count) levels kind rows bytes ne absent h = absurd (omega (arith, h.form_is))
+pub record DecimalsAt (rows : ℕ) (bytes : List ℕ) (c : Column) : Type 0 where
+  pub form : DecimalForm
+  pub is : c ≡ OfLeaf (OfDecimals form)
+  pub are : AreDecimalsOf rows bytes form
 
-pub no_type_body : (kind rows : ℕ) (bytes : List ℕ) → (kind ≡ 9 → ⊥) → HasNoType kind → (levels : ℕ) → IsNoBody levels kind 1 rows bytes
-no_type_body kind rows bytes ne absent levels = record { none = λ c h. no_type_at c levels kind rows bytes ne absent h }
+pub decimals_at : (c : Column) (levels kind rows : ℕ) (bytes : List ℕ) → kind ≡ 10 → IsBody levels kind 1 rows bytes c → DecimalsAt rows bytes c
+decimals_at (OfLeaf (OfNumbers form)) levels kind rows bytes k h = absurd (omega (arith, type_at_most form.ptype, k, h.kind_is))
+decimals_at (OfLeaf (OfTruths form)) levels kind rows bytes k h = absurd (omega (arith, k, h.kind_is))
+decimals_at (OfLeaf (OfDecimals form)) levels kind rows bytes k h = record {
+  form = form;
+  is = refl;
+  are = record { counted = h.rows_is; stored = h.writable.stored; spelt = h.spelt ∙ leaf_body (OfDecimals form) };
+}
+decimals_at (OfLeaf (OfVarBins form)) levels kind rows bytes k h = absurd h.writable.stored
+decimals_at (OfConstant constant) levels kind rows bytes k h = absurd (omega (arith, h.form_is))
+decimals_at (OfLists lists) levels kind rows bytes k h = absurd h.writable.stored
+decimals_at (OfRuns ends_type ends values offset count) levels kind rows bytes k h = absurd (omega (arith, h.form_is))
+
+-- a body of a flat column is one of numbers, of booleans or of decimals
+no_type_at : (c : Column) (levels kind rows : ℕ) (bytes : List ℕ) → (kind ≡ 9 → ⊥) → (kind ≡ 10 → ⊥) → HasNoType kind → IsBody levels kind 1 rows bytes c → ⊥
+no_type_at (OfLeaf (OfNumbers form)) levels kind rows bytes ne not absent h = absent.none form.ptype h.kind_is
+no_type_at (OfLeaf (OfTruths form)) levels kind rows bytes ne not absent h = ne (sym h.kind_is)
+no_type_at (OfLeaf (OfDecimals form)) levels kind rows bytes ne not absent h = not (sym h.kind_is)
+no_type_at (OfLeaf (OfVarBins form)) levels kind rows bytes ne not absent h = h.writable.stored
+no_type_at (OfConstant constant) levels kind rows bytes ne not absent h = absurd (omega (arith, h.form_is))
+no_type_at (OfLists lists) levels kind rows bytes ne not absent h = h.writable.stored
+no_type_at (OfRuns ends_type ends values offset count) levels kind rows bytes ne not absent h = absurd (omega (arith, h.form_is))
+
+pub no_type_body : (kind rows : ℕ) (bytes : List ℕ) → (kind ≡ 9 → ⊥) → (kind ≡ 10 → ⊥) → HasNoType kind → (levels : ℕ) → IsNoBody levels kind 1 rows bytes
+no_type_body kind rows bytes ne not absent levels = record { none = λ c h. no_type_at c levels kind rows bytes ne not absent h }
 
 pub no_numbers_body : (t : PType) (kind rows : ℕ) (bytes : List ℕ) → type_number t ≡ kind → AreNoNumbersOf t rows bytes → (levels : ℕ) → IsNoBody levels kind 1 rows bytes
 no_numbers_body t kind rows bytes k absent levels = record { none = λ c h. let at = numbers_at c t levels kind rows bytes k h in absent.none at.form at.are }
 
 pub no_truths_body : (kind rows : ℕ) (bytes : List ℕ) → kind ≡ 9 → AreNoTruthsOf rows bytes → (levels : ℕ) → IsNoBody levels kind 1 rows bytes
 no_truths_body kind rows bytes k absent levels = record { none = λ c h. let at = truths_at c levels kind rows bytes k h in absent.none at.form at.are }
+
+pub no_decimals_body : (kind rows : ℕ) (bytes : List ℕ) → kind ≡ 10 → AreNoDecimalsOf rows bytes → (levels : ℕ) → IsNoBody levels kind 1 rows bytes
+no_decimals_body kind rows bytes k absent levels = record { none = λ c h. let at = decimals_at c levels kind rows bytes k h in absent.none at.form at.are }
+
+pub decimals_body : (kind rows : ℕ) (bytes : List ℕ) (form : DecimalForm) → kind ≡ 10 → AreDecimalsOf rows bytes form → IsBody 0 kind 1 rows bytes (OfLeaf (OfDecimals form))
+decimals_body kind rows bytes form k h = record {
+  writable = record { stored = h.stored; shallow = omega arith };
+  kind_is = sym k;
+  form_is = refl;
+  rows_is = h.counted;
+  spelt = h.spelt ∙ sym (leaf_body (OfDecimals form));
+}
 
 pub numbers_body : (t : PType) (kind rows : ℕ) (bytes : List ℕ) (form : PrimitiveForm) → type_number t ≡ kind → AreNumbersOf t rows bytes form → IsBody 0 kind 1 rows bytes (OfLeaf (OfNumbers form))
 numbers_body t kind rows bytes form k h = record {
@@ -196,3 +271,9 @@ truths_one f g p lt h =
     let s = truths_items (length f.bits) f.validity (bit_bytes f.bits) (leaf_fields (OfTruths f)) g p.small lt refl p.counted h in
     let bits : f.bits ≡ g.bits = bit_bytes_same f.bits g.bits (sym h.counted) s.1 in
     ap (λ (xs : List Bool). bool_with xs f.validity) bits ∙ ap (λ (w : ValidityForm). bool_with g.bits w) s.0
+
+pub decimals_one : (f g : DecimalForm) → AreDecimals f → length (leaf_fields (OfDecimals f)) < 2 ^ 64 → AreDecimalsOf (length f.numbers) (leaf_fields (OfDecimals f)) g → f ≡ g
+decimals_one f g p lt h =
+    let s = decimals_items (length f.numbers) f.validity f.decimal (decimals_bytes f.numbers) (leaf_fields (OfDecimals f)) g p.small lt refl p.counted p.typed h in
+    let ns : f.numbers ≡ g.numbers = decimal_numbers_same f.numbers g.numbers (recursion_from_All (λ n. FitsSigned w128 n) f.numbers p.fit) (recursion_from_All (λ n. FitsSigned w128 n) g.numbers h.stored.fit) (sym h.counted) s.2 in
+    ap (λ (d : DecimalDType). decimal_with d f.numbers f.validity) s.1 ∙ ap (λ (xs : List ℤ). decimal_with g.decimal xs f.validity) ns ∙ ap (λ (w : ValidityForm). decimal_with g.decimal g.numbers w) s.0

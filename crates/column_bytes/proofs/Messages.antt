@@ -20,7 +20,7 @@ use Rattle.column_bytes.specs.Bytes.{kind_number, form_number, column_count, col
 use Rattle.column_bytes.specs.Stored.{IsStored}
 use Rattle.column_bytes.specs.Read.{IsMessage, IsNoMessage, IsBody, IsNoBody, HasNoEndsOf, AreRunsOf, AreNoRunsOf}
 use Rattle.column_bytes.proofs.Ends.{ends_rise}
-use Rattle.column_bytes.proofs.Leaves.{leaf_body, numbers_at, truths_at, numbers_one, truths_one}
+use Rattle.column_bytes.proofs.Leaves.{leaf_body, numbers_at, truths_at, decimals_at, numbers_one, truths_one, decimals_one}
 
 -- ---- headers
 
@@ -41,7 +41,7 @@ form_small (OfLists lists) = omega arith
 count_small : (c : Column) → IsStored c → column_count c < 2 ^ 64
 count_small (OfLeaf (OfNumbers form)) s = s.small
 count_small (OfLeaf (OfTruths form)) s = s.small
-count_small (OfLeaf (OfDecimals form)) s = absurd s
+count_small (OfLeaf (OfDecimals form)) s = s.small
 count_small (OfLeaf (OfVarBins form)) s = absurd s
 count_small (OfRuns ends_type ends values offset count) s = omega (arith, s.1.window.small)
 count_small (OfConstant constant) s = absurd s
@@ -174,7 +174,9 @@ column_one levels (OfLeaf (OfNumbers form)) d s lt m =
 column_one levels (OfLeaf (OfTruths form)) d s lt m =
     let at = truths_at d levels 9 (column_count (OfLeaf (OfTruths form))) (leaf_fields (OfTruths form)) refl (subst (λ (x : List ℕ). IsBody levels 9 1 (column_count (OfLeaf (OfTruths form))) x d) (leaf_body (OfTruths form)) (own_body levels (OfLeaf (OfTruths form)) d s m)) in
     ap (λ f. OfLeaf (OfTruths f)) (truths_one form at.form s (omega (arith, fields_long (OfLeaf (OfTruths form)), ap length (leaf_body (OfTruths form)))) at.are) ∙ sym at.is
-column_one levels (OfLeaf (OfDecimals form)) d s lt m = absurd s
+column_one levels (OfLeaf (OfDecimals form)) d s lt m =
+    let at = decimals_at d levels 10 (column_count (OfLeaf (OfDecimals form))) (leaf_fields (OfDecimals form)) refl (subst (λ (x : List ℕ). IsBody levels 10 1 (column_count (OfLeaf (OfDecimals form))) x d) (leaf_body (OfDecimals form)) (own_body levels (OfLeaf (OfDecimals form)) d s m)) in
+    ap (λ f. OfLeaf (OfDecimals f)) (decimals_one form at.form s (omega (arith, fields_long (OfLeaf (OfDecimals form)), ap length (leaf_body (OfDecimals form)))) at.are) ∙ sym at.is
 column_one levels (OfLeaf (OfVarBins form)) d s lt m = absurd s
 column_one levels (OfConstant constant) d s lt m = absurd s
 column_one levels (OfLists lists) d s lt m = absurd s

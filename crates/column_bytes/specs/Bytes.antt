@@ -5,6 +5,8 @@ use Rattle.column_base.specs.declared.dtype.DType.{DType}
 use Rattle.column_base.specs.declared.dtype.DType.TheVariants as column
 use Rattle.column_core.specs.Leaf.{Leaf, OfNumbers, OfTruths, OfDecimals, OfVarBins, leaf_count}
 use Rattle.column_fields.specs.BitBytes.{bit_bytes}
+use Rattle.column_fields.specs.DecimalBytes.{decimals_bytes}
+use Rattle.column_fields.specs.DecimalFields.{decimal_fields}
 use Rattle.column_fields.specs.FlatFields.{flat_fields}
 use Rattle.column_fields.specs.Header.{header_bytes}
 use Rattle.column_fields.specs.Lengths.{lengths_bytes}
@@ -41,7 +43,7 @@ column_count (OfLists lists) = list_count lists
 abbrev pub leaf_fields : Leaf → List ℕ
 leaf_fields (OfNumbers form) = flat_fields form.validity (numbers_bytes form.ptype form.numbers)
 leaf_fields (OfTruths form) = flat_fields form.validity (bit_bytes form.bits)
-leaf_fields (OfDecimals form) = []
+leaf_fields (OfDecimals form) = decimal_fields form.validity form.decimal (decimals_bytes form.numbers)
 leaf_fields (OfVarBins form) = []
 
 abbrev pub column_header : Column → List ℕ

@@ -3,14 +3,15 @@ use Rattle.std.specs.Prelude.{◌≡◌, ◌⊎◌, ℕ, ◌≤◌, true, List, 
 use Rattle.column_base.specs.declared.dtype.PType.{PType}
 use Rattle.column_base.specs.declared.error.VortexError.{VortexError}
 use Rattle.column_base.specs.declared.error.VortexError.TheVariants.{Unsupported, OutOfMemory}
-use Rattle.column_core.specs.Leaf.{OfNumbers, OfTruths}
+use Rattle.column_core.specs.Leaf.{OfNumbers, OfTruths, OfDecimals}
 use Rattle.column_core.specs.PrimitiveForm.{PrimitiveForm, primitive_dtype}
 use Rattle.column_core.specs.BoolForm.{BoolForm}
+use Rattle.column_core.specs.DecimalForm.{DecimalForm}
 use Rattle.column_fields.specs.Lengths.{lengths_bytes, Rises, AreEndsOf}
 use Rattle.runend_windows.specs.Ends.{IsEndsType, ends_of}
 use Rattle.runend_array.specs.Column.{Column, OfRuns, AreRuns, runs_with, column_dtype, depth}
 use Rattle.column_bytes.specs.Bytes.{kind_number, form_number, column_count, leaf_fields, column_body, column_bytes}
-use Rattle.column_bytes.specs.Stored.{IsStored, AreNumbers, AreTruths}
+use Rattle.column_bytes.specs.Stored.{IsStored, AreNumbers, AreTruths, AreDecimals}
 
 -- the column has bytes, and no more levels of runs than so many
 pub record IsWritable (levels : ℕ) (c : Column) : Type 0 where
@@ -54,6 +55,15 @@ pub record AreTruthsOf (rows : ℕ) (bytes : List ℕ) (form : BoolForm) : Type 
 
 pub record AreNoTruthsOf (rows : ℕ) (bytes : List ℕ) : Type 0 where
   pub none : (form : BoolForm) → AreTruthsOf rows bytes form → ⊥
+
+-- the same of decimals
+pub record AreDecimalsOf (rows : ℕ) (bytes : List ℕ) (form : DecimalForm) : Type 0 where
+  pub counted : length form.numbers ≡ rows
+  pub stored : AreDecimals form
+  pub spelt : bytes ≡ leaf_fields (OfDecimals form)
+
+pub record AreNoDecimalsOf (rows : ℕ) (bytes : List ℕ) : Type 0 where
+  pub none : (form : DecimalForm) → AreDecimalsOf rows bytes form → ⊥
 
 -- a flat column of ends of the type, of which these are the run lengths
 pub record IsEndsColumn (t : PType) (lengths : List ℕ) (form : PrimitiveForm) : Type 0 where

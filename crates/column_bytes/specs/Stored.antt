@@ -1,10 +1,13 @@
 -- Which forms have bytes: those that columns have, of the kinds that version 1 writes.
-use Rattle.std.specs.Prelude.{◌^◌, ◌<◌, All, length}
+use Rattle.std.specs.Prelude.{◌^◌, ◌<◌, All, length, FitsSigned}
+use Rattle.std.specs.Int.{w128}
 use Rattle.column_base.specs.Types.{HasNumber}
 use Rattle.column_base.specs.ValidityForm.{HasLength}
 use Rattle.column_core.specs.Leaf.{Leaf, OfNumbers, OfTruths, OfDecimals, OfVarBins}
 use Rattle.column_core.specs.PrimitiveForm.{PrimitiveForm}
 use Rattle.column_core.specs.BoolForm.{BoolForm}
+use Rattle.column_core.specs.DecimalForm.{DecimalForm}
+use Rattle.column_fields.specs.DecimalFields.{IsDecimalType}
 use Rattle.column_fields.specs.Lengths.{AreEndsOf}
 use Rattle.runend_array.specs.Column.{Column, OfLeaf, OfConstant, OfLists, OfRuns, AreRuns, runs_with}
 
@@ -19,13 +22,20 @@ pub record AreTruths (form : BoolForm) : Type 0 where
   pub counted : HasLength form.validity (length form.bits)
   pub small : length form.bits < 2 ^ 64
 
+-- precision, scale and numbers are those of native types, and the validity speaks of each row
+pub record AreDecimals (form : DecimalForm) : Type 0 where
+  pub typed : IsDecimalType form.decimal
+  pub fit : All (λ n. FitsSigned w128 n) form.numbers
+  pub counted : HasLength form.validity (length form.numbers)
+  pub small : length form.numbers < 2 ^ 64
+
 abbrev pub IsStoredLeaf : Leaf → Type 0
 IsStoredLeaf (OfNumbers form) = AreNumbers form
 IsStoredLeaf (OfTruths form) = AreTruths form
-IsStoredLeaf (OfDecimals form) = ⊥
+IsStoredLeaf (OfDecimals form) = AreDecimals form
 IsStoredLeaf (OfVarBins form) = ⊥
 
--- flat columns of integers and of booleans, and runs over columns that have bytes
+-- flat columns of integers, of booleans and of decimals, and runs over columns that have bytes
 abbrev pub IsStored : Column → Type 0
 IsStored (OfLeaf leaf) = IsStoredLeaf leaf
 IsStored (OfConstant constant) = ⊥

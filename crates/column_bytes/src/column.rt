@@ -5,7 +5,7 @@ ghost use Rattle.column_bytes.specs.Bytes.{column_bytes};
 ghost use Rattle.column_bytes.specs.Read.{IsMessage, IsNoMessage, IsWritable, IsUnsupportedOrMemory};
 ghost use Rattle.column_fields.specs.Refusal.{IsBadOrMemory};
 
-use crate::flat::{put_numbers, put_truths, read_leaf};
+use crate::flat::{put_decimal_rows, put_numbers, put_truths, read_leaf};
 use crate::runs::{put_runs, read_runs};
 use column_base::{VortexError, VortexResult};
 use column_fields::{read_header, read_run_fields};
@@ -16,7 +16,7 @@ use std::alloc::Allocator;
 pub const MOST_LEVELS: usize = 16;
 
 /// The message of a column, in memory of the allocator `alloc`. Refused as `Unsupported` exactly for a column that
-/// version 1 does not write: one of decimals, texts, bytes or lists, a constant, runs over one of these, or more than
+/// version 1 does not write: one of texts, bytes or lists, a constant, runs over one of these, or more than
 /// 16 levels of runs; else as `OutOfMemory` alone.
 pub fn write_column<A: Allocator + Copy, B: Allocator + Copy>(
     array: &ArrayRef<A>,
@@ -57,6 +57,7 @@ fn put_column<A: Allocator + Copy, B: Allocator + Copy>(
     match array {
         ArrayRef::Primitive(numbers) => put_numbers(out, numbers),
         ArrayRef::Bool(truths) => put_truths(out, truths),
+        ArrayRef::Decimal(decimals) => put_decimal_rows(out, decimals),
         ArrayRef::RunEnd(runs) => {
             if levels == 0 {
                 return Err(VortexError::Unsupported);

@@ -1,24 +1,28 @@
-//! Flat columns of integers and of booleans.
+//! Flat columns of integers, of booleans and of decimals.
 ghost use Rattle.std.specs.Prelude.{◌≡◌, ◌*◌, ◌↔◌, ◌++◌, IsTrue, ℕ, length, OnOk, IfOk, IfErr, IsErrOf, IsOkUnless};
-ghost use Rattle.column_core.specs.Leaf.{OfNumbers, OfTruths};
+ghost use Rattle.column_core.specs.Leaf.{OfNumbers, OfTruths, OfDecimals};
 ghost use Rattle.runend_array.specs.Column.{OfLeaf};
 ghost use Rattle.runend_array.specs.Array.{column_of};
 ghost use Rattle.column_fields.specs.Refusal.{IsBadOrMemory};
 ghost use Rattle.column_bytes.specs.Bytes.{column_bytes};
-ghost use Rattle.column_bytes.specs.Stored.{AreNumbers, AreTruths};
-ghost use Rattle.column_bytes.specs.Read.{IsBody, IsNoBody, AreNumbersOf, AreNoNumbersOf, AreTruthsOf, AreNoTruthsOf};
+ghost use Rattle.column_bytes.specs.Stored.{AreNumbers, AreTruths, AreDecimals};
+ghost use Rattle.column_bytes.specs.Read.{IsBody, IsNoBody, AreNumbersOf, AreNoNumbersOf, AreTruthsOf, AreNoTruthsOf, AreDecimalsOf, AreNoDecimalsOf};
 
 use column_base::{PType, VortexError, VortexResult};
-use column_core::{BoolArray, PrimitiveArray};
+use column_core::{BoolArray, DecimalArray, PrimitiveArray};
 use column_fields::{
-    Header, bytes_for, load_bits, load_values, number_of_type, put_bits, put_bytes_key, put_header,
-    put_validity, put_values, read_flat_fields, size_of_type, type_of_number,
+    DECIMAL_SIZE, Header, bytes_for, load_bits, load_decimals, load_values, number_of_type,
+    put_bits, put_bytes_key, put_decimal_type, put_decimals, put_header, put_validity, put_values,
+    read_decimal_fields, read_flat_fields, size_of_type, type_of_number,
 };
 use runend_array::ArrayRef;
 use std::alloc::Allocator;
 
 /// The number of the type of booleans.
 const TRUTHS: u64 = 9;
+
+/// The number of the type of decimals.
+const DECIMALS: u64 = 10;
 
 /// Writes a flat column of integers at the end. Refused as `OutOfMemory` alone.
 pub(crate) fn put_numbers<A: Allocator, B: Allocator>(
@@ -74,6 +78,35 @@ pub(crate) fn put_truths<A: Allocator, B: Allocator>(
     Ok(())
 }
 
+/// Writes a flat column of decimals at the end. Refused as `OutOfMemory` alone.
+pub(crate) fn put_decimal_rows<A: Allocator, B: Allocator>(
+    out: &mut Vec<u8, B>,
+    array: &DecimalArray<A>,
+) -> VortexResult<()>
+    ensures ok { OnOk result (out.new.items ≡ out.old.items ++ column_bytes (OfLeaf (OfDecimals array.now))) }
+    ensures stored { OnOk result (AreDecimals array.now) }
+    ensures only { IsOkUnless result VortexError.OutOfMemory }
+{
+    let rows = array.len();
+    // No memory has so many bytes, but no count could tell them.
+    let Some(count) = rows.checked_mul(DECIMAL_SIZE) else {
+        return Err(VortexError::OutOfMemory);
+    };
+    put_header(
+        out,
+        Header {
+            kind: DECIMALS,
+            form: 1,
+            rows: rows as u64,
+        },
+    )?;
+    put_validity(out, array.validity())?;
+    put_bytes_key(out, 7, count)?;
+    put_decimals(out, array.values())?;
+    put_decimal_type(out, array.decimal_dtype())?;
+    Ok(())
+}
+
 /// The flat column that stands behind this header. Refused as `BadMetadata` exactly where none does, else as
 /// `OutOfMemory` alone.
 pub(crate) fn read_leaf<A: Allocator + Copy>(
@@ -90,6 +123,12 @@ pub(crate) fn read_leaf<A: Allocator + Copy>(
     if header.kind == TRUTHS {
         return match read_truths(alloc, rows, bytes) {
             Ok(truths) => Ok(ArrayRef::Bool(truths)),
+            Err(error) => Err(error),
+        };
+    }
+    if header.kind == DECIMALS {
+        return match read_decimals(alloc, rows, bytes) {
+            Ok(decimals) => Ok(ArrayRef::Decimal(decimals)),
             Err(error) => Err(error),
         };
     }
@@ -142,6 +181,29 @@ fn read_truths<A: Allocator + Copy>(
     }
     match load_bits(alloc, items, rows) {
         Ok(bits) => Ok(BoolArray::new_unchecked(bits, validity)),
+        Err(error) => {
+            drop(validity);
+            Err(error)
+        }
+    }
+}
+
+fn read_decimals<A: Allocator + Copy>(
+    alloc: A,
+    rows: usize,
+    bytes: &[u8],
+) -> VortexResult<DecimalArray<A>>
+    ensures found { IfOk result (λ array. AreDecimalsOf rows bytes.now array) }
+    ensures bad { IsErrOf result VortexError.BadMetadata → AreNoDecimalsOf rows bytes.now }
+    ensures only { IfErr result IsBadOrMemory }
+{
+    let (validity, decimal, items) = read_decimal_fields(alloc, bytes, rows)?;
+    if !is_size(rows, DECIMAL_SIZE, items.len()) {
+        drop(validity);
+        return Err(VortexError::BadMetadata);
+    }
+    match load_decimals(alloc, items, rows) {
+        Ok(values) => Ok(DecimalArray::new_unchecked(values, decimal, validity)),
         Err(error) => {
             drop(validity);
             Err(error)
