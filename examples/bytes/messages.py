@@ -20,8 +20,8 @@ from pathlib import Path
 SCHEMA = Path(__file__).resolve().parents[2] / "docs"
 FLAT, RUNS = 1, 2
 NEVER_NULL, NONE_NULL, ALL_NULL, BY_BITS = 1, 2, 3, 4
-BOOL = 9
-SIZES = {1: 1, 2: 2, 3: 4, 4: 8, 5: 1, 6: 2, 7: 4, 8: 8}  # bytes of a number, by its type
+BOOL, DECIMAL = 9, 10
+SIZES = {1: 1, 2: 2, 3: 4, 4: 8, 5: 1, 6: 2, 7: 4, 8: 8, DECIMAL: 16}  # bytes of a number, by its type
 UNSIGNED = {1, 2, 3, 4}
 MOST_LEVELS, SHOWN = 16, 100
 
@@ -62,6 +62,8 @@ def flat(chance: random.Random, rows: int):
     message.validity = chance.choice([NEVER_NULL, NONE_NULL, ALL_NULL, BY_BITS, BY_BITS])
     if message.validity == BY_BITS:
         message.validity_bits = bits(some_flags(chance, rows))
+    if kind == DECIMAL:
+        message.precision, message.scale = chance.randrange(256), chance.randrange(-128, 128)
     if kind == BOOL:
         message.items = bits(some_flags(chance, rows))
     else:
@@ -152,6 +154,10 @@ def is_flat(message) -> bool:
     wanted = {"version", "type", "form", "rows", "validity", "items"}
     if message.validity == BY_BITS:
         wanted.add("validity_bits")
+    if message.type == DECIMAL:
+        wanted |= {"precision", "scale"}
+        if message.precision > 255 or message.scale not in range(-128, 128):
+            return False
     if fields_of(message) != wanted or message.run_lengths or message.validity not in range(1, 5):
         return False
     if message.validity == BY_BITS and not are_bits(message.validity_bits, message.rows):
@@ -209,6 +215,8 @@ def row(message, index: int) -> str:
         return str(is_set(message.items, index)).lower()
     size = SIZES[message.type]
     item = message.items[index * size : (index + 1) * size]
+    if message.type == DECIMAL:
+        return item[::-1].hex()
     return str(int.from_bytes(item, "little", signed=message.type not in UNSIGNED))
 
 

@@ -1,5 +1,6 @@
 /* Reads columns as bytes, a line of hexadecimal digits each, and answers a line each: "refused", or the rows, at most a
- * hundred of them, and the bytes that the column is written as again.
+ * hundred of them, and the bytes that the column is written as again. Decimals are the digits of their 16 bytes, the
+ * highest first, texts and bytes those of their bytes behind a quote.
  *
  *     cc reader.c $(pkg-config --cflags --libs hivevigil) -o reader */
 #include "hivevigil.h"
@@ -22,15 +23,25 @@ static void expect(int32_t answer, int32_t due, const char *call) {
     exit(1);
 }
 
+static void print_digits(const uint8_t *bytes, size_t len) {
+    for (size_t at = 0; at < len; at++) printf("%02x", bytes[at]);
+}
+
 static void print_row(hv_column *column, size_t row) {
     hv_value value;
     hv_error error;
-    uint8_t no_text[1];
-    expect(hv_at(column, row, &value, no_text, 0, &error), 0, "hv_at");
+    static uint8_t text[LINE / 2];
+    expect(hv_at(column, row, &value, text, sizeof text, &error), 0, "hv_at");
     switch (value.kind) {
     case HV_UNSIGNED: printf(" %" PRIu64, value.as_unsigned); break;
     case HV_SIGNED: printf(" %" PRId64, value.as_signed); break;
     case HV_TRUTH: printf(" %s", value.truth ? "true" : "false"); break;
+    case HV_DECIMAL_VALUE: printf(" %016" PRIx64 "%016" PRIx64, (uint64_t)value.as_signed, value.as_unsigned); break;
+    case HV_TEXT:
+    case HV_BYTES:
+        printf(" '");
+        print_digits(text, (size_t)value.as_unsigned);
+        break;
     default: printf(" null");
     }
 }
@@ -43,7 +54,7 @@ static void print_written(hv_column *column) {
     expect(hv_write(column, bytes, size, &written, &error), 0, "hv_write");
     expect(written == size, 1, "the size");
     printf(" = ");
-    for (size_t at = 0; at < size; at++) printf("%02x", bytes[at]);
+    print_digits(bytes, size);
     free(bytes);
 }
 

@@ -13,14 +13,23 @@ static const uint8_t runs_message[] = {0x08, 1, 0x10, 6, 0x18, 2, 0x20, 5, 0x40,
 static const uint8_t window_message[] = {0x08, 1, 0x10, 6, 0x18, 2, 0x20, 2, 0x40, 2, 0x48, 1, 0x52, 2, 3, 2, 0x5a, 19,
                                          0x08, 1, 0x10, 6, 0x18, 1, 0x20, 2, 0x28, 4, 0x32, 1, 1, 0x3a, 4, 7, 0, 0, 0};
 
-static hv_column flat = HV_EMPTY, runs = HV_EMPTY, window = HV_EMPTY;
+/* decimals -1.50 and 1.50 of precision 5 and scale 2, of a type without null */
+#define ONES_4 0xff, 0xff, 0xff, 0xff
+#define ZEROS_5 0, 0, 0, 0, 0
+static const uint8_t decimals_message[] = {0x08, 1, 0x10, 10, 0x18, 1, 0x20, 2, 0x28, 1, 0x3a, 32,
+                                           0x6a, 0xff, 0xff, 0xff, ONES_4, ONES_4, ONES_4,
+                                           0x96, ZEROS_5, ZEROS_5, ZEROS_5, 0x70, 5, 0x78, 4};
+
+static hv_column flat = HV_EMPTY, runs = HV_EMPTY, window = HV_EMPTY, decimals = HV_EMPTY;
 
 static void make_columns(void) {
     const int16_t two[2] = {7, 0};
+    const hv_pair pairs[2] = {{UINT64_MAX - 149, -1}, {150, 0}};
     const uint8_t first[1] = {1}, two_ends[2] = {3, 5};
     hv_column ends = HV_EMPTY;
     CHECK(!hv_i16(two, 2, NULLS_BY(first, 0), &flat, &error) && !hv_u8(two_ends, 2, NOT_NULLABLE, &ends, &error));
     CHECK(!hv_runs(&ends, &flat, 0, 5, &runs, &error) && !hv_slice(&session, &runs, 2, 4, &window, &error));
+    CHECK(!hv_decimals(pairs, 2, 5, 2, NOT_NULLABLE, &decimals, &error));
     hv_free(&ends);
 }
 
@@ -90,11 +99,13 @@ int main(void) {
     check_message(&flat, flat_message, sizeof flat_message, "7 null");
     check_message(&runs, runs_message, sizeof runs_message, "7 7 7 null null");
     check_message(&window, window_message, sizeof window_message, "7 null");
+    check_message(&decimals, decimals_message, sizeof decimals_message, "-1:18446744073709551466 0:150");
     check_damaged(flat_message, sizeof flat_message);
     check_damaged(runs_message, sizeof runs_message);
     check_damaged(window_message, sizeof window_message);
+    check_damaged(decimals_message, sizeof decimals_message);
     check_none();
-    hv_free(&flat), hv_free(&runs), hv_free(&window);
+    hv_free(&flat), hv_free(&runs), hv_free(&window), hv_free(&decimals);
     puts("columns and their bytes agree");
     return 0;
 }

@@ -25,8 +25,8 @@ static uint8_t bits[ROWS / 8];
 static int32_t offsets[ROWS + 1];
 static int64_t large_offsets[ROWS + 1];
 static uint8_t letters[BYTES];
-static uint8_t kept_message[1024]; /* of `part` */
-static size_t message_size;
+static uint8_t kept_message[1024], decimals_message[64]; /* of `part`, and of `decimals` */
+static size_t message_size, decimals_size;
 static const uint16_t some_places[5] = {1, 3, 60, 79, 0};
 static const hv_pair pairs[2] = {{5, 0}, {UINT64_MAX, -1}};
 static const hv_kind i32_type = {HV_I32, 1, 0, 0}, i64_type = {HV_I64, 1, 0, 0}, text_type = {HV_UTF8, 0, 0, 0};
@@ -67,6 +67,7 @@ static void make_lent(void) {
     CHECK(!hv_u16(some_places, 5, NOT_NULLABLE, &places, &error));
     make_run_columns();
     CHECK(!hv_write(&part, kept_message, sizeof kept_message, &message_size, &error));
+    CHECK(!hv_write(&decimals, decimals_message, sizeof decimals_message, &decimals_size, &error));
     CHECK(!hv_arrow_export(&session, &texts, "texts", &texts_schema, &texts_array, &error));
     CHECK(!hv_arrow_export_dictionary(&session, &places, &texts, "codes", &codes_schema, &codes_array, &error));
     for (size_t i = 0; i < COUNT(lent); i++) {
@@ -159,6 +160,8 @@ STEP(deserialize, hv_deserialize(&i64_type, 50, text, size, &ends, &values, &out
 STEP(size_of_message, hv_write_size(&part, &size, &error))
 STEP(write_message, hv_write(&part, message, sizeof message, &size, &error))
 STEP(column_of_message, hv_read_column(kept_message, message_size, &out, &error))
+STEP(write_decimals, hv_write(&decimals, message, sizeof message, &size, &error))
+STEP(decimals_of_message, hv_read_column(decimals_message, decimals_size, &out, &error))
 STEP(export_flat, hv_arrow_export(&session, &flat, "flat", &schema, &array, &error))
 STEP(export_runs, hv_arrow_export(&session, &part, "runs", &schema, &array, &error))
 STEP(export_constant, hv_arrow_export(&session, &constant, "constant", &schema, &array, &error))
@@ -195,6 +198,7 @@ static const step steps[] = {
     NAMED(window_offsets), NAMED(window_bytes), NAMED(window_bools), NAMED(window_validity), NAMED(read_run_count),
     NAMED(read_run), NAMED(read_run_of), NAMED(read_ends), NAMED(make_constant), NAMED(run_ends), NAMED(run_values),
     NAMED(serialize), NAMED(deserialize), NAMED(size_of_message), NAMED(write_message), NAMED(column_of_message),
+    NAMED(write_decimals), NAMED(decimals_of_message),
     NAMED(export_flat), NAMED(export_runs), NAMED(export_constant),
     NAMED(export_texts), NAMED(export_truths), NAMED(export_dictionary), NAMED(import_texts),
     NAMED(import_dictionary), NAMED(export_and_import),

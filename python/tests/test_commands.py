@@ -177,7 +177,7 @@ def test_records(sample):
 @given(samples())
 def test_bytes(sample):
     column = sample.column
-    kept = column.form in ("flat", "runs") and column.type.rstrip("?") not in ("utf8", "binary") and "decimal" not in column.type
+    kept = column.form in ("flat", "runs") and column.type.rstrip("?") not in ("utf8", "binary")
     if not kept:
         with pytest.raises(errors.Unsupported):
             column.to_bytes()
