@@ -189,7 +189,8 @@ HV_ANSWER int32_t hv_compare_scalar(const hv_session *session, hv_column *column
 HV_ANSWER int32_t hv_fill(const hv_session *session, hv_column *column, const hv_value *value, const uint8_t *text, size_t text_len, hv_column *out, hv_error *error);
 
 /* ---- Questions ----
- * Refused exactly as is said here, with these fields, or, but for hv_at, as 21. */
+ * Refused exactly as is said here, with these fields, or, but for hv_at, as 21: never so over a flat column, nor, where
+ * the question's kernel is registered, over runs or a constant, but for hv_extreme and hv_min_max of texts and bytes. */
 /* the sum of the rows that are not null; 13 unless they are integers */
 HV_ANSWER int32_t hv_sum(const hv_session *session, hv_column *column, hv_total *total, hv_error *error);
 /* are any two rows equal, null equal to null? 13 for lists */

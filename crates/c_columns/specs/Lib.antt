@@ -3,6 +3,7 @@ pub mod Calls
 pub mod Ending
 pub mod Flags
 pub mod Handle
+pub mod InPlace
 pub mod Kinds
 pub mod Makers
 pub mod Messages

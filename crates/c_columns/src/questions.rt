@@ -12,7 +12,7 @@ ghost use Rattle.runend_commands.specs.Refusal.{refusal};
 ghost use Rattle.c_columns.specs.Flags.{Tells, byte_of as byte_of_truth};
 ghost use Rattle.c_columns.specs.Sessions.{IsReadInPlaceIn};
 ghost use Rattle.c_columns.specs.Totals.{IsTotalOf};
-ghost use Rattle.runend_commands.specs.Extremes.{shown as shown_by};
+ghost use Rattle.runend_commands.specs.Extremes.{HasBytes, shown as shown_by};
 ghost use Rattle.c_columns.specs.Values.{IsExtremeOf, IsRoomFault, IsScalarTold, IsShownAt};
 ghost use Rattle.c_columns.specs.Ending.{IsEndsFault, IsExtremeFault, IsLookUpFault};
 
@@ -21,7 +21,7 @@ use crate::sessions::{Session, context};
 use crate::totals::{Total, total_of};
 use column_core::{DType, Scalar, VortexError, VortexResult, fault_of_lists};
 use runend_array::ArrayRef;
-use runend_commands::{Answer, Command, StepResult, compute, outcome_of};
+use runend_commands::compute;
 use std::alloc::Global;
 
 /// The least and the greatest row.
@@ -77,7 +77,8 @@ pub fn is_sorted(
 }
 
 /// The least or the greatest row that is not null, or null where all are. A text or bytes go to the front of
-/// `text`. Refused as the command is, and as `row_value_of`.
+/// `text`. Refused as the command is, and as `row_value_of`; but for texts and bytes never for want of memory where
+/// the rows are read in place.
 #[tactic(auto, using(crate::proofs::Extremes::refused_extreme, crate::proofs::Extremes::short_extreme, crate::proofs::Told::none_told))]
 pub fn extreme_of(
     alloc: Global,
@@ -90,10 +91,12 @@ pub fn extreme_of(
     ensures accepted { IfOk result (λ _. refusal {A = Global} (plain array.now) MinMax ≡ None) }
     ensures refused { IfErr result (λ error. IsExtremeFault greatest (plain array.now) (length text.old) error) }
     ensures len { length text.new ≡ length text.old }
+    ensures memory { ¬ HasBytes (dtype_of array.now) → IsReadInPlaceIn session.now kernel.MinMax (column_of array.now)
+        → result ≢ Err VortexError.OutOfMemory }
 {
     let mut ctx = context(alloc, session);
-    match outcome_of(&Command::MinMax, array, &mut ctx)? {
-        StepResult::Answers(Answer::MinMax(Some((least, last)))) => {
+    match compute::min_max(array, &mut ctx)? {
+        Some((least, last)) => {
             let found = if greatest {
                 row_value_of(last.view(), text)
             } else {
@@ -103,16 +106,13 @@ pub fn extreme_of(
             drop(last);
             found
         }
-        StepResult::Answers(Answer::MinMax(None)) => Ok(row_value::null()),
-        other => {
-            drop(other);
-            Err(VortexError::OutOfMemory)
-        }
+        None => Ok(row_value::null()),
     }
 }
 
 /// The least and the greatest row that are not null, or null twice where all are. A text or bytes of each go to the
-/// front of a buffer of its own. Refused as `Unsupported` for lists, and as `row_value_of`.
+/// front of a buffer of its own. Refused as `Unsupported` for lists, and as `row_value_of`; but for texts and bytes
+/// never for want of memory where the rows are read in place.
 #[tactic(auto, using(crate::proofs::Told::least_of_both, crate::proofs::Told::greatest_of_both, crate::proofs::Told::both_short, crate::proofs::Told::both_refused, crate::proofs::Told::both_accepted, crate::proofs::Told::none_told))]
 pub fn extremes_of(
     alloc: Global,
@@ -128,6 +128,8 @@ pub fn extremes_of(
         (λ error. IsEndsFault (plain array.now) (length least_text.old) (length greatest_text.old) error) }
     ensures least_len { length least_text.new ≡ length least_text.old }
     ensures greatest_len { length greatest_text.new ≡ length greatest_text.old }
+    ensures memory { ¬ HasBytes (dtype_of array.now) → IsReadInPlaceIn session.now kernel.MinMax (column_of array.now)
+        → result ≢ Err VortexError.OutOfMemory }
 {
     let mut ctx = context(alloc, session);
     match compute::min_max(array, &mut ctx)? {

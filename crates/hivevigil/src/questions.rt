@@ -2,10 +2,12 @@
 ghost use Rattle.std.specs.Prelude.{◌≡◌, false, true, IsSomeAnd, MatchOption, length, pos, Some};
 ghost use Rattle.column_order.specs.OrderFacts as order;
 ghost use Rattle.runend_array.specs.Array.{column_of, dtype_of, rows};
+ghost use Rattle.runend_array.specs.declared.session.Kernel.TheVariants as kernel;
 ghost use Rattle.runend_commands.specs.declared.command.Command.TheVariants.{Sum, IsConstant, IsSorted};
 ghost use Rattle.runend_commands.specs.Meaning.{plain};
 ghost use Rattle.c_columns.specs.Ending.{EndsOn, EndsOnEnds, EndsOnExtreme, EndsOnRow};
 ghost use Rattle.c_columns.specs.Flags.{Tells, flag_of};
+ghost use Rattle.c_columns.specs.InPlace.{IsExtremeNeverShortOn, IsNeverShortOn};
 ghost use Rattle.c_columns.specs.Kinds.{IsKindOf};
 ghost use Rattle.c_columns.specs.Reads.{form_number, offset_in};
 ghost use Rattle.c_columns.specs.Totals.{IsTotalOf};
@@ -20,8 +22,9 @@ use c_columns::totals::Total;
 use c_columns::{questions, runs};
 use std::alloc::Global;
 
-/// The sum of the rows that are not null. Refused as `Unsupported` unless they are integers.
-#[tactic(auto, using(c_columns::proofs::Endings::asked_empty, c_columns::proofs::Endings::asked_done, c_columns::proofs::Endings::asked_refused))]
+/// The sum of the rows that are not null. Refused as `Unsupported` unless they are integers. Never 21 over a flat
+/// column, nor, where the kernel is registered, over runs or a constant.
+#[tactic(auto, using(c_columns::proofs::Endings::asked_empty, c_columns::proofs::Endings::asked_done, c_columns::proofs::Endings::asked_refused, c_columns::proofs::Short::short_empty))]
 #[unsafe(no_mangle)]
 pub extern "C" fn hv_sum(
     alloc: Global,
@@ -33,6 +36,7 @@ pub extern "C" fn hv_sum(
     ensures same { column.new.column ≡ column.old.column }
     ensures told { result ≡ pos 0 → IsSomeAnd column.old.column (λ c. IsTotalOf (dtype_of c) (rows c) total.new) }
     ensures ended { EndsOn column.old.column (Some Sum) result error.new }
+    ensures memory { IsNeverShortOn session.now kernel.Sum column.old.column result }
 {
     let Some(array) = column.take(alloc) else {
         return NO_COLUMN;
@@ -42,8 +46,9 @@ pub extern "C" fn hv_sum(
     write_answer(outcome, total, error)
 }
 
-/// Whether any two rows are equal, null equal to null: 1, or 0. Refused as `Unsupported` for lists.
-#[tactic(auto, using(c_columns::proofs::Endings::asked_empty, c_columns::proofs::Endings::asked_done, c_columns::proofs::Endings::asked_refused, c_columns::proofs::Endings::told_constant))]
+/// Whether any two rows are equal, null equal to null: 1, or 0. Refused as `Unsupported` for lists. Never 21 over a
+/// flat column, nor, where the kernel is registered, over runs or a constant.
+#[tactic(auto, using(c_columns::proofs::Endings::asked_empty, c_columns::proofs::Endings::asked_done, c_columns::proofs::Endings::asked_refused, c_columns::proofs::Endings::told_constant, c_columns::proofs::Short::short_empty))]
 #[unsafe(no_mangle)]
 pub extern "C" fn hv_is_constant(
     alloc: Global,
@@ -55,6 +60,7 @@ pub extern "C" fn hv_is_constant(
     ensures same { column.new.column ≡ column.old.column }
     ensures told { result ≡ pos 0 → IsSomeAnd column.old.column (λ c. Tells truth.new (order.IsConstant (rows c))) }
     ensures ended { EndsOn column.old.column (Some IsConstant) result error.new }
+    ensures memory { IsNeverShortOn session.now kernel.IsConstant column.old.column result }
 {
     let Some(array) = column.take(alloc) else {
         return NO_COLUMN;
@@ -65,8 +71,9 @@ pub extern "C" fn hv_is_constant(
 }
 
 /// Whether no row is above the next, or, where `strict` is not 0, each below it, null being below all else: 1,
-/// or 0. Refused as `Unsupported` for lists.
-#[tactic(auto, using(c_columns::proofs::Endings::asked_empty, c_columns::proofs::Endings::asked_done, c_columns::proofs::Endings::asked_refused, c_columns::proofs::Endings::told_sorted))]
+/// or 0. Refused as `Unsupported` for lists. Never 21 over a flat column, nor, where the kernel is registered, over
+/// runs or a constant.
+#[tactic(auto, using(c_columns::proofs::Endings::asked_empty, c_columns::proofs::Endings::asked_done, c_columns::proofs::Endings::asked_refused, c_columns::proofs::Endings::told_sorted, c_columns::proofs::Short::short_empty))]
 #[unsafe(no_mangle)]
 pub extern "C" fn hv_is_sorted(
     alloc: Global,
@@ -80,6 +87,7 @@ pub extern "C" fn hv_is_sorted(
     ensures told { result ≡ pos 0
         → IsSomeAnd column.old.column (λ c. Tells truth.new (order.IsSorted (flag_of strict) (rows c))) }
     ensures ended { EndsOn column.old.column (Some (IsSorted (flag_of strict))) result error.new }
+    ensures memory { IsNeverShortOn session.now kernel.IsSorted column.old.column result }
 {
     let Some(array) = column.take(alloc) else {
         return NO_COLUMN;
@@ -90,8 +98,9 @@ pub extern "C" fn hv_is_sorted(
 }
 
 /// The least row that is not null, or the greatest where `greatest` is not 0; null where all are. A text or bytes
-/// go to the front of `text`: 11, with their number and the room, where they have no room there.
-#[tactic(auto, using(c_columns::proofs::Extremes::extreme_empty, c_columns::proofs::Extremes::extreme_done, c_columns::proofs::Extremes::extreme_refused))]
+/// go to the front of `text`: 11, with their number and the room, where they have no room there. But for texts and
+/// bytes never 21 over a flat column, nor, where the kernel is registered, over runs or a constant.
+#[tactic(auto, using(c_columns::proofs::Extremes::extreme_empty, c_columns::proofs::Extremes::extreme_done, c_columns::proofs::Extremes::extreme_refused, c_columns::proofs::Short::extreme_short_empty))]
 #[unsafe(no_mangle)]
 pub extern "C" fn hv_extreme(
     alloc: Global,
@@ -106,6 +115,7 @@ pub extern "C" fn hv_extreme(
     ensures told { result ≡ pos 0
         → IsSomeAnd column.old.column (λ c. IsExtremeOf (flag_of greatest) (plain c) text.new value.new) }
     ensures ended { EndsOnExtreme (flag_of greatest) (length text.old) column.old.column result error.new }
+    ensures memory { IsExtremeNeverShortOn session.now column.old.column result }
 {
     let Some(array) = column.take(alloc) else {
         return NO_COLUMN;
@@ -116,8 +126,9 @@ pub extern "C" fn hv_extreme(
 }
 
 /// The least and the greatest row that are not null; null twice where all are. A text or bytes of each go to the front
-/// of a buffer of its own: 11, with their number and the room, where they have no room there.
-#[tactic(auto, using(crate::proofs::EndsEndings::ends_empty, crate::proofs::EndsEndings::ends_done, crate::proofs::EndsEndings::ends_refused))]
+/// of a buffer of its own: 11, with their number and the room, where they have no room there. But for texts and bytes
+/// never 21 over a flat column, nor, where the kernel is registered, over runs or a constant.
+#[tactic(auto, using(crate::proofs::EndsEndings::ends_empty, crate::proofs::EndsEndings::ends_done, crate::proofs::EndsEndings::ends_refused, c_columns::proofs::Short::extreme_short_empty, c_columns::proofs::Short::extremes_done_never_short))]
 #[unsafe(no_mangle)]
 pub extern "C" fn hv_min_max(
     alloc: Global,
@@ -135,6 +146,7 @@ pub extern "C" fn hv_min_max(
     ensures told_greatest { result ≡ pos 0
         → IsSomeAnd column.old.column (λ c. IsExtremeOf true (plain c) greatest_text.new greatest.new) }
     ensures ended { EndsOnEnds (length least_text.old) (length greatest_text.old) column.old.column result error.new }
+    ensures memory { IsExtremeNeverShortOn session.now column.old.column result }
 {
     let Some(array) = column.take(alloc) else {
         return NO_COLUMN;

@@ -3,6 +3,8 @@ use Rattle.std.specs.Prelude.{Some}
 use Rattle.std.proofs.lemmas.Int.{to_z-of_z}
 use Rattle.c_columns.specs.Ending.{EndsOnEnds}
 use Rattle.hivevigil.proofs.EndsEndings.{ends_refused}
+use Rattle.c_columns.specs.InPlace.{IsExtremeNeverShortOn}
+use Rattle.c_columns.proofs.Short.{extremes_never_short}
 use Rattle.hivevigil.proofs.questions.hv_min_max.Goals as goal
 
 pub returns-in-Err-clause-ended : goal.returns-in-Err-clause-ended
@@ -10,3 +12,9 @@ returns-in-Err-clause-ended c =
     let back = to_z-of_z w32 c.refuse.result (record { sfits = c.refuse.type_inv }) in
     subst (λ (code : ℤ). EndsOnEnds (length c.args.least_text.now) (length c.args.greatest_text.now) c.args.column.now.column code c.refuse.new.fields) (sym back)
     (ends_refused (length c.args.least_text.now) (length c.args.greatest_text.now) c.args.column.now.column c.deref.result.now c.in-Err.why c.refuse.result c.refuse.new.fields (c.in-Some.ensures.found ∙ ap Some (sym c.deref.ensures)) c.in-Err.ensures.refused c.refuse.ensures.number c.refuse.ensures.fields)
+
+pub returns-in-Err-clause-memory : goal.returns-in-Err-clause-memory
+returns-in-Err-clause-memory c =
+    let back = to_z-of_z w32 c.refuse.result (record { sfits = c.refuse.type_inv }) in
+    subst (λ (code : ℤ). IsExtremeNeverShortOn c.args.session.now c.args.column.now.column code) (sym back)
+    (extremes_never_short c.args.session.now c.args.column.now.column c.deref.result.now c.extremes_of-outcome.result c.in-Err.why c.refuse.result (c.in-Some.ensures.found ∙ ap Some (sym c.deref.ensures)) c.extremes_of-outcome.ensures.memory c.in-Err.is c.refuse.ensures.number)
