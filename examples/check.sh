@@ -233,10 +233,12 @@ messages_agree() {
     $cc $c_flags -O2 examples/bytes/reader.c lib/libhivevigil.a -o "$work/reader" &&
         timeout 200 "$1" examples/bytes/messages.py try "$work/reader" 20000 1
 }
+vectors_agree() { timeout 100 "$1" examples/bytes/vectors.py <crates/vectors/stdin; }
 if has protoc && found=$(python_with google.protobuf); then
     run "bytes/messages.py" messages_agree "$found"
+    run "bytes/vectors.py" vectors_agree "$found"
 else
-    skip "bytes/messages.py" "protoc and protobuf for Python (protobuf-compiler, python3-protobuf)"
+    skip "bytes/messages.py, bytes/vectors.py" "protoc and protobuf for Python (protobuf-compiler, python3-protobuf)"
 fi
 
 # PostgreSQL: a server of its own, which does not run as root

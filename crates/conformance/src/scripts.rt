@@ -91,6 +91,7 @@ const BAD_LINES: &[&str] = &[
     "thresholds all",
     "thresholds zero 0",
     "meta 08",
+    "bytes 08",
     "read 1",
     "read GG",
     "read 0G",
@@ -127,6 +128,7 @@ fn lines_that_want_a_column(rt: HostRuntime) -> Result<(), Fail> {
         "kernels all",
         "thresholds zero",
         "meta",
+        "bytes",
         "read 08 02",
     ] {
         let (found, ended) = answered(rt.alloc(), line)?;

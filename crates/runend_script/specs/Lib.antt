@@ -1,3 +1,4 @@
 pub mod Listed
 pub mod Session
 pub mod Replies
+pub mod Messages

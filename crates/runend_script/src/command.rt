@@ -72,6 +72,8 @@ pub enum ScriptCommand<'a> {
     Set(Setting),
     /// The bytes of the column's metadata record are shown.
     Meta,
+    /// The bytes of the column's message are shown.
+    Bytes,
     /// What a metadata record of these bytes says is shown. The words are yet to be read.
     Read(Words<'a>),
 }
@@ -129,6 +131,7 @@ fn read_name<'a>(name: &str) -> Option<ScriptCommand<'a>> {
         "sorted" => Some(ScriptCommand::Sorted),
         "strict" => Some(ScriptCommand::Strict),
         "meta" => Some(ScriptCommand::Meta),
+        "bytes" => Some(ScriptCommand::Bytes),
         _ => None,
     }
 }

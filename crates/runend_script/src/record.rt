@@ -1,9 +1,11 @@
 //! The lines of metadata records.
-ghost use Rattle.std.specs.Prelude.{◌≡◌, IsOkUnless};
+ghost use Rattle.std.specs.Prelude.{◌≡◌, IfOk, IsOkUnless};
+ghost use Rattle.std.specs.String.{string_bytes};
 ghost use Rattle.runend_metadata.specs.EndsType.{IsEndsTypeNumber};
+ghost use Rattle.runend_script.specs.Messages.{bytes_text};
 
 use column_base::{VortexError, VortexResult};
-use column_words::{name_of, parse_bytes, push_byte};
+use column_words::{name_of, parse_bytes, push_bytes};
 use script_text::Words;
 use std::alloc::{AllocError, Allocator};
 use vortex_runend::{ArrayRef, ExecutionCtx, RunEndMetadata, serialize};
@@ -22,7 +24,7 @@ pub fn meta_line<A: Allocator + Copy>(
         return Ok(String::from_str(alloc, "not runs")?);
     };
     let bytes = serialize(runs, ctx)?;
-    Ok(bytes_line(alloc, &bytes)?)
+    Ok(bytes_line(alloc, "meta", &bytes)?)
 }
 
 /// The line of the record that the words spell, a byte each, or `None` where a word is no byte. Refused
@@ -42,13 +44,16 @@ pub fn read_record<A: Allocator + Copy>(
     Ok(Some(line))
 }
 
-// The line `meta HH ..` of a record's bytes, each as two upper case hexadecimal digits.
-fn bytes_line<A: Allocator + Copy>(alloc: A, bytes: &[u8]) -> Result<String<A>, AllocError> {
-    let mut line = String::from_str(alloc, "meta")?;
-    for byte in bytes {
-        line.push_str(" ")?;
-        push_byte(&mut line, *byte)?;
-    }
+// The line `NAME HH ..` of bytes, each as two upper case hexadecimal digits.
+pub(crate) fn bytes_line<A: Allocator + Copy>(
+    alloc: A,
+    name: &str,
+    bytes: &[u8],
+) -> Result<String<A>, AllocError>
+    ensures { IfOk result (λ line. string_bytes line ≡ bytes_text name.now bytes.now) }
+{
+    let mut line = String::from_str(alloc, name)?;
+    push_bytes(&mut line, bytes)?;
     Ok(line)
 }
 

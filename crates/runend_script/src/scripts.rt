@@ -7,10 +7,12 @@ ghost use Rattle.runend_array.specs.Fault.{PartsFault};
 ghost use Rattle.runend_commands.specs.declared.command.Answer.TheVariants.{Done};
 ghost use Rattle.runend_script.specs.declared.command.ScriptCommand.TheVariants as line;
 ghost use Rattle.runend_script.specs.Listed.{AreRunsOf, IsFlatOf};
+ghost use Rattle.runend_script.specs.Messages.{IsMessageReply};
 ghost use Rattle.runend_script.specs.Replies.{IsKeptOrStep, IsReplyOf, IsReplyTo, Tells};
 ghost use Rattle.runend_script.specs.Session.{IsSessionAfter};
 
 use crate::command::{Line, RunsLine, SLASH, ScriptCommand, Setting, read_line};
+use crate::message::message_line;
 use crate::record::{meta_line, read_record};
 use crate::session::set_session;
 use crate::shown::{form_line, rows_line};
@@ -272,11 +274,13 @@ fn perform_on<A: Allocator + Copy>(
     ensures step { IfOk result (λ reply. IsKeptOrStep column.old column.new) }
     ensures kept { OnErr result (column.new ≡ column.old) }
     ensures session { ctx.new ≡ ctx.old }
+    ensures message { command.entry ≡ line.Bytes → IsMessageReply (column_of column.old) result }
 {
     match command {
         ScriptCommand::Show => Ok(Reply::Line(form_line(*ctx.allocator(), column)?)),
         ScriptCommand::Rows => Ok(Reply::Line(rows_line(*ctx.allocator(), column)?)),
         ScriptCommand::Meta => Ok(Reply::Line(meta_line(column, ctx)?)),
+        ScriptCommand::Bytes => message_reply(*ctx.allocator(), column),
         ScriptCommand::Read(words) => match read_record(words, ctx)? {
             Some(line) => Ok(Reply::Line(line)),
             None => Ok(Reply::Bad),
@@ -294,6 +298,14 @@ fn perform_on<A: Allocator + Copy>(
             None => Ok(Reply::Bad),
         },
     }
+}
+
+// The line of the column's message. Refused as `message_line` is.
+fn message_reply<A: Allocator + Copy>(alloc: A, array: &ArrayRef<A>) -> VortexResult<Reply<A>>
+    ensures { IsMessageReply (column_of array.now) result }
+{
+    let line = message_line(alloc, array)?;
+    Ok(Reply::Line(line))
 }
 
 // The command that is executed on a column of the type, or `None` where the line is no such command or

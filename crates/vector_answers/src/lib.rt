@@ -4,6 +4,6 @@
 mod printer;
 
 pub use printer::{
-    push_dtype, push_form, push_metadata, push_record, push_refusal, push_row, push_rows,
+    push_byte_words, push_dtype, push_form, push_metadata, push_refusal, push_row, push_rows,
     push_stored, push_sum, push_truth, push_validity, push_word,
 };

@@ -395,8 +395,11 @@ fn push_bits<A: Allocator + Copy>(text: &mut String<A>, bits: &BitBuffer<A>) -> 
     Ok(())
 }
 
-/// The bytes of a record, a word of two hexadecimal digits each, or `-` where there are none.
-pub fn push_record<A: Allocator + Copy>(text: &mut String<A>, bytes: &[u8]) -> VortexResult<()> {
+/// The bytes of a record or of a message, a word of two hexadecimal digits each, or `-` where there are none.
+pub fn push_byte_words<A: Allocator + Copy>(
+    text: &mut String<A>,
+    bytes: &[u8],
+) -> VortexResult<()> {
     if bytes.is_empty() {
         push_word(text, "-")?;
     }

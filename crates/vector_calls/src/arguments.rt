@@ -26,6 +26,7 @@ pub fn prepare<A: Allocator + Copy>(
         request::Call::Probe(index) => on_copy(name, Task::Probe(index), columns, ctx),
         request::Call::Validity => on_copy(name, Task::Validity, columns, ctx),
         request::Call::Meta => on_copy(name, Task::Meta, columns, ctx),
+        request::Call::Bytes => on_copy(name, Task::Bytes, columns, ctx),
         request::Call::Read(words) => Ok(Call::Read(bytes_of_words(*ctx.allocator(), words)?)),
         _ => Ok(Call::Make(prepared_maker(call, columns, ctx)?)),
     }
@@ -198,6 +199,9 @@ fn prepared_maker<A: Allocator + Copy>(
         request::Call::Lists(lists) => prepared_lists(lists, columns, ctx),
         request::Call::Views(views) => prepared_views(*ctx.allocator(), views),
         request::Call::Deserialize(record) => prepared_record(record, columns, ctx),
+        request::Call::FromBytes(words) => {
+            Ok(Maker::FromBytes(bytes_of_words(*ctx.allocator(), words)?))
+        }
         _ => Err(LineError::Bad),
     }
 }

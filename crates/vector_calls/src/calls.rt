@@ -1,12 +1,13 @@
 //! Calls, and what comes of them.
 use bytes::Bytes;
 use column_base::VortexResult;
+use column_bytes::{read_column, write_column};
 use runend_commands::{Answer, Command, execute};
 use runend_encode_rows::encode_rows;
 use std::alloc::Allocator;
 use std::rc::Rc;
 use vector_answers::{
-    push_metadata, push_record, push_refusal, push_row, push_sum, push_truth, push_validity,
+    push_byte_words, push_metadata, push_refusal, push_row, push_sum, push_truth, push_validity,
     push_word,
 };
 use vector_columns::boxed_lists;
@@ -43,6 +44,8 @@ pub enum Maker<A: Allocator> {
     Views(Vec<View, A>, Vec<Bytes<A>, A>, VarBinKind, Validity<A>),
     /// Of a type, a number of rows, the bytes of a record, ends and values.
     Deserialize(DType, usize, Vec<u8, A>, ArrayRef<A>, ArrayRef<A>),
+    /// Of the bytes of a message.
+    FromBytes(Vec<u8, A>),
 }
 
 /// What is done to a column.
@@ -55,6 +58,7 @@ pub enum Task<A: Allocator> {
     Probe(usize),
     Validity,
     Meta,
+    Bytes,
 }
 
 /// What a call, or a line, is answered.
@@ -160,6 +164,11 @@ impl<A: Allocator + Copy> Maker<A> {
                 drop(bytes);
                 boxed_runs(runs, ample)
             }
+            Maker::FromBytes(bytes) => {
+                let column = read_column(&bytes, *ctx.allocator());
+                drop(bytes);
+                column
+            }
         }
     }
 }
@@ -187,6 +196,7 @@ impl<A: Allocator + Copy> Task<A> {
             Task::Probe(index) => probe_of(column, index, ample),
             Task::Validity => validity_of(column, ctx, ample),
             Task::Meta => meta_of(column, ctx, ample),
+            Task::Bytes => bytes_reply(write_column(column, *ctx.allocator()), ample),
         }
     }
 }
@@ -387,10 +397,18 @@ fn meta_of<A: Allocator + Copy>(
     let ArrayRef::RunEnd(runs) = column else {
         return Ok(Reply::Bad);
     };
-    match serialize(runs, ctx) {
+    bytes_reply(serialize(runs, ctx), ample)
+}
+
+// What is said of the bytes of a record or of a message.
+fn bytes_reply<A: Allocator + Copy>(
+    bytes: VortexResult<Vec<u8, A>>,
+    ample: A,
+) -> VortexResult<Reply<A>> {
+    match bytes {
         Ok(bytes) => {
             let mut text = String::new(ample);
-            let pushed = push_record(&mut text, &bytes);
+            let pushed = push_byte_words(&mut text, &bytes);
             drop(bytes);
             text_reply(text, pushed)
         }

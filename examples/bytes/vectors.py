@@ -1,0 +1,73 @@
+#!/usr/bin/env python3
+"""Holds the vectors with messages against Protocol Buffers' own library, by docs/column.proto.
+
+    /usr/bin/python3 vectors.py < ../../crates/vectors/stdin        ends in 'N messages are those of the schema'
+
+A line `NAME = from bytes HH ..` has to be refused exactly where the bytes are no column's, and the answer to
+`NAME bytes` has to be a column's: the one that was read, where NAME has just been made of bytes. A line `NAME form`
+right behind one of these has to tell the form of that message. Needs what messages.py needs.
+"""
+
+import re
+import sys
+import warnings
+
+import messages
+from messages import ALL_NULL, BOOL, BY_BITS, NEVER_NULL, RUNS, Column
+
+READ = re.compile(r"(?:refuse )?([a-z]\w*) = from bytes ((?:[0-9A-Fa-f]{2} )*[0-9A-Fa-f]{2}|-)(?: => (.*))?")
+WRITTEN = re.compile(r"(?:refuse )?([a-z]\w*) bytes => ([0-9A-F]{2}(?: [0-9A-F]{2})*)(?: memory| none)?")
+FORM = re.compile(r"([a-z]\w*) form => (.*)")
+TYPES = {1: "u8", 2: "u16", 3: "u32", 4: "u64", 5: "i8", 6: "i16", 7: "i32", 8: "i64", BOOL: "bool"}
+VALIDITIES = {1: "nonnull", 2: "valid", ALL_NULL: "invalid", BY_BITS: "bits"}
+
+
+def column(data: bytes):
+    """The message, or None where the bytes are no column's."""
+    if messages.answer(data) == "refused":
+        return None
+    message = Column()
+    message.ParseFromString(data)
+    return message
+
+
+def form(message) -> str:
+    """The form of a flat or run column in the words of docs/VECTORS.md."""
+    if message.form == RUNS:
+        window = [TYPES[message.ends_type], message.offset, message.rows, *messages.ends_of(message)]
+        return " ".join(["runs", *map(str, window), "{", form(message.values), "}"])
+    null = "" if message.validity == NEVER_NULL else "?"
+    rows = [messages.row(message, index) for index in range(message.rows)]
+    return " ".join(["flat", TYPES[message.type] + null, VALIDITIES[message.validity], *rows])
+
+
+def main() -> int:
+    warnings.simplefilter("ignore")
+    failed, told, of, name = 0, 0, None, None
+    for number, line in enumerate(map(str.rstrip, sys.stdin), 1):
+        wrong = None
+        if found := READ.fullmatch(line):
+            data = bytes.fromhex(found[2].replace("-", ""))
+            name, of = found[1], column(data)
+            due = "refused 17" if of is None else "ok"
+            wrong = due != re.sub(" (memory|none)$", "", found[3] or "ok") and f"should be {due}"
+            told += 1
+        elif found := WRITTEN.fullmatch(line):
+            last, name, of = (name, of), found[1], column(bytes.fromhex(found[2]))
+            wrong = of is None and "are no column's bytes"
+            if last[0] == name and last[1] is not None and "refuse" not in line:
+                wrong = wrong or last[1] != of and "are not the bytes that were read"
+            told += 1
+        elif found := FORM.fullmatch(line):
+            wrong = found[1] == name and of is not None and form(of) != found[2] and f"should be {form(of)}"
+        else:
+            name = None
+        if wrong:
+            print(f"line {number}: {line}: {wrong}")
+            failed += 1
+    print(f"{told} messages are those of the schema" if not failed else f"{failed} of {told} are not")
+    return 1 if failed or not told else 0
+
+
+if __name__ == "__main__":
+    sys.exit(main())
