@@ -40,8 +40,8 @@ use Rattle.c_columns.specs.contracts.raw_box.RawBox.into_raw.Key.{name as #self}
 use Rattle.c_columns.proofs.raw_box.RawBox.into_raw.Statement.{statement}
 use Rattle.c_columns.proofs.raw_box.RawBox.into_raw.Code as code
 
-pub park_spec : {M : Type 1} → statement M
-park_spec 𝓤 𝓛 𝓜 𝓡 wired T A L LA g d dx dd allocator glue glued =
+pub into_raw_spec : {M : Type 1} → statement M
+into_raw_spec 𝓤 𝓛 𝓜 𝓡 wired T A L LA g d dx dd allocator glue glued =
     let H = 𝓛.H in
     let 𝓣 = tables 𝓤 H 𝓜 𝓡 𝓡.env in
     -- the types of what is in the box and of its allocator
