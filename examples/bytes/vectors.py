@@ -13,7 +13,7 @@ import sys
 import warnings
 
 import messages
-from messages import ALL_NULL, BOOL, BY_BITS, NEVER_NULL, RUNS, Column
+from messages import ALL_NULL, BOOL, BY_BITS, DECIMAL, NEVER_NULL, RUNS, Column
 
 READ = re.compile(r"(?:refuse )?([a-z]\w*) = from bytes ((?:[0-9A-Fa-f]{2} )*[0-9A-Fa-f]{2}|-)(?: => (.*))?")
 WRITTEN = re.compile(r"(?:refuse )?([a-z]\w*) bytes => ([0-9A-F]{2}(?: [0-9A-F]{2})*)(?: memory| none)?")
@@ -31,14 +31,23 @@ def column(data: bytes):
     return message
 
 
+def row(message, index: int) -> str:
+    shown = messages.row(message, index)
+    if message.type != DECIMAL or shown == "null":
+        return shown
+    return str(int.from_bytes(bytes.fromhex(shown), "big", signed=True))
+
+
 def form(message) -> str:
     """The form of a flat or run column in the words of docs/VECTORS.md."""
     if message.form == RUNS:
         window = [TYPES[message.ends_type], message.offset, message.rows, *messages.ends_of(message)]
         return " ".join(["runs", *map(str, window), "{", form(message.values), "}"])
+    decimal = f"decimal({message.precision},{message.scale})"
+    name = decimal if message.type == DECIMAL else TYPES[message.type]
     null = "" if message.validity == NEVER_NULL else "?"
-    rows = [messages.row(message, index) for index in range(message.rows)]
-    return " ".join(["flat", TYPES[message.type] + null, VALIDITIES[message.validity], *rows])
+    rows = [row(message, index) for index in range(message.rows)]
+    return " ".join(["flat", name + null, VALIDITIES[message.validity], *rows])
 
 
 def main() -> int:
