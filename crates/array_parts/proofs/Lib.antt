@@ -1,0 +1,3 @@
+mod ListParts
+mod Parts
+mod Shown

@@ -1,0 +1,2 @@
+pub mod BytesUsed
+pub mod ListParts
