@@ -64,7 +64,7 @@ else
     skip "names of the header" "nm and readelf"
 fi
 
-for test in first errors layout answers refusals forms messages arrow_arrays; do
+for test in first errors layout answers refusals forms lists messages arrow_arrays; do
     run "c/$test.c" built "$cc" "$c_flags -O2" "examples/c/$test.c"
 done
 wraps="-Wl,--wrap=malloc,--wrap=calloc,--wrap=realloc,--wrap=free"
@@ -73,7 +73,7 @@ run "c/helpers.c" built "$cc" "$c_flags -O2" examples/c/helpers.c
 
 echo 'int main(void) { return 0; }' >"$work/empty.c"
 if $cc $watched "$work/empty.c" -o "$work/empty" 2>/dev/null && "$work/empty"; then
-    for test in errors answers refusals forms messages arrow_arrays; do
+    for test in errors answers refusals forms lists messages arrow_arrays; do
         run "c/$test.c under sanitizers" built "$cc" "$c_flags $watched" "examples/c/$test.c"
     done
     has "$cxx" && run "cpp/demo.cpp under sanitizers" built "$cxx" "$cxx_flags $watched" examples/cpp/demo.cpp
@@ -83,9 +83,9 @@ else
     arrow_flags=-O2 arrow_how=
 fi
 
-# Arrow: each rule by hand, random legal arrays and broken ones, and each request for memory refused. arrow_random and
-# arrow_broken take a number of arrays and a seed: ten thousand each run here, more by hand.
-for test in arrow_rules arrow_options arrow_streams arrow_random arrow_broken; do
+# Arrow: each rule by hand, random legal arrays and broken ones, and each request for memory refused. arrow_random,
+# arrow_lists and arrow_broken take a number of arrays and a seed: ten thousand each run here, more by hand.
+for test in arrow_rules arrow_options arrow_streams arrow_random arrow_lists arrow_broken; do
     run "c/$test.c$arrow_how" built "$cc" "$c_flags $arrow_flags" "examples/c/$test.c"
 done
 run "c/arrow_memory.c" built "$cc" "$c_flags -O0 $wraps" examples/c/arrow_memory.c
@@ -95,7 +95,7 @@ under_valgrind() {
         timeout 300 valgrind --quiet --error-exitcode=1 --leak-check=full --show-leak-kinds=all "$work/program"
 }
 if has valgrind; then
-    for test in answers refusals arrow_arrays; do run "c/$test.c under valgrind" under_valgrind "$test"; done
+    for test in answers refusals lists arrow_arrays; do run "c/$test.c under valgrind" under_valgrind "$test"; done
     run "c/refused_memory.c under valgrind" under_valgrind refused_memory "$wraps"
     run "c/helpers.c under valgrind" under_valgrind helpers
 else

@@ -23,7 +23,9 @@
  *    lend hv_clone's result;
  *  - input is initialised; what a call only writes may hold any bytes before, but for `out`, which is a handle;
  *  - one call at a time on each column, also where it only reads. Any thread may make it: columns that were made one
- *    from the other share buffers, whose owners are counted by atomics, and threads may use them at once (tested);
+ *    from the other share buffers, whose owners are counted by atomics, and threads may use them at once (tested). Of
+ *    lists, and of runs over lists, this does not hold: those made one from the other are used by one thread at a time,
+ *    also where one is freed;
  *  - malloc, realloc and free are one allocator, aligned to 16 bytes; no call comes from a signal handler, or from the
  *    forked child of a process with threads.
  *
@@ -94,7 +96,8 @@ enum {
     HV_BAD_NUMBER = 23              /* a number that stands for no type, or for no operator; no fields */
 };
 
-/* Types by number. precision and scale are of decimals; a list type is only named, and cannot be asked for. */
+/* Types by number. precision and scale are of decimals. Lists are made by hv_lists alone, and the type
+ * of their items is that of hv_list_elements. */
 enum { HV_U8, HV_U16, HV_U32, HV_U64, HV_I8, HV_I16, HV_I32, HV_I64, HV_BOOL, HV_DECIMAL, HV_UTF8, HV_BINARY, HV_LIST };
 typedef struct hv_kind { uint8_t number, nullable, precision; int8_t scale; } hv_kind;
 
@@ -154,6 +157,10 @@ HV_ANSWER int32_t hv_constant(const hv_kind *kind, const hv_value *value, const 
  * column of an unsigned type without null, each above the one before. Both are shared. Refused by the first fault of 1 to 7
  * in their order, or as 21. */
 HV_ANSWER int32_t hv_runs(hv_column *ends, hv_column *values, size_t offset, size_t count, hv_column *out, hv_error *error);
+/* Lists: row i is the sizes[i] items of `elements` from item offsets[i] on, and lists may lie in any order and overlap.
+ * `elements` is a flat column, which is shared; 11 (rows, bytes) as above, then 13 unless it is flat, 11 (offsets, sizes)
+ * for another number of sizes, 8 (row, elements) for the first row that is not null and not within the elements. */
+HV_ANSWER int32_t hv_lists(hv_column *elements, const uint64_t *offsets, size_t offsets_len, const uint64_t *sizes, size_t sizes_len, HV_VALIDITY, hv_column *out, hv_error *error);
 /* The same column in the same form. What holds 32 items or more is shared and not copied. */
 HV_ANSWER int32_t hv_clone(hv_column *column, hv_column *out, hv_error *error);
 /* The same column in the same form, in buffers that no other column shares but for the bytes of texts. A slice of a few
@@ -210,6 +217,12 @@ HV_LENT hv_kind hv_kind_of(hv_column *column);     /* the type; number 255 of no
 HV_LENT uint8_t hv_form(hv_column *column);        /* 0 flat, 1 a constant, 2 lists, 3 runs, 255 no column */
 HV_LENT size_t hv_offset(hv_column *column);       /* of runs: how many of their rows lie before the window; else 0 */
 
+/* How many bytes the column takes for what it shows, in its form: numbers as wide as their type, decimals 16 each, bits
+ * eight to a byte, of texts and bytes 24 for each row and what the rows show. Bits of validity count where there are some.
+ * Runs take their ends and their values, a constant its value, lists an offset and a size of 8 each and all elements.
+ * What columns share counts for each of them; 2^64 - 1 where there are more, 0 of no column. No memory is taken. */
+HV_LENT size_t hv_bytes_used(hv_column *column);
+
 /* ---- Reading many rows ----
  * Of columns in any form. Of a flat column it takes no memory, and what is stored under null is read as it stands. Rows in
  * any other form are written flat first, these alone, which may be refused as 21; under null any number may stand.
@@ -264,6 +277,14 @@ HV_ANSWER int32_t hv_serialize(hv_column *column, uint8_t *bytes, size_t bytes_l
  * record, 18 (number), 12 for ends that are not of the type that it states or values that are not of this one, 19 (stated,
  * found), 23 where kind names no type, or as hv_runs. */
 HV_ANSWER int32_t hv_deserialize(const hv_kind *kind, size_t count, const uint8_t *bytes, size_t bytes_len, hv_column *ends, hv_column *values, hv_column *out, hv_error *error);
+
+/* ---- Lists ---- (13 of other forms: hv_decode writes runs of lists as lists)
+ * Row i is the items of the elements from its offset on, as many as its size; where it is null any offset and size may
+ * stand. Offsets and sizes are u64 without null, flat or in runs, and read by hv_read_u64. All are shared. */
+HV_ANSWER int32_t hv_list_elements(hv_column *column, hv_column *out, hv_error *error);  /* of all lists, flat */
+HV_ANSWER int32_t hv_list_offsets(hv_column *column, hv_column *out, hv_error *error);
+HV_ANSWER int32_t hv_list_sizes(hv_column *column, hv_column *out, hv_error *error);
+HV_ANSWER int32_t hv_list_validity(hv_column *column, hv_column *out, hv_error *error);  /* booleans: is the row valid? */
 
 /* A column as bytes, in any form, to keep or to send: a message of the Protocol Buffers encoding (docs/column.proto), in the
  * form that the column has, with its window. Equal forms have equal bytes. 13 where it has no message: docs/BYTES.md says of

@@ -5,7 +5,8 @@
 //     for (const hv::Run &run : runs.runs()) use(run.start, run.stop, run.value);
 //     for (const hv::Value &row : runs) use(row);
 //
-// A column is used by one thread at a time, any thread; those that were made one from the other may be used at once.
+// A column is used by one thread at a time, any thread; those that were made one from the other may be used at once, but
+// for lists.
 #ifndef HIVEVIGIL_HPP
 #define HIVEVIGIL_HPP
 #include "hivevigil_values.hpp"
@@ -85,6 +86,15 @@ public:
     static Column runs(const Column &ends, const Column &values, size_t offset, size_t rows) {
         return ends.beside(values, [&](auto *other, auto *out, auto *error) {
             return hv_runs(&ends.handle, other, offset, rows, out, error);
+        });
+    }
+    // Lists: row i is the sizes[i] elements from offsets[i] on, null where the flag is false. Elements are flat.
+    static Column lists(const Column &elements, const std::vector<uint64_t> &offsets,
+                        const std::vector<uint64_t> &sizes, const std::vector<bool> *valid = nullptr) {
+        const uint64_t none = 0;
+        return with_nulls(offsets.size(), valid, [&](auto nulls, auto *bits, auto size, auto *out, auto *error) {
+            return hv_lists(&elements.handle, offsets.empty() ? &none : offsets.data(), offsets.size(),
+                            sizes.empty() ? &none : sizes.data(), sizes.size(), nulls, bits, size, 0, out, error);
         });
     }
     // The runs that a record describes, over these ends and values.
@@ -187,6 +197,8 @@ public:
     hv_kind kind() const { return hv_kind_of(&handle); }
     Form form() const { return static_cast<Form>(hv_form(&handle)); }
     size_t offset() const { return hv_offset(&handle); }
+    // How many bytes the column takes for what it shows, in its form; hivevigil.h says of what they are.
+    size_t bytes_used() const { return hv_bytes_used(&handle); }
     // Row `row`, refused as HV_OUT_OF_BOUNDS past the end; so is [].
     Value at(size_t row) const {
         return shown([&](auto *value, auto *text, size_t room, auto *error) {
@@ -287,6 +299,11 @@ public:
     Column values() const {
         return made([&](auto *out, auto *error) { return hv_values(&handle, out, error); });
     }
+    // Of lists: the elements of all, where those of each start, how many they are, and whether it is valid.
+    Column list_elements() const { return part(hv_list_elements); }
+    Column list_offsets() const { return part(hv_list_offsets); }
+    Column list_sizes() const { return part(hv_list_sizes); }
+    Column list_validity() const { return part(hv_list_validity); }
     Bytes serialize() const {
         Bytes record(64);
         size_t size = 0;
@@ -314,6 +331,9 @@ private:
         Column out;
         detail::ask([&](auto *error) { return call(&out.handle, error); });
         return out;
+    }
+    template <class Call> Column part(Call call) const {
+        return made([&](auto *out, auto *error) { return call(&handle, out, error); });
     }
     // Two handles of one call are two: a column beside itself is cloned first.
     template <class Call> Column beside(const Column &other, Call call) const {

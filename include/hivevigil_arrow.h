@@ -3,15 +3,15 @@
  *
  * IN come integers of 8 to 64 bits, dates, times, timestamps, durations and months (as the integers that they
  * are), booleans, decimals of 32, 64 and 128 bits, texts and bytes (with offsets of 32 or 64 bits, as views, or of
- * one size), a dictionary over any of these, and run ends ("+r") over any of these, to a depth of HV_ARROW_DEPTH. Only
- * the rows that an array shows are copied; the array stays the producer's.
+ * one size), lists of any of these ("+l", "+L"), a dictionary over any of these, and run ends ("+r") over any of these,
+ * to a depth of HV_ARROW_DEPTH. Only the rows that an array shows are copied; the array stays the producer's.
  *
  * OUT goes a flat column as a flat array, runs as "+r" with ends that count from the first row shown, a constant as one
- * run. What goes out is memory of malloc, which the release callbacks free on any thread; a child that was moved out is
- * the mover's.
+ * run, lists as lists, whose items are flat and stand one row behind the other. What goes out is memory of malloc, which
+ * the release callbacks free on any thread; a child that was moved out is the mover's.
  *
- * NEITHER in nor out go lists, structs (but as batches), maps, unions, the null type, intervals of more than months,
- * and decimals of 256 bits: HV_UNSUPPORTED. Floating-point numbers are no values of this library. They come in by
+ * NEITHER in nor out go lists of lists, views of lists, structs (but as batches), maps, unions, the null type, intervals
+ * of more than months, and decimals of 256 bits: HV_UNSUPPORTED; nor do lists that lie flat as runs. Floating-point numbers are no values of this library. They come in by
  * hv_arrow_import_bits alone, as integers without sign of the same bits, and go out by hv_arrow_export_bits: equal
  * bits are equal rows (so 0.0 and -0.0 differ, and a NaN equals the same NaN), while sums, order, least and greatest of
  * such a column are those of the integers and say nothing of the floats.
@@ -200,6 +200,7 @@ static inline int32_t hv_arrow_export_stream(const hv_session *session, hv_colum
 /* what the calls above are made of */
 #include "hivevigil_arrow_in.h"
 #include "hivevigil_arrow_out.h"
+#include "hivevigil_arrow_lists.h"
 #include "hivevigil_arrow_stream_in.h"
 #include "hivevigil_arrow_stream_out.h"
 #endif

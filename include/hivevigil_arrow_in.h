@@ -375,6 +375,7 @@ static inline int32_t hv_arrow_read(const hv_arrow_reading *reading, const hv_ar
     case HV_ARROW_TEXTS: return hv_arrow_read_texts(rows, out, reading->error);
     case HV_ARROW_VIEWS: return hv_arrow_read_views(rows, out, reading->error);
     case HV_ARROW_FIXED: return hv_arrow_read_fixed(rows, out, reading->error);
+    case HV_ARROW_LISTS: return hv_arrow_read_lists(&within, rows, out);
     case HV_ARROW_RUN_ENDS: return hv_arrow_read_runs(&within, rows, out);
     case HV_ARROW_FLOATS:
         if (reading->floats) return hv_arrow_read_numbers(rows, out, reading->error);

@@ -373,11 +373,16 @@ static inline int32_t hv_arrow_write_flat(const hv_arrow_writing *writing, hv_co
     return hv_arrow_write_plain(writing, column, kind, name, schema, array);
 }
 
+static inline int32_t hv_arrow_write_lists(const hv_arrow_writing *writing, hv_column *column, const char *name,
+                                           struct ArrowSchema *schema, struct ArrowArray *array);
+
 static inline int32_t hv_arrow_write_decoded(const hv_arrow_writing *writing, hv_column *column, const char *name,
                                              struct ArrowSchema *schema, struct ArrowArray *array) {
     hv_column flat = HV_EMPTY;
     int32_t answer = hv_decode(writing->session, column, &flat, writing->error);
-    if (!answer) answer = hv_arrow_write_flat(writing, &flat, name, schema, array);
+    if (!answer)
+        answer = hv_form(&flat) == HV_ARROW_OF_LISTS ? hv_arrow_write_lists(writing, &flat, name, schema, array)
+                                                     : hv_arrow_write_flat(writing, &flat, name, schema, array);
     hv_free(&flat);
     return answer;
 }
@@ -389,8 +394,11 @@ static inline int32_t hv_arrow_write(const hv_arrow_writing *writing, hv_column 
     uint8_t form = hv_form(column), wanted = writing->options.form;
     size_t rows = hv_length(column);
     if (form == HV_ARROW_NO_FORM) return hv_arrow_refuse(HV_NO_COLUMN, 0, 0, writing->error);
-    if (kind.number > HV_BINARY || rows > INT64_MAX || writing->depth >= HV_ARROW_DEPTH)
+    if (kind.number > HV_LIST || rows > INT64_MAX || writing->depth >= HV_ARROW_DEPTH)
         return hv_arrow_refuse(HV_UNSUPPORTED, 0, 0, writing->error);
+    if (form == HV_ARROW_OF_LISTS && wanted == HV_ARROW_AS_RUNS)
+        return hv_arrow_refuse(HV_UNSUPPORTED, 0, 0, writing->error);
+    if (form == HV_ARROW_OF_LISTS) return hv_arrow_write_lists(writing, column, name, schema, array);
     if (form == HV_ARROW_FLAT && wanted != HV_ARROW_AS_RUNS)
         return hv_arrow_write_flat(writing, column, name, schema, array);
     if (wanted == HV_ARROW_AS_FLAT) return hv_arrow_write_decoded(writing, column, name, schema, array);

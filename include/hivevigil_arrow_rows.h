@@ -8,7 +8,7 @@
 
 /* What the makers of hivevigil.h take as `nulls`, and what hv_form answers. */
 enum { HV_ARROW_NOT_NULLABLE = 0, HV_ARROW_NO_NULLS = 1, HV_ARROW_NULLS_BY_BITS = 2 };
-enum { HV_ARROW_FLAT = 0, HV_ARROW_CONSTANT = 1, HV_ARROW_RUNS = 3, HV_ARROW_NO_FORM = 255 };
+enum { HV_ARROW_FLAT = 0, HV_ARROW_CONSTANT = 1, HV_ARROW_OF_LISTS = 2, HV_ARROW_RUNS = 3, HV_ARROW_NO_FORM = 255 };
 
 /* A value for no items: a maker's pointer is never null, and nothing is read behind this one. */
 static inline const uint8_t *hv_arrow_nothing(void) { return (const uint8_t *)hv_some(NULL); }
@@ -34,12 +34,13 @@ enum {
     HV_ARROW_TEXTS,
     HV_ARROW_VIEWS,
     HV_ARROW_FIXED,
+    HV_ARROW_LISTS,
     HV_ARROW_RUN_ENDS,
     HV_ARROW_BATCH
 };
 
 /* What a format says of an array: what it has, the type of a column of it, and the bytes of an item (of an offset, for
- * texts; of a view, for views). */
+ * texts and lists; of a view, for views). */
 typedef struct hv_arrow_layout {
     uint8_t what, number;
     uint32_t width;
@@ -70,7 +71,8 @@ static inline const hv_arrow_named_layout *hv_arrow_layouts(size_t *count) {
         {"U", {HV_ARROW_TEXTS, HV_UTF8, 8, 0, 0}},     {"z", {HV_ARROW_TEXTS, HV_BINARY, 4, 0, 0}},
         {"Z", {HV_ARROW_TEXTS, HV_BINARY, 8, 0, 0}},   {"vu", {HV_ARROW_VIEWS, HV_UTF8, 16, 0, 0}},
         {"vz", {HV_ARROW_VIEWS, HV_BINARY, 16, 0, 0}}, {"+r", {HV_ARROW_RUN_ENDS, HV_LIST, 1, 0, 0}},
-        {"+s", {HV_ARROW_BATCH, HV_LIST, 1, 0, 0}},
+        {"+s", {HV_ARROW_BATCH, HV_LIST, 1, 0, 0}},    {"+l", {HV_ARROW_LISTS, HV_LIST, 4, 0, 0}},
+        {"+L", {HV_ARROW_LISTS, HV_LIST, 8, 0, 0}},
     };
     *count = sizeof layouts / sizeof *layouts;
     return layouts;
@@ -186,6 +188,7 @@ typedef struct hv_arrow_rows {
 #define HV_ARROW_NULLS(rows) (rows)->nulls, (rows)->bits, (rows)->bits_len, (rows)->start
 
 static inline int32_t hv_arrow_read(const hv_arrow_reading *reading, const hv_arrow_rows *rows, hv_column *out);
+static inline int32_t hv_arrow_read_lists(const hv_arrow_reading *reading, const hv_arrow_rows *rows, hv_column *out);
 
 /* Whether both are there, and what the format is; 13 for one that is not served. */
 static inline int32_t hv_arrow_check_structs(const struct ArrowSchema *schema, const struct ArrowArray *array,
@@ -213,7 +216,7 @@ static inline bool hv_arrow_has_buffers(const struct ArrowArray *array, uint8_t 
 static inline bool hv_arrow_has_children(const struct ArrowSchema *schema, const struct ArrowArray *array,
                                          uint8_t what) {
     if (what == HV_ARROW_BATCH) return schema->n_children >= 0 && array->n_children == schema->n_children;
-    int64_t due = what == HV_ARROW_RUN_ENDS ? 2 : 0;
+    int64_t due = what == HV_ARROW_RUN_ENDS ? 2 : what == HV_ARROW_LISTS ? 1 : 0;
     return schema->n_children == due && array->n_children == due;
 }
 

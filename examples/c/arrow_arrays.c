@@ -287,7 +287,7 @@ static void check_batch(void) {
 }
 
 static void check_invalid_arrays(void) {
-    const char *const formats[] = {"g", "e", "+l", "n", "d:10,2,256", "d:39,2", "+w:4", "+vl", ""};
+    const char *const formats[] = {"g", "e", "+m", "n", "d:10,2,256", "d:39,2", "+w:4", "+vl", ""};
     const uint64_t items[4] = {0};
     const int32_t falling[3] = {0, 2, -1};
     struct ArrowSchema schema = {.release = release_schema, .format = "l"};

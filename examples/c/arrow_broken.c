@@ -4,7 +4,7 @@
  * buffers are longer here than their arrays need, offsets of texts are made smaller only, and an array of views is left
  * without buffers, or as it is. arrow_broken [COUNT [SEED]]
  */
-#include "arrow_layouts.h"
+#include "arrow_list_layouts.h"
 #include "check.h"
 
 enum { STRUCTS = 64, SLACK = 512 };
@@ -26,6 +26,7 @@ static void collect(struct ArrowSchema *schema, struct ArrowArray *array) {
 
 static bool is_text(const char *format) { return strlen(format) == 1 && strchr("uUzZ", format[0]); }
 static bool is_view(const char *format) { return format[0] == 'v'; }
+static bool is_list(const char *format) { return strcmp(format, "+l") == 0 || strcmp(format, "+L") == 0; }
 
 /* Numbers that no length, offset or count may be, and some that are near the right one. */
 static int64_t broken_number(int64_t right) {
@@ -90,8 +91,8 @@ static void break_item(const struct ArrowSchema *schema, struct ArrowArray *arra
     size_t at = below(rows);
     if (bits && one_in(2)) {
         bits[at / 8] ^= (uint8_t)(1 << at % 8);
-    } else if (items && is_text(schema->format)) {
-        size_t size = strchr("UZ", schema->format[0]) ? 8 : 4;
+    } else if (items && (is_text(schema->format) || is_list(schema->format))) {
+        size_t size = strpbrk(schema->format, "UZL") ? 8 : 4;
         memcpy(items + at * size, &smaller[below(COUNT(smaller))], size);
     } else if (items) {
         size_t size = strcmp(schema->format, "b") == 0 ? 1 : is_view(schema->format) ? 16 : 1 + below(8);
@@ -127,7 +128,7 @@ static void use_column(void) {
     CHECK(hv_length(&column) < 10000);
     for (size_t row = 0; row < hv_length(&column); row++) {
         int32_t answer = hv_at(&column, row, &value, text, sizeof text, &error);
-        CHECK(!answer || answer == HV_COLUMN_LENGTH);
+        CHECK(!answer || answer == (hv_kind_of(&column).number == HV_LIST ? HV_UNSUPPORTED : HV_COLUMN_LENGTH));
     }
     CHECK(!hv_arrow_export(&session, &column, "x", &schema, &array, &error));
     hv_arrow_release(&schema, &array);
@@ -139,8 +140,10 @@ static bool try_one(void) {
     struct ArrowArray array;
     const type *of = &types[below(TYPES)];
     rows shown = random_rows(of, one_in(10) ? 0 : below(30), one_in(3) ? 0 : 1 + below(6));
+    const lists rows_of_lists = random_lists(of, below(20), one_in(2) ? 3 : 0);
     bool batch = one_in(4);
-    if (batch) lay_batch(&of, &shown, 1, &schema, &array);
+    if (!batch && one_in(4)) lay_lists(of, &rows_of_lists, one_in(2) ? 4 : 8, &schema, &array);
+    else if (batch) lay_batch(&of, &shown, 1, &schema, &array);
     else lay_any(of, shown, 0, &schema, &array);
     structs = 0;
     collect(&schema, &array);

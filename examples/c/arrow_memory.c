@@ -9,7 +9,8 @@ enum { ROWS = 70 };
 static hv_session session;
 static hv_error error;
 static hv_column numbers = HV_EMPTY, texts = HV_EMPTY, runs = HV_EMPTY, codes = HV_EMPTY, nested = HV_EMPTY;
-static hv_column *const lent[] = {&numbers, &texts, &runs, &codes, &nested};
+static hv_column lists = HV_EMPTY, list_runs = HV_EMPTY;
+static hv_column *const lent[] = {&numbers, &texts, &runs, &codes, &nested, &lists, &list_runs};
 static char rows_before[COUNT(lent)][8192];
 static hv_column out[2] = {HV_EMPTY, HV_EMPTY};
 static struct ArrowSchema schema;
@@ -20,6 +21,7 @@ static void make_lent(void) {
     static int64_t items[ROWS];
     static int32_t offsets[ROWS + 1];
     static uint8_t letters[2 * ROWS], bits[ROWS / 8 + 1], places[ROWS];
+    static uint64_t starts[ROWS / 2], sizes[ROWS / 2];
     const uint8_t ends[3] = {30, 60, ROWS};
     hv_column outer = HV_EMPTY, inner = HV_EMPTY;
     for (int row = 0; row < ROWS; row++) {
@@ -34,6 +36,9 @@ static void make_lent(void) {
     CHECK(!hv_u8(places, ROWS, NULLS_BY(bits, 0), &codes, &error));
     CHECK(!hv_u8(ends, 3, NOT_NULLABLE, &outer, &error) && !hv_slice(&session, &runs, 0, 3, &inner, &error));
     CHECK(!hv_runs(&outer, &inner, 0, ROWS, &nested, &error));
+    for (uint64_t row = 0; row < ROWS / 2; row++) starts[row] = ROWS - 2 * row - 2, sizes[row] = row % 3;
+    CHECK(!hv_lists(&numbers, starts, ROWS / 2, sizes, ROWS / 2, NULLS_BY(bits, 0), &lists, &error));
+    CHECK(!hv_slice(&session, &lists, 1, 4, &inner, &error) && !hv_runs(&outer, &inner, 0, ROWS, &list_runs, &error));
     hv_free(&outer);
     hv_free(&inner);
     for (size_t i = 0; i < COUNT(lent); i++) strcpy(rows_before[i], rows_of(lent[i]));
@@ -142,6 +147,15 @@ STEP_OUT(nested, nested, &(hv_arrow_options){0})
 STEP_OUT(one_level, nested, &text_runs)
 STEP_OUT(codes, codes, &flat_codes)
 STEP_OUT(coded_runs, codes, &coded_runs)
+STEP_OUT(lists, lists, &(hv_arrow_options){0})
+STEP_OUT(list_runs, list_runs, &(hv_arrow_options){0})
+/* out and in again, as one step */
+static int32_t lists_out_and_in(void) {
+    int32_t answer = hv_arrow_export(&session, &list_runs, "x", &schema, &array, &error);
+    if (!answer) answer = hv_arrow_import(&session, &schema, &array, &out[0], &error);
+    if (answer) hv_arrow_release(&schema, &array);
+    return answer;
+}
 STEP(export_stream, hv_arrow_export_stream(&session, &runs, NULL, 1, 9, NULL, &stream, &error))
 STEP(export_coded_stream, hv_arrow_export_stream(&session, &codes, NULL, 1, 30, &coded_runs, &stream, &error))
 static int32_t export_batches(void) {
@@ -168,7 +182,7 @@ static const struct {
     NAMED(import_no_chunks), NAMED(import_one_chunk), NAMED(import_many_chunks),  NAMED(export_text_runs),
     NAMED(export_nested),    NAMED(export_one_level), NAMED(export_codes),        NAMED(export_coded_runs),
     NAMED(export_stream),    NAMED(export_batches),   NAMED(export_coded_stream), NAMED(concat),
-    NAMED(concat_runs),
+    NAMED(concat_runs),      NAMED(export_lists),     NAMED(export_list_runs),    NAMED(lists_out_and_in),
 };
 
 static void release_all(void) {

@@ -2,9 +2,9 @@
  * in with the rows that were laid out, what went out by a reader of its own (arrow_reader.h), what came in again with
  * both. arrow_random [COUNT [SEED]]
  */
+#include "arrow_columns.h"
 #include "arrow_layouts.h"
 #include "arrow_reader.h"
-#include "check.h"
 
 static hv_session session;
 static hv_error error;
@@ -17,34 +17,11 @@ static void stop(const char *what, size_t row) {
     exit(1);
 }
 
-/* A row of a column, as the model has rows. */
-static row row_at(hv_column *from, size_t at) {
-    static const uint8_t sizes[] = {1, 2, 4, 8, 1, 2, 4, 8};
-    uint8_t text[32];
-    hv_value value;
-    row found = {false, 1, {0}};
-    if (hv_at(from, at, &value, text, sizeof text, &error)) stop("no row", at);
-    if (value.kind == HV_NULL) found.null = true;
-    else if (value.kind == HV_TRUTH) found.bytes[0] = value.truth;
-    else if (value.kind == HV_TEXT || value.kind == HV_BYTES) {
-        found.size = (uint8_t)value.as_unsigned;
-        memcpy(found.bytes, text, found.size);
-    } else if (value.kind == HV_DECIMAL_VALUE) {
-        found.size = 16;
-        memcpy(found.bytes, &value.as_unsigned, 8);
-        memcpy(found.bytes + 8, &value.as_signed, 8);
-    } else {
-        found.size = sizes[hv_kind_of(from).number];
-        memcpy(found.bytes, value.kind == HV_SIGNED ? (void *)&value.as_signed : (void *)&value.as_unsigned,
-               found.size);
-    }
-    return found;
-}
-
 static void check_column(hv_column *from, rows due, const char *what) {
     if (hv_length(from) != due.count) stop(what, hv_length(from));
     for (size_t i = 0; i < due.count; i++) {
-        row found = row_at(from, i);
+        row found;
+        if (row_at(from, i, &found, &error)) stop("no row", i);
         if (!same_row(&found, &due.at[i])) stop(what, i);
     }
 }

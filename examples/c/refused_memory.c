@@ -12,8 +12,10 @@ static hv_column flat = HV_EMPTY, runs = HV_EMPTY, part = HV_EMPTY, texts = HV_E
                  decimals = HV_EMPTY;
 static hv_column ends = HV_EMPTY, values = HV_EMPTY, places = HV_EMPTY, constant = HV_EMPTY, large_texts = HV_EMPTY;
 static hv_column truth_runs = HV_EMPTY, place_runs = HV_EMPTY, text_runs = HV_EMPTY;
+static hv_column lists = HV_EMPTY, list_runs = HV_EMPTY;
 static hv_column *const lent[] = {&flat, &runs,   &part,   &texts,    &truths,     &decimals,
-                                  &ends, &values, &places, &constant, &large_texts, &truth_runs, &place_runs, &text_runs};
+                                  &ends, &values, &places, &constant, &large_texts, &truth_runs, &place_runs, &text_runs,
+                                  &lists, &list_runs};
 static char rows_before[COUNT(lent)][8192];
 static hv_column out = HV_EMPTY;
 static struct ArrowSchema schema, texts_schema, codes_schema;
@@ -28,6 +30,7 @@ static uint8_t letters[BYTES];
 static uint8_t kept_message[1024], decimals_message[64]; /* of `part`, and of `decimals` */
 static size_t message_size, decimals_size;
 static const uint16_t some_places[5] = {1, 3, 60, 79, 0};
+static uint64_t list_offsets[ROWS / 2], list_sizes[ROWS / 2];
 static const hv_pair pairs[2] = {{5, 0}, {UINT64_MAX, -1}};
 static const hv_kind i32_type = {HV_I32, 1, 0, 0}, i64_type = {HV_I64, 1, 0, 0}, text_type = {HV_UTF8, 0, 0, 0};
 static const hv_value five = {.kind = HV_SIGNED, .as_signed = 5}, letter = {.kind = HV_TEXT, .as_unsigned = 1};
@@ -41,6 +44,17 @@ static void write_items(void) {
         large_offsets[row + 1] = 4 * (row + 1);
         memset(letters + 4 * row, 'a' + row / 10, 4);
     }
+    for (uint64_t row = 0; row < ROWS / 2; row++) list_offsets[row] = 2 * row, list_sizes[row] = 2;
+}
+
+/* lists of two numbers, and runs over the first two of them, of five and of four rows */
+static void make_list_columns(void) {
+    const uint8_t place_ends[2] = {5, 9};
+    hv_column ends_of_two = HV_EMPTY, two = HV_EMPTY;
+    CHECK(!hv_lists(&flat, list_offsets, ROWS / 2, list_sizes, ROWS / 2, NULLS_BY(bits, 0), &lists, &error));
+    CHECK(!hv_u8(place_ends, 2, NOT_NULLABLE, &ends_of_two, &error) && !hv_slice(&session, &lists, 4, 6, &two, &error));
+    CHECK(!hv_runs(&ends_of_two, &two, 0, 9, &list_runs, &error));
+    hv_free(&ends_of_two), hv_free(&two);
 }
 
 /* booleans, places and texts as runs of 40 and of 40 rows, and the places of five and of four */
@@ -66,6 +80,7 @@ static void make_lent(void) {
     CHECK(!hv_ends(&part, &ends, &error) && !hv_values(&part, &values, &error));
     CHECK(!hv_u16(some_places, 5, NOT_NULLABLE, &places, &error));
     make_run_columns();
+    make_list_columns();
     CHECK(!hv_write(&part, kept_message, sizeof kept_message, &message_size, &error));
     CHECK(!hv_write(&decimals, decimals_message, sizeof decimals_message, &decimals_size, &error));
     CHECK(!hv_arrow_export(&session, &texts, "texts", &texts_schema, &texts_array, &error));
@@ -149,11 +164,25 @@ STEP(window_offsets, hv_read_offsets(&text_runs, 3, (int32_t *)words, 6, &error)
 STEP(window_bytes, hv_read_bytes(&text_runs, 0, 9, (uint8_t *)words, 36, &error))
 STEP(window_bools, hv_read_bools_from(&truth_runs, 5, 60, words, 1, &error))
 STEP(window_validity, hv_read_validity_from(&part, 5, 40, words, 1, &error))
+/* numbers and their bits; lists of them with an offset, a size and a bit each */
+static int32_t read_bytes_used(void) {
+    const size_t of_flat = ROWS * 8 + ROWS / 8;
+    return hv_bytes_used(&flat) == of_flat && hv_bytes_used(&lists) == of_flat + ROWS / 2 * 16 + ROWS / 16 ? HV_OK : -1;
+}
 STEP(read_run_count, hv_run_count(&part, &size, &error))
 STEP(read_run, hv_run(&part, 2, &size, &stop, &value, text, sizeof text, &error))
 STEP(read_run_of, hv_run_of(&part, 30, &size, &error))
 STEP(read_ends, hv_read_ends_u64(&part, 0, words, 2, &error))
 STEP(make_constant, hv_constant(&text_type, &letter, letters, 4, 9, &out, &error))
+STEP(make_lists, hv_lists(&flat, list_offsets, ROWS / 2, list_sizes, ROWS / 2, NULLS_BY(bits, 0), &out, &error))
+STEP(list_elements, hv_list_elements(&lists, &out, &error))
+STEP(offsets_of_lists, hv_list_offsets(&lists, &out, &error))
+STEP(sizes_of_lists, hv_list_sizes(&lists, &out, &error))
+STEP(list_validity, hv_list_validity(&lists, &out, &error))
+STEP(slice_lists, hv_slice(&session, &lists, 3, 38, &out, &error))
+STEP(take_lists, hv_take(&session, &list_runs, &place_runs, &out, &error))
+STEP(decode_lists, hv_decode(&session, &list_runs, &out, &error))
+STEP(clone_lists, hv_clone(&list_runs, &out, &error))
 STEP(run_ends, hv_ends(&part, &out, &error))
 STEP(run_values, hv_values(&part, &out, &error))
 STEP(serialize, hv_serialize(&part, text, sizeof text, &size, &error))
@@ -198,7 +227,9 @@ static const step steps[] = {
     NAMED(min_max), NAMED(at), NAMED(read_i64), NAMED(read_decimals), NAMED(read_bools), NAMED(read_validity), NAMED(read_no_nulls),
     NAMED(read_offsets), NAMED(read_large_offsets), NAMED(read_bytes), NAMED(window_numbers),
     NAMED(window_offsets), NAMED(window_bytes), NAMED(window_bools), NAMED(window_validity), NAMED(read_run_count),
-    NAMED(read_run), NAMED(read_run_of), NAMED(read_ends), NAMED(make_constant), NAMED(run_ends), NAMED(run_values),
+    NAMED(read_run), NAMED(read_run_of), NAMED(read_bytes_used), NAMED(make_lists), NAMED(list_elements),
+    NAMED(offsets_of_lists), NAMED(sizes_of_lists), NAMED(list_validity), NAMED(slice_lists), NAMED(take_lists),
+    NAMED(decode_lists), NAMED(clone_lists), NAMED(read_ends), NAMED(make_constant), NAMED(run_ends), NAMED(run_values),
     NAMED(serialize), NAMED(deserialize), NAMED(size_of_message), NAMED(write_message), NAMED(column_of_message),
     NAMED(write_decimals), NAMED(decimals_of_message),
     NAMED(export_flat), NAMED(export_runs), NAMED(export_constant),

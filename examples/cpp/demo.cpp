@@ -77,6 +77,17 @@ static void check_other_types() {
     CHECK(Column::of<uint64_t>({}).sum().empty);
 }
 
+static void check_lists() {
+    const Column elements = Column::of<int32_t>({1, 2, 3});
+    const Column lists = Column::lists(elements, {0, 1}, {2, 2}); // [1 2] [2 3]
+    CHECK(lists.form() == hv::Form::lists && lists.size() == 2 && lists.bytes_used() == 3 * 4 + 2 * (8 + 8));
+    CHECK(rows_of(lists.list_elements()) == rows_of(elements));
+    CHECK(lists.list_offsets().numbers<uint64_t>() == (std::vector<uint64_t>{0, 1}));
+    CHECK(lists.list_sizes().numbers<uint64_t>() == (std::vector<uint64_t>{2, 2}));
+    const std::vector<bool> valid{true, false};
+    CHECK(Column::lists(elements, {0, 9}, {2, 9}, &valid).list_validity().truths() == valid);
+}
+
 static void check_refusals() {
     const Column runs = made().encode();
     try {
@@ -251,6 +262,7 @@ int main() {
     check_values_as_they_are_written();
     check_words();
     check_moves();
+    check_lists();
     check_refusals();
     check_arrow();
     std::cout << "columns are freed by scope, and refusals are thrown\n";

@@ -76,6 +76,11 @@ _MAKERS: dict[str, list[Any]] = {
     "hv_large_texts": [c_uint8, POINTER(c_int64), c_size_t, c_char_p, c_size_t, *_VALIDITY],
     "hv_runs": [_HANDLE, _HANDLE, c_size_t, c_size_t],
     "hv_constant": [POINTER(Kind), *_VALUE, c_size_t],
+    "hv_lists": [_HANDLE, POINTER(c_uint64), c_size_t, POINTER(c_uint64), c_size_t, *_VALIDITY],
+    "hv_list_elements": [_HANDLE],
+    "hv_list_offsets": [_HANDLE],
+    "hv_list_sizes": [_HANDLE],
+    "hv_list_validity": [_HANDLE],
     "hv_clone": [_HANDLE],
     "hv_compact": [_HANDLE],
     "hv_encode": _COMMAND,
@@ -125,6 +130,7 @@ _PLAIN: dict[str, tuple[list[Any], Any]] = {
     "hv_kind_of": ([_HANDLE], Kind),
     "hv_form": ([_HANDLE], c_uint8),
     "hv_offset": ([_HANDLE], c_size_t),
+    "hv_bytes_used": ([_HANDLE], c_size_t),
     "hv_free": ([_HANDLE], None),
     "hv_capsule_calls": ([c_void_p, c_void_p], None),
     "hv_capsule_room": ([c_size_t], c_void_p),
@@ -180,7 +186,7 @@ session = initial_session()
 # what calls are called here that have another name
 _METHODS = {
     "extreme": "min and max", "compare_scalar": "compare", "serialize": "record", "deserialize": "from_record",
-    "runs": "from_runs", "clone": "copy", "concat_columns": "concat", "export_with": "to_arrow",
+    "runs": "from_runs", "lists": "from_lists", "clone": "copy", "concat_columns": "concat", "export_with": "to_arrow",
     "export_stream": "to_arrow", "read_bools": "truths", "read_validity": "validity",
 }
 

@@ -8,7 +8,7 @@ from collections.abc import Iterator
 from itertools import chain, compress, repeat
 from typing import TYPE_CHECKING, NamedTuple, Optional
 
-from . import _reading
+from . import _lists, _reading
 from ._library import ask, calls
 from ._making import numbers_of, truths_of, validity_of
 from ._types import WHOLE_NUMBERS
@@ -61,7 +61,9 @@ def lengths(stops: list[int]) -> list[int]:
 
 
 def rows(column: Column) -> Iterator[Scalar]:
-    """Row by row; of runs each value is read once."""
+    """Row by row; of runs each value is read once, but for lists, of which each row is one of its own."""
+    if _lists.is_list(column):
+        return iter(_lists.rows(column))
     if column.form == "runs":
         shown = visible(column)
         return chain.from_iterable(map(_repeated, _flat_rows(shown.values), lengths(shown.stops)))
@@ -91,6 +93,8 @@ def null_count(column: Column) -> int:
     """How many rows are null."""
     if not column.nullable:
         return 0
+    if _lists.is_list(column):
+        return _lists.flags(column).count(0)
     if column.form == "constant":
         return column._length if column._length and column[0] is None else 0
     if column.form == "runs":

@@ -6,10 +6,10 @@ import ctypes
 from collections.abc import Iterator, Sequence
 from typing import Any, NoReturn, Optional
 
-from . import _arrow, _copying, _indexing, _making, _reading, _runs, _showing
+from . import _arrow, _copying, _indexing, _lists, _making, _reading, _runs, _showing
 from ._library import Handle, Kind, Total, Value, ask, calls, session
 from ._runs import Run
-from ._types import FORMS, LETTERS, SIGNED, TYPES, WIDTHS, kind_of, text_of
+from ._types import FORMS, LETTERS, SIGNED, TYPES, kind_of, text_of
 from ._values import Scalar, operator_of, passed, row_of, shown, size_of, whole
 from .errors import ColumnLength, NoColumn, Unsupported
 
@@ -152,6 +152,11 @@ class Column:
         kind = _making.inferred([value]) if type is None else kind_of(type)
         kind.nullable = kind.nullable or value is None
         return cls._made(calls.hv_constant, kind, *passed(kind, value), size_of(rows, "the number of rows"))
+
+    @classmethod
+    def from_lists(cls, elements: Any, offsets: Any, sizes: Any, valid: Any = None) -> Column:
+        """Lists: row i is the sizes[i] elements from offsets[i] on, null where a flag of `valid` is false."""
+        return cls._made(*_lists.made_of(cls.of(elements), offsets, sizes, valid))
 
     @classmethod
     def from_record(cls, type: Any, rows: int, record: bytes, ends: Column, values: Column) -> Column:
@@ -353,8 +358,8 @@ class Column:
         """The row, from the end where it is negative."""
         return self._at(row_of(row, self._length))
 
-    def _at(self, row: int) -> Scalar:
-        return self._shown(calls.hv_at, self, row)
+    def _at(self, row: int) -> Any:
+        return _lists.row(self, row) if _lists.is_list(self) else self._shown(calls.hv_at, self, row)
 
     def _shown(self, call: Any, *arguments: Any) -> Scalar:
         """A value, asked for again with more room where its text has none."""
@@ -456,16 +461,9 @@ class Column:
 
     @property
     def nbytes(self) -> int:
-        """How many bytes the rows take in this form: items, bits, offsets of 32 bits and texts; ends and values."""
-        if self.form in ("runs", "constant"):
-            return self.ends().nbytes + self.values().nbytes
-        kind, rows = self._kind, len(self)
-        bits = (rows + 7) // 8
-        validity = bits if kind.nullable else 0
-        name = TYPES[kind.number]
-        if name in ("utf8", "binary"):
-            return 4 * (rows + 1) + _reading.texts(self, 0, rows)[0][rows] + validity
-        return (bits if name == "bool" else rows * WIDTHS[name]) + validity
+        """How many bytes the column takes for what it shows, in its form: numbers as wide as their type, bits eight to
+        a byte, of texts and bytes 24 for each row and what the rows show; of runs the ends and the values."""
+        return int(calls.hv_bytes_used(self._there()))
 
     # ---- Arrow ----
 

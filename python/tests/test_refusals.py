@@ -229,7 +229,10 @@ ARGUMENTS = {
     **{name: (1,) for name in ("eq", "ne", "gt", "ge", "lt", "le", "__lt__", "__le__", "__gt__", "__ge__")},
 }
 STAY = {"free", "freed", "__repr__", "__exit__", "__del__", "_repr_html_"}
-MAKERS = {"of", "constant", "from_buffer", "from_runs", "from_record", "from_bytes", "from_arrow", "from_arrow_structs"}
+MAKERS = {
+    "of", "constant", "from_buffer", "from_lists", "from_runs", "from_record", "from_bytes", "from_arrow",
+    "from_arrow_structs",
+}
 
 
 def calls_of_a_column():

@@ -21,15 +21,15 @@ Oslo,2024-01-02,,false,-20
 "Le Mans, F",2024-01-02,8,,0.125
 ,,8,,0.125
 """
-# texts: 5 offsets and 1, of 4 bytes, the letters, and a byte of bits; runs: an end of a byte each, then as flat rows
+# texts: 24 bytes for each row, the letters, and a byte of bits; runs: an end of a byte each, then as flat rows
 TABLE = """\
 column  type            rows  nulls  runs  bytes before  bytes after
-place   utf8?              5      1     3            47           34
+place   utf8?              5      1     3           143           90
 day     date?              5      1     3            21           16
 count   i32?               5      1     3            21           16
 open    bool?              5      2     3             2            5
 price   decimal(5, 3)?     5      1     4            81           69
-172 bytes before, 140 after; read by {}
+268 bytes before, 196 after; read by {}
 """
 
 

@@ -29,6 +29,18 @@ impl Column {
         }
     }
 
+    /// How many bytes the column takes for what it shows, in its form: numbers as wide as their type, bits eight to a
+    /// byte, of texts and bytes 24 for each row and what the rows show; of runs the ends and the values.
+    ///
+    /// ```
+    /// let flat = hivevigil::Column::new(&[7i32; 1000])?;
+    /// assert_eq!((flat.bytes_used(), flat.encode()?.bytes_used()), (4000, 2 + 4));
+    /// # Ok::<(), hivevigil::Error>(())
+    /// ```
+    pub fn bytes_used(&self) -> usize {
+        unsafe { raw::hv_bytes_used(self.handle.get()) }
+    }
+
     /// How many rows of its runs lie before the window of a run column.
     pub fn offset(&self) -> usize {
         unsafe { raw::hv_offset(self.handle.get()) }

@@ -245,6 +245,7 @@ extern "C" {
     pub fn hv_kind_of(column: *mut Handle) -> Kind;
     pub fn hv_form(column: *mut Handle) -> u8;
     pub fn hv_offset(column: *mut Handle) -> usize;
+    pub fn hv_bytes_used(column: *mut Handle) -> usize;
     pub fn hv_read_validity_from(
         column: *mut Handle,
         start: usize,

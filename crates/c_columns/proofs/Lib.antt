@@ -4,6 +4,7 @@ pub mod Endings
 pub mod Extremes
 pub mod FlatParts
 pub mod Left
+mod ListsPassed
 pub mod LookUps
 mod MachineValues
 pub mod MaskRows

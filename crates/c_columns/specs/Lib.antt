@@ -5,6 +5,7 @@ pub mod Flags
 pub mod Handle
 pub mod InPlace
 pub mod Kinds
+pub mod Lists
 pub mod Makers
 pub mod Messages
 pub mod Pairs

@@ -10,6 +10,7 @@ pub mod error_fields;
 pub mod flat;
 pub mod handle;
 pub mod kinds;
+pub mod lists;
 mod masks;
 pub mod messages;
 pub mod pairs;

@@ -6,12 +6,14 @@
 mod commands;
 mod constants;
 mod flat;
+mod lists;
 mod messages;
 mod numbers;
 mod questions;
 mod reads;
 mod run_reads;
 mod runs;
+mod sizes;
 mod texts;
 mod versions;
 mod windows;

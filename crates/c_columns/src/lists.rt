@@ -1,0 +1,75 @@
+//! Columns of lists of what C passes, and what columns of lists consist of.
+ghost use Rattle.std.specs.Prelude.{length, IfErr, IfOk};
+ghost use Rattle.column_core.specs.Refusal.{IsRefusedBy};
+ghost use Rattle.runend_array.specs.Array.{column_of};
+ghost use Rattle.array_parts.specs.ListParts.{AreElementsOf, AreFlagsOf, AreOffsetsOf, AreSizesOf, no_lists_fault};
+ghost use Rattle.c_columns.specs.Bits.{validity_by};
+ghost use Rattle.c_columns.specs.Ending.{IsShortOr};
+ghost use Rattle.c_columns.specs.Lists.{ArePassedLists, PassedListsFault};
+
+use crate::bits::validity_of;
+use crate::flat::{Boxed, boxed};
+use crate::sessions::plain_context;
+use array_parts::{list_elements, list_offsets, list_sizes, list_validity, lists_over};
+use column_core::VortexResult;
+use runend_array::ArrayRef;
+use std::alloc::Global;
+
+/// The lists of which row i has `sizes[i]` of the elements, from `offsets[i]` on. Refused as the bits of its validity
+/// are, and then as `lists_over` refuses.
+#[tactic(auto, using(crate::proofs::ListsPassed::bits_refused, crate::proofs::ListsPassed::parts_refused))]
+pub fn lists(
+    alloc: Global,
+    elements: &ArrayRef<Global>,
+    offsets: &[u64],
+    sizes: &[u64],
+    nulls: u8,
+    bits: &[u8],
+    first: usize,
+) -> VortexResult<Boxed>
+    ensures made { IfOk result (λ made. ArePassedLists offsets.now sizes.now
+        (validity_by nulls bits.now first (length offsets.now)) elements.now made.value) }
+    ensures refused { IfErr result
+        (λ error. IsShortOr (PassedListsFault offsets.now sizes.now nulls bits.now first elements.now) error) }
+{
+    let validity = validity_of(alloc, nulls, bits, first, offsets.len())?;
+    let mut ctx = plain_context(alloc);
+    let lists = lists_over(elements, offsets, sizes, validity, &mut ctx)?;
+    boxed(alloc, lists)
+}
+
+/// The elements of all lists. Refused as `Unsupported` unless the column lies as lists.
+pub fn elements_of(alloc: Global, array: &ArrayRef<Global>) -> VortexResult<Boxed>
+    ensures made { IfOk result (λ made. AreElementsOf (column_of array.now) (column_of made.value)) }
+    ensures refused { IsRefusedBy (no_lists_fault (column_of array.now)) result }
+{
+    let elements = list_elements(array, &mut plain_context(alloc))?;
+    boxed(alloc, elements)
+}
+
+/// Where the elements of each list start. Refused as `elements_of`.
+pub fn offsets_of(alloc: Global, array: &ArrayRef<Global>) -> VortexResult<Boxed>
+    ensures made { IfOk result (λ made. AreOffsetsOf (column_of array.now) (column_of made.value)) }
+    ensures refused { IsRefusedBy (no_lists_fault (column_of array.now)) result }
+{
+    let offsets = list_offsets(array, &mut plain_context(alloc))?;
+    boxed(alloc, offsets)
+}
+
+/// How many elements each list has. Refused as `elements_of`.
+pub fn sizes_of(alloc: Global, array: &ArrayRef<Global>) -> VortexResult<Boxed>
+    ensures made { IfOk result (λ made. AreSizesOf (column_of array.now) (column_of made.value)) }
+    ensures refused { IsRefusedBy (no_lists_fault (column_of array.now)) result }
+{
+    let sizes = list_sizes(array, &mut plain_context(alloc))?;
+    boxed(alloc, sizes)
+}
+
+/// Whether each list is valid, as booleans. Refused as `elements_of`.
+pub fn flags_of(alloc: Global, array: &ArrayRef<Global>) -> VortexResult<Boxed>
+    ensures made { IfOk result (λ made. AreFlagsOf (column_of array.now) (column_of made.value)) }
+    ensures refused { IsRefusedBy (no_lists_fault (column_of array.now)) result }
+{
+    let flags = list_validity(array, &mut plain_context(alloc))?;
+    boxed(alloc, flags)
+}
