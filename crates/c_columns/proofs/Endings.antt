@@ -130,6 +130,9 @@ asked_empty c command code fields none is = subst (λ (h : Held). EndsOn h (Some
 pub asked_done : (c : Held) (a : ArrayRef Global) (command : Command Global) (code : ℤ) (fields : ErrorFields) → c ≡ Some a → refusal (plain a) command ≡ None → code ≡ pos 0 → EndsOn c (Some command) code fields
 asked_done c a command code fields some accepted is = subst (λ (h : Held). EndsOn h (Some command) code fields) (sym some) (ends_done (refusal (plain a) command) code fields accepted is)
 
+pub asked_left : (c : Held) (a d : ArrayRef Global) (command : Command Global) (code : ℤ) (fields : ErrorFields) → c ≡ Some a → Leaves command a d → code ≡ pos 0 → EndsOn c (Some command) code fields
+asked_left c a d command code fields some left is = asked_done c a command code fields some left.accepted is
+
 pub asked_refused : (c : Held) (a : ArrayRef Global) (command : Command Global) (error : VortexError) (code : ℤ) (fields : ErrorFields)
     → c ≡ Some a → IsErrorFor (refusal (plain a) command) error → code ≡ pos (number_of error) → HasFields error fields → EndsOn c (Some command) code fields
 asked_refused c a command error code fields some why is told =

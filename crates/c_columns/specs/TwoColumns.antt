@@ -1,5 +1,5 @@
 -- Commands that are made of a second column, which may have any form: why they are refused, and what they leave.
-use Rattle.std.specs.Prelude.{◌≡◌, ◌<◌, ℕ, ℤ, pos, List, Bool, true, false, length, map, slice_index_or, Option, Some, None}
+use Rattle.std.specs.Prelude.{◌≡◌, ◌<◌, ℕ, ℤ, pos, List, Bool, true, false, bit_and, length, map, slice_index, slice_index_or, Option, Some, None}
 use Rattle.std.specs.Option.{option_or}
 use Rattle.std.specs.Global.{Global}
 use Rattle.column_base.specs.declared.dtype.DType.{DType}
@@ -27,6 +27,11 @@ is_true row = false
 -- each bit that is true is true in the other list too
 abbrev pub AreWithin : List Bool → List Bool → Type 0
 AreWithin bits others = (i : ℕ) → i < length bits → slice_index_or bits i false ≡ true → slice_index_or others i false ≡ true
+
+-- n words, each with the bits that both of the others have
+pub record AreOfBoth (words others both : List ℕ) (n : ℕ) : Type 0 where
+  pub len : length both ≡ n
+  pub word : (k : ℕ) → k < n → slice_index both k ≡ bit_and (slice_index words k) (slice_index others k)
 
 -- the rows of a mask are booleans
 abbrev pub mask_fault : DType → Option VortexError

@@ -21,6 +21,7 @@ mod rows;
 pub mod run_reads;
 pub mod runs;
 pub mod sessions;
+pub mod slices;
 mod text_rows;
 pub mod texts;
 pub mod totals;

@@ -8,7 +8,7 @@ ghost use Rattle.column_core.specs.ScalarView.{sees};
 ghost use Rattle.runend_array.specs.Array.{dtype_of, rows};
 ghost use Rattle.runend_array.specs.Canonical.{canonical_column};
 ghost use Rattle.runend_array.specs.Column.{OfConstant, column_dtype, column_rows};
-ghost use Rattle.c_columns.specs.TwoColumns.{AreWithin, is_true, mask_fault};
+ghost use Rattle.c_columns.specs.TwoColumns.{AreOfBoth, AreWithin, is_true, mask_fault};
 
 use crate::sessions::plain_context;
 use column_core::{
@@ -83,7 +83,7 @@ fn mask_of_valid(
     if are_within(truths.values(), valid) {
         mask_of_bits(alloc, truths)
     } else {
-        mask_by_rows(alloc, truths)
+        mask_by_words(alloc, truths, valid)
     }
 }
 
@@ -103,16 +103,34 @@ fn are_within(bits: &BitBuffer<Global>, others: &BitBuffer<Global>) -> bool
     true
 }
 
-// The rows of a flat column that are true, one by one.
-fn mask_by_rows(alloc: Global, truths: &BoolArray<Global>) -> VortexResult<Mask<Global>>
+// The rows that are true where true is stored under null too: the bits of both, a word of 64 at a time.
+#[tactic(auto, using(crate::proofs::MaskRows::bits_of_both))]
+fn mask_by_words(
+    alloc: Global,
+    truths: &BoolArray<Global>,
+    valid: &BitBuffer<Global>,
+) -> VortexResult<Mask<Global>>
+    requires by_bits { truths.now.validity ≡ ByBits valid.now }
+    requires counted { length valid.now ≡ length truths.now.bits }
     ensures mask { IfOk result (λ mask. mask_bits mask ≡ map is_true (single_rows (OfTruths truths.now))) }
     ensures only { IsOkUnless result VortexError.OutOfMemory }
 {
-    let mut bits = BitBufferMut::with_capacity(alloc, truths.len())?;
-    for row in 0..truths.len() {
-        bits.append(is_selected(truths.get(row)))?;
-    }
+    let words = words_of_both(alloc, truths.values().words(), valid.words())?;
+    let bits = BitBufferMut::from_words(words, truths.len());
     Ok(Mask::from_buffer(bits.freeze()))
+}
+
+// Each word with the bits alone that the other one has too.
+fn words_of_both(alloc: Global, words: &[u64], others: &[u64]) -> VortexResult<Vec<u64, Global>>
+    requires { length others.now ≡ length words.now }
+    ensures both { IfOk result (λ both. AreOfBoth words.now others.now both.items (length words.now)) }
+    ensures only { IsOkUnless result VortexError.OutOfMemory }
+{
+    let mut both = Vec::with_capacity(alloc, words.len())?;
+    for index in 0..words.len() {
+        both.push(words[index] & others[index])?;
+    }
+    Ok(both)
 }
 
 // The rows that are true of a column in another form, which is written flat first.

@@ -13,6 +13,7 @@ use c_columns::handle::Handle;
 use c_columns::kinds::{self, Kind};
 use c_columns::row_value::RowValue;
 use c_columns::sessions::Session;
+use c_columns::slices::slice;
 use c_columns::two_columns;
 use column_order::CompareOperator;
 use runend_commands::Command;
@@ -55,7 +56,6 @@ pub extern "C" fn hv_decode(
 }
 
 /// The rows from `start` to `stop - 1`. Refused as `BadRange`.
-#[tactic(auto, using(c_columns::proofs::Endings::left_with, c_columns::proofs::Endings::ends_with))]
 #[unsafe(no_mangle)]
 pub extern "C" fn hv_slice(
     alloc: Global,
@@ -72,14 +72,7 @@ pub extern "C" fn hv_slice(
     ensures kept { result ≢ pos 0 → out.new.column ≡ out.old.column }
     ensures ended { EndsOn column.old.column (Some (Slice (record { start = start; end = stop }))) result error.new }
 {
-    apply(
-        alloc,
-        session,
-        column,
-        Ok(Command::Slice(start..stop)),
-        out,
-        error,
-    )
+    slice(alloc, session, column, start..stop, out, error)
 }
 
 /// Each row as the same value of this type. Answers 23 where the number is of no type, or of lists.

@@ -23,6 +23,7 @@ use column_core::{
 };
 use runend_decode::decode_flat;
 use std::alloc::Allocator;
+use std::sync::Arc;
 
 /// A column in one of its forms: flat, lists, one value in each row, or run-end encoded.
 #[cycle(array)]
@@ -34,7 +35,7 @@ pub enum ArrayRef<A: Allocator> {
     VarBinView(VarBinViewArray<A>),
     ListView(Box<ListViewArray<A>, A>),
     Constant(ConstantArray<A>),
-    RunEnd(Box<RunEndArray<A>, A>),
+    RunEnd(Arc<RunEndArray<A>, A>),
 }
 
 impl<A: Allocator + Copy> ArrayRef<A> {
@@ -75,8 +76,13 @@ impl<A: Allocator + Copy> ArrayRef<A> {
         ensures only { IsOkUnless result VortexError.OutOfMemory }
         ensures form { IfOk result (λ array. column_of array ≡ column_of_runs runs) }
     {
-        let boxed = Box::new(alloc, runs)?;
-        Ok(ArrayRef::RunEnd(boxed))
+        match Arc::new(alloc, runs) {
+            Ok(shared) => Ok(ArrayRef::RunEnd(shared)),
+            Err(failed) => {
+                drop(failed);
+                Err(VortexError::OutOfMemory)
+            }
+        }
     }
 
     /// The flat column that this array is, borrowed, or `None` where it has another form.
@@ -173,9 +179,12 @@ impl<A: Allocator + Copy> ArrayRef<A> {
                 Ok(copy) => Ok(ArrayRef::Constant(copy)),
                 Err(error) => Err(error),
             },
-            ArrayRef::RunEnd(array) => match array.clone_in(alloc, buffers) {
-                Ok(copy) => ArrayRef::of_runs(alloc, copy),
-                Err(error) => Err(error),
+            ArrayRef::RunEnd(array) => match buffers {
+                Buffers::Shared => Ok(ArrayRef::RunEnd(array.clone()?)),
+                Buffers::Compact => match array.clone_in(alloc, buffers) {
+                    Ok(copy) => ArrayRef::of_runs(alloc, copy),
+                    Err(error) => Err(error),
+                },
             },
             _ => {
                 let copy = copy_flat(alloc, self.as_flat(), buffers)?;

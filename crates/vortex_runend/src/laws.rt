@@ -101,6 +101,5 @@ pub fn encode_then_decode<A: Allocator + Copy>(
     ensures session { ctx.new ≡ ctx.old }
 {
     let runs = RunEnd::encode(array, ctx)?;
-    let runs = Box::new(*ctx.allocator(), runs)?;
-    ArrayRef::RunEnd(runs).canonicalize(ctx)
+    ArrayRef::of_runs(*ctx.allocator(), runs)?.canonicalize(ctx)
 }
