@@ -89,6 +89,8 @@ for test in arrow_rules arrow_options arrow_streams arrow_random arrow_lists arr
     run "c/$test.c$arrow_how" built "$cc" "$c_flags $arrow_flags" "examples/c/$test.c"
 done
 run "c/arrow_memory.c" built "$cc" "$c_flags -O0 $wraps" examples/c/arrow_memory.c
+# broken messages, in the same way: ten thousand here
+run "c/messages_broken.c$arrow_how" built "$cc" "$c_flags $arrow_flags $wraps" examples/c/messages_broken.c
 
 under_valgrind() {
     $cc $c_flags -O1 -g ${2:-} "examples/c/$1.c" lib/libhivevigil.a -o "$work/program" &&

@@ -335,6 +335,31 @@ pub fn passed(item: i128, signed: bool) -> RawValue {
     }
 }
 
+/// Messages.
+impl Column {
+    pub fn message_size(&self) -> usize {
+        let mut size = 0;
+        done(|fields| unsafe { raw::hv_write_size(self.0.get(), &mut size, fields) });
+        size
+    }
+
+    /// The message of a column, into so many bytes of room.
+    pub fn message(&self, room: usize) -> Vec<u8> {
+        let (mut message, mut size) = (Vec::<u8>::with_capacity(room), 0);
+        done(|fields| unsafe {
+            raw::hv_write(self.0.get(), message.as_mut_ptr(), room, &mut size, fields)
+        });
+        unsafe { message.set_len(size) };
+        message
+    }
+
+    pub fn of_message(message: &[u8]) -> Column {
+        made(|out, fields| unsafe {
+            raw::hv_read_column(message.as_ptr(), message.len(), out, fields)
+        })
+    }
+}
+
 /// What is read back to compare what both sides answer.
 impl Column {
     pub fn len(&self) -> usize {

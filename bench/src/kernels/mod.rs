@@ -2,6 +2,7 @@
 //! nulls blank and neighbours joined, so must they.
 mod aggregate;
 mod arrays;
+mod bytes;
 mod compare;
 mod decode;
 mod encode;
@@ -14,6 +15,7 @@ mod take;
 
 pub use aggregate::{is_constant, is_sorted, least, least_and_greatest, sum, Addend};
 pub use arrays::{ArrayColumn, NumberType, RunArray};
+pub use bytes::{read, write};
 pub use compare::{less_by_runs, less_by_turns};
 pub use decode::{decode, decode_truths, decode_truths_by_turns};
 pub use encode::{encode, encode_by_words};

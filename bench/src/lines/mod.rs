@@ -1,5 +1,6 @@
 //! Which calls are timed, over which columns.
 mod aggregates;
+mod bytes;
 mod calls;
 mod codec;
 mod first;
@@ -28,18 +29,21 @@ pub trait Number: Item + Addend + PartialOrd {
     const NAME: &'static str;
     const OTHER: Kind;
     const SIGNED: bool;
+    /// The number of the type in the schema of messages.
+    const MESSAGE: u64;
     fn of(number: u64) -> Self;
     fn fits(self) -> bool;
     fn other(self) -> Self::Other;
 }
 
 macro_rules! numbers {
-    ($($type:ident to $other:ident $kind:ident, $bits:literal, $signed:literal;)*) => { $(
+    ($($type:ident to $other:ident $kind:ident, $bits:literal, $signed:literal, $message:literal;)*) => { $(
         impl Number for $type {
             type Other = $other;
             const NAME: &'static str = stringify!($type);
             const OTHER: Kind = Kind::$kind;
             const SIGNED: bool = $signed;
+            const MESSAGE: u64 = $message;
             fn of(number: u64) -> $type {
                 (number & ((1 << $bits) - 1)) as $type
             }
@@ -56,9 +60,9 @@ macro_rules! numbers {
 }
 
 numbers! {
-    u64 to i64 I64, 40, false;
-    i32 to i64 I64, 30, true;
-    u8 to u32 U32, 8, false;
+    u64 to i64 I64, 40, false, 4;
+    i32 to i64 I64, 30, true, 7;
+    u8 to u32 U32, 8, false, 1;
 }
 
 /// Every line, but for growth.
@@ -80,6 +84,7 @@ pub fn all(bench: &mut Bench) {
 
 fn numbers<T: Number>(bench: &mut Bench, load: &Load) {
     codec::lines::<T>(bench, load);
+    bytes::lines::<T>(bench, load);
     aggregates::lines::<T>(bench, load);
     maps::lines::<T>(bench, load);
     selects::lines::<T>(bench, load);

@@ -1,0 +1,188 @@
+//! Runs of integers as a message of `docs/column.proto`, and back: a pass over lengths of runs, and copies.
+use crate::bits::Bits;
+use crate::data::{Flat, Runs};
+use std::ptr;
+
+/// The number of u32 in the schema, in which ends are stored here.
+const U32: u64 = 3;
+/// Ahead of a field of a number that has this number, and of bytes.
+const fn of_number(field: u8) -> u8 {
+    field << 3
+}
+const fn of_bytes(field: u8) -> u8 {
+    field << 3 | 2
+}
+
+fn varint_len(number: u64) -> usize {
+    (70 - (number | 1).leading_zeros() as usize) / 7
+}
+
+#[inline(always)]
+fn push_varint(message: &mut Vec<u8>, mut number: u64) {
+    while number >= 128 {
+        message.push(number as u8 | 128);
+        number >>= 7;
+    }
+    message.push(number as u8);
+}
+
+fn push_numbers(message: &mut Vec<u8>, fields: &[(u8, u64)]) {
+    for (field, number) in fields {
+        message.push(of_number(*field));
+        push_varint(message, *number);
+    }
+}
+
+fn push_bytes(message: &mut Vec<u8>, field: u8, bytes: &[u8]) {
+    message.push(of_bytes(field));
+    push_varint(message, bytes.len() as u64);
+    message.extend_from_slice(bytes);
+}
+
+/// What is stored, lowest byte first on the machines that this runs on.
+fn stored<T>(items: &[T]) -> &[u8] {
+    unsafe { std::slice::from_raw_parts(items.as_ptr().cast(), size_of_val(items)) }
+}
+
+fn lengths(ends: &[u32]) -> impl Iterator<Item = u32> + '_ {
+    let starts = std::iter::once(&0).chain(ends);
+    ends.iter().zip(starts).map(|(end, start)| end - start)
+}
+
+fn bits_len(flags: &Option<Bits>) -> Option<usize> {
+    flags.as_ref().map(|bits| bits.len.div_ceil(8))
+}
+
+fn field_len(bytes: usize) -> usize {
+    1 + varint_len(bytes as u64) + bytes
+}
+
+fn flat_len<T>(flat: &Flat<T>) -> usize {
+    let head = 6 + 1 + varint_len(flat.items.len() as u64) + 2;
+    let bits = bits_len(&flat.flags).map_or(0, field_len);
+    head + bits + field_len(size_of_val(&flat.items[..]))
+}
+
+fn push_flat<T>(message: &mut Vec<u8>, flat: &Flat<T>, number: u64) {
+    let told = if flat.flags.is_some() { 4 } else { 1 };
+    let rows = flat.items.len() as u64;
+    push_numbers(
+        message,
+        &[(1, 1), (2, number), (3, 1), (4, rows), (5, told)],
+    );
+    if let (Some(flags), Some(len)) = (&flat.flags, bits_len(&flat.flags)) {
+        push_bytes(message, 6, &flags.bytes()[..len]);
+    }
+    push_bytes(message, 7, stored(&flat.items));
+}
+
+/// The message of runs over a type that has this number in the schema.
+pub fn write<T>(runs: &Runs<T>, number: u64) -> Vec<u8> {
+    let rows = runs.rows() as u64;
+    let packed: usize = lengths(&runs.ends)
+        .map(|length| varint_len(length.into()))
+        .sum();
+    let inner = flat_len(&runs.values);
+    let mut message = Vec::with_capacity(32 + field_len(packed) + field_len(inner));
+    push_numbers(&mut message, &[(1, 1), (2, number), (3, 2), (4, rows)]);
+    push_numbers(&mut message, &[(8, 0), (9, U32)]);
+    message.push(of_bytes(10));
+    push_varint(&mut message, packed as u64);
+    for length in lengths(&runs.ends) {
+        push_varint(&mut message, length.into());
+    }
+    message.push(of_bytes(11));
+    push_varint(&mut message, inner as u64);
+    push_flat(&mut message, &runs.values, number);
+    message
+}
+
+/// What is left of a message.
+struct Reader<'a>(&'a [u8]);
+
+impl<'a> Reader<'a> {
+    #[inline(always)]
+    fn varint(&mut self) -> Option<u64> {
+        let (mut number, mut shift) = (0, 0);
+        loop {
+            let (first, rest) = self.0.split_first()?;
+            self.0 = rest;
+            number |= u64::from(first & 127).checked_shl(shift)?;
+            if *first < 128 {
+                let is_shortest = *first > 0 || shift == 0;
+                return is_shortest.then_some(number);
+            }
+            shift += 7;
+        }
+    }
+
+    fn number(&mut self, field: u8) -> Option<u64> {
+        let (first, rest) = self.0.split_first()?;
+        self.0 = rest;
+        (*first == of_number(field)).then(|| self.varint())?
+    }
+
+    fn bytes(&mut self, field: u8) -> Option<&'a [u8]> {
+        let (first, rest) = self.0.split_first()?;
+        self.0 = rest;
+        let len = (*first == of_bytes(field)).then(|| self.varint())??;
+        let (bytes, rest) = self.0.split_at_checked(usize::try_from(len).ok()?)?;
+        self.0 = rest;
+        Some(bytes)
+    }
+}
+
+fn copied<T: Copy + Default>(bytes: &[u8], len: usize) -> Option<Vec<T>> {
+    let mut items = Vec::with_capacity(len);
+    (bytes.len() == len.checked_mul(size_of::<T>())?).then_some(())?;
+    unsafe {
+        ptr::copy_nonoverlapping(bytes.as_ptr(), items.as_mut_ptr() as *mut u8, bytes.len());
+        items.set_len(len);
+    }
+    Some(items)
+}
+
+fn read_bits(bytes: &[u8], len: usize) -> Option<Bits> {
+    (bytes.len() == len.div_ceil(8)).then_some(())?;
+    let mut bits = Bits::filled(false, len);
+    let room = bits.words.as_mut_ptr().cast::<u8>();
+    unsafe { ptr::copy_nonoverlapping(bytes.as_ptr(), room, bytes.len()) };
+    let stored = bits.words.clone();
+    bits.cut();
+    (bits.words == stored).then_some(bits)
+}
+
+fn read_flat<T: Copy + Default>(message: &[u8], number: u64, rows: usize) -> Option<Flat<T>> {
+    let mut reader = Reader(message);
+    for (field, told) in [(1, 1), (2, number), (3, 1), (4, rows as u64)] {
+        (reader.number(field)? == told).then_some(())?;
+    }
+    let flags = match reader.number(5)? {
+        1 => None,
+        4 => Some(read_bits(reader.bytes(6)?, rows)?),
+        _ => return None,
+    };
+    let items = copied(reader.bytes(7)?, rows)?;
+    reader.0.is_empty().then_some(Flat { items, flags })
+}
+
+/// The runs of a message, with ends of u32.
+pub fn read<T: Copy + Default>(message: &[u8], number: u64) -> Option<Runs<T>> {
+    let mut reader = Reader(message);
+    for (field, told) in [(1, 1), (2, number), (3, 2)] {
+        (reader.number(field)? == told).then_some(())?;
+    }
+    let rows = reader.number(4)?;
+    (reader.number(8)? == 0 && reader.number(9)? == U32).then_some(())?;
+    let mut packed = Reader(reader.bytes(10)?);
+    let (mut ends, mut end) = (Vec::with_capacity(packed.0.len()), 0u64);
+    while !packed.0.is_empty() {
+        let length = packed.varint()?;
+        (length > 0 || ends.is_empty()).then_some(())?;
+        end = end.checked_add(length)?;
+        ends.push(u32::try_from(end).ok()?);
+    }
+    (end == rows).then_some(())?;
+    let values = read_flat(reader.bytes(11)?, number, ends.len())?;
+    reader.0.is_empty().then_some(Runs { ends, values })
+}

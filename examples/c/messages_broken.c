@@ -1,0 +1,173 @@
+/* Messages of random columns, in which bytes are changed, left out, put in or moved: each has an answer, and under a
+ * sanitizer no byte is read that is not the message's. What is read is written as these very bytes again; what is
+ * refused leaves the handle as it was. Reading holds at most 16 bytes for each byte of the message, and 4 KiB.
+ * messages_broken [COUNT [SEED]], linked with -Wl,--wrap=malloc,--wrap=calloc,--wrap=realloc,--wrap=free */
+#include "check.h"
+#include <malloc.h>
+
+void *__real_malloc(size_t size);
+void *__real_calloc(size_t count, size_t size);
+void *__real_realloc(void *block, size_t size);
+void __real_free(void *block);
+
+static size_t held, most_held; /* bytes */
+
+static void *took(void *block, size_t before) {
+    size_t now = block ? malloc_usable_size(block) : 0;
+    if (held + now > most_held) most_held = held + now;
+    if (block) held += now - before;
+    return block;
+}
+
+void *__wrap_malloc(size_t size) { return took(__real_malloc(size), 0); }
+void *__wrap_calloc(size_t count, size_t size) { return took(__real_calloc(count, size), 0); }
+void *__wrap_realloc(void *block, size_t size) {
+    size_t before = block ? malloc_usable_size(block) : 0;
+    return took(__real_realloc(block, size), before);
+}
+void __wrap_free(void *block) {
+    if (block) held -= malloc_usable_size(block);
+    __real_free(block);
+}
+
+static uint64_t state = 1;
+
+static uint64_t chance(void) {
+    state ^= state << 13, state ^= state >> 7, state ^= state << 17;
+    return state * 0x2545F4914F6CDD1D >> 16;
+}
+static size_t below(size_t limit) { return (size_t)(chance() % limit); }
+
+enum { ROWS = 40, LEVELS = 4, MESSAGE = 1 << 14, EDITS = 4 };
+
+static hv_session session;
+static hv_error error;
+
+/* a flat column of integers, booleans or decimals, with null told in one of the four ways */
+static void make_flat(size_t rows, hv_column *out) {
+    uint64_t items[2 * ROWS], bits[2];
+    for (size_t i = 0; i < COUNT(items); i++) items[i] = below(2) ? below(9) : chance();
+    bits[0] = below(4) ? chance() : 0, bits[1] = below(2) ? bits[0] : chance();
+#define SOME_NULLS (uint8_t)below(3), (const uint8_t *)bits, sizeof bits, below(64)
+    switch (below(10)) {
+    case 0: CHECK(!hv_u8((const uint8_t *)items, rows, SOME_NULLS, out, &error)); break;
+    case 1: CHECK(!hv_u16((const uint16_t *)items, rows, SOME_NULLS, out, &error)); break;
+    case 2: CHECK(!hv_u32((const uint32_t *)items, rows, SOME_NULLS, out, &error)); break;
+    case 3: CHECK(!hv_u64(items, rows, SOME_NULLS, out, &error)); break;
+    case 4: CHECK(!hv_i8((const int8_t *)items, rows, SOME_NULLS, out, &error)); break;
+    case 5: CHECK(!hv_i16((const int16_t *)items, rows, SOME_NULLS, out, &error)); break;
+    case 6: CHECK(!hv_i32((const int32_t *)items, rows, SOME_NULLS, out, &error)); break;
+    case 7: CHECK(!hv_i64((const int64_t *)items, rows, SOME_NULLS, out, &error)); break;
+    case 8: CHECK(!hv_bools((const uint8_t *)bits, sizeof bits, below(64), rows, SOME_NULLS, out, &error)); break;
+    default: {
+        hv_pair pairs[ROWS];
+        for (size_t i = 0; i < ROWS; i++) pairs[i] = (hv_pair){items[i], below(2) ? 0 : -1};
+        CHECK(!hv_decimals(pairs, rows, 38, (int8_t)(below(9) - 4), SOME_NULLS, out, &error));
+    }
+    }
+}
+
+/* so many rows, flat or in runs over another column */
+static void make_column(size_t rows, size_t levels, hv_column *out) {
+    if (levels == 0) {
+        make_flat(rows, out);
+        return;
+    }
+    hv_column values = HV_EMPTY, ends = HV_EMPTY;
+    uint64_t stops[ROWS];
+    size_t offset = below(4), reached = below(3);
+    for (size_t run = 0; run < rows; run++) stops[run] = reached += 1 + below(9);
+    make_column(rows, levels - 1, &values);
+    CHECK(!hv_u64(stops, rows, NOT_NULLABLE, &ends, &error));
+    hv_kind kind = {(uint8_t)below(4), 0, 0, 0};
+    if (reached < 256) CHECK(!hv_cast(&session, &ends, &kind, &ends, &error));
+    size_t shown = reached > offset ? below(reached - offset + 1) : 0;
+    CHECK(!hv_runs(&ends, &values, offset, rows == 0 ? 0 : shown, out, &error));
+    hv_free(&values), hv_free(&ends);
+}
+
+static size_t make_message(uint8_t *message) {
+    hv_column column = HV_EMPTY;
+    size_t size, written;
+    make_column(below(ROWS), below(LEVELS), &column);
+    CHECK(!hv_write_size(&column, &size, &error) && size <= MESSAGE / 2);
+    CHECK(!hv_write(&column, message, MESSAGE, &written, &error) && written == size);
+    hv_free(&column);
+    return size;
+}
+
+static size_t edit(uint8_t *bytes, size_t len) {
+    static const uint8_t numbers[] = {0, 1, 2, 0x7f, 0x80, 0xff, 0x52, 0x5a, 0x3a};
+    static const uint8_t huge[] = {0x80, 0x80, 0x80, 0x80, 0x80, 0x80, 0x80, 0x80, 0x10};
+    size_t at = below(len), count = 1 + below(8);
+    switch (below(7)) {
+    case 0: bytes[at] ^= (uint8_t)(1 << below(8)); return len;
+    case 1: bytes[at] = numbers[below(COUNT(numbers))]; return len;
+    case 2: return 1 + at; /* cut short */
+    case 3: /* put in, a copy of what stands elsewhere */
+        memmove(bytes + at + count, bytes + at, len - at);
+        memmove(bytes + at, bytes + below(len), count);
+        return len + count;
+    case 4: /* left out */
+        if (at + count >= len) return len;
+        memmove(bytes + at, bytes + at + count, len - at - count);
+        return len - count;
+    case 5: /* a number of 60 bits */
+        memmove(bytes + at + sizeof huge, bytes + at, len - at);
+        memcpy(bytes + at, huge, sizeof huge);
+        return len + sizeof huge;
+    default: /* goes on */
+        bytes[len] = numbers[below(COUNT(numbers))];
+        return len + 1;
+    }
+}
+
+/* whether it was read */
+static bool check_answer(const uint8_t *bytes, size_t len, hv_column *kept) {
+    uint8_t *message = __real_malloc(len); /* of just this length, for the sanitizer */
+    CHECK(message != NULL);
+    memcpy(message, bytes, len);
+    hv_column out = HV_EMPTY;
+    size_t before = held, size;
+    most_held = held;
+    int32_t answer = hv_read_column(message, len, &out, &error);
+    CHECK(answer == 0 || answer == HV_BAD_METADATA);
+    CHECK(most_held - before <= 16 * len + 4096);
+    if (answer != 0) {
+        CHECK(held == before);
+        CHECK_REFUSED(hv_read_column(message, len, kept, &error), HV_BAD_METADATA, 0, 0, 0);
+    } else {
+        static uint8_t again[MESSAGE];
+        CHECK(!hv_write(&out, again, sizeof again, &size, &error) && size == len && memcmp(again, message, len) == 0);
+        size_t rows = hv_length(&out);
+        for (size_t row = 0; row < rows && row < ROWS; row++) {
+            hv_value value;
+            CHECK(!hv_at(&out, row, &value, NO_TEXT_ROOM, &error));
+        }
+        hv_free(&out);
+    }
+    __real_free(message);
+    return answer == 0;
+}
+
+int main(int words, char **word) {
+    size_t count = words > 1 ? strtoull(word[1], NULL, 10) : 10000, read = 0;
+    if (words > 2) state = 0x9E3779B97F4A7C15 ^ strtoull(word[2], NULL, 10);
+    static uint8_t message[MESSAGE], bytes[MESSAGE];
+    hv_session_initial(&session);
+    hv_column kept = HV_EMPTY;
+    CHECK(!hv_u8((const uint8_t[]){7}, 1, NOT_NULLABLE, &kept, &error));
+    size_t size = 0;
+    for (size_t i = 0; i < count; i++) {
+        if (i % 16 == 0) size = make_message(message);
+        memcpy(bytes, message, size);
+        size_t len = size;
+        for (size_t edits = 1 + below(EDITS); edits > 0 && len < MESSAGE / 2 + 64; edits--) len = edit(bytes, len);
+        read += check_answer(bytes, len, &kept);
+    }
+    CHECK_ROWS(&kept, "7");
+    hv_free(&kept);
+    CHECK(read > 0 && read < count);
+    printf("%zu broken messages: %zu read, %zu refused\n", count, read, count - read);
+    return 0;
+}
