@@ -89,7 +89,7 @@ for test in arrow_rules arrow_options arrow_streams arrow_random arrow_lists arr
     run "c/$test.c$arrow_how" built "$cc" "$c_flags $arrow_flags" "examples/c/$test.c"
 done
 run "c/arrow_memory.c" built "$cc" "$c_flags -O0 $wraps" examples/c/arrow_memory.c
-# broken messages, in the same way: ten thousand here
+# broken messages, in the same way: a hundred thousand here, a million in nine seconds
 run "c/messages_broken.c$arrow_how" built "$cc" "$c_flags $arrow_flags $wraps" examples/c/messages_broken.c
 
 under_valgrind() {

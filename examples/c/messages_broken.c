@@ -67,29 +67,29 @@ static void make_flat(size_t rows, hv_column *out) {
     }
 }
 
-/* so many rows, flat or in runs over another column */
-static void make_column(size_t rows, size_t levels, hv_column *out) {
+/* at most ROWS rows, flat or in runs over another column */
+static void make_column(size_t levels, hv_column *out) {
     if (levels == 0) {
-        make_flat(rows, out);
+        make_flat(below(ROWS), out);
         return;
     }
     hv_column values = HV_EMPTY, ends = HV_EMPTY;
-    uint64_t stops[ROWS];
-    size_t offset = below(4), reached = below(3);
-    for (size_t run = 0; run < rows; run++) stops[run] = reached += 1 + below(9);
-    make_column(rows, levels - 1, &values);
-    CHECK(!hv_u64(stops, rows, NOT_NULLABLE, &ends, &error));
+    make_column(levels - 1, &values);
+    uint64_t stops[ROWS + 1] = {0};
+    size_t runs = hv_length(&values), reached = 0;
+    for (size_t run = 0; run < runs; run++) stops[run] = reached += below(9) + (run > 0);
+    CHECK(!hv_u64(stops, runs, NOT_NULLABLE, &ends, &error));
     hv_kind kind = {(uint8_t)below(4), 0, 0, 0};
     if (reached < 256) CHECK(!hv_cast(&session, &ends, &kind, &ends, &error));
-    size_t shown = reached > offset ? below(reached - offset + 1) : 0;
-    CHECK(!hv_runs(&ends, &values, offset, rows == 0 ? 0 : shown, out, &error));
+    size_t offset = below(stops[0] + 1), left = reached - offset;
+    CHECK(!hv_runs(&ends, &values, offset, below((left < ROWS ? left : ROWS) + 1), out, &error));
     hv_free(&values), hv_free(&ends);
 }
 
 static size_t make_message(uint8_t *message) {
     hv_column column = HV_EMPTY;
     size_t size, written;
-    make_column(below(ROWS), below(LEVELS), &column);
+    make_column(below(LEVELS), &column);
     CHECK(!hv_write_size(&column, &size, &error) && size <= MESSAGE / 2);
     CHECK(!hv_write(&column, message, MESSAGE, &written, &error) && written == size);
     hv_free(&column);
@@ -151,7 +151,7 @@ static bool check_answer(const uint8_t *bytes, size_t len, hv_column *kept) {
 }
 
 int main(int words, char **word) {
-    size_t count = words > 1 ? strtoull(word[1], NULL, 10) : 10000, read = 0;
+    size_t count = words > 1 ? strtoull(word[1], NULL, 10) : 100000, read = 0;
     if (words > 2) state = 0x9E3779B97F4A7C15 ^ strtoull(word[2], NULL, 10);
     static uint8_t message[MESSAGE], bytes[MESSAGE];
     hv_session_initial(&session);
