@@ -11,7 +11,7 @@ fn assert_words<A: Allocator>(rt: &impl Abort, bits: &BitBuffer<A>, words: &[u64
 }
 
 #[test]
-fn appended_bits_have_places(rt: HostRuntime) -> Result<(), Fail> {
+fn appended_bits_have_indices(rt: HostRuntime) -> Result<(), Fail> {
     let mut written = BitBufferMut::with_capacity(rt.alloc(), 2)?;
     written.append(true)?;
     written.append_n(false, 3)?;
@@ -96,8 +96,8 @@ fn a_range_across_two_words_is_filled_and_sliced(rt: HostRuntime) -> Result<(), 
     drop(filled);
     let part = part?;
     assert_words(&rt, &part, &[12_291]);
-    let places: Vec<usize> = part.set_indices().collect(rt.alloc())?;
-    assert_eq!(rt; places.as_slice(), [0, 1, 12, 13].as_slice());
+    let indices: Vec<usize> = part.set_indices().collect(rt.alloc())?;
+    assert_eq!(rt; indices.as_slice(), [0, 1, 12, 13].as_slice());
     Ok(())
 }
 

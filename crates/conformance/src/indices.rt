@@ -20,7 +20,7 @@ const INDICES: [u8; 5] = [5, 100, 2, 11, 0];
 
 const RUNS: [u64; 5] = [1, 0, 0, 3, 0];
 
-// Places that are selected but for one, so many before it and so many behind.
+// Rows that are selected but for one, so many before it and so many behind.
 fn all_but_one<A: Allocator + Copy>(alloc: A, before: usize, behind: usize) -> VortexResult<Mask<A>>
     ensures { IfOk result (λ mask. mask_bits mask ≡ replicate before true ++ false ∷ replicate behind true) }
 {

@@ -43,8 +43,10 @@ fn six_letters<A: Allocator + Copy>(alloc: A) -> VortexResult<FlatColumn<A>> {
     Ok(FlatColumn::VarBinView(texts(alloc, &LETTERS)?))
 }
 
-// Where three lists begin, and of how many elements they are.
-fn places<A: Allocator + Copy>(alloc: A) -> VortexResult<(PrimitiveArray<A>, PrimitiveArray<A>)> {
+// The offsets and sizes of three lists.
+fn offsets_and_sizes<A: Allocator + Copy>(
+    alloc: A,
+) -> VortexResult<(PrimitiveArray<A>, PrimitiveArray<A>)> {
     let offsets = required(alloc, &[0u64, 2, 3])?;
     match required(alloc, &[2u64, 1, 3]) {
         Ok(sizes) => Ok((offsets, sizes)),
@@ -63,7 +65,7 @@ fn three_lists<A: Allocator + Copy>(
 ) -> VortexResult<ListViewArray<A>> {
     let alloc = *ctx.allocator();
     let elements = Rc::new(alloc, elements)?;
-    match places(alloc) {
+    match offsets_and_sizes(alloc) {
         Ok((offsets, sizes)) => {
             let offsets = ArrayRef::Primitive(offsets);
             let sizes = ArrayRef::Primitive(sizes);

@@ -221,9 +221,9 @@ const RUN_FAULTS: [(usize, u8); 9] = [
 #[test]
 fn runs_with_one_fault_are_refused(rt: HostRuntime) -> Result<(), Fail> {
     assert!(rt; !is_no_message(rt.alloc(), &TWO_RUNS));
-    for (place, byte) in RUN_FAULTS {
+    for (position, byte) in RUN_FAULTS {
         let mut message = TWO_RUNS;
-        message[place] = byte;
+        message[position] = byte;
         assert!(rt; is_no_message(rt.alloc(), &message));
     }
     for count in 0..TWO_RUNS.len() {
@@ -386,10 +386,10 @@ fn is_spelt_so(alloc: Global, bytes: &[u8]) -> VortexResult<bool> {
 // How many of the messages with one bit changed are read. Each is written as it was read, or refused as none.
 fn read_with_one_bit_changed(rt: &impl Abort, alloc: Global) -> usize {
     let mut count = 0usize;
-    for place in 0..TWO_RUNS.len() {
+    for position in 0..TWO_RUNS.len() {
         for bit in 0..8u32 {
             let mut message = TWO_RUNS;
-            message[place] ^= 1 << bit;
+            message[position] ^= 1 << bit;
             match is_spelt_so(alloc, &message) {
                 Ok(are_spelt) => {
                     assert!(rt; are_spelt);

@@ -99,9 +99,9 @@ fn are_elements<S: Shown, A: Allocator>(
     elements: &FlatColumn<A>,
     start: usize,
 ) -> bool {
-    for place in 0..items.len() {
-        let index = start.saturating_add(place);
-        if index >= elements.len() || !items[place].is_seen(elements.get(index)) {
+    for item in 0..items.len() {
+        let index = start.saturating_add(item);
+        if index >= elements.len() || !items[item].is_seen(elements.get(index)) {
             return false;
         }
     }

@@ -14,7 +14,7 @@ use vortex_runend::{
     Scalar, ScalarValue, Validity, VortexError, VortexResult,
 };
 
-// Every other of 112 places, from the first on.
+// Every other of 112 rows, from the first on.
 fn every_other<A: Allocator + Copy>(alloc: A) -> VortexResult<BitBuffer<A>> {
     let mut mask = BitBufferMut::with_capacity(alloc, 112)?;
     for row in 0..112usize {

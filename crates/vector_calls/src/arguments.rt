@@ -43,8 +43,8 @@ fn commanded_copy<A: Allocator + Copy>(
     on_copy(name, Task::Command(command), columns, ctx)
 }
 
-/// The commands of a list on a copy of the column of this name, but for those at the places that are said to be left
-/// out. Bad where a part of the words is no command that can be given.
+/// The commands of a list on a copy of the column of this name, but for those at the positions that are said to be
+/// left out. Bad where a part of the words is no command that can be given.
 pub fn prepare_list<A: Allocator + Copy>(
     name: &str,
     words: &[&str],
@@ -64,8 +64,8 @@ fn prepared_list<A: Allocator + Copy>(
 ) -> LineResult<Vec<Command<A>, A>> {
     let parts = parts_of(*ctx.allocator(), words)?;
     let mut commands = Vec::new(*ctx.allocator());
-    for (place, part) in parts.iter().enumerate() {
-        if !matches!(left_out.get(place), Some(true)) {
+    for (position, part) in parts.iter().enumerate() {
+        if !matches!(left_out.get(position), Some(true)) {
             commands.push(command_of(part, columns, ctx)?)?;
         }
     }

@@ -85,7 +85,7 @@ pub struct ListReply<A: Allocator> {
     pub text: String<A>,
     /// The answers of those that were not refused for want of memory.
     pub served: String<A>,
-    /// Was the command at each place refused for want of memory?
+    /// Was the command at each position refused for want of memory?
     pub lacking: Vec<bool, A>,
 }
 

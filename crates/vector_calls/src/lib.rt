@@ -7,4 +7,4 @@ mod session;
 
 pub use arguments::{prepare, prepare_list, read_validity};
 pub use calls::{Call, CallResult, ListReply, Maker, Reply, Task};
-pub use session::{clone_named, crate_session, set_kernels, set_thresholds};
+pub use session::{copy_session, crate_session, set_kernels, set_thresholds};

@@ -12,7 +12,7 @@ pub fn crate_session() -> VortexSession {
 }
 
 /// A session as this one.
-pub fn clone_named(session: &VortexSession) -> VortexSession {
+pub fn copy_session(session: &VortexSession) -> VortexSession {
     let mut copy = VortexSession::empty();
     for kernel in KERNELS {
         if session.is_registered(kernel) {
@@ -50,7 +50,7 @@ fn register_these(words: &[&str], session: &mut VortexSession) {
 
 /// Sets the thresholds.
 pub fn set_thresholds<A: Allocator + Copy>(thresholds: Thresholds, ctx: &mut ExecutionCtx<A>) {
-    let mut session = clone_named(ctx.session());
+    let mut session = copy_session(ctx.session());
     session.set_thresholds(thresholds);
     *ctx = ExecutionCtx::new(session, *ctx.allocator());
 }

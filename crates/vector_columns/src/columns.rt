@@ -26,13 +26,13 @@ impl<A: Allocator + Copy> Columns<A> {
         }
     }
 
-    // The place of the column of this name.
-    fn place_of(&self, name: &str) -> Option<usize>
-        ensures { IfSome result (λ place. place < vec_len self.now.named) }
+    // The index of the column of this name.
+    fn index_of(&self, name: &str) -> Option<usize>
+        ensures { IfSome result (λ index. index < vec_len self.now.named) }
     {
-        for place in 0..self.named.len() {
-            if self.named[place].name.as_str() == name {
-                return Some(place);
+        for index in 0..self.named.len() {
+            if self.named[index].name.as_str() == name {
+                return Some(index);
             }
         }
         None
@@ -40,8 +40,8 @@ impl<A: Allocator + Copy> Columns<A> {
 
     /// The column of this name.
     pub fn get(&self, name: &str) -> Option<&ArrayRef<A>> {
-        let place = self.place_of(name)?;
-        Some(&self.named[place].column)
+        let index = self.index_of(name)?;
+        Some(&self.named[index].column)
     }
 
     /// Puts the column in the place of the one of this name, if that stands.
@@ -49,9 +49,9 @@ impl<A: Allocator + Copy> Columns<A> {
         ensures only { IsOkUnless result VortexError.OutOfMemory }
         ensures kept { OnErr result (self.new.named.items ≡ self.old.named.items) }
     {
-        match self.place_of(name) {
-            Some(place) => {
-                drop(replace(&mut self.named[place].column, column));
+        match self.index_of(name) {
+            Some(index) => {
+                drop(replace(&mut self.named[index].column, column));
                 Ok(())
             }
             None => match String::from_str(*self.named.allocator(), name) {

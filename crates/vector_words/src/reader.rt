@@ -18,19 +18,19 @@ pub fn read_request<'a>(words: &'a [&'a str]) -> Option<Request<'a>> {
 }
 
 // The call that these words ask, with memory refused in turn first, or where a number stands first to the command at
-// that place of a list.
+// that position of a list.
 fn read_refused<'a>(words: &'a [&'a str]) -> Option<Request<'a>> {
     let (first, rest) = words.split_first()?;
     match parse_count(first) {
-        Some(place) => read_refused_one(place, rest),
+        Some(position) => read_refused_one(position, rest),
         None => read_refused_call(words),
     }
 }
 
-fn read_refused_one<'a>(place: usize, words: &'a [&'a str]) -> Option<Request<'a>> {
+fn read_refused_one<'a>(position: usize, words: &'a [&'a str]) -> Option<Request<'a>> {
     match read_done(words)? {
         Request::Call(name, Call::Run(list)) => {
-            Some(Request::RefuseOne(place, name, Call::Run(list)))
+            Some(Request::RefuseOne(position, name, Call::Run(list)))
         }
         _ => None,
     }

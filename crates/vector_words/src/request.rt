@@ -15,7 +15,7 @@ pub enum Request<'a> {
     Call(&'a str, Call<'a>),
     /// A call is made, with memory refused in turn first.
     Refuse(&'a str, Call<'a>),
-    /// A list of commands is run, the one at this place, from 1, refused for memory alone.
+    /// A list of commands is run, the one at this position, from 1, refused for memory alone.
     RefuseOne(usize, &'a str, Call<'a>),
     /// A column is looked at.
     Look(&'a str, Look),

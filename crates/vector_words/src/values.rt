@@ -106,7 +106,7 @@ pub fn read_elements<'a, A: Allocator + Copy>(
     push_element(bytes.get(start..bytes.len()), rows)
 }
 
-/// Whether a place of a text is within quotes.
+/// Whether a position in a text is within quotes.
 #[derive(Clone, Copy, PartialEq, Eq)]
 enum Quotes {
     Outside,
@@ -116,7 +116,7 @@ enum Quotes {
 }
 
 impl Quotes {
-    // Where the place behind this letter is.
+    // Where the position behind this letter is.
     fn behind(self, letter: u8) -> Quotes {
         match (self, letter) {
             (Quotes::Outside, b'"') => Quotes::Within,

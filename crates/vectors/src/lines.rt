@@ -83,7 +83,7 @@ impl<'a> Workspace<'a> {
             Request::Make(name, plain) => make(name, plain, columns, ctx),
             Request::Call(name, call) => settle(name, call, columns, ctx),
             Request::Refuse(name, call) => self.refuse(name, call),
-            Request::RefuseOne(place, name, list) => self.refuse_one(place, name, list),
+            Request::RefuseOne(position, name, list) => self.refuse_one(position, name, list),
             Request::Look(name, look) => look_at(*ctx.allocator(), name, look, columns),
             _ => {
                 set(request, ctx);
@@ -107,14 +107,14 @@ impl<'a> Workspace<'a> {
         }
     }
 
-    // Runs the list with the command at this place, from 1, refused for memory alone.
+    // Runs the list with the command at this position, from 1, refused for memory alone.
     fn refuse_one(
         &mut self,
-        place: usize,
+        position: usize,
         name: &str,
         list: request::Call<'_>,
     ) -> LineResult<Reply<Heap<'a>>> {
-        match refused_one(place, name, list, self)? {
+        match refused_one(position, name, list, self)? {
             Some(outcome) => keep(name, outcome, &mut self.columns),
             None => Ok(Reply::Says(String::from_str(*self.ctx.allocator(), "never")?)),
         }

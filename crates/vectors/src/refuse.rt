@@ -7,7 +7,7 @@ use crate::workspace::{Heap, Plan, Workspace};
 use column_base::VortexResult;
 use std::alloc::Allocator;
 use vector_answers::push_form;
-use vector_calls::{CallResult, ListReply, Reply, clone_named, prepare, prepare_list};
+use vector_calls::{CallResult, ListReply, Reply, copy_session, prepare, prepare_list};
 use vector_columns::Columns;
 use vector_words::{LineError, LineResult, request};
 use vortex_runend::{ArrayRef, ExecutionCtx, VortexError};
@@ -65,10 +65,11 @@ pub fn refused_in_turn(
     found
 }
 
-/// What comes of the list with the first request for memory refused alone for want of which the command at this place,
-/// from 1, is refused. `None` where it is so for no request. Bad where the line asks for something that there is not.
+/// What comes of the list with the first request for memory refused alone for want of which the command at this
+/// position, from 1, is refused. `None` where it is so for no request. Bad where the line asks for something that there
+/// is not.
 pub fn refused_one<'a>(
-    place: usize,
+    position: usize,
     name: &str,
     list: request::Call<'_>,
     workspace: &mut Workspace<'a>,
@@ -80,7 +81,7 @@ pub fn refused_one<'a>(
             drop(outcome);
             return Ok(None);
         }
-        if lacks_at(&outcome.reply, place) {
+        if lacks_at(&outcome.reply, position) {
             return Ok(Some(outcome));
         }
         drop(outcome);
@@ -88,9 +89,9 @@ pub fn refused_one<'a>(
     Ok(None)
 }
 
-// Was the command at this place, from 1, refused for want of memory?
-fn lacks_at<A: Allocator>(reply: &Reply<A>, place: usize) -> bool {
-    match (reply, place.checked_sub(1)) {
+// Was the command at this position, from 1, refused for want of memory?
+fn lacks_at<A: Allocator>(reply: &Reply<A>, position: usize) -> bool {
+    match (reply, position.checked_sub(1)) {
         (Reply::ListReply(listed), Some(before)) => matches!(
             listed.lacking.get(before),
             Some(true)
@@ -236,7 +237,7 @@ fn outcome_with<'a>(
     workspace: &mut Workspace<'a>,
 ) -> LineResult<CallResult<Heap<'a>>> {
     let call = prepare(name, call, &workspace.columns, &mut workspace.ctx)?;
-    let mut ctx = ExecutionCtx::new(clone_named(workspace.ctx.session()), heap);
+    let mut ctx = ExecutionCtx::new(copy_session(workspace.ctx.session()), heap);
     Ok(call.run(&mut ctx, *workspace.ctx.allocator())?)
 }
 
