@@ -27,8 +27,8 @@ use std::alloc::Allocator;
 /// answer has null where either type has, and false is stored under null. Refused as `TypeMismatch`
 /// exactly where the two types differ in more than nullability, else as `OutOfMemory` alone.
 pub fn compare_scalar<A: Allocator + Copy>(
-    column: FlatView<'_, A>,
     alloc: A,
+    column: FlatView<'_, A>,
     operator: CompareOperator,
     right: &Scalar<A>,
 ) -> VortexResult<BoolArray<A>>
@@ -45,9 +45,9 @@ pub fn compare_scalar<A: Allocator + Copy>(
     let dtype = right.dtype();
     let right = right.view();
     if is_null(&right) {
-        compare_to_null(column, alloc, operator, &right, dtype)
+        compare_to_null(alloc, column, operator, &right, dtype)
     } else {
-        compare_to_value(column, alloc, operator, &right, dtype)
+        compare_to_value(alloc, column, operator, &right, dtype)
     }
 }
 
@@ -56,8 +56,8 @@ pub fn compare_scalar<A: Allocator + Copy>(
 /// `TypeMismatch` where the two types differ in more than nullability, and as `ColumnLength`, with the
 /// number of rows of the column and of the right one, where these differ; else as `OutOfMemory` alone.
 pub fn compare_column<A: Allocator + Copy>(
-    column: FlatView<'_, A>,
     alloc: A,
+    column: FlatView<'_, A>,
     operator: CompareOperator,
     right: FlatView<'_, A>,
 ) -> VortexResult<BoolArray<A>>
@@ -74,7 +74,7 @@ pub fn compare_column<A: Allocator + Copy>(
     if let Some(error) = fault {
         return Err(error);
     }
-    compare_beside(column, alloc, operator, right)
+    compare_beside(alloc, column, operator, right)
 }
 
 // Whether a comparison has null: where either type has.
@@ -96,8 +96,8 @@ fn is_null<A: Allocator>(view: &ScalarView<'_, A>) -> bool
 
 // Each row compared with null: all answers are null.
 fn compare_to_null<A: Allocator + Copy>(
-    column: FlatView<'_, A>,
     alloc: A,
+    column: FlatView<'_, A>,
     operator: CompareOperator,
     right: &ScalarView<'_, A>,
     dtype: DType,
@@ -118,8 +118,8 @@ fn compare_to_null<A: Allocator + Copy>(
 
 // Each row compared with one value that is no null.
 fn compare_to_value<A: Allocator + Copy>(
-    column: FlatView<'_, A>,
     alloc: A,
+    column: FlatView<'_, A>,
     operator: CompareOperator,
     right: &ScalarView<'_, A>,
     dtype: DType,
@@ -134,16 +134,16 @@ fn compare_to_value<A: Allocator + Copy>(
         compare_dtype (leaf_dtype (leaf_in column.entry)) dtype) }
     ensures stored { IfOk result IsStoredComparison }
 {
-    let bits = bits_of_answers(column, alloc, operator, right)?;
+    let bits = bits_of_answers(alloc, column, operator, right)?;
     let rows = column.validity();
-    let validity = validity_of_answers(rows, alloc, column.len(), dtype.nullability())?;
+    let validity = validity_of_answers(alloc, rows, column.len(), dtype.nullability())?;
     Ok(BoolArray::new_unchecked(bits.freeze(), validity))
 }
 
 // The rows of two columns compared, each with the one beside it.
 fn compare_beside<A: Allocator + Copy>(
-    column: FlatView<'_, A>,
     alloc: A,
+    column: FlatView<'_, A>,
     operator: CompareOperator,
     right: FlatView<'_, A>,
 ) -> VortexResult<BoolArray<A>>

@@ -25,8 +25,8 @@ use std::alloc::Allocator;
 /// A bit for each row: whether the operator holds of the row and the view, false where one is null. The
 /// view is null or of the column's type. Refused as `OutOfMemory` alone.
 pub(crate) fn bits_of_answers<A: Allocator + Copy>(
-    column: FlatView<'_, A>,
     alloc: A,
+    column: FlatView<'_, A>,
     operator: CompareOperator,
     right: &ScalarView<'_, A>,
 ) -> VortexResult<BitBufferMut<A>>
@@ -47,14 +47,14 @@ pub(crate) fn bits_of_answers<A: Allocator + Copy>(
         (FlatView::Decimal(array), ScalarView::Decimal(number)) => {
             bits_of_items(alloc, array.values(), array.validity(), operator, *number)
         }
-        _ => bits_of_rows(column, alloc, operator, right),
+        _ => bits_of_rows(alloc, column, operator, right),
     }
 }
 
 // Of each row, seen one by one.
 fn bits_of_rows<A: Allocator + Copy>(
-    column: FlatView<'_, A>,
     alloc: A,
+    column: FlatView<'_, A>,
     operator: CompareOperator,
     right: &ScalarView<'_, A>,
 ) -> VortexResult<BitBufferMut<A>>

@@ -95,7 +95,7 @@ impl<A: Allocator + Copy> FlatOrder<A> for FlatColumn<A> {
         operator: CompareOperator,
         right: &Scalar<A>,
     ) -> VortexResult<BoolArray<A>> {
-        compare::compare_scalar(self.view(), alloc, operator, right)
+        compare::compare_scalar(alloc, self.view(), operator, right)
     }
 
     fn compare_column(
@@ -104,7 +104,7 @@ impl<A: Allocator + Copy> FlatOrder<A> for FlatColumn<A> {
         operator: CompareOperator,
         right: &FlatColumn<A>,
     ) -> VortexResult<BoolArray<A>> {
-        compare::compare_column(self.view(), alloc, operator, right.view())
+        compare::compare_column(alloc, self.view(), operator, right.view())
     }
 
     fn min_max(&self, range: Range<usize>) -> Option<(ScalarView<'_, A>, ScalarView<'_, A>)> {

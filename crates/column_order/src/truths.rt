@@ -72,8 +72,8 @@ pub(crate) fn column_of_truths<A: Allocator + Copy>(
 /// Which answers are valid where the rows are so, which are compared with a value of a type of that
 /// nullability. Refused as `OutOfMemory` alone.
 pub(crate) fn validity_of_answers<A: Allocator + Copy>(
-    rows: &Validity<A>,
     alloc: A,
+    rows: &Validity<A>,
     count: usize,
     nullability: Nullability,
 ) -> VortexResult<Validity<A>>
