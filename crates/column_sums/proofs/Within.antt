@@ -2,9 +2,10 @@
 use Rattle.std.proofs.Common.{◌≡◌, ℕ, suc, ◌-◌, ◌*◌, ◌<◌, ◌≤◌, ◌^◌, ℤ, pos, negsuc, neg_ℤ, ◌+ℤ◌, ◌*ℤ◌, ◌≤ℤ◌, ◌&&◌, true, false, refl, arith, w64, FitsSigned, to_z, of_z}
 use Rattle.std.specs.Prelude.{int_le}
 use Rattle.std.proofs.lemmas.Int.{ints, to_z-of_z}
-use mir.Syntax.{w128}
+use mir.Syntax.{w32, w128}
 use Rattle.std.proofs.Math.IntN.{pos-*ℤ-pos, negsuc-*ℤ-pos}
 use Rattle.std.proofs.Math.Nat.{mul-suc, mul-le-mul_right}
+use Rattle.column_sums.specs.Room.{HasRoom}
 use Rattle.column_sums.specs.SumRange.{SumRange, SignedRange, UnsignedRange, is_within, least, greatest}
 
 at_least : (low high n : ℤ) → (int_le low n && int_le n high) ≡ true → low ≤ℤ n
@@ -87,3 +88,42 @@ widened sum n p q count f g h sum_is n_is =
     let product_fits : FitsSigned w128 (n *ℤ pos count) = omega (arith, ints) in
     let end_fits : FitsSigned w128 (sum +ℤ n *ℤ pos count) = omega (arith, ints) in
     rw (sum_is, n_is) (simp (to_z-of_z, count_is))
+
+-- as many rows of a value of 32 bits
+short_bounds : (n : ℤ) (count : ℕ) → FitsSigned w32 n → (neg_ℤ (pos (2 ^ 31 * count)) ≤ℤ (n *ℤ pos count)) × ((n *ℤ pos count) ≤ℤ pos (2 ^ 31 * count))
+short_bounds (pos m) count f =
+    let k : m ≤ 2 ^ 31 = omega (arith, ints) in
+    let h : m * count ≤ 2 ^ 31 * count = mul-le-mul_right count k in
+    rw (pos-*ℤ-pos m count) (omega (arith, ints), omega (arith, ints))
+short_bounds (negsuc m) count f =
+    let k : suc m ≤ 2 ^ 31 = omega (arith, ints) in
+    let h : suc m * count ≤ 2 ^ 31 * count = mul-le-mul_right count k in
+    rw (negsuc-*ℤ-pos m count) (omega (arith, ints), omega (arith, ints))
+
+-- so many rows fit where there is room for them, and what is left is room for the rest
+pub room-rows : (sum : ℤ) (room count : ℕ) → HasRoom sum room → count ≤ room → count < 2 ^ 32
+room-rows sum room count r h = let low = r.down in let high = r.up in omega (arith, ints)
+
+pub room-product : (sum n : ℤ) (room count : ℕ) → FitsSigned w32 n → HasRoom sum room → count ≤ room → FitsSigned w64 (n *ℤ pos count)
+room-product sum n room count f r h =
+    let b = short_bounds n count f in let p = b.0 in let q = b.1 in let low = r.down in let high = r.up in omega (arith, ints)
+
+pub room-sum : (sum n : ℤ) (room count : ℕ) → FitsSigned w32 n → HasRoom sum room → count ≤ room → FitsSigned w64 (sum +ℤ n *ℤ pos count)
+room-sum sum n room count f r h =
+    let b = short_bounds n count f in let p = b.0 in let q = b.1 in let low = r.down in let high = r.up in omega (arith, ints)
+
+pub room-left : (sum n : ℤ) (room count : ℕ) → FitsSigned w32 n → HasRoom sum room → count ≤ room → HasRoom (sum +ℤ n *ℤ pos count) (room - count)
+room-left sum n room count f r h =
+    let b = short_bounds n count f in let p = b.0 in let q = b.1 in let low = r.down in let high = r.up in
+    record { down = omega (arith, ints); up = omega (arith, ints) }
+
+-- product and sum as they are computed in 64 bits
+pub product-computed : (n : ℤ) (count : ℕ) → FitsSigned w64 n → count < 2 ^ 32 → to_z w64 (of_z w64 n) *ℤ to_z w64 count ≡ n *ℤ pos count
+product-computed n count f h =
+    let count_is : to_z w64 count ≡ pos count = omega (arith, ints) in
+    rw (to_z-of_z w64 n f, count_is) refl
+
+pub sum-computed : (sum n : ℤ) (count : ℕ) → FitsSigned w64 sum → FitsSigned w64 n → count < 2 ^ 32 → FitsSigned w64 (n *ℤ pos count)
+    → to_z w64 (of_z w64 sum) +ℤ to_z w64 (of_z w64 (to_z w64 (of_z w64 n) *ℤ to_z w64 count)) ≡ sum +ℤ n *ℤ pos count
+sum-computed sum n count s f h p =
+    rw (product-computed n count f h, to_z-of_z w64 (n *ℤ pos count) p, to_z-of_z w64 sum s) refl

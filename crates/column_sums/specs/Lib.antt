@@ -4,3 +4,4 @@ pub mod RunSum
 pub mod SumState
 pub mod SumAnswer
 pub mod Summed
+pub mod Room

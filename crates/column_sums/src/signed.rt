@@ -1,9 +1,14 @@
 //! A sum of signed numbers.
-ghost use Rattle.std.specs.Prelude.{◌≡◌, ◌+ℤ◌, ◌*ℤ◌, pos, [], ◌∷◌, ◌++◌, true, false, IfSome, MatchOption};
+ghost use Rattle.std.specs.Prelude.{◌≡◌, ◌-◌, ◌≤◌, ◌+ℤ◌, ◌*ℤ◌, pos, [], ◌∷◌, ◌++◌, true, false, FitsSigned, MatchOption};
+ghost use Rattle.std.specs.Int.{w32};
+ghost use Rattle.column_sums.specs.Room.{HasRoom};
 ghost use Rattle.column_sums.specs.SumRange.{SignedRange, is_within};
 
 use crate::calls::Calls;
 use std::marker::Model;
+
+// No value of 32 bits is further from 0.
+const FURTHEST: usize = 1 << 31;
 
 /// A sum in the range of `i64`, which is given runs one at a time.
 ///
@@ -12,15 +17,20 @@ use std::marker::Model;
 #[derive(Drop)]
 pub struct SignedSum {
     value: i64,
+    // So many rows of values of 32 bits can be added before one has to ask whether the sum leaves the range.
+    room: usize,
     calls: Calls,
 }
 
 impl Model for SignedSum {
+    ghost use Rattle.column_sums.specs.Room.{HasRoom};
     ghost use Rattle.column_sums.specs.SumState.{SumState};
 
     ghost Value = { SumState };
 
     ghost view = { λ s. record { value = s.value; calls = s.calls.runs } };
+
+    ghost invariant = { λ s. HasRoom s.value s.room };
 }
 
 impl SignedSum {
@@ -30,6 +40,7 @@ impl SignedSum {
     {
         SignedSum {
             value: 0,
+            room: 0,
             calls: Calls::new(),
         }
     }
@@ -51,9 +62,15 @@ impl SignedSum {
         ensures calls { self.new.calls ≡ self.old.calls ++ (value, len) ∷ [] }
     {
         self.calls = self.calls.and_signed(&value, &len);
-        match next_sum(self.value, value, len) {
+        if has_32_bits(value) && len <= self.room {
+            self.value = short_sum(self.value, self.room, value, len);
+            self.room -= len;
+            return true;
+        }
+        match wide_sum(self.value, value, len) {
             Some(sum) => {
                 self.value = sum;
+                self.room = room_for(value, sum);
                 true
             }
             None => false,
@@ -61,39 +78,56 @@ impl SignedSum {
     }
 }
 
-// The sum and `len` times the value, where that is in the range.
-#[inline]
-fn next_sum(sum: i64, value: i64, len: usize) -> Option<i64>
-    ensures sum { MatchOption result (is_within SignedRange (sum +ℤ value *ℤ pos len) ≡ false) (λ next. next ≡
-        sum +ℤ value *ℤ pos len) }
-    ensures within { IfSome result (λ _. is_within SignedRange (sum +ℤ value *ℤ pos len) ≡ true) }
+// Does the value have 32 bits?
+#[inline(always)]
+fn has_32_bits(value: i64) -> bool
+    ensures { result ≡ true → FitsSigned w32 value }
 {
-    match near_sum(sum, value, len) {
-        Some(near) => Some(near),
-        None => far_sum(sum, value, len),
-    }
+    i32::try_from(value).is_ok()
 }
 
-// The sum and `len` times the value, where no step leaves 64 bits, which takes least time. Else nothing is known.
-#[inline]
-fn near_sum(sum: i64, value: i64, len: usize) -> Option<i64>
-    ensures { IfSome result (λ near. near ≡ sum +ℤ value *ℤ pos len) }
+// The sum and `len` times a value of 32 bits, where there is room for so many rows.
+#[inline(always)]
+fn short_sum(sum: i64, room: usize, value: i64, len: usize) -> i64
+    requires short { FitsSigned w32 value }
+    requires room { HasRoom sum room }
+    requires enough { len ≤ room }
+    ensures sum { result ≡ sum +ℤ value *ℤ pos len }
+    ensures within { is_within SignedRange (sum +ℤ value *ℤ pos len) ≡ true }
+    ensures left { HasRoom (sum +ℤ value *ℤ pos len) (room - len) }
 {
-    let count = i64::try_from(len).ok()?;
-    let product = value.checked_mul(count)?;
-    sum.checked_add(product)
+    sum + value * len as i64
+}
+
+// How many rows of values of 32 bits leave a sum in the range. None are said behind a value that has more bits, since
+// such values most often come together.
+#[inline(always)]
+fn room_for(value: i64, sum: i64) -> usize
+    ensures { HasRoom sum result }
+{
+    if !has_32_bits(value) {
+        return 0;
+    }
+    let left = if sum < 0 {
+        sum - i64::MIN
+    } else {
+        i64::MAX - sum
+    };
+    left as usize / FURTHEST
 }
 
 // The sum and `len` times the value, where that is in the range, by 128 bits: a product may leave 64 bits where the sum
 // is in the range.
-fn far_sum(sum: i64, value: i64, len: usize) -> Option<i64>
-    ensures { MatchOption result (is_within SignedRange (sum +ℤ value *ℤ pos len) ≡ false) (λ far. far ≡
+#[inline]
+fn wide_sum(sum: i64, value: i64, len: usize) -> Option<i64>
+    ensures { MatchOption result (is_within SignedRange (sum +ℤ value *ℤ pos len) ≡ false) (λ wide. wide ≡
         sum +ℤ value *ℤ pos len) }
 {
     i64::try_from(sum_with(sum, value, len)).ok()
 }
 
 // The sum and `len` times the value. The least is -2^127, which fits.
+#[inline]
 fn sum_with(sum: i64, value: i64, len: usize) -> i128
     ensures { result ≡ sum +ℤ value *ℤ pos len }
 {
