@@ -1,7 +1,6 @@
 //! The sum of a flat column, row by row.
 ghost use Rattle.std.specs.Prelude.{◌≡◌, ◌≢◌, Err, IfOk};
 ghost use Rattle.column_base.specs.Types.{IsUnsigned};
-ghost use Rattle.column_core.specs.FlatColumn.{leaf_of};
 ghost use Rattle.column_core.specs.FlatView.{leaf_in};
 ghost use Rattle.column_core.specs.Leaf.{leaf_dtype, single_rows};
 ghost use Rattle.column_core.specs.PrimitiveForm.{optional_numbers};
@@ -16,21 +15,11 @@ use crate::signed::SignedSum;
 use crate::signed_runs::{SignedRuns, sum_signed_in_runs};
 use crate::unsigned::UnsignedSum;
 use crate::unsigned_runs::{UnsignedRuns, sum_unsigned_in_runs};
-use column_core::{FlatColumn, FlatView, PrimitiveArray, VortexError, VortexResult};
+use column_core::{FlatView, PrimitiveArray, VortexError, VortexResult};
 use std::alloc::Allocator;
 
-/// The sum of the rows of a flat column of integers, added one at a time. Refused as
-/// `Unsupported` exactly for columns of other types. It takes no memory.
-pub fn sum_flat<A: Allocator>(column: &FlatColumn<A>) -> VortexResult<SumAnswer>
-    ensures refused { IsRefusedBy (sum_fault (leaf_dtype (leaf_of column.now))) result }
-    ensures no_memory { result ≢ Err VortexError.OutOfMemory }
-    ensures answer { IfOk result (IsSumAnswer (leaf_dtype (leaf_of column.now)) (single_rows (leaf_of column.now))) }
-{
-    sum_view(column.view())
-}
-
-/// The sum of the rows of a borrowed flat column of integers, added one at a time. Refused as `Unsupported`
-/// exactly for columns of other types. It takes no memory.
+/// The sum of the rows of a flat column of integers, added one at a time. Refused as `Unsupported` exactly for
+/// columns of other types. It takes no memory.
 pub fn sum_view<A: Allocator>(column: FlatView<'_, A>) -> VortexResult<SumAnswer>
     ensures refused { IsRefusedBy (sum_fault (leaf_dtype (leaf_in column.entry))) result }
     ensures no_memory { result ≢ Err VortexError.OutOfMemory }
@@ -39,9 +28,7 @@ pub fn sum_view<A: Allocator>(column: FlatView<'_, A>) -> VortexResult<SumAnswer
 {
     match column {
         FlatView::Primitive(array) => Ok(sum_numbers(array)),
-        FlatView::Bool(_) | FlatView::Decimal(_) | FlatView::VarBinView(_) => {
-            Err(VortexError::Unsupported)
-        }
+        _ => Err(VortexError::Unsupported),
     }
 }
 

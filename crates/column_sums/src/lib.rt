@@ -12,7 +12,7 @@ mod unsigned;
 mod unsigned_runs;
 
 pub use answer::{SumAnswer, SumValue};
-pub use flat::{sum_flat, sum_view};
+pub use flat::sum_view;
 pub use items::{
     AllNull, AllValid, ByBits, ItemFlags, SignedItems, SignedNumbers, SignedPType, UnsignedItems,
     UnsignedNumbers,
