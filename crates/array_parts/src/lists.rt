@@ -15,8 +15,8 @@ use std::alloc::Allocator;
 use std::rc::Rc;
 
 /// The lists of which row i has `sizes[i]` elements, from element `offsets[i]` on, and is null where the validity says
-/// so. The elements are shared, offsets and sizes copied. Refused as `Unsupported` unless the elements are flat, then as
-/// `ColumnLength`, with the number of offsets first, where there are not as many sizes, or where the validity is of
+/// so. The elements are shared, offsets and sizes copied. Refused as `Unsupported` unless the elements are flat, then
+/// as `ColumnLength`, with the number of offsets first, where there are not as many sizes, or where the validity is of
 /// another number of rows, then as `OutOfBounds`, with the row and the number of elements, for the first valid row that
 /// does not lie within the elements; else for want of memory alone.
 #[tactic(auto, using(crate::proofs::ListParts::lists_made, crate::proofs::ListParts::parts_refused, crate::proofs::ListParts::no_elements))]
@@ -101,8 +101,8 @@ pub fn list_sizes<A: Allocator + Copy>(
     }
 }
 
-/// Whether each list is valid: booleans without null, one for all rows where they are alike, else flat or in runs, shared.
-/// Refused as `list_elements`.
+/// Whether each list is valid: booleans without null, one for all rows where they are alike, else flat or in runs,
+/// shared. Refused as `list_elements`.
 pub fn list_validity<A: Allocator + Copy>(
     array: &ArrayRef<A>,
     ctx: &mut ExecutionCtx<A>,

@@ -140,11 +140,12 @@ fn lines_that_want_a_column(rt: HostRuntime) -> Result<(), Fail> {
 
 // A script that its last line ends, and what it is answered.
 const ENDED: &[u8] =
-    b"col i32 1 1 1 4 4 4 2 2 5 5 5 5\nencode\nshow\nat 11\nslice 4 9\nrows\ntake 4 0 2 5\ntake 4 0 2 1\nrows\nsum\njump\n";
+    b"col i32 1 1 1 4 4 4 2 2 5 5 5 5\nencode\nshow\nat 11\nslice 4 9\nrows\ntake 4 0 2 5\n\
+    take 4 0 2 1\nrows\nsum\njump\n";
 
 const ENDED_ANSWERS: &str =
-    "ok\nok\nruns i32 u8 offset 0 length 12 ends 3 6 8 12 values 1 4 2 5\nvalue 5\nok\nrows 4 4 2 2 5\nrefused 8 5 5\nok\n\
-    rows 5 4 2 4\nsum 15\nline 11: bad command\n";
+    "ok\nok\nruns i32 u8 offset 0 length 12 ends 3 6 8 12 values 1 4 2 5\nvalue 5\nok\nrows 4 4 2 2 5\n\
+    refused 8 5 5\nok\nrows 5 4 2 4\nsum 15\nline 11: bad command\n";
 
 #[test]
 fn served_inputs(rt: HostRuntime) -> Result<(), Fail> {
@@ -216,13 +217,13 @@ fn a_write_that_fails(rt: HostRuntime) {
 // Lines of each kind, on runs and on a flat column.
 const SERVED: &[u8] =
     b"col u8? 7 7 null\nencode\nshow\nrows\nat 3\nfilter 011\ncast i16?\nfill 9\ndecode\nsum\nthresholds zero\n\
-    runs i8 u8 0 5 1 2 5 / 4 5 6\nfilter 01111\ntake 1 0 3 0\nkernels none\nencode\nsum\nminmax\nconstant\nsorted\nstrict\n\
-    cast i16\nencode\ntake 0 null\nfill 0\nkernels all\nthresholds crate\nencode\nslice 0 1\nshow\nmeta\nread 08 01\n\
-    runs i8 u8 1 3 2 4 / 4 5\nmeta\nsum\nminmax\nconstant\nsorted\nstrict\n";
+    runs i8 u8 0 5 1 2 5 / 4 5 6\nfilter 01111\ntake 1 0 3 0\nkernels none\nencode\nsum\nminmax\nconstant\nsorted\n\
+    strict\ncast i16\nencode\ntake 0 null\nfill 0\nkernels all\nthresholds crate\nencode\nslice 0 1\nshow\nmeta\n\
+    read 08 01\nruns i8 u8 1 3 2 4 / 4 5\nmeta\nsum\nminmax\nconstant\nsorted\nstrict\n";
 
 const SERVED_ANSWERS: &[u8] =
-    b"ok\nok\nruns u8? u8 offset 0 length 3 ends 2 3 values 7 null\nrows 7 7 null\nrefused 8 3 3\nok\nok\nok\nok\nsum 16\nok\n\
-    ok\nok\nok\nok\nok\nsum 22\nminmax 5 6\nconstant false\nsorted false\nstrict false\n\
+    b"ok\nok\nruns u8? u8 offset 0 length 3 ends 2 3 values 7 null\nrows 7 7 null\nrefused 8 3 3\nok\nok\nok\nok\n\
+    sum 16\nok\nok\nok\nok\nok\nok\nsum 22\nminmax 5 6\nconstant false\nsorted false\nstrict false\n\
     ok\nok\nok\nok\nok\nok\nok\nok\nconst i16 6 length 1\nnot runs\nread u16 runs 0 offset 0\n\
     ok\nmeta 10 02 18 01\nsum 14\nminmax 4 5\nconstant false\nsorted true\nstrict false\n";
 

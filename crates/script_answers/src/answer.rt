@@ -67,7 +67,8 @@ fn value_line<A: Allocator + Copy>(alloc: A, row: &Scalar<A>) -> Result<String<A
 
 // The line `sum N`, `sum overflow` or `sum 0 empty`.
 fn sum_line<A: Allocator + Copy>(alloc: A, answer: SumAnswer) -> Result<String<A>, AllocError>
-    ensures { IfOk result (λ line. string_bytes line ≡ codes "sum" ++ behind_spaces (sum_words answer.sum answer.is_empty)) }
+    ensures { IfOk result (λ line. string_bytes line ≡
+        codes "sum" ++ behind_spaces (sum_words answer.sum answer.is_empty)) }
 {
     match answer.sum {
         None => String::from_str(alloc, "sum overflow"),
@@ -93,7 +94,8 @@ fn extremes_line<A: Allocator + Copy>(
 ) -> Result<String<A>, AllocError>
     requires least { IsNullOrNumber (shown least.now) }
     requires greatest { IsNullOrNumber (shown greatest.now) }
-    ensures { IfOk result (λ line. string_bytes line ≡ codes "minmax" ++ behind_spaces (row_word (shown least.now) ∷ row_word (shown greatest.now) ∷ [])) }
+    ensures { IfOk result (λ line. string_bytes line ≡
+        codes "minmax" ++ behind_spaces (row_word (shown least.now) ∷ row_word (shown greatest.now) ∷ [])) }
 {
     let mut line = String::from_str(alloc, "minmax")?;
     push_word(&mut line, least.view())?;
