@@ -16,7 +16,6 @@ use std::alloc::Allocator;
 
 /// The sum of the rows that are not null. Runs and constants are added run by run where the kernel is registered, a
 /// flat array is read where it is: none of these takes memory. Refused as `Unsupported` unless the rows are integers.
-///
 pub fn sum<A: Allocator + Copy>(
     column: &ArrayRef<A>,
     ctx: &mut ExecutionCtx<A>,
