@@ -1,7 +1,7 @@
 //! Each row beside one value.
 use crate::bits::Bits;
 use crate::data::{Runs, Truths};
-use crate::kernels::decode::{spread, spread_by_turns};
+use crate::kernels::decode::{spread, spread_by_ones, spread_by_turns};
 
 fn less<T: Copy + PartialOrd>(
     runs: &Runs<T>,
@@ -44,4 +44,10 @@ pub fn less_by_runs<T: Copy + PartialOrd>(runs: &Runs<T>, right: T) -> Truths {
 #[inline(never)]
 pub fn less_by_turns<T: Copy + PartialOrd>(runs: &Runs<T>, right: T) -> Truths {
     less(runs, right, spread_by_turns)
+}
+
+/// Of 64 runs a word says which rows are filled.
+#[inline(never)]
+pub fn less_by_ones<T: Copy + PartialOrd>(runs: &Runs<T>, right: T) -> Truths {
+    less(runs, right, spread_by_ones)
 }

@@ -13,11 +13,11 @@ mod map;
 mod shared;
 mod take;
 
-pub use aggregate::{is_constant, is_sorted, least, least_and_greatest, sum, Addend};
+pub use aggregate::{is_constant, is_sorted, least, least_and_greatest, sum, sum_short, Addend};
 pub use arrays::{ArrayColumn, NumberType, RunArray};
 pub use bytes::{read, write};
-pub use compare::{less_by_runs, less_by_turns};
-pub use decode::{decode, decode_truths, decode_truths_by_turns};
+pub use compare::{less_by_ones, less_by_runs, less_by_turns};
+pub use decode::{decode, decode_truths, decode_truths_by_ones, decode_truths_by_turns};
 pub use encode::{encode, encode_by_words};
 pub use filter::{filter, filter_joined, filter_truths, Kept};
 pub use look::{look_up, look_up_by_halves, run_of, slice, window, Slice};

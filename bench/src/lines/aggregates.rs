@@ -1,7 +1,7 @@
 //! Questions over all runs.
 use super::{session, shape, Number};
 use crate::data::{Flat, Runs};
-use crate::kernels::{is_constant, is_sorted, least, least_and_greatest, sum, Addend};
+use crate::kernels::{is_constant, is_sorted, least, least_and_greatest, sum, sum_short, Addend};
 use crate::library::Column;
 use crate::line::Bench;
 use crate::load::Load;
@@ -22,6 +22,15 @@ pub fn lines<T: Number>(bench: &mut Bench, load: &Load) {
         || sum(&runs),
         |ours, rust| *ours == Some(*rust),
     );
+    if T::default().short().is_some() {
+        bench.line(
+            shape(load, "sum, beside 64 bits", T::NAME),
+            units,
+            || column.sum(&session),
+            || sum_short(&runs),
+            |ours, rust| ours == rust,
+        );
+    }
     bench.line(
         shape(load, "least", T::NAME),
         units,

@@ -1,10 +1,11 @@
-//! Runs of decimals, truth values, texts, and runs whose values are runs.
+//! Runs of decimals, booleans, texts, and runs whose values are runs.
 use super::selects::{index_column, indices, mask, mask_column, FILTERS, TAKES};
 use super::{session, shape};
 use crate::bits::Bits;
 use crate::data::{Flat, Runs, Texts, TruthRuns, Truths, View};
 use crate::kernels::{
-    decode, decode_truths, decode_truths_by_turns, filter, filter_truths, take, take_truths, Kept,
+    decode, decode_truths, decode_truths_by_ones, decode_truths_by_turns, filter, filter_truths,
+    take, take_truths, Kept,
 };
 use crate::library::{Column, Item};
 use crate::line::Bench;
@@ -121,7 +122,7 @@ fn truths(bench: &mut Bench, load: &Load) {
         ours.read_truths().flat().same_rows(&rows)
     };
     let rust = Rust {
-        kind: "truth values",
+        kind: "booleans",
         column: &column,
         decode: &|| Answer::Rows(decode_truths(&runs)),
         take: &|indices| Answer::Rows(take_truths(&runs, indices)),
@@ -130,16 +131,22 @@ fn truths(bench: &mut Bench, load: &Load) {
     };
     each(bench, load, rust);
     let (session, rows) = (session(), (load.rows(), "row"));
-    let rust = || Answer::Rows(decode_truths_by_turns(&runs));
     let ours = || column.decode(&session);
-    bench.line(
-        shape(load, "decode, beside turns,", "truth values"),
-        rows,
-        ours,
-        rust,
-        same,
-    );
+    for (name, decode) in TRUTHS {
+        let (shape, rust) = (shape(load, name, "booleans"), || {
+            Answer::Rows(decode(&runs))
+        });
+        bench.line(shape, rows, ours, rust, same);
+    }
 }
+
+type DecodeTruths = fn(&TruthRuns) -> Truths;
+
+/// Faster forms, each a line of its own.
+const TRUTHS: [(&str, DecodeTruths); 2] = [
+    ("decode, beside turns,", decode_truths_by_turns),
+    ("decode, beside ones,", decode_truths_by_ones),
+];
 
 /// Texts of 12 to 20 bytes, one for each run.
 fn written(load: &Load) -> (Vec<i64>, Texts<Runs<View>>) {

@@ -1,9 +1,9 @@
 //! Calls that change the values of runs.
 use super::{same_runs, session, shape, Number};
-use crate::data::{Flat, Runs};
+use crate::data::{Flat, Runs, Truths};
 use crate::kernels::{
-    cast, cast_shared, fill, fill_shared, less_by_runs, less_by_turns, take_from, take_from_shared,
-    SharedRuns,
+    cast, cast_shared, fill, fill_shared, less_by_ones, less_by_runs, less_by_turns, take_from,
+    take_from_shared, SharedRuns,
 };
 use crate::library::{passed, Column, Item};
 use crate::line::Bench;
@@ -64,19 +64,17 @@ fn compare<T: Number>(bench: &mut Bench, load: &Load, column: &Column) {
     let (session, runs, rows) = (session(), load.runs(T::of), (load.rows(), "row"));
     let right = compare_with::<T>();
     let ours = || column.less_than(&session, passed(right.wide(), T::SIGNED));
-    let answers = |ours: &Column, rust: &crate::data::Truths| {
-        ours.read_truths().flat().same_rows(&rust.flat())
-    };
-    let rust = || less_by_runs(&runs, right);
-    bench.line(shape(load, "compare", T::NAME), rows, ours, rust, answers);
-    let rust = || less_by_turns(&runs, right);
-    bench.line(
-        shape(load, "compare, beside turns", T::NAME),
-        rows,
-        ours,
-        rust,
-        answers,
-    );
+    let answers = |ours: &Column, rust: &Truths| ours.read_truths().flat().same_rows(&rust.flat());
+    type Less<T> = fn(&Runs<T>, T) -> Truths;
+    let forms: [(&str, Less<T>); 3] = [
+        ("compare", less_by_runs),
+        ("compare, beside turns", less_by_turns),
+        ("compare, beside ones", less_by_ones),
+    ];
+    for (name, less) in forms {
+        let rust = || less(&runs, right);
+        bench.line(shape(load, name, T::NAME), rows, ours, rust, answers);
+    }
 }
 
 /// Codes below 100, each for a row of a dictionary of 100 rows.
