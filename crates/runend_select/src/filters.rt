@@ -83,7 +83,7 @@ fn taken_directly<A: Allocator + Copy>(
     ensures session { ctx.new ≡ ctx.old }
 {
     let places = set_bit_indices(*ctx.allocator(), bits)?;
-    let taken = taken_rows(array, places.as_slice(), &Validity::NonNullable, ctx);
+    let taken = taken_rows(array, places.as_slice(), &Validity::NonNullable, false, ctx);
     drop(places);
     taken
 }

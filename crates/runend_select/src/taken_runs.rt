@@ -1,5 +1,5 @@
 //! Rows at indices, found by the runs that they are in.
-ghost use Rattle.std.specs.Prelude.{◌≡◌, ◌<◌, IfOk, IsOkUnless, length, map, unsigned_abs};
+ghost use Rattle.std.specs.Prelude.{◌≡◌, ◌*◌, ◌<◌, ◌≤◌, ◌↔◌, IfOk, IsOkUnless, IsTrue, count_by, length, map, unsigned_abs};
 ghost use Rattle.column_base.specs.Mask.{mask_bits};
 ghost use Rattle.column_base.specs.Numbers.{numbers, ptype_of};
 ghost use Rattle.column_base.specs.Types.{IsUnsigned, nullability_of, with_nullability as dtype_with};
@@ -10,7 +10,7 @@ ghost use Rattle.column_ops.specs.Take.{take_rows};
 ghost use Rattle.runend_array.specs.Canonical.{canonical_column};
 ghost use Rattle.runend_array.specs.Column.{column_dtype, column_of_runs, column_rows};
 ghost use Rattle.runend_windows.specs.Window.{IsWindow};
-ghost use Rattle.runend_indices.specs.Indices.{AreInBounds, optional_indices};
+ghost use Rattle.runend_indices.specs.Indices.{AreInBounds, AreSorted, optional_indices};
 ghost use Rattle.runend_select.specs.RunsOf.{AreRunsOf};
 ghost use Rattle.array_rowwise.specs.Computed.{IsComputedAs};
 
@@ -25,18 +25,23 @@ use runend_array::{
     ArrayRef, Canonical, ExecutionCtx, RunEndArray, RunEndArrayExt, RunEndArraySlotsExt,
 };
 use runend_decode::repeated_items;
+use runend_indices::physical_indices_linear_sorted;
 use std::alloc::Allocator;
 
-/// The rows at the indices, null for null, in a flat form. Refused as `OutOfMemory` alone.
+/// The rows at the indices, null for null, in a flat form. `sorted` may say that no valid index is below a valid one
+/// before it. Refused as `OutOfMemory` alone.
 pub(crate) fn taken_rows<T: NativePType, A: Allocator + Copy>(
     array: &RunEndArray<A>,
     indices: &[T],
     validity: &Validity<A>,
+    sorted: bool,
     ctx: &mut ExecutionCtx<A>,
 ) -> VortexResult<Canonical<A>>
     requires fits { HasLength (form_of validity.now) (length indices.now) }
     requires in_bounds { AreInBounds (optional_indices T.number indices.now (flags (form_of validity.now)
         (length indices.now))) array.now.count }
+    requires sorted { IsTrue sorted →
+        AreSorted (optional_indices T.number indices.now (flags (form_of validity.now) (length indices.now))) }
     ensures only { IsOkUnless result VortexError.OutOfMemory }
     ensures made { IfOk result (λ taken. IsComputedAs
         (take_rows (column_rows (column_of_runs array.now)) (optional_indices T.number indices.now
@@ -47,7 +52,7 @@ pub(crate) fn taken_rows<T: NativePType, A: Allocator + Copy>(
     ensures session { ctx.new ≡ ctx.old }
 {
     let alloc = *ctx.allocator();
-    let runs = runs_of_indices(array, indices, validity, ctx)?;
+    let runs = runs_of_indices(array, indices, validity, sorted, ctx)?;
     let taken = take_values(alloc, array.values(), runs.as_slice(), validity);
     drop(runs);
     taken
@@ -74,6 +79,15 @@ fn mask_of<A: Allocator + Copy>(
     }
 }
 
+// Does the session merge indices that are sorted with so many runs? Then they need not be looked at again.
+fn merges_sorted<A: Allocator + Copy>(runs: usize, mask: &Mask<A>, ctx: &ExecutionCtx<A>) -> bool
+    ensures { IsTrue result
+        ↔ (runs ≤ count_by (λ bit. bit) (mask_bits mask.now) * ctx.now.thresholds.sorted_runs_per_index) }
+{
+    let per_index = ctx.session().thresholds().sorted_runs_per_index;
+    runs <= mask.true_count().saturating_mul(per_index)
+}
+
 // The run of each valid index, of indices of `count` rows from position `offset` on.
 fn runs_by<E: UnsignedPType, T: NativePType, A: Allocator + Copy>(
     ends: &[E],
@@ -81,18 +95,24 @@ fn runs_by<E: UnsignedPType, T: NativePType, A: Allocator + Copy>(
     count: usize,
     indices: &[T],
     mask: &Mask<A>,
+    sorted: bool,
     ctx: &mut ExecutionCtx<A>,
 ) -> VortexResult<Vec<u64, A>>
     requires window { IsWindow (map unsigned_abs (map E.number ends.now)) offset count }
     requires some { 0 < count }
     requires masked { length (mask_bits mask.now) ≡ length indices.now }
     requires in_bounds { AreInBounds (optional_indices T.number indices.now (mask_bits mask.now)) count }
+    requires sorted { IsTrue sorted → AreSorted (optional_indices T.number indices.now (mask_bits mask.now)) }
     ensures only { IsOkUnless result VortexError.OutOfMemory }
     ensures runs { IfOk result (λ runs. AreRunsOf (map unsigned_abs (map E.number ends.now)) offset
         (optional_indices T.number indices.now (mask_bits mask.now)) runs.items) }
     ensures session { ctx.new ≡ ctx.old }
 {
     let mut counted = CountedEnds::new(ends);
+    if sorted && merges_sorted(ends.len(), mask, ctx) {
+        let alloc = *ctx.allocator();
+        return physical_indices_linear_sorted(alloc, &mut counted, offset, indices, mask);
+    }
     physical_indices(&mut counted, offset, count, indices, mask, ctx)
 }
 
@@ -103,6 +123,7 @@ fn runs_among<T: NativePType, A: Allocator + Copy>(
     count: usize,
     indices: &[T],
     mask: &Mask<A>,
+    sorted: bool,
     ctx: &mut ExecutionCtx<A>,
 ) -> VortexResult<Vec<u64, A>>
     requires unsigned { IsUnsigned (ptype_of ends.now) }
@@ -110,12 +131,13 @@ fn runs_among<T: NativePType, A: Allocator + Copy>(
     requires some { 0 < count }
     requires masked { length (mask_bits mask.now) ≡ length indices.now }
     requires in_bounds { AreInBounds (optional_indices T.number indices.now (mask_bits mask.now)) count }
+    requires sorted { IsTrue sorted → AreSorted (optional_indices T.number indices.now (mask_bits mask.now)) }
     ensures only { IsOkUnless result VortexError.OutOfMemory }
     ensures runs { IfOk result (λ runs. AreRunsOf (map unsigned_abs (numbers ends.now)) offset
         (optional_indices T.number indices.now (mask_bits mask.now)) runs.items) }
     ensures session { ctx.new ≡ ctx.old }
 {
-    match_each_unsigned!(ends, items => runs_by(items.as_slice(), offset, count, indices, mask, ctx),
+    match_each_unsigned!(ends, items => runs_by(items.as_slice(), offset, count, indices, mask, sorted, ctx),
     _ => unreachable!())
 }
 
@@ -124,11 +146,14 @@ fn runs_of_indices<T: NativePType, A: Allocator + Copy>(
     array: &RunEndArray<A>,
     indices: &[T],
     validity: &Validity<A>,
+    sorted: bool,
     ctx: &mut ExecutionCtx<A>,
 ) -> VortexResult<Vec<u64, A>>
     requires fits { HasLength (form_of validity.now) (length indices.now) }
     requires in_bounds { AreInBounds (optional_indices T.number indices.now (flags (form_of validity.now)
         (length indices.now))) array.now.count }
+    requires sorted { IsTrue sorted →
+        AreSorted (optional_indices T.number indices.now (flags (form_of validity.now) (length indices.now))) }
     ensures only { IsOkUnless result VortexError.OutOfMemory }
     ensures runs { IfOk result (λ runs. AreRunsOf array.now.ends array.now.offset (optional_indices T.number indices.now
         (flags (form_of validity.now) (length indices.now))) runs.items) }
@@ -144,7 +169,15 @@ fn runs_of_indices<T: NativePType, A: Allocator + Copy>(
         ArrayRef::Primitive(plain) => plain.values(),
         _ => unreachable!(),
     };
-    let runs = runs_among(ends, array.offset(), array.len(), indices, &mask, ctx);
+    let runs = runs_among(
+        ends,
+        array.offset(),
+        array.len(),
+        indices,
+        &mask,
+        sorted,
+        ctx,
+    );
     drop(mask);
     runs
 }

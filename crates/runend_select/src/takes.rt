@@ -1,5 +1,5 @@
 //! Rows of run columns at indices.
-ghost use Rattle.std.specs.Prelude.{◌≡◌, ◌↔◌, ◌<◌, None, Some, IfOk, IsErrOf, IsOkUnless, IsTrue, Option, ℕ, ℤ, count_by, length, map, slice_get, true};
+ghost use Rattle.std.specs.Prelude.{◌≡◌, ◌↔◌, ◌<◌, None, Some, IfOk, IsErrOf, IsOkUnless, IsTrue, Option, ℕ, ℤ, count_by, length, map, option_map, pos, slice_get, true};
 ghost use Rattle.column_base.specs.declared.error.VortexError.{VortexError};
 ghost use Rattle.column_base.specs.Types.{nullability_of, with_nullability as dtype_with};
 ghost use Rattle.column_base.specs.declared.dtype.Nullability.TheVariants.{Nullable};
@@ -11,7 +11,7 @@ ghost use Rattle.column_ops.specs.Nullable.{either_nullable, take_dtype};
 ghost use Rattle.column_ops.specs.Take.{index_fault, take_fault, take_rows};
 ghost use Rattle.runend_array.specs.Array.{column_of, dtype_of, rows};
 ghost use Rattle.runend_array.specs.Column.{column_dtype, column_of_runs, column_rows};
-ghost use Rattle.runend_indices.specs.Indices.{AreInBounds, optional_indices};
+ghost use Rattle.runend_indices.specs.Indices.{AreInBounds, AreSorted, optional_indices};
 ghost use Rattle.runend_select.specs.TakeForm.{TakeLeaves};
 ghost use Rattle.runend_select.specs.Told.{IsRefusedExactlyBy};
 
@@ -44,13 +44,7 @@ pub fn take_indices_unchecked<T: NativePType, A: Allocator + Copy>(
         (length indices.now))) (column_of taken)) }
     ensures session { ctx.new ≡ ctx.old }
 {
-    if are_all_null(validity, indices.len()) {
-        let nulls = null_rows(array.dtype(), indices.len());
-        return Ok(ArrayRef::Constant(nulls));
-    }
-    let alloc = *ctx.allocator();
-    let taken = taken_rows(array, indices, validity, ctx)?;
-    taken.into_array(alloc)
+    take_in_order(array, indices, validity, false, ctx)
 }
 
 /// The rows at the indices, null for null: a constant null where there is an index and each is null,
@@ -91,58 +85,68 @@ fn is_valid<const ALL: bool, A: Allocator>(validity: &Validity<A>, place: usize)
     validity.is_valid(place)
 }
 
-// Is the index at a place null, or one of `count` rows? `ALL` says that none is null.
+// The row of the index at a place, or `None` where the index is null. Refused as `OutOfBounds`, with the index and the
+// number of rows, where it is none of `count` rows. `ALL` says that none is null.
 #[inline(always)]
-fn check_position<const ALL: bool, T: NativePType, A: Allocator>(
+fn checked_row<const ALL: bool, T: NativePType, A: Allocator>(
     indices: &[T],
     validity: &Validity<A>,
     place: usize,
     count: usize,
-) -> VortexResult<()>
+) -> VortexResult<Option<u64>>
     requires there { place < length indices.now }
     requires fits { HasLength (form_of validity.now) (length indices.now) }
     requires all { ALL ≡ true → (row : ℕ) → flag_at (form_of validity.now) row ≡ true }
     ensures { (index : Option ℤ) × (slice_get (optional_indices T.number indices.now (flags (form_of validity.now)
         (length indices.now))) place ≡ Some index)
-        × IsRefusedExactlyBy (index_fault count index) result }
+        × IsRefusedExactlyBy (index_fault count index) result × IfOk result (λ row. index ≡ option_map pos row) }
 {
     if !is_valid::<ALL, A>(validity, place) {
-        return Ok(());
+        return Ok(None);
     }
     match checked_index(indices[place].widen(), count) {
-        Ok(_) => Ok(()),
+        Ok(row) => Ok(Some(row)),
         Err(error) => Err(error),
     }
 }
 
-// Is each index null, or one of `count` rows? Refused as `OutOfBounds`, with the index and the number of
-// rows, at the first that is not. `ALL` says that none is null.
+// Is each index null, or one of `count` rows? True says that no valid index is below a valid one before it. Refused as
+// `OutOfBounds`, with the index and the number of rows, at the first that is not. `ALL` says that none is null.
 fn check_each<const ALL: bool, T: NativePType, A: Allocator>(
     indices: &[T],
     validity: &Validity<A>,
     count: usize,
-) -> VortexResult<()>
+) -> VortexResult<bool>
     requires fits { HasLength (form_of validity.now) (length indices.now) }
     requires all { ALL ≡ true → (row : ℕ) → flag_at (form_of validity.now) row ≡ true }
-    ensures { IsRefusedExactlyBy (take_fault (optional_indices T.number indices.now (flags (form_of validity.now)
+    ensures told { IsRefusedExactlyBy (take_fault (optional_indices T.number indices.now (flags (form_of validity.now)
         (length indices.now))) count) result }
+    ensures sorted { IfOk result (λ sorted. IsTrue sorted →
+        AreSorted (optional_indices T.number indices.now (flags (form_of validity.now) (length indices.now)))) }
 {
+    let mut last = 0;
+    let mut sorted = true;
     for place in 0..indices.len() {
-        check_position::<ALL, T, A>(indices, validity, place, count)?;
+        if let Some(row) = checked_row::<ALL, T, A>(indices, validity, place, count)? {
+            sorted &= last <= row;
+            last = row;
+        }
     }
-    Ok(())
+    Ok(sorted)
 }
 
-// Is each index null, or one of `count` rows, where some may be null? Refused as `OutOfBounds`, with the index and the
-// number of rows, at the first that is not.
+// Is each index null, or one of `count` rows, where some may be null? True says that no valid index is below a valid
+// one before it. Refused as `OutOfBounds`, with the index and the number of rows, at the first that is not.
 fn check_indices<T: NativePType, A: Allocator>(
     indices: &[T],
     validity: &Validity<A>,
     count: usize,
-) -> VortexResult<()>
+) -> VortexResult<bool>
     requires fits { HasLength (form_of validity.now) (length indices.now) }
-    ensures { IsRefusedExactlyBy (take_fault (optional_indices T.number indices.now (flags (form_of validity.now)
+    ensures told { IsRefusedExactlyBy (take_fault (optional_indices T.number indices.now (flags (form_of validity.now)
         (length indices.now))) count) result }
+    ensures sorted { IfOk result (λ sorted. IsTrue sorted →
+        AreSorted (optional_indices T.number indices.now (flags (form_of validity.now) (length indices.now)))) }
 {
     match validity {
         Validity::NonNullable => check_each::<true, T, A>(indices, validity, count),
@@ -150,6 +154,37 @@ fn check_indices<T: NativePType, A: Allocator>(
         Validity::AllInvalid => check_each::<false, T, A>(indices, validity, count),
         Validity::Bits(_) => check_each::<false, T, A>(indices, validity, count),
     }
+}
+
+// What `take_indices_unchecked` answers, where `sorted` may say that no valid index is below a valid one before it.
+fn take_in_order<T: NativePType, A: Allocator + Copy>(
+    array: &RunEndArray<A>,
+    indices: &[T],
+    validity: &Validity<A>,
+    sorted: bool,
+    ctx: &mut ExecutionCtx<A>,
+) -> VortexResult<ArrayRef<A>>
+    requires fits { HasLength (form_of validity.now) (length indices.now) }
+    requires in_bounds { AreInBounds (optional_indices T.number indices.now (flags (form_of validity.now)
+        (length indices.now))) (length (column_rows (column_of_runs array.now))) }
+    requires sorted { IsTrue sorted →
+        AreSorted (optional_indices T.number indices.now (flags (form_of validity.now) (length indices.now))) }
+    ensures only { IsOkUnless result VortexError.OutOfMemory }
+    ensures rows { IfOk result (λ taken. rows taken ≡ take_rows (column_rows (column_of_runs array.now))
+        (optional_indices T.number indices.now (flags (form_of validity.now) (length indices.now)))) }
+    ensures dtype { IfOk result (λ taken. dtype_of taken ≡ dtype_with (column_dtype array.now.values)
+        (either_nullable (nullability_of (column_dtype array.now.values)) (nullability_in (form_of validity.now)))) }
+    ensures form { IfOk result (λ taken. TakeLeaves (optional_indices T.number indices.now (flags (form_of validity.now)
+        (length indices.now))) (column_of taken)) }
+    ensures session { ctx.new ≡ ctx.old }
+{
+    if are_all_null(validity, indices.len()) {
+        let nulls = null_rows(array.dtype(), indices.len());
+        return Ok(ArrayRef::Constant(nulls));
+    }
+    let alloc = *ctx.allocator();
+    let taken = taken_rows(array, indices, validity, sorted, ctx)?;
+    taken.into_array(alloc)
 }
 
 // Is there a row, and is each null?
@@ -194,6 +229,6 @@ fn take_native<T: NativePType, A: Allocator + Copy>(
         (form_of validity.now))) (column_of taken)) }
     ensures session { ctx.new ≡ ctx.old }
 {
-    check_indices(indices, validity, array.len())?;
-    take_indices_unchecked(array, indices, validity, ctx)
+    let sorted = check_indices(indices, validity, array.len())?;
+    take_in_order(array, indices, validity, sorted, ctx)
 }

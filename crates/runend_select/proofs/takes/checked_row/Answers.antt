@@ -1,13 +1,13 @@
-use Rattle.std.proofs.Common.{◌≡◌, ◌∙◌, Err, FitsSigned, None, Option, Some, ap, refl, rules, subst, sym, ⊎_elim}
+use Rattle.std.proofs.Common.{◌∙◌, Err, FitsSigned, None, Some, ap, refl, rules, sym, ⊎_elim}
 use Rattle.std.specs.Int.{w128}
 use Rattle.std.proofs.lemmas.Int.{to_z-of_z}
 use Rattle.column_base.specs.Validity.{form_of}
 use Rattle.runend_select.proofs.CheckedIndices.{index-null, index-valid}
-use Rattle.runend_select.proofs.takes.check_position.Goals as goal
+use Rattle.runend_select.proofs.takes.checked_row.Goals as goal
 
 pub returns-then-not-is_valid : goal.returns-then-not-is_valid
 returns-then-not-is_valid g c =
-    (None, index-null g.T.NativePType.number c.args.indices.now (form_of c.args.validity.now) c.args.place c.requires.fits c.requires.there (sym c.is_valid.ensures ∙ c.if-not-is_valid.true), refl)
+    (None, index-null g.T.NativePType.number c.args.indices.now (form_of c.args.validity.now) c.args.place c.requires.fits c.requires.there (sym c.is_valid.ensures ∙ c.if-not-is_valid.true), refl, refl)
 
 pub returns-in-Ok : goal.returns-in-Ok
 returns-in-Ok g c =
@@ -17,6 +17,7 @@ returns-in-Ok g c =
       Some (number item),
       index-valid number c.args.indices.now (form_of c.args.validity.now) c.args.place item c.requires.fits c.requires.there (sym c.is_valid.ensures ∙ c.if-not-is_valid.false) c.index-indices-place.is,
       rw (to_z-of_z w128 c.widen.result fits, c.widen.ensures) at c.in-Ok.ensures.refused,
+      ap Some (sym (rw (to_z-of_z w128 c.widen.result fits, c.widen.ensures) at c.in-Ok.ensures.same)),
     )
 
 pub returns-in-Err : goal.returns-in-Err
@@ -28,4 +29,5 @@ returns-in-Err g c =
       Some (number item),
       index-valid number c.args.indices.now (form_of c.args.validity.now) c.args.place item c.requires.fits c.requires.there (sym c.is_valid.ensures ∙ c.if-not-is_valid.false) c.index-indices-place.is,
       rw (to_z-of_z w128 c.widen.result fits, c.widen.ensures) at told,
+      tt,
     )

@@ -9,7 +9,7 @@ use Rattle.runend_select.specs.TakeForm.{TakeLeaves}
 use Rattle.runend_select.proofs.AllNull.{all_null, flat-taken, not_all_null, null_dtype, null_rows}
 use Rattle.array_rowwise.proofs.ComputedRows.{ok_then}
 use Rattle.array_rowwise.proofs.PassedOn.{no_value, only_error}
-use Rattle.runend_select.proofs.takes.take_indices_unchecked.Goals as goal
+use Rattle.runend_select.proofs.takes.take_in_order.Goals as goal
 
 pub returns-then-are_all_null-clause-rows : goal.returns-then-are_all_null-clause-rows
 returns-then-are_all_null-clause-rows g c =
