@@ -18,9 +18,9 @@ import warnings
 from pathlib import Path
 
 SCHEMA = Path(__file__).resolve().parents[2] / "docs"
-FLAT, RUNS = 1, 2
+FLAT, RUNS, CONSTANT = 1, 2, 3
 NEVER_NULL, NONE_NULL, ALL_NULL, BY_BITS = 1, 2, 3, 4
-BOOL, DECIMAL = 9, 10
+BOOL, DECIMAL, UTF8, BINARY = 9, 10, 11, 12
 SIZES = {1: 1, 2: 2, 3: 4, 4: 8, 5: 1, 6: 2, 7: 4, 8: 8, DECIMAL: 16}  # bytes of a number, by its type
 UNSIGNED = {1, 2, 3, 4}
 MOST_LEVELS, SHOWN = 16, 100
@@ -71,13 +71,29 @@ def flat(chance: random.Random, rows: int):
     return message
 
 
+def constant(chance: random.Random, rows: int):
+    """One value in each of so many rows, or null."""
+    kind = chance.choice([*(SIZES.keys() - {DECIMAL}), BOOL, UTF8, BINARY])
+    message = begun(kind, CONSTANT, rows)
+    message.validity = chance.choice([NEVER_NULL, NONE_NULL, ALL_NULL])
+    if message.validity == ALL_NULL:
+        message.items = b""
+    elif kind == BOOL:
+        message.items = bytes([chance.randrange(2)])
+    elif kind in (UTF8, BINARY):
+        message.items = chance.choice(["", "a", "Z\u00fcrich", "\U0001f41d"]).encode()
+    else:
+        message.items = chance.randbytes(SIZES[kind])
+    return message
+
+
 def runs(chance: random.Random, rows: int, levels: int):
     """A column of so many rows under at most so many levels of runs."""
     ends_type = chance.choice([*UNSIGNED])
     most = 2 ** (8 * SIZES[ends_type]) - 1
     offset = chance.choice([0, 0, 1, 3])
     if levels == 0 or chance.random() < 0.2 or offset + rows > most:
-        return flat(chance, rows)
+        return constant(chance, rows) if chance.random() < 0.4 else flat(chance, rows)
     first = chance.randint(offset, offset + rows)
     later = range(first + 1, offset + rows)
     ends = [first, *sorted(chance.sample(later, min(len(later), chance.randrange(6))))]
@@ -167,6 +183,20 @@ def is_flat(message) -> bool:
     return message.type in SIZES and len(message.items) == message.rows * SIZES[message.type]
 
 
+def is_constant(message) -> bool:
+    if fields_of(message) != {"version", "type", "form", "rows", "validity", "items"} or message.run_lengths:
+        return False
+    if message.validity == ALL_NULL:
+        return message.type in {*SIZES, BOOL, UTF8, BINARY} - {DECIMAL} and not message.items
+    if message.validity not in (NEVER_NULL, NONE_NULL):
+        return False
+    if message.type == UTF8:
+        return message.items.decode(errors="ignore").encode() == message.items
+    if message.type in (BOOL, BINARY):
+        return message.type == BINARY or message.items in (b"\0", b"\1")
+    return message.type in SIZES.keys() - {DECIMAL} and len(message.items) == SIZES[message.type]
+
+
 def ends_of(message) -> list[int]:
     return [sum(message.run_lengths[: run + 1]) for run in range(len(message.run_lengths))]
 
@@ -195,7 +225,8 @@ def are_runs(message, levels: int) -> bool:
 def is_column(message, levels: int = MOST_LEVELS) -> bool:
     if message.version != 1:
         return False
-    return is_flat(message) if message.form == FLAT else message.form == RUNS and are_runs(message, levels)
+    forms = {FLAT: is_flat, RUNS: lambda runs: are_runs(runs, levels), CONSTANT: is_constant}
+    return message.form in forms and forms[message.form](message)
 
 
 # ---- the rows, and the answer that is due
@@ -211,6 +242,10 @@ def row(message, index: int) -> str:
         return row(message.values, next(run for run, end in enumerate(ends_of(message)) if end > position))
     if message.validity == ALL_NULL or message.validity == BY_BITS and not is_set(message.validity_bits, index):
         return "null"
+    if message.form == CONSTANT:
+        index = 0
+    if message.type in (UTF8, BINARY):
+        return f"'{message.items.hex()}"
     if message.type == BOOL:
         return str(is_set(message.items, index)).lower()
     size = SIZES[message.type]

@@ -13,12 +13,14 @@ import sys
 import warnings
 
 import messages
-from messages import ALL_NULL, BOOL, BY_BITS, DECIMAL, NEVER_NULL, RUNS, Column
+from messages import ALL_NULL, BINARY, BOOL, BY_BITS, CONSTANT, DECIMAL, NEVER_NULL, RUNS, UTF8, Column
 
 READ = re.compile(r"(?:refuse )?([a-z]\w*) = from bytes ((?:[0-9A-Fa-f]{2} )*[0-9A-Fa-f]{2}|-)(?: => (.*))?")
 WRITTEN = re.compile(r"(?:refuse )?([a-z]\w*) bytes => ([0-9A-F]{2}(?: [0-9A-F]{2})*)(?: memory| none)?")
 FORM = re.compile(r"([a-z]\w*) form => (.*)")
-TYPES = {1: "u8", 2: "u16", 3: "u32", 4: "u64", 5: "i8", 6: "i16", 7: "i32", 8: "i64", BOOL: "bool"}
+TYPES = {1: "u8", 2: "u16", 3: "u32", 4: "u64", 5: "i8", 6: "i16", 7: "i32", 8: "i64"}
+TYPES |= {BOOL: "bool", UTF8: "utf8", BINARY: "binary"}
+ESCAPES = str.maketrans({" ": "\\s", "\n": "\\n", '"': '\\"', "\\": "\\\\"})
 VALIDITIES = {1: "nonnull", 2: "valid", ALL_NULL: "invalid", BY_BITS: "bits"}
 
 
@@ -33,19 +35,24 @@ def column(data: bytes):
 
 def row(message, index: int) -> str:
     shown = messages.row(message, index)
-    if message.type != DECIMAL or shown == "null":
+    if message.type not in (DECIMAL, UTF8, BINARY) or shown == "null":
         return shown
-    return str(int.from_bytes(bytes.fromhex(shown), "big", signed=True))
+    data = bytes.fromhex(shown.removeprefix("'"))
+    if message.type == DECIMAL:
+        return str(int.from_bytes(data, "big", signed=True))
+    return f"x{data.hex().upper()}" if message.type == BINARY else f'"{data.decode().translate(ESCAPES)}"'
 
 
 def form(message) -> str:
-    """The form of a flat or run column in the words of docs/VECTORS.md."""
+    """The form of a column in the words of docs/VECTORS.md."""
     if message.form == RUNS:
         window = [TYPES[message.ends_type], message.offset, message.rows, *messages.ends_of(message)]
         return " ".join(["runs", *map(str, window), "{", form(message.values), "}"])
     decimal = f"decimal({message.precision},{message.scale})"
     name = decimal if message.type == DECIMAL else TYPES[message.type]
     null = "" if message.validity == NEVER_NULL else "?"
+    if message.form == CONSTANT:
+        return f"constant {name}{null} {row(message, 0)} {message.rows}"
     rows = [row(message, index) for index in range(message.rows)]
     return " ".join(["flat", name + null, VALIDITIES[message.validity], *rows])
 

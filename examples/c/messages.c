@@ -19,6 +19,11 @@ static const uint8_t window_message[] = {0x08, 1, 0x10, 6, 0x18, 2, 0x20, 2, 0x4
 static const uint8_t decimals_message[] = {0x08, 1, 0x10, 10, 0x18, 1, 0x20, 2, 0x28, 1, 0x3a, 32,
                                            0x6a, 0xff, 0xff, 0xff, ONES_4, ONES_4, ONES_4,
                                            0x96, ZEROS_5, ZEROS_5, ZEROS_5, 0x70, 5, 0x78, 4};
+/* "ab" in each of 2^60 rows, of a type without null; 258 of u16 in three rows, of one with null; null of bytes in two */
+static const uint8_t text_message[] = {0x08, 1, 0x10, 11, 0x18, 3, 0x20, 0x80, 0x80, 0x80, 0x80, 0x80, 0x80, 0x80, 0x80,
+                                       0x10, 0x28, 1, 0x3a, 2, 'a', 'b'};
+static const uint8_t number_message[] = {0x08, 1, 0x10, 2, 0x18, 3, 0x20, 3, 0x28, 2, 0x3a, 2, 2, 1};
+static const uint8_t null_message[] = {0x08, 1, 0x10, 12, 0x18, 3, 0x20, 2, 0x28, 3, 0x3a, 0};
 
 static hv_column flat = HV_EMPTY, runs = HV_EMPTY, window = HV_EMPTY, decimals = HV_EMPTY;
 
@@ -80,7 +85,31 @@ static void check_damaged(const uint8_t *message, size_t len) {
     hv_free(&out);
 }
 
-/* Texts have no message, and an empty handle no column. */
+/* Constants: what is written of them, and what is read; those of decimals have no message. */
+static void check_constants(void) {
+    const hv_kind text = {HV_UTF8, 0, 0, 0}, number = {HV_U16, 1, 0, 0};
+    const hv_kind bytes = {HV_BINARY, 1, 0, 0}, decimal = {HV_DECIMAL, 0, 5, 2};
+    const hv_value ab = {.kind = HV_TEXT, .as_unsigned = 2}, large = {.kind = HV_UNSIGNED, .as_unsigned = 258};
+    const hv_value null = {.kind = HV_NULL}, half = {.kind = HV_DECIMAL_VALUE, .as_unsigned = 50};
+    hv_column column = HV_EMPTY, read = HV_EMPTY;
+    uint8_t written[64];
+    size_t size;
+    CHECK(!hv_constant(&text, &ab, (const uint8_t *)"ab", 2, (size_t)1 << 60, &column, &error));
+    CHECK(!hv_write(&column, written, sizeof written, &size, &error) && size == sizeof text_message);
+    CHECK(memcmp(written, text_message, size) == 0 && !hv_read_column(written, size, &read, &error));
+    CHECK(hv_length(&read) == (size_t)1 << 60 && hv_form(&read) == HV_FORM_CONSTANT);
+    CHECK(!hv_slice(&session, &read, 5, 7, &column, &error));
+    CHECK_ROWS(&column, "\"ab\" \"ab\"");
+    CHECK(!hv_constant(&number, &large, NO_TEXT, 3, &column, &error));
+    check_message(&column, number_message, sizeof number_message, "258 258 258");
+    CHECK(!hv_constant(&bytes, &null, NO_TEXT, 2, &column, &error));
+    check_message(&column, null_message, sizeof null_message, "null null");
+    CHECK(!hv_constant(&decimal, &half, NO_TEXT, 2, &column, &error));
+    CHECK_REFUSED(hv_write_size(&column, &size, &error), 13, 0, 0, 0);
+    hv_free(&column), hv_free(&read);
+}
+
+/* Flat texts have no message, and an empty handle no column. */
 static void check_none(void) {
     const int32_t offsets[2] = {0, 1};
     hv_column text = HV_EMPTY, none = HV_EMPTY;
@@ -100,10 +129,12 @@ int main(void) {
     check_message(&runs, runs_message, sizeof runs_message, "7 7 7 null null");
     check_message(&window, window_message, sizeof window_message, "7 null");
     check_message(&decimals, decimals_message, sizeof decimals_message, "-1:18446744073709551466 0:150");
+    check_constants();
     check_damaged(flat_message, sizeof flat_message);
     check_damaged(runs_message, sizeof runs_message);
     check_damaged(window_message, sizeof window_message);
     check_damaged(decimals_message, sizeof decimals_message);
+    check_damaged(text_message, sizeof text_message);
     check_none();
     hv_free(&flat), hv_free(&runs), hv_free(&window), hv_free(&decimals);
     puts("columns and their bytes agree");

@@ -30,6 +30,7 @@ static uint8_t letters[BYTES];
 static uint8_t kept_message[1024], decimals_message[64]; /* of `part`, and of `decimals` */
 static size_t message_size, decimals_size;
 static const uint16_t some_places[5] = {1, 3, 60, 79, 0};
+static const uint8_t text_message[] = {8, 1, 16, 11, 24, 3, 32, 9, 40, 1, 58, 4, 'a', 'b', 'c', 'd'};
 static uint64_t list_offsets[ROWS / 2], list_sizes[ROWS / 2];
 static const hv_pair pairs[2] = {{5, 0}, {UINT64_MAX, -1}};
 static const hv_kind i32_type = {HV_I32, 1, 0, 0}, i64_type = {HV_I64, 1, 0, 0}, text_type = {HV_UTF8, 0, 0, 0};
@@ -192,6 +193,8 @@ STEP(write_message, hv_write(&part, message, sizeof message, &size, &error))
 STEP(column_of_message, hv_read_column(kept_message, message_size, &out, &error))
 STEP(write_decimals, hv_write(&decimals, message, sizeof message, &size, &error))
 STEP(decimals_of_message, hv_read_column(decimals_message, decimals_size, &out, &error))
+STEP(write_constant, hv_write(&constant, message, sizeof message, &size, &error))
+STEP(constant_of_message, hv_read_column(text_message, sizeof text_message, &out, &error))
 STEP(export_flat, hv_arrow_export(&session, &flat, "flat", &schema, &array, &error))
 STEP(export_runs, hv_arrow_export(&session, &part, "runs", &schema, &array, &error))
 STEP(export_constant, hv_arrow_export(&session, &constant, "constant", &schema, &array, &error))
@@ -231,7 +234,7 @@ static const step steps[] = {
     NAMED(offsets_of_lists), NAMED(sizes_of_lists), NAMED(list_validity), NAMED(slice_lists), NAMED(take_lists),
     NAMED(decode_lists), NAMED(clone_lists), NAMED(read_ends), NAMED(make_constant), NAMED(run_ends), NAMED(run_values),
     NAMED(serialize), NAMED(deserialize), NAMED(size_of_message), NAMED(write_message), NAMED(column_of_message),
-    NAMED(write_decimals), NAMED(decimals_of_message),
+    NAMED(write_decimals), NAMED(decimals_of_message), NAMED(write_constant), NAMED(constant_of_message),
     NAMED(export_flat), NAMED(export_runs), NAMED(export_constant),
     NAMED(export_texts), NAMED(export_truths), NAMED(export_dictionary), NAMED(import_texts),
     NAMED(import_dictionary), NAMED(export_and_import),

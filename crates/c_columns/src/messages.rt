@@ -17,7 +17,7 @@ pub fn message_size(alloc: Global, array: &ArrayRef<Global>) -> VortexResult<usi
     ensures told { IfOk result (λ size. HasMessage (column_of array.now) size) }
     ensures refused { IfErr result (λ error. IsShortOr (SizeFault array.now) error) }
 {
-    let message = write_column(array, alloc)?;
+    let message = write_column(alloc, array)?;
     Ok(message.len())
 }
 
@@ -29,7 +29,7 @@ pub fn put_message(alloc: Global, array: &ArrayRef<Global>, room: &mut [u8]) -> 
     ensures refused { IfErr result (λ error. IsShortOr (MessageFault (length room.old) array.now) error) }
     ensures len { length room.new ≡ length room.old }
 {
-    let message = write_column(array, alloc)?;
+    let message = write_column(alloc, array)?;
     let size = put_bytes(&message, room)?;
     Ok(size as usize)
 }
@@ -40,5 +40,5 @@ pub fn column_of_message(alloc: Global, bytes: &[u8]) -> VortexResult<Boxed>
     ensures made { IfOk result (λ made. IsColumnOfMessage bytes.now made.value) }
     ensures refused { IfErr result (λ error. IsShortOr (IsUnreadable bytes.now) error) }
 {
-    boxed(alloc, read_column(bytes, alloc)?)
+    boxed(alloc, read_column(alloc, bytes)?)
 }

@@ -1,4 +1,7 @@
 pub mod Leaves
+pub mod ConstantReads
+pub mod Shown
+pub mod ConstantWrites
 pub mod Ends
 pub mod Messages
 pub mod Writes

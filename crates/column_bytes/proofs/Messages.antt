@@ -1,10 +1,10 @@
 -- Messages are read as they are written, and in no other way.
-use Rattle.std.proofs.Common.{◌≡◌, ℕ, ◌+◌, ◌-◌, ◌*◌, ◌^◌, ◌<◌, ◌≤◌, true, List, ◌++◌, length, refl, sym, ap, subst, ◌∙◌, arith}
+use Rattle.std.proofs.Common.{◌≡◌, ℕ, ◌+◌, ◌*◌, ◌^◌, ◌<◌, ◌≤◌, true, List, ◌++◌, length, refl, sym, ap, subst, ◌∙◌, arith}
 use Rattle.std.proofs.lemmas.List.{length-append}
 use Rattle.column_base.specs.declared.dtype.PType.{PType}
 use Rattle.column_base.specs.declared.dtype.DType.{DType}
 use Rattle.column_base.specs.declared.dtype.DType.TheVariants as dtype
-use Rattle.column_core.specs.Leaf.{Leaf, OfNumbers, OfTruths, OfDecimals, OfVarBins}
+use Rattle.column_core.specs.Leaf.{OfNumbers, OfTruths, OfDecimals, OfVarBins}
 use Rattle.varints.specs.Varint.{varint}
 use Rattle.column_fields.specs.Field.{number_field, bytes_field}
 use Rattle.column_fields.specs.Header.{header_bytes, HasNoHeader}
@@ -19,6 +19,8 @@ use Rattle.runend_array.specs.Column.{Column, OfLeaf, OfConstant, OfLists, OfRun
 use Rattle.column_bytes.specs.Bytes.{kind_number, form_number, column_count, column_header, column_body, column_bytes, leaf_fields}
 use Rattle.column_bytes.specs.Stored.{IsStored}
 use Rattle.column_bytes.specs.Read.{IsMessage, IsNoMessage, IsBody, IsNoBody, HasNoEndsOf, AreRunsOf, AreNoRunsOf}
+use Rattle.column_bytes.specs.Values.{value_fields}
+use Rattle.column_bytes.proofs.ConstantReads.{constant_at, constant_body, constant_one}
 use Rattle.column_bytes.proofs.Ends.{ends_rise}
 use Rattle.column_bytes.proofs.Leaves.{leaf_body, numbers_at, truths_at, decimals_at, numbers_one, truths_one, decimals_one}
 
@@ -44,7 +46,7 @@ count_small (OfLeaf (OfTruths form)) s = s.small
 count_small (OfLeaf (OfDecimals form)) s = s.small
 count_small (OfLeaf (OfVarBins form)) s = absurd s
 count_small (OfRuns ends_type ends values offset count) s = omega (arith, s.1.window.small)
-count_small (OfConstant constant) s = absurd s
+count_small (OfConstant constant) s = s.small
 count_small (OfLists lists) s = absurd s
 
 -- the body behind a header that is read
@@ -67,15 +69,15 @@ is_message least levels kind form rows bytes rest c le b h = record {
   spelt = b ∙ ap (λ (n : ℕ). header_bytes n form rows ++ rest) (sym h.kind_is) ∙ ap (λ (n : ℕ). header_bytes (kind_number (column_dtype c)) n rows ++ rest) (sym h.form_is) ∙ ap (λ (n : ℕ). header_bytes (kind_number (column_dtype c)) (form_number c) n ++ rest) (sym h.rows_is) ∙ ap (λ (x : List ℕ). column_header c ++ x) h.spelt;
 }
 
--- the forms that have bytes are two
-other_form_at : (levels kind form rows : ℕ) (bytes : List ℕ) (c : Column) → (form ≡ 1 → ⊥) → (form ≡ 2 → ⊥) → IsBody levels kind form rows bytes c → ⊥
-other_form_at levels kind form rows bytes (OfLeaf leaf) a b h = a (sym h.form_is)
-other_form_at levels kind form rows bytes (OfRuns ends_type ends values offset count) a b h = b (sym h.form_is)
-other_form_at levels kind form rows bytes (OfConstant constant) a b h = h.writable.stored
-other_form_at levels kind form rows bytes (OfLists lists) a b h = h.writable.stored
+-- the forms that have bytes are three
+other_form_at : (levels kind form rows : ℕ) (bytes : List ℕ) (c : Column) → (form ≡ 1 → ⊥) → (form ≡ 2 → ⊥) → (form ≡ 3 → ⊥) → IsBody levels kind form rows bytes c → ⊥
+other_form_at levels kind form rows bytes (OfLeaf leaf) a b d h = a (sym h.form_is)
+other_form_at levels kind form rows bytes (OfRuns ends_type ends values offset count) a b d h = b (sym h.form_is)
+other_form_at levels kind form rows bytes (OfConstant constant) a b d h = d (sym h.form_is)
+other_form_at levels kind form rows bytes (OfLists lists) a b d h = h.writable.stored
 
-pub other_form : (levels kind form rows : ℕ) (bytes : List ℕ) → (form ≡ 1 → ⊥) → (form ≡ 2 → ⊥) → IsNoBody levels kind form rows bytes
-other_form levels kind form rows bytes a b = record { none = λ c h. other_form_at levels kind form rows bytes c a b h }
+pub other_form : (levels kind form rows : ℕ) (bytes : List ℕ) → (form ≡ 1 → ⊥) → (form ≡ 2 → ⊥) → (form ≡ 3 → ⊥) → IsNoBody levels kind form rows bytes
+other_form levels kind form rows bytes a b d = record { none = λ c h. other_form_at levels kind form rows bytes c a b d h }
 
 -- ---- runs
 
@@ -111,7 +113,7 @@ runs_at (OfRuns ends_type ends values offset count) levels kind rows bytes h = r
   kind_is = h.kind_is;
   spelt = h.spelt ∙ run_body ends_type ends values offset count;
 }
-runs_at (OfConstant constant) levels kind rows bytes h = absurd h.writable.stored
+runs_at (OfConstant constant) levels kind rows bytes h = absurd (omega (arith, h.form_is))
 runs_at (OfLists lists) levels kind rows bytes h = absurd h.writable.stored
 
 lengths_long : (offset : ℕ) (t : PType) (lengths values : List ℕ) → length lengths ≤ length (run_fields offset t lengths values)
@@ -178,7 +180,10 @@ column_one levels (OfLeaf (OfDecimals form)) d s lt m =
     let at = decimals_at d levels 10 (column_count (OfLeaf (OfDecimals form))) (leaf_fields (OfDecimals form)) refl (subst (λ (x : List ℕ). IsBody levels 10 1 (column_count (OfLeaf (OfDecimals form))) x d) (leaf_body (OfDecimals form)) (own_body levels (OfLeaf (OfDecimals form)) d s m)) in
     ap (λ f. OfLeaf (OfDecimals f)) (decimals_one form at.form s (omega (arith, fields_long (OfLeaf (OfDecimals form)), ap length (leaf_body (OfDecimals form)))) at.are) ∙ sym at.is
 column_one levels (OfLeaf (OfVarBins form)) d s lt m = absurd s
-column_one levels (OfConstant constant) d s lt m = absurd s
+column_one levels (OfConstant constant) d s lt m =
+    let fields : List ℕ = value_fields constant.dtype constant.value in
+    let at = constant_at d levels (kind_number constant.dtype) constant.count fields (subst (λ (x : List ℕ). IsBody levels (kind_number constant.dtype) 3 constant.count x d) (constant_body constant) (own_body levels (OfConstant constant) d s m)) in
+    ap OfConstant (constant_one constant at.constant s (omega (arith, fields_long (OfConstant constant), ap length (constant_body constant))) at.count at.value) ∙ sym at.is
 column_one levels (OfLists lists) d s lt m = absurd s
 column_one levels (OfRuns t ends values offset count) d s lt m =
     let body : List ℕ = column_body (OfRuns t ends values offset count) in

@@ -1,3 +1,4 @@
+pub mod Values
 pub mod Bytes
 pub mod Stored
 pub mod Read

@@ -1,16 +1,23 @@
 -- What bytes are as messages, with at most so many levels of runs.
-use Rattle.std.specs.Prelude.{◌≡◌, ◌⊎◌, ℕ, ◌≤◌, true, List, length}
+use Rattle.std.specs.Prelude.{◌≡◌, ◌⊎◌, ℕ, ℤ, ◌≤◌, true, Some, None, List, [], length}
+use Rattle.column_base.specs.declared.dtype.Nullability.{Nullability}
+use Rattle.column_base.specs.declared.dtype.DType.{DType}
 use Rattle.column_base.specs.declared.dtype.PType.{PType}
 use Rattle.column_base.specs.declared.error.VortexError.{VortexError}
 use Rattle.column_base.specs.declared.error.VortexError.TheVariants.{Unsupported, OutOfMemory}
+use Rattle.column_base.specs.Types.{HasNumber, nullability_of}
+use Rattle.column_core.specs.Value.{FlatValue, Number}
+use Rattle.column_core.specs.ScalarForm.{ScalarForm}
 use Rattle.column_core.specs.Leaf.{OfNumbers, OfTruths, OfDecimals}
 use Rattle.column_core.specs.PrimitiveForm.{PrimitiveForm, primitive_dtype}
 use Rattle.column_core.specs.BoolForm.{BoolForm}
 use Rattle.column_core.specs.DecimalForm.{DecimalForm}
+use Rattle.column_fields.specs.NumberBytes.{number_bytes}
 use Rattle.column_fields.specs.Lengths.{lengths_bytes, Rises, AreEndsOf}
 use Rattle.runend_windows.specs.Ends.{IsEndsType, ends_of}
 use Rattle.runend_array.specs.Column.{Column, OfRuns, AreRuns, runs_with, column_dtype, depth}
 use Rattle.column_bytes.specs.Bytes.{kind_number, form_number, column_count, leaf_fields, column_body, column_bytes}
+use Rattle.column_bytes.specs.Values.{IsPlainType, IsStoredValue, some_bytes, value_fields}
 use Rattle.column_bytes.specs.Stored.{IsStored, AreNumbers, AreTruths, AreDecimals}
 
 -- the column has bytes, and no more levels of runs than so many
@@ -64,6 +71,52 @@ pub record AreDecimalsOf (rows : ℕ) (bytes : List ℕ) (form : DecimalForm) : 
 
 pub record AreNoDecimalsOf (rows : ℕ) (bytes : List ℕ) : Type 0 where
   pub none : (form : DecimalForm) → AreDecimalsOf rows bytes form → ⊥
+
+-- the bytes are what the message of a constant of this value says behind its header
+pub record IsValueIn (kind : ℕ) (bytes : List ℕ) (scalar : ScalarForm) : Type 0 where
+  pub kind_is : kind_number scalar.dtype ≡ kind
+  pub stored : IsStoredValue scalar.dtype scalar.value
+  pub spelt : bytes ≡ value_fields scalar.dtype scalar.value
+
+pub record HasNoValueIn (kind : ℕ) (bytes : List ℕ) : Type 0 where
+  pub none : (scalar : ScalarForm) → IsValueIn kind bytes scalar → ⊥
+
+-- the scalar is null, of the type of that number with null, and has no bytes
+pub record IsNullOf (kind : ℕ) (bytes : List ℕ) (scalar : ScalarForm) : Type 0 where
+  pub is : scalar.value ≡ None
+  pub kind_is : kind_number scalar.dtype ≡ kind
+  pub stored : IsStoredValue scalar.dtype None
+  pub spelt : bytes ≡ []
+
+pub record HasNoNullOf (kind : ℕ) (bytes : List ℕ) : Type 0 where
+  pub none : (scalar : ScalarForm) → IsNullOf kind bytes scalar → ⊥
+
+-- the scalar is a value of the type of that number, with these bytes
+pub record IsSomeOf (kind : ℕ) (n : Nullability) (bytes : List ℕ) (scalar : ScalarForm) : Type 0 where
+  pub value : FlatValue
+  pub is : scalar.value ≡ Some value
+  pub kind_is : kind_number scalar.dtype ≡ kind
+  pub nullability : nullability_of scalar.dtype ≡ n
+  pub stored : IsStoredValue scalar.dtype (Some value)
+  pub spelt : some_bytes scalar.dtype value ≡ bytes
+
+pub record HasNoSomeOf (kind : ℕ) (n : Nullability) (bytes : List ℕ) : Type 0 where
+  pub none : (scalar : ScalarForm) → IsSomeOf kind n bytes scalar → ⊥
+
+-- the value is a number of the native type with these bytes
+pub record IsWholeOf (t : PType) (bytes : List ℕ) (value : FlatValue) : Type 0 where
+  pub number : ℤ
+  pub is : value ≡ Number number
+  pub has : HasNumber t number
+  pub spelt : number_bytes t number ≡ bytes
+
+-- no value of the type has these bytes
+pub record HasNoValueOf (t : DType) (bytes : List ℕ) : Type 0 where
+  pub none : (value : FlatValue) → IsStoredValue t (Some value) → some_bytes t value ≡ bytes → ⊥
+
+-- no type of values has this number
+pub record HasNoPlainType (kind : ℕ) : Type 0 where
+  pub none : (t : DType) → IsPlainType t → kind_number t ≡ kind → ⊥
 
 -- a flat column of ends of the type, of which these are the run lengths
 pub record IsEndsColumn (t : PType) (lengths : List ℕ) (form : PrimitiveForm) : Type 0 where

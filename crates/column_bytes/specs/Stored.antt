@@ -9,7 +9,8 @@ use Rattle.column_core.specs.BoolForm.{BoolForm}
 use Rattle.column_core.specs.DecimalForm.{DecimalForm}
 use Rattle.column_fields.specs.DecimalFields.{IsDecimalType}
 use Rattle.column_fields.specs.Lengths.{AreEndsOf}
-use Rattle.runend_array.specs.Column.{Column, OfLeaf, OfConstant, OfLists, OfRuns, AreRuns, runs_with}
+use Rattle.column_bytes.specs.Values.{IsStoredValue}
+use Rattle.runend_array.specs.Column.{Column, Constant, OfLeaf, OfConstant, OfLists, OfRuns, AreRuns, runs_with}
 
 -- each number is one of the type, and the validity speaks of each row
 pub record AreNumbers (form : PrimitiveForm) : Type 0 where
@@ -35,9 +36,14 @@ IsStoredLeaf (OfTruths form) = AreTruths form
 IsStoredLeaf (OfDecimals form) = AreDecimals form
 IsStoredLeaf (OfVarBins form) = ⊥
 
--- flat columns of integers, of booleans and of decimals, and runs over columns that have bytes
+-- the value is one of its type, or null where that has null
+pub record IsStoredConstant (constant : Constant) : Type 0 where
+  pub value : IsStoredValue constant.dtype constant.value
+  pub small : constant.count < 2 ^ 64
+
+-- flat columns of integers, of booleans and of decimals, constants, and runs over columns that have bytes
 abbrev pub IsStored : Column → Type 0
 IsStored (OfLeaf leaf) = IsStoredLeaf leaf
-IsStored (OfConstant constant) = ⊥
+IsStored (OfConstant constant) = IsStoredConstant constant
 IsStored (OfLists lists) = ⊥
 IsStored (OfRuns ends_type ends values offset count) = AreEndsOf ends_type ends × AreRuns (runs_with ends_type ends values offset count) × IsStored values

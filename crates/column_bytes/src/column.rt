@@ -5,6 +5,7 @@ ghost use Rattle.column_bytes.specs.Bytes.{column_bytes};
 ghost use Rattle.column_bytes.specs.Read.{IsMessage, IsNoMessage, IsWritable, IsUnsupportedOrMemory};
 ghost use Rattle.column_fields.specs.Refusal.{IsBadOrMemory};
 
+use crate::constants::{put_constant, read_constant};
 use crate::flat::{put_decimal_rows, put_numbers, put_truths, read_leaf};
 use crate::runs::{put_runs, read_runs};
 use column_base::{VortexError, VortexResult};
@@ -16,11 +17,11 @@ use std::alloc::Allocator;
 pub const MOST_LEVELS: usize = 16;
 
 /// The message of a column, in memory of the allocator `alloc`. Refused as `Unsupported` exactly for a column that
-/// version 1 does not write: one of texts, bytes or lists, a constant, runs over one of these, or more than
-/// 16 levels of runs; else as `OutOfMemory` alone.
+/// version 1 does not write: a flat one of texts or bytes, one of lists, a constant of decimals, runs over one of
+/// these, or more than 16 levels of runs; else as `OutOfMemory` alone.
 pub fn write_column<A: Allocator + Copy, B: Allocator + Copy>(
-    array: &ArrayRef<A>,
     alloc: B,
+    array: &ArrayRef<A>,
 ) -> VortexResult<Vec<u8, B>>
     ensures bytes { IfOk result (λ out. out.items ≡ column_bytes (column_of array.now)) }
     ensures refused { IsErrOf result VortexError.Unsupported → ¬ IsWritable 16 (column_of array.now) }
@@ -28,13 +29,13 @@ pub fn write_column<A: Allocator + Copy, B: Allocator + Copy>(
     ensures only { IfErr result IsUnsupportedOrMemory }
 {
     let mut out = Vec::new(alloc);
-    put_column(&mut out, array, MOST_LEVELS, alloc)?;
+    put_column(alloc, &mut out, array, MOST_LEVELS)?;
     Ok(out)
 }
 
 /// The column of which the bytes are the message. Refused as `BadMetadata` exactly where they are the message of no
 /// column with at most 16 levels of runs, else as `OutOfMemory` alone.
-pub fn read_column<A: Allocator + Copy>(bytes: &[u8], alloc: A) -> VortexResult<ArrayRef<A>>
+pub fn read_column<A: Allocator + Copy>(alloc: A, bytes: &[u8]) -> VortexResult<ArrayRef<A>>
     ensures found { IfOk result (λ array. IsMessage 16 bytes.now (column_of array)) }
     ensures bad { IsErrOf result VortexError.BadMetadata → IsNoMessage 16 bytes.now }
     ensures only { IfErr result IsBadOrMemory }
@@ -44,10 +45,10 @@ pub fn read_column<A: Allocator + Copy>(bytes: &[u8], alloc: A) -> VortexResult<
 
 // Writes the message of a column with at most so many levels of runs at the end.
 fn put_column<A: Allocator + Copy, B: Allocator + Copy>(
+    alloc: B,
     out: &mut Vec<u8, B>,
     array: &ArrayRef<A>,
     levels: usize,
-    alloc: B,
 ) -> VortexResult<()>
     ensures ok { OnOk result (out.new.items ≡ out.old.items ++ column_bytes (column_of array.now)) }
     ensures writable { OnOk result (IsWritable levels (column_of array.now)) }
@@ -58,13 +59,14 @@ fn put_column<A: Allocator + Copy, B: Allocator + Copy>(
         ArrayRef::Primitive(numbers) => put_numbers(out, numbers),
         ArrayRef::Bool(truths) => put_truths(out, truths),
         ArrayRef::Decimal(decimals) => put_decimal_rows(out, decimals),
+        ArrayRef::Constant(constant) => put_constant(out, constant),
         ArrayRef::RunEnd(runs) => {
             if levels == 0 {
                 return Err(VortexError::Unsupported);
             }
             let mut values = Vec::new(alloc);
-            put_column(&mut values, runs.values(), levels - 1, alloc)?;
-            put_runs(out, runs, &values, alloc)
+            put_column(alloc, &mut values, runs.values(), levels - 1)?;
+            put_runs(alloc, out, runs, &values)
         }
         _ => Err(VortexError::Unsupported),
     }
@@ -85,6 +87,9 @@ fn read_message<A: Allocator + Copy>(
     };
     if header.form == 1 {
         return read_leaf(alloc, header, body);
+    }
+    if header.form == 3 {
+        return read_constant(alloc, header, body);
     }
     if header.form != 2 {
         return Err(VortexError::BadMetadata);

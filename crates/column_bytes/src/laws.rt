@@ -17,14 +17,14 @@ pub fn spelling_is_unique()
 /// Writes a column and reads what was written: it is a column of the same form. Refused as `Unsupported` where
 /// `write_column` is, else as `OutOfMemory` alone.
 pub fn write_then_read<A: Allocator + Copy>(
-    array: &ArrayRef<A>,
     alloc: A,
+    array: &ArrayRef<A>,
 ) -> VortexResult<ArrayRef<A>>
     ensures same { IfOk result (λ read. column_of read ≡ column_of array.now) }
     ensures only { IfErr result IsUnsupportedOrMemory }
 {
-    let bytes = write_column(array, alloc)?;
-    match read_column(&bytes, alloc) {
+    let bytes = write_column(alloc, array)?;
+    match read_column(alloc, &bytes) {
         Ok(read) => Ok(read),
         Err(error) => Err(error),
     }

@@ -2,7 +2,9 @@
 #![tactic(auto)]
 
 mod column;
+mod constants;
 mod flat;
+mod kinds;
 pub mod laws;
 mod runs;
 

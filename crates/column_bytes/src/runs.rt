@@ -9,11 +9,11 @@ ghost use Rattle.column_fields.specs.Refusal.{IsBadOrMemory};
 ghost use Rattle.column_bytes.specs.Bytes.{column_bytes, kind_number};
 ghost use Rattle.column_bytes.specs.Read.{AreRunsOf, AreNoRunsOf, IsEndsColumn, HasNoEndsOf};
 
-use column_base::{DType, PType, Validity, VortexError, VortexResult};
+use crate::kinds::number_of_kind;
+use column_base::{PType, Validity, VortexError, VortexResult};
 use column_core::PrimitiveArray;
 use column_fields::{
-    Header, RunFields, ends_values, load_ends, number_of_type, put_header, put_lengths_of,
-    put_run_fields,
+    Header, RunFields, ends_values, load_ends, put_header, put_lengths_of, put_run_fields,
 };
 use runend_array::{
     ArrayRef, RunEnd, RunEndArray, RunEndArrayExt, RunEndArraySlotsExt, validate_parts,
@@ -22,10 +22,10 @@ use std::alloc::Allocator;
 
 /// Writes a run column at the end, where these are the bytes of its values. Refused as `OutOfMemory` alone.
 pub(crate) fn put_runs<A: Allocator + Copy, B: Allocator + Copy>(
+    alloc: B,
     out: &mut Vec<u8, B>,
     runs: &RunEndArray<A>,
     values: &[u8],
-    alloc: B,
 ) -> VortexResult<()>
     requires { values.now ≡ column_bytes runs.now.values }
     ensures ok { OnOk result (out.new.items ≡ out.old.items ++ column_bytes (column_of_runs runs.now)) }
@@ -131,19 +131,5 @@ fn join_runs<A: Allocator + Copy>(
             drop(ends);
             Err(VortexError::BadMetadata)
         }
-    }
-}
-
-/// The number of a type.
-fn number_of_kind(dtype: DType) -> u64
-    ensures { result ≡ kind_number dtype }
-{
-    match dtype {
-        DType::Primitive(ptype, _) => number_of_type(ptype),
-        DType::Bool(_) => 9,
-        DType::Decimal(_, _) => 10,
-        DType::Utf8(_) => 11,
-        DType::Binary(_) => 12,
-        DType::List(_, _) => 13,
     }
 }

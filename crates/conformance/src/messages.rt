@@ -65,7 +65,7 @@ const FAULTY: [&[u8]; 8] = [
 
 // Is the message refused as none?
 fn is_no_message(alloc: Global, bytes: &[u8]) -> bool {
-    match read_column(bytes, alloc) {
+    match read_column(alloc, bytes) {
         Ok(column) => {
             drop(column);
             false
@@ -91,7 +91,7 @@ struct NumbersAgain {}
 impl Trial for NumbersAgain {
     fn run<A: Allocator + Copy>(alloc: A) -> VortexResult<ArrayRef<A>> {
         let column = ArrayRef::Primitive(nullable(alloc, &[7i16, 0], &[true, false])?);
-        let again = write_then_read(&column, alloc);
+        let again = write_then_read(alloc, &column);
         drop(column);
         again
     }
@@ -117,7 +117,7 @@ fn has_bytes<A: Allocator + Copy>(
     column: &ArrayRef<A>,
     bytes: &[u8],
 ) -> VortexResult<bool> {
-    let written = write_column(column, alloc)?;
+    let written = write_column(alloc, column)?;
     Ok(written.as_slice() == bytes)
 }
 
@@ -163,7 +163,7 @@ struct TruthsRead {}
 
 impl Trial for TruthsRead {
     fn run<A: Allocator + Copy>(alloc: A) -> VortexResult<ArrayRef<A>> {
-        read_column(&NINE_TRUTHS, alloc)
+        read_column(alloc, &NINE_TRUTHS)
     }
 
     fn assert_rows<A: Allocator + Copy>(rt: &impl Abort, rows: &ArrayRef<A>) {
@@ -256,7 +256,7 @@ struct RunsAgain {}
 impl Trial for RunsAgain {
     fn run<A: Allocator + Copy>(alloc: A) -> VortexResult<ArrayRef<A>> {
         let column = two_runs(alloc, ends_column(alloc, &[3u8, 5])?, 0, 5)?;
-        let again = write_then_read(&column, alloc);
+        let again = write_then_read(alloc, &column);
         drop(column);
         again
     }
@@ -320,7 +320,7 @@ struct WindowRead {}
 
 impl Trial for WindowRead {
     fn run<A: Allocator + Copy>(alloc: A) -> VortexResult<ArrayRef<A>> {
-        read_column(&ONE_OF_300, alloc)
+        read_column(alloc, &ONE_OF_300)
     }
 
     fn assert_rows<A: Allocator + Copy>(rt: &impl Abort, rows: &ArrayRef<A>) {
@@ -365,9 +365,9 @@ fn under_levels(alloc: Global, levels: usize) -> VortexResult<Vec<u8, Global>> {
 #[test]
 fn sixteen_levels_are_read_and_no_more(rt: HostRuntime) -> Result<(), Fail> {
     let sixteen = under_levels(rt.alloc(), 16)?;
-    let column = read_column(&sixteen, rt.alloc())?;
+    let column = read_column(rt.alloc(), &sixteen)?;
     assert_rows(&rt, &column, &[Some(7)]);
-    let again = write_column(&column, rt.alloc())?;
+    let again = write_column(rt.alloc(), &column)?;
     assert_eq!(rt; again.as_slice(), sixteen.as_slice());
     drop(column);
     let seventeen = under_levels(rt.alloc(), 17)?;
@@ -377,7 +377,7 @@ fn sixteen_levels_are_read_and_no_more(rt: HostRuntime) -> Result<(), Fail> {
 
 // Is what a message is read as written as that very message?
 fn is_spelt_so(alloc: Global, bytes: &[u8]) -> VortexResult<bool> {
-    let column = read_column(bytes, alloc)?;
+    let column = read_column(alloc, bytes)?;
     let are_spelt = has_bytes(alloc, &column, bytes);
     drop(column);
     are_spelt

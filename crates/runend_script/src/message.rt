@@ -19,6 +19,6 @@ pub fn message_line<A: Allocator + Copy>(alloc: A, array: &ArrayRef<A>) -> Vorte
     ensures refused { IsErrOf result VortexError.Unsupported → ¬ IsWritable 16 (column_of array.now) }
     ensures only { IfErr result IsUnsupportedOrMemory }
 {
-    let bytes = write_column(array, alloc)?;
+    let bytes = write_column(alloc, array)?;
     Ok(bytes_line(alloc, "bytes", &bytes)?)
 }

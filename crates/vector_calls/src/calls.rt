@@ -165,7 +165,7 @@ impl<A: Allocator + Copy> Maker<A> {
                 boxed_runs(runs, ample)
             }
             Maker::FromBytes(bytes) => {
-                let column = read_column(&bytes, *ctx.allocator());
+                let column = read_column(*ctx.allocator(), &bytes);
                 drop(bytes);
                 column
             }
@@ -196,7 +196,7 @@ impl<A: Allocator + Copy> Task<A> {
             Task::Probe(index) => probe_of(column, index, ample),
             Task::Validity => validity_of(column, ctx, ample),
             Task::Meta => meta_of(column, ctx, ample),
-            Task::Bytes => bytes_reply(write_column(column, *ctx.allocator()), ample),
+            Task::Bytes => bytes_reply(write_column(*ctx.allocator(), column), ample),
         }
     }
 }

@@ -1,1 +1,0 @@
-use Rattle.column_bytes.proofs.runs.join_runs.Goals as goal

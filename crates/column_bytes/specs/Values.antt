@@ -1,0 +1,60 @@
+-- What the message of a constant says of its value.
+use Rattle.std.specs.Prelude.{ℕ, ℤ, Option, Some, None, option_map, List, [], ◌∷◌}
+use Rattle.column_base.specs.declared.dtype.Nullability.{Nullability}
+use Rattle.column_base.specs.declared.dtype.Nullability.TheVariants.{NonNullable, Nullable}
+use Rattle.column_base.specs.declared.dtype.DType.{DType}
+use Rattle.column_base.specs.declared.dtype.DType.TheVariants as column
+use Rattle.column_base.specs.Types.{HasNumber, nullability_of}
+use Rattle.column_base.specs.ValidityForm.{ValidityForm, NeverNull, NoneNull, AllNull}
+use Rattle.column_base.specs.Words.{one_if}
+use Rattle.column_core.specs.Value.{FlatValue, Truth, Number, Text, Bytes, Single, IsRowOf}
+use Rattle.column_fields.specs.FlatFields.{flat_fields}
+use Rattle.column_fields.specs.NumberBytes.{number_bytes}
+
+-- a type of integers, booleans, texts or bytes: the types of constants that version 1 writes
+abbrev pub IsPlainType : DType → Type 0
+IsPlainType (column.Primitive t n) = Unit {0}
+IsPlainType (column.Bool n) = Unit {0}
+IsPlainType (column.Decimal d n) = ⊥
+IsPlainType (column.Utf8 n) = Unit {0}
+IsPlainType (column.Binary n) = Unit {0}
+IsPlainType (column.List e n) = ⊥
+
+-- the value is one of such a type, or null where the type has null
+pub record IsStoredValue (t : DType) (value : Option FlatValue) : Type 0 where
+  pub plain : IsPlainType t
+  pub typed : IsRowOf t (option_map Single value)
+
+-- how a value that is no null is told: the type has no null, or has null
+abbrev pub some_validity : Nullability → ValidityForm
+some_validity NonNullable = NeverNull
+some_validity Nullable = NoneNull
+
+abbrev pub value_validity : Nullability → Option FlatValue → ValidityForm
+value_validity n None = AllNull
+value_validity n (Some v) = some_validity n
+
+-- the bytes of a value: of a number those of its type, of a boolean 0 or 1, of a text or bytes these
+abbrev pub some_bytes : DType → FlatValue → List ℕ
+some_bytes (column.Primitive t n) (Number z) = number_bytes t z
+some_bytes (column.Bool n) (Truth b) = one_if b ∷ []
+some_bytes (column.Utf8 n) (Text bytes) = bytes
+some_bytes (column.Binary n) (Bytes bytes) = bytes
+some_bytes t v = []
+
+-- null has none
+abbrev pub value_bytes : DType → Option FlatValue → List ℕ
+value_bytes t None = []
+value_bytes t (Some v) = some_bytes t v
+
+abbrev pub value_fields : DType → Option FlatValue → List ℕ
+value_fields t value = flat_fields (value_validity (nullability_of t) value) (value_bytes t value)
+
+-- the type is one of integers, and has this one
+abbrev pub IsNumberIn : DType → ℤ → Type 0
+IsNumberIn (column.Primitive t n) z = HasNumber t z
+IsNumberIn (column.Bool n) z = ⊥
+IsNumberIn (column.Decimal d n) z = ⊥
+IsNumberIn (column.Utf8 n) z = ⊥
+IsNumberIn (column.Binary n) z = ⊥
+IsNumberIn (column.List e n) z = ⊥

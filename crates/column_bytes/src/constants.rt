@@ -1,0 +1,285 @@
+//! Constants: one value in each row, or null.
+ghost use Rattle.std.specs.Prelude.{◌≡◌, ◌↔◌, ◌++◌, ◌∷◌, [], ℕ, ℤ, Bool, Some, IsTrue, OnOk, IfOk, IfErr, IfSome, IfNone, IsErrOf, IsOkUnless};
+ghost use Rattle.column_base.specs.declared.dtype.Nullability.{Nullability};
+ghost use Rattle.column_base.specs.declared.dtype.DType.TheVariants.{Primitive};
+ghost use Rattle.column_base.specs.Types.{nullability_of};
+ghost use Rattle.column_base.specs.ValidityForm.{AllNull};
+ghost use Rattle.column_base.specs.Words.{one_if};
+ghost use Rattle.column_core.specs.Scalar.{flat_of, IsOwnedOf};
+ghost use Rattle.column_core.specs.Value.{Number};
+ghost use Rattle.runend_array.specs.Array.{column_of};
+ghost use Rattle.runend_array.specs.Column.{OfConstant};
+ghost use Rattle.column_fields.specs.FlatFields.{flat_fields};
+ghost use Rattle.column_fields.specs.NumberBytes.{number_bytes};
+ghost use Rattle.column_fields.specs.Validity.{validity_field};
+ghost use Rattle.column_fields.specs.Refusal.{IsBadOrMemory};
+ghost use Rattle.column_bytes.specs.Bytes.{column_bytes};
+ghost use Rattle.column_bytes.specs.Values.{IsPlainType, IsStoredValue, IsNumberIn, some_validity, some_bytes, value_fields};
+ghost use Rattle.column_bytes.specs.Stored.{IsStoredConstant};
+ghost use Rattle.column_bytes.specs.Read.{IsBody, IsNoBody, IsValueIn, HasNoValueIn, IsNullOf, HasNoNullOf, IsSomeOf, HasNoSomeOf, IsWholeOf, HasNoValueOf, IsUnsupportedOrMemory};
+
+use crate::kinds::{kind_of_number, number_of_kind};
+use column_base::{DType, Nullability, PType, Validity, VortexError, VortexResult};
+use column_core::{Scalar, ScalarValue, ScalarView};
+use column_fields::{
+    Header, load_value, put_bytes, put_bytes_key, put_header, put_number, put_value,
+    read_flat_fields, size_of_type,
+};
+use runend_array::{ArrayRef, ConstantArray};
+use std::alloc::Allocator;
+
+/// Writes a constant at the end. Refused as `Unsupported` exactly where it is of decimals or of lists, else as
+/// `OutOfMemory` alone.
+pub(crate) fn put_constant<A: Allocator, B: Allocator>(
+    out: &mut Vec<u8, B>,
+    array: &ConstantArray<A>,
+) -> VortexResult<()>
+    ensures ok { OnOk result (out.new.items ≡ out.old.items ++ column_bytes (OfConstant array.now)) }
+    ensures stored { OnOk result (IsStoredConstant array.now) }
+    ensures refused { IsErrOf result VortexError.Unsupported → ¬ IsStoredConstant array.now }
+    ensures only { IfErr result IsUnsupportedOrMemory }
+{
+    let dtype = array.dtype();
+    if !is_plain(dtype) {
+        return Err(VortexError::Unsupported);
+    }
+    put_header(
+        out,
+        Header {
+            kind: number_of_kind(dtype),
+            form: 3,
+            rows: array.len() as u64,
+        },
+    )?;
+    put_scalar(out, array.scalar())?;
+    Ok(())
+}
+
+// Has version 1 bytes for a constant of the type?
+fn is_plain(dtype: DType) -> bool
+    ensures { IsTrue result ↔ IsPlainType dtype }
+{
+    match dtype {
+        DType::Primitive(_, _) | DType::Bool(_) | DType::Utf8(_) | DType::Binary(_) => true,
+        DType::Decimal(_, _) | DType::List(_, _) => false,
+    }
+}
+
+// Writes what the message of a constant says of its value.
+fn put_scalar<A: Allocator, B: Allocator>(
+    out: &mut Vec<u8, B>,
+    scalar: &Scalar<A>,
+) -> VortexResult<()>
+    requires { IsPlainType scalar.now.dtype }
+    ensures ok { OnOk result (out.new.items ≡ out.old.items ++ value_fields scalar.now.dtype scalar.now.value) }
+    ensures stored { IsStoredValue scalar.now.dtype scalar.now.value }
+    ensures only { IsOkUnless result VortexError.OutOfMemory }
+{
+    let dtype = scalar.dtype();
+    match scalar.view() {
+        ScalarView::Null => put_null(out),
+        ScalarView::Bool(truth) => put_truth(out, dtype.nullability(), truth),
+        ScalarView::Unsigned(number) => put_whole(out, dtype, i128::from(number)),
+        ScalarView::Signed(number) => put_whole(out, dtype, i128::from(number)),
+        ScalarView::Utf8(text) => put_some(out, dtype.nullability(), text.as_bytes()),
+        ScalarView::Binary(bytes) => put_some(out, dtype.nullability(), bytes),
+        ScalarView::Decimal(_) | ScalarView::List { .. } => unreachable!(),
+    }
+}
+
+// Writes that the value is null.
+fn put_null<B: Allocator>(out: &mut Vec<u8, B>) -> VortexResult<()>
+    ensures ok { OnOk result (out.new.items ≡ out.old.items ++ flat_fields AllNull []) }
+    ensures only { IsOkUnless result VortexError.OutOfMemory }
+{
+    put_number(out, 5, 3)?;
+    put_bytes_key(out, 7, 0)?;
+    Ok(())
+}
+
+// Writes that there is a value, and its bytes.
+fn put_some<B: Allocator>(
+    out: &mut Vec<u8, B>,
+    nullability: Nullability,
+    bytes: &[u8],
+) -> VortexResult<()>
+    ensures ok { OnOk result (out.new.items ≡ out.old.items ++ flat_fields (some_validity nullability) bytes.now) }
+    ensures only { IsOkUnless result VortexError.OutOfMemory }
+{
+    put_told(out, nullability)?;
+    put_bytes(out, 7, bytes)?;
+    Ok(())
+}
+
+// The same of a boolean.
+fn put_truth<B: Allocator>(
+    out: &mut Vec<u8, B>,
+    nullability: Nullability,
+    truth: bool,
+) -> VortexResult<()>
+    ensures ok { OnOk result (out.new.items ≡ out.old.items ++
+        flat_fields (some_validity nullability) (one_if truth ∷ [])) }
+    ensures only { IsOkUnless result VortexError.OutOfMemory }
+{
+    put_told(out, nullability)?;
+    put_bytes(out, 7, &[u8::from(truth)])?;
+    Ok(())
+}
+
+// The same of a number, where the type is one of numbers.
+fn put_whole<B: Allocator>(out: &mut Vec<u8, B>, dtype: DType, number: i128) -> VortexResult<()>
+    requires { IsNumberIn dtype number }
+    ensures ok { OnOk result (out.new.items ≡ out.old.items ++
+        flat_fields (some_validity (nullability_of dtype)) (some_bytes dtype (Number number))) }
+    ensures only { IsOkUnless result VortexError.OutOfMemory }
+{
+    match dtype {
+        DType::Primitive(ptype, nullability) => {
+            put_told(out, nullability)?;
+            put_bytes_key(out, 7, size_of_type(ptype))?;
+            put_value(out, ptype, number)?;
+            Ok(())
+        }
+        _ => unreachable!(),
+    }
+}
+
+// Writes that there is a value.
+#[tactic(auto, unfolding(column_fields::specs::Validity::validity_field))]
+fn put_told<B: Allocator>(out: &mut Vec<u8, B>, nullability: Nullability) -> VortexResult<()>
+    ensures ok { OnOk result (out.new.items ≡ out.old.items ++ validity_field (some_validity nullability)) }
+    ensures only { IsOkUnless result VortexError.OutOfMemory }
+{
+    match nullability {
+        Nullability::NonNullable => put_number(out, 5, 1),
+        Nullability::Nullable => put_number(out, 5, 2),
+    }
+}
+
+/// The constant that stands behind this header. Refused as `BadMetadata` exactly where none does, else as `OutOfMemory`
+/// alone.
+pub(crate) fn read_constant<A: Allocator + Copy>(
+    alloc: A,
+    header: Header,
+    bytes: &[u8],
+) -> VortexResult<ArrayRef<A>>
+    ensures found { IfOk result (λ array. IsBody 0 header.kind 3 header.rows bytes.now (column_of array)) }
+    ensures bad { IsErrOf result VortexError.BadMetadata → (levels : ℕ) →
+        IsNoBody levels header.kind 3 header.rows bytes.now }
+    ensures only { IfErr result IsBadOrMemory }
+{
+    match read_scalar(alloc, header.kind, bytes) {
+        Ok(scalar) => Ok(ArrayRef::Constant(ConstantArray::new(scalar, header.rows as usize))),
+        Err(error) => Err(error),
+    }
+}
+
+// What the bytes say of the value, whose type has this number.
+fn read_scalar<A: Allocator + Copy>(alloc: A, kind: u64, bytes: &[u8]) -> VortexResult<Scalar<A>>
+    ensures found { IfOk result (λ scalar. IsValueIn kind bytes.now scalar) }
+    ensures bad { IsErrOf result VortexError.BadMetadata → HasNoValueIn kind bytes.now }
+    ensures only { IfErr result IsBadOrMemory }
+{
+    let (validity, items) = read_flat_fields(alloc, bytes, 0)?;
+    match validity {
+        Validity::NonNullable => read_some(alloc, kind, Nullability::NonNullable, items),
+        Validity::AllValid => read_some(alloc, kind, Nullability::Nullable, items),
+        Validity::AllInvalid => read_null(kind, items),
+        Validity::Bits(bits) => {
+            drop(bits);
+            Err(VortexError::BadMetadata)
+        }
+    }
+}
+
+// Null, of which these are the bytes.
+fn read_null<A: Allocator + Copy>(kind: u64, bytes: &[u8]) -> VortexResult<Scalar<A>>
+    ensures found { IfOk result (λ scalar. IsNullOf kind bytes.now scalar) }
+    ensures bad { IsErrOf result VortexError.BadMetadata → HasNoNullOf kind bytes.now }
+    ensures only { IsOkUnless result VortexError.BadMetadata }
+{
+    if bytes.len() != 0 {
+        return Err(VortexError::BadMetadata);
+    }
+    match kind_of_number(kind, Nullability::Nullable) {
+        Some(dtype) => Ok(Scalar::try_new(dtype, None).unwrap()),
+        None => Err(VortexError::BadMetadata),
+    }
+}
+
+// The value of which these are the bytes, where it is of the type of that number.
+fn read_some<A: Allocator + Copy>(
+    alloc: A,
+    kind: u64,
+    nullability: Nullability,
+    bytes: &[u8],
+) -> VortexResult<Scalar<A>>
+    ensures found { IfOk result (λ scalar. IsSomeOf kind nullability bytes.now scalar) }
+    ensures bad { IsErrOf result VortexError.BadMetadata → HasNoSomeOf kind nullability bytes.now }
+    ensures only { IfErr result IsBadOrMemory }
+{
+    let Some(dtype) = kind_of_number(kind, nullability) else {
+        return Err(VortexError::BadMetadata);
+    };
+    let value = read_value(alloc, dtype, bytes)?;
+    Ok(Scalar::try_new(dtype, Some(value)).unwrap())
+}
+
+// The value of the type of which these are the bytes.
+fn read_value<A: Allocator + Copy>(
+    alloc: A,
+    dtype: DType,
+    bytes: &[u8],
+) -> VortexResult<ScalarValue<A>>
+    requires { IsPlainType dtype }
+    ensures owned { IfOk result (λ value. IsOwnedOf dtype value) }
+    ensures stored { IfOk result (λ value. IsStoredValue dtype (Some (flat_of value))) }
+    ensures spelt { IfOk result (λ value. some_bytes dtype (flat_of value) ≡ bytes.now) }
+    ensures bad { IsErrOf result VortexError.BadMetadata → HasNoValueOf dtype bytes.now }
+    ensures only { IfErr result IsBadOrMemory }
+{
+    match dtype {
+        DType::Primitive(ptype, _) => match read_whole(ptype, bytes) {
+            Some(value) => Ok(value),
+            None => Err(VortexError::BadMetadata),
+        },
+        DType::Bool(_) => match read_truth(bytes) {
+            Some(truth) => Ok(ScalarValue::Bool(truth)),
+            None => Err(VortexError::BadMetadata),
+        },
+        DType::Utf8(_) => match str::from_utf8(bytes) {
+            Ok(text) => Ok(ScalarValue::Utf8(String::from_str(alloc, text)?)),
+            Err(_) => Err(VortexError::BadMetadata),
+        },
+        DType::Binary(_) => Ok(ScalarValue::Binary(Vec::from_slice(alloc, bytes)?)),
+        DType::Decimal(_, _) | DType::List(_, _) => unreachable!(),
+    }
+}
+
+// The boolean of which this is the byte.
+fn read_truth(bytes: &[u8]) -> Option<bool>
+    ensures found { IfSome result (λ truth. one_if truth ∷ [] ≡ bytes.now) }
+    ensures none { IfNone result ((truth : Bool) → one_if truth ∷ [] ≡ bytes.now → ⊥) }
+{
+    if bytes.len() != 1 || bytes[0] > 1 {
+        return None;
+    }
+    Some(bytes[0] == 1)
+}
+
+// The number of the type of which these are the bytes.
+fn read_whole<A: Allocator>(ptype: PType, bytes: &[u8]) -> Option<ScalarValue<A>>
+    ensures owned { IfSome result (λ value. (n : Nullability) → IsOwnedOf (Primitive ptype n) value) }
+    ensures found { IfSome result (λ value. IsWholeOf ptype bytes.now (flat_of value)) }
+    ensures none { IfNone result ((z : ℤ) → number_bytes ptype z ≡ bytes.now → ⊥) }
+{
+    if bytes.len() != size_of_type(ptype) {
+        return None;
+    }
+    let number = load_value(ptype, bytes);
+    Some(if ptype.is_unsigned_int() {
+        ScalarValue::Unsigned(number as u64)
+    } else {
+        ScalarValue::Signed(number as i64)
+    })
+}
