@@ -1,7 +1,7 @@
 -- The runs that are kept, as far as they have been passed.
 use Rattle.std.proofs.Common.{◌≡◌, ◌↔◌, ℕ, ◌+◌, ◌-◌, ◌<◌, ◌≤◌, zero, suc, List, [], ◌∷◌, ◌++◌, Bool, true, false, Some, length, map, take, min, slice_index, arith, add-one, inl, inr, ap, refl, subst, sym, ◌∙◌, length-append}
 use Rattle.std.specs.Prelude.{slice_get, slice_range, nat_lt}
-use Rattle.std.proofs.lemmas.Bool.{cases_lt, lt-ltb}
+use Rattle.std.proofs.lemmas.Bool.{cases_lt, lt-ltb, ltb-false, ltb-true}
 use Rattle.std.proofs.lemmas.List.{length-map, length-take, take_all, map-append, append-nil}
 use Rattle.std.proofs.lemmas.List.Sums.{count_by-le-length}
 use Rattle.std.specs.List.Sorted.{IsStrictlyIncreasing}
@@ -177,6 +177,16 @@ module _ (ends : List ℕ) (offset count : ℕ) (bits : List Bool) (k passed sel
       let same : selected ≡ total = omega arith in
       subst (λ (p : ℕ). KeptSoFar ends offset count bits (k + 1) p total (kept ++ b ∷ []) kept_ends) next.passed_is
       (subst (λ (n : ℕ). KeptSoFar ends offset count bits (k + 1) reach n (kept ++ b ∷ []) kept_ends) same next)
+
+  -- so it is whichever of the two is done
+  pub KeptSoFar-next : (b : Bool) (total : ℕ) (next : List ℕ) → total ≡ selected + more → b ≡ nat_lt 0 more → (b ≡ true → next ≡ kept_ends ++ total ∷ []) → (b ≡ false → next ≡ kept_ends)
+      → KeptSoFar ends offset count bits (k + 1) (reached ends offset count (k + 1)) total (kept ++ b ∷ []) next
+  KeptSoFar-next true total next all is pushed left =
+      subst (λ (es : List ℕ). KeptSoFar ends offset count bits (k + 1) (reached ends offset count (k + 1)) total (kept ++ true ∷ []) es) (sym (pushed refl))
+      (KeptSoFar-kept_to true total all is (ltb-true 0 more (sym is)))
+  KeptSoFar-next false total next all is pushed left =
+      subst (λ (es : List ℕ). KeptSoFar ends offset count bits (k + 1) (reached ends offset count (k + 1)) total (kept ++ false ∷ []) es) (sym (left refl))
+      (let few = ltb-false 0 more (sym is) in KeptSoFar-skipped_to false total all is (omega arith))
 
 -- once all runs have been passed
 pub AreKept-all : (ends : List ℕ) (offset count : ℕ) (bits : List Bool) (k passed selected : ℕ) (kept : List Bool) (kept_ends : List ℕ) → k ≡ length ends

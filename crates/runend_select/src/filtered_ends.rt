@@ -1,5 +1,5 @@
 //! The runs of the rows that a mask selects, and where they end among these rows.
-ghost use Rattle.std.specs.Prelude.{◌≡◌, ◌+◌, ◌<◌, ◌≤◌, pos, All, IfOk, IsOkUnless, length as item_count, map, unsigned_abs};
+ghost use Rattle.std.specs.Prelude.{◌≡◌, ◌+◌, ◌<◌, ◌≤◌, ◌∷◌, ◌++◌, [], true, false, vec_capacity, vec_len, pos, All, IfOk, IsOkUnless, length as item_count, map, unsigned_abs};
 ghost use Rattle.std.specs.List.Sorted.{IsStrictlyIncreasing};
 ghost use Rattle.column_base.specs.Mask.{mask_bits, IsNormalMask};
 ghost use Rattle.column_base.specs.Numbers.{numbers, ptype_of};
@@ -123,13 +123,26 @@ fn filtered_ends<E: UnsignedPType, A: Allocator + Copy>(
         index = reach / 64;
         let passed = rank_within_word(mask, before, reach);
         let more = passed - selected;
-        if more > 0 {
-            kept_ends.push_reserved(end_of(passed));
-        }
+        push_where(&mut kept_ends, end_of(passed), more > 0);
         kept.append(more > 0)?;
         selected = passed;
     }
     Ok((kept_ends, kept))
+}
+
+// Puts an end behind the others where its run is kept. It is written in any case, and cut off again where it is not: no
+// branch depends on the mask, which nobody foresees.
+#[inline(always)]
+fn push_where<E: Copy + Drop, A: Allocator>(ends: &mut Vec<E, A>, end: E, is_kept: bool)
+    requires { vec_len ends.old < vec_capacity ends.old }
+    ensures kept { is_kept ≡ true → ends.new.items ≡ ends.old.items ++ end ∷ [] }
+    ensures dropped { is_kept ≡ false → ends.new.items ≡ ends.old.items }
+    ensures few { vec_len ends.new ≤ vec_len ends.old + 1 }
+    ensures capacity { vec_capacity ends.old ≤ vec_capacity ends.new }
+{
+    let count = ends.len() + usize::from(is_kept);
+    ends.push_reserved(end);
+    ends.truncate(count);
 }
 
 // So many rows, as an end.

@@ -30,11 +30,10 @@ pub(crate) fn ones_before<A: Allocator>(
 // The lowest `count` bits.
 #[inline]
 fn low_mask(count: usize) -> u64
-    requires some { 0 < count }
-    requires in_word { count ≤ 64 }
+    requires { count < 64 }
     ensures { result ≡ 2 ^ count - 1 }
 {
-    u64::MAX >> (64 - count)
+    (1 << count) - 1
 }
 
 /// How many of the bits before `place` are true, where `before` of those before its word are.
@@ -48,10 +47,10 @@ pub(crate) fn rank_within_word<A: Allocator>(
     requires counted { before ≡ count_by (λ bit. bit) (take (place / 64 * 64) bits.now) }
     ensures { result ≡ count_by (λ bit. bit) (take place bits.now) }
 {
-    let low = place % 64;
-    if low == 0 {
+    let words = bits.words();
+    let index = place / 64;
+    if index == words.len() {
         return before;
     }
-    let word = bits.words()[place / 64];
-    before + (word & low_mask(low)).count_ones() as usize
+    before + (words[index] & low_mask(place % 64)).count_ones() as usize
 }

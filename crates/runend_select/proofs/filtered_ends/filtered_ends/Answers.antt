@@ -2,12 +2,11 @@ use Rattle.std.proofs.Common.{◌≡◌, ◌+◌, ◌-◌, ◌/◌, ◌<◌, ◌
 use Rattle.std.specs.Prelude.{unsigned_abs, nat_lt, slice_index, slice_range}
 use Rattle.runend_windows.proofs.StoredNumbers.{length-naturals}
 use Rattle.runend_coalesce.proofs.Fitting.{fits_below, naturals-push}
-use Rattle.runend_select.proofs.KeptSoFar.{AreKept-all, KeptSoFar-kept_to, KeptSoFar-none, KeptSoFar-skipped_to, selected_within}
+use Rattle.runend_select.proofs.KeptSoFar.{AreKept-all, KeptSoFar-next, KeptSoFar-none, selected_within}
 use Rattle.runend_select.proofs.FirstBits.{set_bits-between, set_bits-onward}
 use Rattle.runend_select.proofs.Reached.{reached, reached-le}
 use Rattle.runend_select.proofs.Selected.{set_bits}
 use Rattle.runend_select.proofs.filtered_ends.filtered_ends.Goals as goal
-use Rattle.runend_select.proofs.filtered_ends.filtered_ends.Goals.{then-more-gt0, else-more-gt0}
 
 -- a run reaches no fewer rows than the one before it
 pub ones_before-before-requires-clause-onward : goal.ones_before-before-requires-clause-onward
@@ -81,31 +80,18 @@ loop-run-preserved g c =
     let counted : more ≡ set_bits (slice_range bits start reach) = set_bits-between bits start reach c.loop-run.selected total ordered kept.selected_is c.rank_within_word-passed.ensures in
     let all : total ≡ c.loop-run.selected + more = omega (arith, onward, kept.selected_is, c.rank_within_word-passed.ensures) in
     let passed : reach ≡ reached ends c.args.offset c.args.count (run + 1) = rw add-one reach_is in
-    elim c.if-more-gt0.branch [
-      | then-more-gt0 w ↦
-          let pushed = ap (λ (es : List g.row.E.Denot). map unsigned_abs (map number es)) w.push_reserved.ensures.items ∙ naturals-push number c.loop-run.kept_ends.items w.end_of.result total w.end_of.ensures in
-          let some : 0 < more = omega arith in
-          let next = KeptSoFar-kept_to ends c.args.offset c.args.count bits run start c.loop-run.selected c.loop-run.kept kept_ends reach more c.requires.increasing c.requires.masked within kept reach_is counted
-          _ total all (λ i. nat_lt 0 more) some in
-          record {
-            kept = rw (w.kept_ends-is, c.in_ok-append.ensures.ok, pushed) next;
-            few = rw (w.kept_ends-is, w.push_reserved.ensures.len) (omega (arith, inv.few));
-            room = rw (w.kept_ends-is, w.push_reserved.ensures.capacity) inv.room;
-            index = ap (λ (n : ℕ). n / 64) passed;
-            before = c.ones_before-before.ensures;
-          }
-      | else-more-gt0 w ↦
-          let none : more ≡ 0 = omega arith in
-          let next = KeptSoFar-skipped_to ends c.args.offset c.args.count bits run start c.loop-run.selected c.loop-run.kept kept_ends reach more c.requires.increasing c.requires.masked within kept reach_is counted
-          _ total all (λ i. nat_lt 0 more) none in
-          record {
-            kept = rw (w.kept_ends-is, c.in_ok-append.ensures.ok) next;
-            few = rw w.kept_ends-is (omega (arith, inv.few));
-            room = rw w.kept_ends-is inv.room;
-            index = ap (λ (n : ℕ). n / 64) passed;
-            before = c.ones_before-before.ensures;
-          }
-    ]
+    let ends_of = λ (es : List g.row.E.Denot). map unsigned_abs (map number es) in
+    let next = KeptSoFar-next ends c.args.offset c.args.count bits run start c.loop-run.selected c.loop-run.kept kept_ends reach more c.requires.increasing c.requires.masked within kept reach_is counted
+    (nat_lt 0 more) total (ends_of c.push_where.new.ends.items) all refl
+    (λ is_kept. ap ends_of (c.push_where.ensures.kept is_kept) ∙ naturals-push number c.loop-run.kept_ends.items c.end_of.result total c.end_of.ensures)
+    (λ is_dropped. ap ends_of (c.push_where.ensures.dropped is_dropped)) in
+    record {
+      kept = rw c.in_ok-append.ensures.ok next;
+      few = omega (arith, inv.few, c.push_where.ensures.few);
+      room = omega (arith, inv.room, c.push_where.ensures.capacity);
+      index = ap (λ (n : ℕ). n / 64) passed;
+      before = c.ones_before-before.ensures;
+    }
 
 pub returns-clause-kept : goal.returns-clause-kept
 returns-clause-kept g c =
