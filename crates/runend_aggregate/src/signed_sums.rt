@@ -185,7 +185,7 @@ impl<'a, E: UnsignedPType, N: SignedNumbers> SignedRuns for SignedVisible<'a, E,
     #[inline(always)]
     fn inner_row_count(&self, run: usize) -> usize {
         prove!(run < self.stop - self.first);
-        visible::saturating_rows_between(self.ends, self.first + run)
+        visible::rows_between(self.ends, self.first + run)
     }
 }
 

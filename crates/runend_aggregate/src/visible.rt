@@ -71,18 +71,6 @@ pub(crate) fn rows_between<E: UnsignedPType>(ends: &[E], run: usize) -> usize
     (ends[run].to_u64() - ends[run - 1].to_u64()) as usize
 }
 
-/// The same, for sums of signed numbers. It says to the compiler that no run has more rows than its end says, and the
-/// sum of numbers of 32 bits over ends of 32 bits then asks of no product whether it fits. Sums of unsigned numbers ask
-/// of none, and take longer by it.
-#[inline(always)]
-pub(crate) fn saturating_rows_between<E: UnsignedPType>(ends: &[E], run: usize) -> usize
-    requires within { run < length ends.now }
-    requires second { 0 < run }
-    ensures { result ≡ slice_index (map E.natural ends.now) run - slice_index (map E.natural ends.now) (run - 1) }
-{
-    ends[run].to_u64().saturating_sub(ends[run - 1].to_u64()) as usize
-}
-
 /// The number in a row of a column that has no unsigned numbers.
 pub(crate) fn signed_in<A: Allocator + Copy>(values: &ArrayRef<A>, row: usize) -> Option<i64>
     requires signed { ¬ IsUnsignedType (dtype_of values.now) }
