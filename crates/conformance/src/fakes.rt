@@ -38,6 +38,7 @@ pub struct Endless {
 }
 
 impl Endless {
+    /// One that was not read from yet.
     pub fn new() -> Endless {
         Endless { calls: 0 }
     }

@@ -35,7 +35,7 @@ reply_of_step before after command given Silent step told = absurd told
 reply_of_step before after command given Done step told = subst (λ (known : Answer _). IsStep before command known after) told step
 reply_of_step before after command given Bad step told = absurd told
 
--- the same of a reply that may have been refused
+-- a reply to a step, which may have been refused, is a reply to its command
 pub replied : {A E : Type 0} (before after : ArrayRef A) (command : Command A) (given : Answer A) (result : Result (Reply A) E) → IsStep before command given after
     → IfOk result (λ reply. Tells command given reply) → IfOk result (λ reply. IsReplyTo before command after reply)
 replied before after command given (Ok reply) step told = reply_of_step before after command given reply step told
