@@ -90,7 +90,7 @@ enum {
     HV_BAD_METADATA = 17,
     HV_ENDS_TYPE_NUMBER = 18,       /* number */
     HV_RUN_COUNT = 19,              /* stated, found */
-    HV_ONLY_PRIMITIVE = 20,         /* whole numbers alone are encoded */
+    HV_ONLY_PRIMITIVE = 20,         /* integers alone are encoded */
     HV_OUT_OF_MEMORY = 21,
     HV_NO_COLUMN = 22,              /* a handle that is lent has no column; no fields */
     HV_BAD_NUMBER = 23              /* a number that stands for no type, or for no operator; no fields */

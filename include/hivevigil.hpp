@@ -43,7 +43,7 @@ public:
     }
     // The same of a list of integers, booleans or texts.
     template <class T> static Column of(std::initializer_list<T> items) {
-        static_assert(detail::is_row<T>, "rows are whole numbers, truth values or texts, or std::optional of these");
+        static_assert(detail::is_row<T>, "rows are integers, booleans or texts, or std::optional of these");
         if constexpr (detail::is_number<T>) return of(items.begin(), items.size(), nullptr);
         else return of_rows(items);
     }

@@ -85,7 +85,7 @@ enum {
     HV_ARROW_LENGTH = 4,       /* a length or an offset is negative, or past what memory or a child has */
     HV_ARROW_NULL_COUNT = 5,   /* null_count is not the number of nulls in the bitmap */
     HV_ARROW_NULL_IN_RUNS = 6, /* an array of runs has a bitmap, or a run end is null */
-    HV_ARROW_DICTIONARY = 7,   /* schema and array differ in having a dictionary, or the codes are no whole numbers */
+    HV_ARROW_DICTIONARY = 7,   /* schema and array differ in having a dictionary, or the codes are no integers */
     HV_ARROW_VIEW = 8          /* a view of texts is not within its buffers, or begins otherwise than they do */
 };
 

@@ -197,7 +197,7 @@ static inline int32_t hv_arrow_check_structs(const struct ArrowSchema *schema, c
     if (!schema->format) return hv_arrow_invalid(HV_ARROW_NO_POINTER, error);
     if (!hv_arrow_layout_of(schema->format, layout)) return hv_arrow_refuse(HV_UNSUPPORTED, 0, 0, error);
     if (!schema->dictionary != !array->dictionary) return hv_arrow_invalid(HV_ARROW_DICTIONARY, error);
-    bool codes = layout->what == HV_ARROW_NUMBERS && !schema->format[1]; /* whole numbers, and no times */
+    bool codes = layout->what == HV_ARROW_NUMBERS && !schema->format[1]; /* integers, and no times */
     return schema->dictionary && !codes ? hv_arrow_invalid(HV_ARROW_DICTIONARY, error) : (int32_t)HV_OK;
 }
 

@@ -34,7 +34,7 @@ extern "C" {
     X(HV_BAD_METADATA, "the bytes are no metadata record, or no column") \
     X(HV_ENDS_TYPE_NUMBER, "%1 is the number of no type of ends") \
     X(HV_RUN_COUNT, "the record says %1 runs, and there are %2") \
-    X(HV_ONLY_PRIMITIVE, "whole numbers alone are encoded") \
+    X(HV_ONLY_PRIMITIVE, "integers alone are encoded") \
     X(HV_OUT_OF_MEMORY, "a request for memory was refused") \
     X(HV_NO_COLUMN, "there is no column: it was never made, freed or moved away") \
     X(HV_BAD_NUMBER, "the number stands for no type, or for no operator")

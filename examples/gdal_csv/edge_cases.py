@@ -11,7 +11,7 @@ from dataclasses import dataclass
 from pathlib import Path
 
 SUMMARY = Path(__file__).resolve().parent / "summary.py"
-NEEDS = "no column is served: whole numbers, dates and texts are, and not Arrow's g"
+NEEDS = "no column is served: integers, dates and texts are, and not Arrow's g"
 
 
 @dataclass(frozen=True)

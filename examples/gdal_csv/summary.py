@@ -111,7 +111,7 @@ def read(path, batch_rows, where):
     others = {name: item for name, item in zip(names, formats) if name not in served}
     if not served:
         found = ", ".join(sorted(set(formats)))
-        raise BadFile(f"{path}: no column is served: whole numbers, dates and texts are, and not Arrow's {found}")
+        raise BadFile(f"{path}: no column is served: integers, dates and texts are, and not Arrow's {found}")
     if where:
         where.find(served)
     progress, begin, ours = Progress(rows, "rows"), time.perf_counter(), 0.0

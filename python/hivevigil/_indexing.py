@@ -22,7 +22,7 @@ def selected(column: Column, key: Any) -> Any:
     if hasattr(key, "__index__") and getattr(key, "ndim", 0) == 0:
         return column._at(row_of(key, column._length))
     if key is None or key is Ellipsis or isinstance(key, (str, bytes, tuple, float)):
-        raise TypeError(f"a column is indexed by a whole number, a slice, a mask or a list of rows, not {key!r}")
+        raise TypeError(f"a column is indexed by an integer, a slice, a mask or a list of rows, not {key!r}")
     beside = _column_of(column, key)
     if beside is not None:
         return column.filter(beside) if beside.type.rstrip("?") == "bool" else column.take(beside)

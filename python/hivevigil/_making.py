@@ -77,7 +77,7 @@ def _whole_type_of(present: Sequence[int]) -> str:
     for name in ("i64", "u64"):
         if least in range_of(name) and greatest in range_of(name):
             return name
-    raise OverflowError(f"no type of whole numbers has both {least} and {greatest}")
+    raise OverflowError(f"no type of integers has both {least} and {greatest}")
 
 
 def _places_of(present: Sequence[Any]) -> tuple[int, int]:
@@ -119,7 +119,7 @@ def _numbers(rows: Sequence[Any], name: str, all_valid: bool) -> array.array[int
 def _truths(rows: Sequence[Any]) -> list[bool]:
     wrong = next((row for row in rows if row is not None and not is_truth(row)), None)
     if wrong is not None:
-        raise TypeError(f"{wrong!r} is no truth value")
+        raise TypeError(f"{wrong!r} is no boolean")
     return list(map(bool, rows))
 
 
@@ -179,7 +179,7 @@ def type_of_view(view: memoryview) -> str:
     """The type of a buffer's items, by its format and width: 'i32' of 'i', '<i4' or 'l' of four bytes."""
     letter = view.format.lstrip("@=<")
     if len(letter) != 1 or letter not in "bhilqBHILQ" or view.ndim != 1:
-        raise TypeError(f"no buffer of whole numbers in one dimension: format {view.format!r}, {view.ndim} dimensions")
+        raise TypeError(f"no buffer of integers in one dimension: format {view.format!r}, {view.ndim} dimensions")
     return ("u" if letter.isupper() else "i") + str(8 * view.itemsize)
 
 
@@ -212,7 +212,7 @@ def of_numpy(items: Any, valid: Optional[Any] = None) -> Made:
     if items.dtype.kind == "b":
         return truths_of(bits_of(items), len(items), validity_of(valid, len(items)))
     if items.dtype.kind not in "OUS":
-        hint = "; its .view('i8') are whole numbers" if items.dtype.kind in "mM" else ""
+        hint = "; its .view('i8') are integers" if items.dtype.kind in "mM" else ""
         raise TypeError(f"no column has items of dtype {items.dtype}{hint}")
     rows = items.tolist() if valid is None else [row if flag else None for row, flag in zip(items.tolist(), valid)]
     name = {"U": "utf8", "S": "binary"}.get(items.dtype.kind)

@@ -23,7 +23,7 @@ def is_truth(value: Any) -> bool:
 def whole(value: Any, what: str) -> int:
     """An integer, NumPy's too; booleans and floats are none."""
     if is_truth(value) or not hasattr(value, "__index__"):
-        raise TypeError(f"{what} is a whole number, not {type(value).__name__}")
+        raise TypeError(f"{what} is an integer, not {type(value).__name__}")
     return operator.index(value)
 
 
@@ -56,7 +56,7 @@ def operator_of(sign: Any) -> int:
 def unscaled(value: Any, precision: int, scale: int) -> int:
     """A decimal as the integer of its least place: 1.5 with scale 2 is 150. Never rounded."""
     if is_truth(value) or not (isinstance(value, Decimal) or hasattr(value, "__index__")):
-        raise TypeError(f"a decimal is a decimal.Decimal or a whole number, not {type(value).__name__}")
+        raise TypeError(f"a decimal is a decimal.Decimal or an integer, not {type(value).__name__}")
     sign, digits, exponent = Decimal(value).as_tuple()
     if not isinstance(exponent, int):
         raise ValueError(f"{value} is no number")

@@ -121,7 +121,7 @@ class RunCount(HivevigilError, ValueError):
 
 
 class OnlyPrimitive(HivevigilError, TypeError):
-    number, sentence = 20, "the encoder serves whole numbers alone; to_runs() serves each type"
+    number, sentence = 20, "the encoder serves integers alone; to_runs() serves each type"
 
 
 class OutOfMemory(HivevigilError, MemoryError):
@@ -146,7 +146,7 @@ class ArrowInvalid(HivevigilError, ValueError):
         "a length or an offset is negative, or past what there is",
         "null_count is not the number of nulls",
         "an array of runs has a bitmap, or a run end is null",
-        "schema and array differ in having a dictionary, or codes are no whole numbers",
+        "schema and array differ in having a dictionary, or codes are no integers",
         "a view of texts is not within its buffers",
     )
 

@@ -73,7 +73,7 @@ errors! {
     BadMetadata = 17, "the bytes are no metadata record, or no column";
     EndsTypeNumber = 18, "%1 is the number of no type of ends";
     RunCount = 19, "the record says %1 runs, and there are %2";
-    OnlyPrimitive = 20, "whole numbers alone are encoded";
+    OnlyPrimitive = 20, "integers alone are encoded";
     OutOfMemory = 21, "a request for memory was refused";
     NoColumn = 22, "there is no column: it was never made, freed or moved away";
     BadNumber = 23, "the number stands for no type, or for no operator";
