@@ -50,7 +50,7 @@ fn assert_null_in_the_middle<A: Allocator + Copy>(rt: &impl Abort, array: &Array
     ];
     match array {
         ArrayRef::Bool(flat) => assert_bits(rt, flat.values(), &stored),
-        _ => panic!(rt; "no flat truth values"),
+        _ => panic!(rt; "no flat booleans"),
     }
 }
 
