@@ -42,7 +42,7 @@ fn many_runs<A: Allocator + Copy>(alloc: A) -> VortexResult<ArrayRef<A>> {
 }
 
 // Half of the column, sliced in this memory.
-fn half_of<A: Allocator + Copy>(column: &ArrayRef<A>, alloc: A) -> VortexResult<ArrayRef<A>> {
+fn half_of<A: Allocator + Copy>(alloc: A, column: &ArrayRef<A>) -> VortexResult<ArrayRef<A>> {
     match column {
         ArrayRef::RunEnd(runs) => slice(runs, FIRST..PAST, &mut full_context(alloc)),
         _ => Err(VortexError::TypeMismatch),
@@ -77,7 +77,7 @@ fn a_slice_of_half_of_many_runs_copies_none(rt: HostRuntime) -> Result<(), Fail>
     let heap = Bump::new(rt.alloc());
     let small = Bump::new(rt.alloc());
     let column = many_runs(&heap)?;
-    let half = half_of(&column, &small);
+    let half = half_of(&small, &column);
     drop(column);
     let half = half?;
     assert!(rt; small.allocated_bytes() < FEW_BYTES);
@@ -104,7 +104,7 @@ fn a_clone_of_many_runs_copies_none(rt: HostRuntime) -> Result<(), Fail> {
 // A compact copy of half of the runs.
 fn compact_half<A: Allocator + Copy>(large: A, small: A) -> VortexResult<ArrayRef<A>> {
     let column = many_runs(large)?;
-    let half = half_of(&column, large);
+    let half = half_of(large, &column);
     drop(column);
     let half = half?;
     let compact = half.compact(&mut full_context(small));
