@@ -23,7 +23,12 @@ class Architecture(unittest.TestCase):
     def test_what_is_missing_and_what_is_gone_is_told(self) -> None:
         with tempfile.TemporaryDirectory() as folder:
             crate = Path(folder) / "crates" / "base"
-            files = {"src/lib.rt": "mod error;", "src/error.rt": "pub trait Bits {}", "src/values.rt": "", "specs/Lib.antt": ""}
+            files = {
+                "src/lib.rt": "mod error;",
+                "src/error.rt": "pub trait Bits {}",
+                "src/values.rt": "",
+                "specs/Lib.antt": "",
+            }
             for path, text in files.items():
                 (crate / path).parent.mkdir(parents=True, exist_ok=True)
                 (crate / path).write_text(text, encoding="utf-8")

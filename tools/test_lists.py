@@ -25,7 +25,8 @@ class ReadLists(unittest.TestCase):
 
     def test_variants_and_macros_of_rust_are_read(self) -> None:
         self.assertEqual(rust_enum("rust/src/kind.rs", "Form")["Runs"], 3)
-        self.assertIn(("OutOfMemory", 21), [(name, number) for name, number, _ in rust_macro("rust/src/error.rs", "errors")])
+        errors = [(name, number) for name, number, _ in rust_macro("rust/src/error.rs", "errors")]
+        self.assertIn(("OutOfMemory", 21), errors)
         self.assertEqual(rust_macro("rust/src/error.rs", "no_such_macro"), [])
 
 

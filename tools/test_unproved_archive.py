@@ -7,14 +7,23 @@ from pathlib import Path
 from unproved_archive import EXPORT, add_tests, parameter_types, reaching_test
 
 ONE = '#[unsafe(no_mangle)]\npub extern "C" fn hv_len(column: &mut Handle) -> usize\n    ensures { x }\n{\n    0\n}\n'
-LONG = 'pub extern "C" fn hv_take(\n    alloc: Global,\n    out: &mut Handle,\n) -> i32\n    requires { y }\n{\n    0\n}\n'
+LONG = """pub extern "C" fn hv_take(
+    alloc: Global,
+    out: &mut Handle,
+) -> i32
+    requires { y }
+{
+    0
+}
+"""
 NONE = 'pub extern "C" fn hv_free(column: Handle) {\n}\n'
 
 
 class Exports(unittest.TestCase):
     def test_an_export_has_a_name_parameters_and_an_answer_or_none(self) -> None:
         found = EXPORT.findall(ONE + LONG + NONE)
-        self.assertEqual([(name, answer) for name, _, answer in found], [("hv_len", "usize"), ("hv_take", "i32"), ("hv_free", "")])
+        answers = {name: answer for name, _, answer in found}
+        self.assertEqual(answers, {"hv_len": "usize", "hv_take": "i32", "hv_free": ""})
         self.assertEqual(parameter_types(found[1][1]), ["Global", "&mut Handle"])
         self.assertEqual(parameter_types(""), [])
 
