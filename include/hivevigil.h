@@ -287,8 +287,8 @@ HV_ANSWER int32_t hv_list_sizes(hv_column *column, hv_column *out, hv_error *err
 HV_ANSWER int32_t hv_list_validity(hv_column *column, hv_column *out, hv_error *error);  /* booleans: is the row valid? */
 
 /* A column as bytes, in any form, to keep or to send: a message of the Protocol Buffers encoding (docs/column.proto), in the
- * form that the column has, with its window. Equal forms have equal bytes. 13 where it has no message: docs/BYTES.md says of
- * which columns there is one. */
+ * form that the column has, with its window; of flat texts and bytes the rows, which are read into one buffer. Equal forms
+ * have equal bytes. 13 for lists, constants of decimals, runs over these, and more than 16 levels of runs. */
 /* How many bytes they are. */
 HV_ANSWER int32_t hv_write_size(hv_column *column, size_t *size, hv_error *error);
 /* They go to the front of `bytes`, and *size says how many they are; 11 (needed, bytes_len) where they have no room there. */

@@ -15,6 +15,7 @@ import subprocess
 import sys
 import tempfile
 import warnings
+from itertools import accumulate, pairwise
 from pathlib import Path
 
 SCHEMA = Path(__file__).resolve().parents[2] / "docs"
@@ -24,6 +25,7 @@ BOOL, DECIMAL, UTF8, BINARY = 9, 10, 11, 12
 SIZES = {1: 1, 2: 2, 3: 4, 4: 8, 5: 1, 6: 2, 7: 4, 8: 8, DECIMAL: 16}  # bytes of a number, by its type
 UNSIGNED = {1, 2, 3, 4}
 MOST_LEVELS, SHOWN = 16, 100
+TEXTS = ["", "", "a", "two words", "Z\u00fcrich", "\U0001f41d", "x" * 200]
 
 
 def compiled():
@@ -35,6 +37,18 @@ def compiled():
 
 
 Column = compiled()
+
+
+# ---- bits
+
+
+def is_set(data: bytes, place: int) -> bool:
+    return data[place // 8] >> place % 8 & 1 == 1
+
+
+def is_valid(message, index: int) -> bool:
+    by_bits = message.validity == BY_BITS
+    return is_set(message.validity_bits, index) if by_bits else message.validity != ALL_NULL
 
 
 # ---- random columns
@@ -57,14 +71,18 @@ def begun(kind: int, form: int, rows: int):
 
 def flat(chance: random.Random, rows: int):
     """A flat column of so many rows, with anything stored under null."""
-    kind = chance.choice([*SIZES, BOOL])
+    kind = chance.choice([*SIZES, BOOL, UTF8, BINARY])
     message = begun(kind, FLAT, rows)
     message.validity = chance.choice([NEVER_NULL, NONE_NULL, ALL_NULL, BY_BITS, BY_BITS])
     if message.validity == BY_BITS:
         message.validity_bits = bits(some_flags(chance, rows))
     if kind == DECIMAL:
         message.precision, message.scale = chance.randrange(256), chance.randrange(-128, 128)
-    if kind == BOOL:
+    if kind in (UTF8, BINARY):
+        texts = [chance.choice(TEXTS).encode() if is_valid(message, index) else b"" for index in range(rows)]
+        message.text_lengths.extend(map(len, texts))
+        message.text_bytes = b"".join(texts)
+    elif kind == BOOL:
         message.items = bits(some_flags(chance, rows))
     else:
         message.items = b"".join(chance.choice([bytes(SIZES[kind]), chance.randbytes(SIZES[kind])]) for _ in range(rows))
@@ -81,7 +99,7 @@ def constant(chance: random.Random, rows: int):
     elif kind == BOOL:
         message.items = bytes([chance.randrange(2)])
     elif kind in (UTF8, BINARY):
-        message.items = chance.choice(["", "a", "Z\u00fcrich", "\U0001f41d"]).encode()
+        message.items = chance.choice(TEXTS).encode()
     else:
         message.items = chance.randbytes(SIZES[kind])
     return message
@@ -148,26 +166,48 @@ def varint(number: int) -> bytes:
 
 def written(message) -> bytes:
     """Protocol Buffers leave a list without numbers out; here it is a field of no bytes."""
-    if not message.HasField("values"):
+    last = "values" if message.form == RUNS else "text_bytes"
+    if not message.HasField(last):
         return message.SerializeToString()
     front = Column()
     front.CopyFrom(message)
-    front.ClearField("values")
-    values = written(message.values)
-    lengths = b"" if message.run_lengths else b"\x52\0"
-    return front.SerializeToString() + lengths + b"\x5a" + varint(len(values)) + values
+    front.ClearField(last)
+    lengths, empty, key = (
+        (message.run_lengths, b"\x52\0", b"\x5a") if last == "values" else (message.text_lengths, b"\x62\0", b"\x6a")
+    )
+    content = written(message.values) if last == "values" else message.text_bytes
+    return front.SerializeToString() + (b"" if lengths else empty) + key + varint(len(content)) + content
 
 
 def fields_of(message) -> set[str]:
-    return {field.name for field, _ in message.ListFields() if field.name != "run_lengths"}
+    return {field.name for field, _ in message.ListFields() if field.name not in ("run_lengths", "text_lengths")}
 
 
 def are_bits(data: bytes, count: int) -> bool:
     return len(data) == (count + 7) // 8 and int.from_bytes(data, "little") < 1 << count
 
 
+def is_text(data: bytes) -> bool:
+    return data.decode(errors="ignore").encode() == data
+
+
+def texts_of(message) -> list[bytes]:
+    ends = [0, *accumulate(message.text_lengths)]
+    return [message.text_bytes[start:end] for start, end in pairwise(ends)]
+
+
+def are_texts(message) -> bool:
+    lengths, count = message.text_lengths, message.rows
+    if len(lengths) != count or sum(lengths) != len(message.text_bytes):
+        return False
+    if any(length and not is_valid(message, index) for index, length in enumerate(lengths)):
+        return False
+    return message.type == BINARY or all(map(is_text, texts_of(message)))
+
+
 def is_flat(message) -> bool:
-    wanted = {"version", "type", "form", "rows", "validity", "items"}
+    is_of_texts = message.type in (UTF8, BINARY)
+    wanted = {"version", "type", "form", "rows", "validity", "text_bytes" if is_of_texts else "items"}
     if message.validity == BY_BITS:
         wanted.add("validity_bits")
     if message.type == DECIMAL:
@@ -176,22 +216,28 @@ def is_flat(message) -> bool:
             return False
     if fields_of(message) != wanted or message.run_lengths or message.validity not in range(1, 5):
         return False
+    if message.text_lengths and not is_of_texts:
+        return False
     if message.validity == BY_BITS and not are_bits(message.validity_bits, message.rows):
         return False
+    if is_of_texts:
+        return are_texts(message)
     if message.type == BOOL:
         return are_bits(message.items, message.rows)
     return message.type in SIZES and len(message.items) == message.rows * SIZES[message.type]
 
 
 def is_constant(message) -> bool:
-    if fields_of(message) != {"version", "type", "form", "rows", "validity", "items"} or message.run_lengths:
+    if fields_of(message) != {"version", "type", "form", "rows", "validity", "items"}:
+        return False
+    if message.run_lengths or message.text_lengths:
         return False
     if message.validity == ALL_NULL:
         return message.type in {*SIZES, BOOL, UTF8, BINARY} - {DECIMAL} and not message.items
     if message.validity not in (NEVER_NULL, NONE_NULL):
         return False
     if message.type == UTF8:
-        return message.items.decode(errors="ignore").encode() == message.items
+        return is_text(message.items)
     if message.type in (BOOL, BINARY):
         return message.type == BINARY or message.items in (b"\0", b"\1")
     return message.type in SIZES.keys() - {DECIMAL} and len(message.items) == SIZES[message.type]
@@ -210,7 +256,7 @@ def is_window(ends: list[int], offset: int, rows: int) -> bool:
 def are_runs(message, levels: int) -> bool:
     if fields_of(message) != {"version", "type", "form", "rows", "offset", "ends_type", "values"}:
         return False
-    if levels == 0 or message.ends_type not in UNSIGNED or 0 in message.run_lengths[1:]:
+    if levels == 0 or message.ends_type not in UNSIGNED or 0 in message.run_lengths[1:] or message.text_lengths:
         return False
     ends, values = ends_of(message), message.values
     if ends and ends[-1] >= 2 ** (8 * SIZES[message.ends_type]):
@@ -232,20 +278,17 @@ def is_column(message, levels: int = MOST_LEVELS) -> bool:
 # ---- the rows, and the answer that is due
 
 
-def is_set(data: bytes, place: int) -> bool:
-    return data[place // 8] >> place % 8 & 1 == 1
-
-
 def row(message, index: int) -> str:
     if message.form == RUNS:
         position = message.offset + index
         return row(message.values, next(run for run, end in enumerate(ends_of(message)) if end > position))
-    if message.validity == ALL_NULL or message.validity == BY_BITS and not is_set(message.validity_bits, index):
+    if not is_valid(message, index):
         return "null"
     if message.form == CONSTANT:
         index = 0
     if message.type in (UTF8, BINARY):
-        return f"'{message.items.hex()}"
+        text = message.items if message.form == CONSTANT else texts_of(message)[index]
+        return f"'{text.hex()}"
     if message.type == BOOL:
         return str(is_set(message.items, index)).lower()
     size = SIZES[message.type]

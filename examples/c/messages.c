@@ -22,6 +22,9 @@ static const uint8_t decimals_message[] = {0x08, 1, 0x10, 10, 0x18, 1, 0x20, 2, 
 /* "ab" in each of 2^60 rows, of a type without null; 258 of u16 in three rows, of one with null; null of bytes in two */
 static const uint8_t text_message[] = {0x08, 1, 0x10, 11, 0x18, 3, 0x20, 0x80, 0x80, 0x80, 0x80, 0x80, 0x80, 0x80, 0x80,
                                        0x10, 0x28, 1, 0x3a, 2, 'a', 'b'};
+/* "ab", null, "" and "c" */
+static const uint8_t texts_message[] = {0x08, 1, 0x10, 11, 0x18, 1, 0x20, 4, 0x28, 4, 0x32, 1, 0x0d,
+                                        0x62, 4, 2, 0, 0, 1, 0x6a, 3, 'a', 'b', 'c'};
 static const uint8_t number_message[] = {0x08, 1, 0x10, 2, 0x18, 3, 0x20, 3, 0x28, 2, 0x3a, 2, 2, 1};
 static const uint8_t null_message[] = {0x08, 1, 0x10, 12, 0x18, 3, 0x20, 2, 0x28, 3, 0x3a, 0};
 
@@ -109,17 +112,27 @@ static void check_constants(void) {
     hv_free(&column), hv_free(&read);
 }
 
-/* Flat texts have no message, and an empty handle no column. */
+/* Flat texts: what null covers, and what no row shows, is not written. */
+static void check_texts(void) {
+    const int32_t offsets[5] = {1, 3, 5, 5, 6};
+    const uint8_t valid[1] = {0x0d};
+    hv_column texts = HV_EMPTY;
+    CHECK(!hv_texts(0, offsets, 5, (const uint8_t *)"-abxxc-", 7, NULLS_BY(valid, 0), &texts, &error));
+    check_message(&texts, texts_message, sizeof texts_message, "\"ab\" null \"\" \"c\"");
+    hv_free(&texts);
+}
+
+/* Lists have no message, and an empty handle no column. */
 static void check_none(void) {
-    const int32_t offsets[2] = {0, 1};
-    hv_column text = HV_EMPTY, none = HV_EMPTY;
+    const uint64_t offsets[1] = {0}, sizes[1] = {2};
+    hv_column lists = HV_EMPTY, none = HV_EMPTY;
     uint8_t room[64];
     size_t size;
-    CHECK(!hv_texts(0, offsets, 2, (const uint8_t *)"a", 1, NOT_NULLABLE, &text, &error));
-    CHECK_REFUSED(hv_write_size(&text, &size, &error), 13, 0, 0, 0);
-    CHECK_REFUSED(hv_write(&text, room, sizeof room, &size, &error), 13, 0, 0, 0);
+    CHECK(!hv_lists(&flat, offsets, 1, sizes, 1, NOT_NULLABLE, &lists, &error));
+    CHECK_REFUSED(hv_write_size(&lists, &size, &error), 13, 0, 0, 0);
+    CHECK_REFUSED(hv_write(&lists, room, sizeof room, &size, &error), 13, 0, 0, 0);
     CHECK(hv_write_size(&none, &size, &error) == 22 && hv_write(&none, room, sizeof room, &size, &error) == 22);
-    hv_free(&text);
+    hv_free(&lists);
 }
 
 int main(void) {
@@ -130,11 +143,13 @@ int main(void) {
     check_message(&window, window_message, sizeof window_message, "7 null");
     check_message(&decimals, decimals_message, sizeof decimals_message, "-1:18446744073709551466 0:150");
     check_constants();
+    check_texts();
     check_damaged(flat_message, sizeof flat_message);
     check_damaged(runs_message, sizeof runs_message);
     check_damaged(window_message, sizeof window_message);
     check_damaged(decimals_message, sizeof decimals_message);
     check_damaged(text_message, sizeof text_message);
+    check_damaged(texts_message, sizeof texts_message);
     check_none();
     hv_free(&flat), hv_free(&runs), hv_free(&window), hv_free(&decimals);
     puts("columns and their bytes agree");

@@ -30,6 +30,7 @@ static uint8_t letters[BYTES];
 static uint8_t kept_message[1024], decimals_message[64]; /* of `part`, and of `decimals` */
 static size_t message_size, decimals_size;
 static const uint16_t some_places[5] = {1, 3, 60, 79, 0};
+static const uint8_t texts_message[] = {8, 1, 16, 12, 24, 1, 32, 2, 40, 2, 98, 2, 1, 3, 106, 4, 'a', 'b', 'c', 'd'};
 static const uint8_t text_message[] = {8, 1, 16, 11, 24, 3, 32, 9, 40, 1, 58, 4, 'a', 'b', 'c', 'd'};
 static uint64_t list_offsets[ROWS / 2], list_sizes[ROWS / 2];
 static const hv_pair pairs[2] = {{5, 0}, {UINT64_MAX, -1}};
@@ -194,6 +195,8 @@ STEP(column_of_message, hv_read_column(kept_message, message_size, &out, &error)
 STEP(write_decimals, hv_write(&decimals, message, sizeof message, &size, &error))
 STEP(decimals_of_message, hv_read_column(decimals_message, decimals_size, &out, &error))
 STEP(write_constant, hv_write(&constant, message, sizeof message, &size, &error))
+STEP(write_texts, hv_write(&text_runs, message, sizeof message, &size, &error))
+STEP(texts_of_message, hv_read_column(texts_message, sizeof texts_message, &out, &error))
 STEP(constant_of_message, hv_read_column(text_message, sizeof text_message, &out, &error))
 STEP(export_flat, hv_arrow_export(&session, &flat, "flat", &schema, &array, &error))
 STEP(export_runs, hv_arrow_export(&session, &part, "runs", &schema, &array, &error))
@@ -235,6 +238,7 @@ static const step steps[] = {
     NAMED(decode_lists), NAMED(clone_lists), NAMED(read_ends), NAMED(make_constant), NAMED(run_ends), NAMED(run_values),
     NAMED(serialize), NAMED(deserialize), NAMED(size_of_message), NAMED(write_message), NAMED(column_of_message),
     NAMED(write_decimals), NAMED(decimals_of_message), NAMED(write_constant), NAMED(constant_of_message),
+    NAMED(write_texts), NAMED(texts_of_message),
     NAMED(export_flat), NAMED(export_runs), NAMED(export_constant),
     NAMED(export_texts), NAMED(export_truths), NAMED(export_dictionary), NAMED(import_texts),
     NAMED(import_dictionary), NAMED(export_and_import),

@@ -177,9 +177,7 @@ def test_records(sample):
 @given(samples())
 def test_bytes(sample):
     column = sample.column
-    none_of = ["decimal"] if column.form == "constant" else ["utf8", "binary"]
-    kept = not any(name in column.type for name in none_of)
-    if not kept:
+    if column.form == "constant" and "decimal" in column.type:
         with pytest.raises(errors.Unsupported):
             column.to_bytes()
         return

@@ -148,7 +148,11 @@ fn columns_as_bytes() -> Result<(), Error> {
     for kept in 0..message.len() {
         assert!(Column::from_bytes(&message[..kept]).is_err());
     }
-    assert!(Column::texts(&["a"], None)?.to_bytes().is_err());
+    // version 1, texts, flat, two rows without null; lengths 1 and 0, and the bytes
+    let texts = Column::texts(&["a", ""], None)?;
+    let due = [8, 1, 16, 11, 24, 1, 32, 2, 40, 1, 98, 2, 1, 0, 106, 1, 97];
+    assert_eq!(texts.to_bytes()?, due);
+    assert_eq!(rows(&Column::from_bytes(&due)?)?, rows(&texts)?);
     Ok(())
 }
 

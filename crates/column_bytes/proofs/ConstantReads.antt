@@ -264,6 +264,7 @@ is_constant_body kind rows bytes s constant small is h =
     let own : Constant = record { dtype = s.dtype; value = s.value; count = rows } in
     subst (λ (x : Constant). IsBody 0 kind 3 rows bytes (OfConstant x)) (sym is) (record {
       writable = record { stored = record { value = h.stored; small = small }; shallow = omega arith };
+      packed = tt;
       kind_is = h.kind_is;
       form_is = refl;
       rows_is = refl;

@@ -9,11 +9,16 @@ use Rattle.column_base.specs.declared.dtype.DecimalDType.{DecimalDType}
 use Rattle.column_base.specs.declared.dtype.PType.{PType}
 use Rattle.column_base.specs.declared.dtype.PType.TheVariants.{U8, U16, U32, U64, I8, I16, I32, I64}
 use Rattle.column_base.specs.Types.{HasNumber}
-use Rattle.column_base.specs.ValidityForm.{ValidityForm, HasLength}
+use Rattle.column_base.specs.declared.dtype.Nullability.{Nullability}
+use Rattle.column_base.specs.ValidityForm.{ValidityForm, HasLength, nullability_in}
 use Rattle.column_core.specs.PrimitiveForm.{PrimitiveForm, primitive_with}
 use Rattle.column_core.specs.BoolForm.{BoolForm, bool_with}
 use Rattle.column_core.specs.DecimalForm.{DecimalForm, decimal_with}
 use Rattle.column_core.specs.Leaf.{Leaf, OfNumbers, OfTruths, OfDecimals, OfVarBins}
+use Rattle.column_core.specs.VarBinForm.{VarBinForm, kind_dtype, varbin_dtype}
+use Rattle.column_core.specs.declared.varbinview.VarBinKind.{VarBinKind}
+use Rattle.column_core.specs.declared.varbinview.VarBinKind.TheVariants.{Utf8, Binary}
+use Rattle.text_fields.specs.TextReading.{AreTextsOf, AreNoTextsOf}
 use Rattle.varints.specs.Varint.{varint}
 use Rattle.column_fields.specs.Field.{bytes_field}
 use Rattle.column_fields.specs.Validity.{validity_field}
@@ -30,7 +35,7 @@ use Rattle.column_fields.proofs.NumberSame.{length-numbers_bytes, numbers_same}
 use Rattle.column_fields.proofs.BitReading.{bit_bytes_same, length-bit_bytes}
 use Rattle.column_fields.proofs.TypeLaws.{type_same}
 use Rattle.runend_array.specs.Column.{Column, OfLeaf, OfConstant, OfLists, OfRuns}
-use Rattle.column_bytes.specs.Bytes.{leaf_fields, column_body}
+use Rattle.column_bytes.specs.Bytes.{kind_number, varbin_number, leaf_fields, column_body}
 use Rattle.column_bytes.specs.Stored.{AreNumbers, AreTruths, AreDecimals}
 use Rattle.column_bytes.specs.Read.{IsBody, IsNoBody, AreNumbersOf, AreNoNumbersOf, AreTruthsOf, AreNoTruthsOf, AreDecimalsOf, AreNoDecimalsOf}
 
@@ -148,6 +153,23 @@ type_at_most I16 = omega arith
 type_at_most I32 = omega arith
 type_at_most I64 = omega arith
 
+pub number_of_varbin : (kind : VarBinKind) (n : Nullability) → kind_number (kind_dtype kind n) ≡ varbin_number kind
+number_of_varbin Utf8 n = refl
+number_of_varbin Binary n = refl
+
+varbin_at_least : (kind : VarBinKind) → 11 ≤ varbin_number kind
+varbin_at_least Utf8 = omega arith
+varbin_at_least Binary = omega arith
+
+varbin_same : (a b : VarBinKind) → varbin_number a ≡ varbin_number b → a ≡ b
+varbin_same Utf8 Utf8 e = refl
+varbin_same Utf8 Binary e = absurd (omega (arith, e))
+varbin_same Binary Utf8 e = absurd (omega (arith, e))
+varbin_same Binary Binary e = refl
+
+text_kind : (form : VarBinForm) → 11 ≤ kind_number (varbin_dtype form)
+text_kind form = omega (arith, number_of_varbin form.kind (nullability_in form.validity), varbin_at_least form.kind)
+
 pub leaf_body : (leaf : Leaf) → column_body (OfLeaf leaf) ≡ leaf_fields leaf
 unfolding column_body
 leaf_body leaf = refl
@@ -165,7 +187,7 @@ numbers_at (OfLeaf (OfNumbers form)) t levels kind rows bytes k h = record {
 }
 numbers_at (OfLeaf (OfTruths form)) t levels kind rows bytes k h = absurd (omega (arith, type_at_most t, k, h.kind_is))
 numbers_at (OfLeaf (OfDecimals form)) t levels kind rows bytes k h = absurd (omega (arith, type_at_most t, k, h.kind_is))
-numbers_at (OfLeaf (OfVarBins form)) t levels kind rows bytes k h = absurd h.writable.stored
+numbers_at (OfLeaf (OfVarBins form)) t levels kind rows bytes k h = absurd (omega (arith, type_at_most t, text_kind form, k, h.kind_is))
 numbers_at (OfConstant constant) t levels kind rows bytes k h = absurd (omega (arith, h.form_is))
 numbers_at (OfLists lists) t levels kind rows bytes k h = absurd h.writable.stored
 numbers_at (OfRuns ends_type ends values offset count) t levels kind rows bytes k h = absurd (omega (arith, h.form_is))
@@ -183,7 +205,7 @@ truths_at (OfLeaf (OfTruths form)) levels kind rows bytes k h = record {
   are = record { counted = h.rows_is; stored = h.writable.stored; spelt = h.spelt ∙ leaf_body (OfTruths form) };
 }
 truths_at (OfLeaf (OfDecimals form)) levels kind rows bytes k h = absurd (omega (arith, k, h.kind_is))
-truths_at (OfLeaf (OfVarBins form)) levels kind rows bytes k h = absurd h.writable.stored
+truths_at (OfLeaf (OfVarBins form)) levels kind rows bytes k h = absurd (omega (arith, text_kind form, k, h.kind_is))
 truths_at (OfConstant constant) levels kind rows bytes k h = absurd (omega (arith, h.form_is))
 truths_at (OfLists lists) levels kind rows bytes k h = absurd h.writable.stored
 truths_at (OfRuns ends_type ends values offset count) levels kind rows bytes k h = absurd (omega (arith, h.form_is))
@@ -201,23 +223,55 @@ decimals_at (OfLeaf (OfDecimals form)) levels kind rows bytes k h = record {
   is = refl;
   are = record { counted = h.rows_is; stored = h.writable.stored; spelt = h.spelt ∙ leaf_body (OfDecimals form) };
 }
-decimals_at (OfLeaf (OfVarBins form)) levels kind rows bytes k h = absurd h.writable.stored
+decimals_at (OfLeaf (OfVarBins form)) levels kind rows bytes k h = absurd (omega (arith, text_kind form, k, h.kind_is))
 decimals_at (OfConstant constant) levels kind rows bytes k h = absurd (omega (arith, h.form_is))
 decimals_at (OfLists lists) levels kind rows bytes k h = absurd h.writable.stored
 decimals_at (OfRuns ends_type ends values offset count) levels kind rows bytes k h = absurd (omega (arith, h.form_is))
 
--- a body of a flat column is one of numbers, of booleans or of decimals
-no_type_at : (c : Column) (levels kind rows : ℕ) (bytes : List ℕ) → (kind ≡ 9 → ⊥) → (kind ≡ 10 → ⊥) → HasNoType kind → IsBody levels kind 1 rows bytes c → ⊥
-no_type_at (OfLeaf (OfNumbers form)) levels kind rows bytes ne not absent h = absent.none form.ptype h.kind_is
-no_type_at (OfLeaf (OfTruths form)) levels kind rows bytes ne not absent h = ne (sym h.kind_is)
-no_type_at (OfLeaf (OfDecimals form)) levels kind rows bytes ne not absent h = not (sym h.kind_is)
-no_type_at (OfLeaf (OfVarBins form)) levels kind rows bytes ne not absent h = h.writable.stored
-no_type_at (OfConstant constant) levels kind rows bytes ne not absent h = absurd (omega (arith, h.form_is))
-no_type_at (OfLists lists) levels kind rows bytes ne not absent h = h.writable.stored
-no_type_at (OfRuns ends_type ends values offset count) levels kind rows bytes ne not absent h = absurd (omega (arith, h.form_is))
+pub record TextsAt (kind : VarBinKind) (rows : ℕ) (bytes : List ℕ) (c : Column) : Type 0 where
+  pub form : VarBinForm
+  pub is : c ≡ OfLeaf (OfVarBins form)
+  pub are : AreTextsOf kind rows bytes form
 
-pub no_type_body : (kind rows : ℕ) (bytes : List ℕ) → (kind ≡ 9 → ⊥) → (kind ≡ 10 → ⊥) → HasNoType kind → (levels : ℕ) → IsNoBody levels kind 1 rows bytes
-no_type_body kind rows bytes ne not absent levels = record { none = λ c h. no_type_at c levels kind rows bytes ne not absent h }
+pub texts_at : (c : Column) (kind : VarBinKind) (levels number rows : ℕ) (bytes : List ℕ) → number ≡ varbin_number kind → IsBody levels number 1 rows bytes c → TextsAt kind rows bytes c
+texts_at (OfLeaf (OfNumbers form)) kind levels number rows bytes k h = absurd (omega (arith, type_at_most form.ptype, varbin_at_least kind, k, h.kind_is))
+texts_at (OfLeaf (OfTruths form)) kind levels number rows bytes k h = absurd (omega (arith, varbin_at_least kind, k, h.kind_is))
+texts_at (OfLeaf (OfDecimals form)) kind levels number rows bytes k h = absurd (omega (arith, varbin_at_least kind, k, h.kind_is))
+texts_at (OfLeaf (OfVarBins form)) kind levels number rows bytes k h = record {
+  form = form;
+  is = refl;
+  are = record { kind_is = varbin_same form.kind kind (sym (number_of_varbin form.kind (nullability_in form.validity)) ∙ h.kind_is ∙ k); counted = h.rows_is; stored = h.writable.stored; packed_is = h.packed; spelt = h.spelt ∙ leaf_body (OfVarBins form) };
+}
+texts_at (OfConstant constant) kind levels number rows bytes k h = absurd (omega (arith, h.form_is))
+texts_at (OfLists lists) kind levels number rows bytes k h = absurd h.writable.stored
+texts_at (OfRuns ends_type ends values offset count) kind levels number rows bytes k h = absurd (omega (arith, h.form_is))
+
+-- a number that is none of a flat column's type
+pub record IsOther (kind : ℕ) : Type 0 where
+  pub truths : kind ≡ 9 → ⊥
+  pub decimals : kind ≡ 10 → ⊥
+  pub texts : kind ≡ 11 → ⊥
+  pub bytes : kind ≡ 12 → ⊥
+  pub numbers : HasNoType kind
+
+no_varbin_at : (v : VarBinKind) (kind : ℕ) → IsOther kind → varbin_number v ≡ kind → ⊥
+no_varbin_at Utf8 kind other e = other.texts (sym e)
+no_varbin_at Binary kind other e = other.bytes (sym e)
+
+no_type_at : (c : Column) (levels kind rows : ℕ) (bytes : List ℕ) → IsOther kind → IsBody levels kind 1 rows bytes c → ⊥
+no_type_at (OfLeaf (OfNumbers form)) levels kind rows bytes other h = other.numbers.none form.ptype h.kind_is
+no_type_at (OfLeaf (OfTruths form)) levels kind rows bytes other h = other.truths (sym h.kind_is)
+no_type_at (OfLeaf (OfDecimals form)) levels kind rows bytes other h = other.decimals (sym h.kind_is)
+no_type_at (OfLeaf (OfVarBins form)) levels kind rows bytes other h = no_varbin_at form.kind kind other (sym (number_of_varbin form.kind (nullability_in form.validity)) ∙ h.kind_is)
+no_type_at (OfConstant constant) levels kind rows bytes other h = absurd (omega (arith, h.form_is))
+no_type_at (OfLists lists) levels kind rows bytes other h = h.writable.stored
+no_type_at (OfRuns ends_type ends values offset count) levels kind rows bytes other h = absurd (omega (arith, h.form_is))
+
+pub no_type_body : (kind rows : ℕ) (bytes : List ℕ) → IsOther kind → (levels : ℕ) → IsNoBody levels kind 1 rows bytes
+no_type_body kind rows bytes other levels = record { none = λ c h. no_type_at c levels kind rows bytes other h }
+
+pub no_texts_body : (kind : VarBinKind) (number rows : ℕ) (bytes : List ℕ) → number ≡ varbin_number kind → AreNoTextsOf kind rows bytes → (levels : ℕ) → IsNoBody levels number 1 rows bytes
+no_texts_body kind number rows bytes k absent levels = record { none = λ c h. let at = texts_at c kind levels number rows bytes k h in absent.none at.form at.are }
 
 pub no_numbers_body : (t : PType) (kind rows : ℕ) (bytes : List ℕ) → type_number t ≡ kind → AreNoNumbersOf t rows bytes → (levels : ℕ) → IsNoBody levels kind 1 rows bytes
 no_numbers_body t kind rows bytes k absent levels = record { none = λ c h. let at = numbers_at c t levels kind rows bytes k h in absent.none at.form at.are }
@@ -231,6 +285,7 @@ no_decimals_body kind rows bytes k absent levels = record { none = λ c h. let a
 pub decimals_body : (kind rows : ℕ) (bytes : List ℕ) (form : DecimalForm) → kind ≡ 10 → AreDecimalsOf rows bytes form → IsBody 0 kind 1 rows bytes (OfLeaf (OfDecimals form))
 decimals_body kind rows bytes form k h = record {
   writable = record { stored = h.stored; shallow = omega arith };
+  packed = tt;
   kind_is = sym k;
   form_is = refl;
   rows_is = h.counted;
@@ -240,6 +295,7 @@ decimals_body kind rows bytes form k h = record {
 pub numbers_body : (t : PType) (kind rows : ℕ) (bytes : List ℕ) (form : PrimitiveForm) → type_number t ≡ kind → AreNumbersOf t rows bytes form → IsBody 0 kind 1 rows bytes (OfLeaf (OfNumbers form))
 numbers_body t kind rows bytes form k h = record {
   writable = record { stored = h.stored; shallow = omega arith };
+  packed = tt;
   kind_is = ap type_number h.typed ∙ k;
   form_is = refl;
   rows_is = h.counted;
@@ -249,11 +305,29 @@ numbers_body t kind rows bytes form k h = record {
 pub truths_body : (kind rows : ℕ) (bytes : List ℕ) (form : BoolForm) → kind ≡ 9 → AreTruthsOf rows bytes form → IsBody 0 kind 1 rows bytes (OfLeaf (OfTruths form))
 truths_body kind rows bytes form k h = record {
   writable = record { stored = h.stored; shallow = omega arith };
+  packed = tt;
   kind_is = sym k;
   form_is = refl;
   rows_is = h.counted;
   spelt = h.spelt ∙ sym (leaf_body (OfTruths form));
 }
+
+pub texts_body : (kind : VarBinKind) (number rows : ℕ) (bytes : List ℕ) (form : VarBinForm) → number ≡ varbin_number kind → AreTextsOf kind rows bytes form → IsBody 0 number 1 rows bytes (OfLeaf (OfVarBins form))
+texts_body kind number rows bytes form k h = record {
+  writable = record { stored = h.stored; shallow = omega arith };
+  packed = h.packed_is;
+  kind_is = number_of_varbin form.kind (nullability_in form.validity) ∙ ap varbin_number h.kind_is ∙ sym k;
+  form_is = refl;
+  rows_is = h.counted;
+  spelt = h.spelt ∙ sym (leaf_body (OfVarBins form));
+}
+
+-- a body of a kind that is known
+pub kind_body : (kind known rows : ℕ) (bytes : List ℕ) (c : Column) → kind ≡ known → IsBody 0 known 1 rows bytes c → IsBody 0 kind 1 rows bytes c
+kind_body kind known rows bytes c is h = subst (λ (n : ℕ). IsBody 0 n 1 rows bytes c) (sym is) h
+
+pub no_kind_body : (kind known rows : ℕ) (bytes : List ℕ) → kind ≡ known → ((levels : ℕ) → IsNoBody levels known 1 rows bytes) → (levels : ℕ) → IsNoBody levels kind 1 rows bytes
+no_kind_body kind known rows bytes is absent levels = subst (λ (n : ℕ). IsNoBody levels n 1 rows bytes) (sym is) (absent levels)
 
 -- ---- one column has these bytes
 

@@ -5,4 +5,5 @@ pub mod ConstantWrites
 pub mod Ends
 pub mod Messages
 pub mod Writes
+pub mod Packing
 pub mod RunLaws

@@ -9,7 +9,9 @@ use Rattle.column_base.specs.ValidityForm.{ValidityForm, HasLength}
 use Rattle.column_core.specs.PrimitiveForm.{PrimitiveForm}
 use Rattle.column_core.specs.BoolForm.{BoolForm}
 use Rattle.column_core.specs.DecimalForm.{DecimalForm}
-use Rattle.column_core.specs.Leaf.{OfNumbers, OfTruths, OfDecimals}
+use Rattle.column_core.specs.Leaf.{OfNumbers, OfTruths, OfDecimals, OfVarBins}
+use Rattle.column_core.specs.VarBinForm.{VarBinForm, varbin_dtype}
+use Rattle.text_fields.specs.Texts.{text_bytes, text_fields, text_sizes}
 use Rattle.varints.specs.Varint.{varint}
 use Rattle.column_fields.specs.BitBytes.{bit_bytes}
 use Rattle.column_fields.specs.DecimalBytes.{decimals_bytes}
@@ -78,6 +80,13 @@ stored_decimals f d ns rows d-is n-is r-is small fits typed counted = record {
   counted = counted;
   small = omega (arith, r-is);
 }
+
+pub puts_text_rows : (f : VarBinForm) (kind rows : ℕ) (old a new : List ℕ) → kind ≡ kind_number (varbin_dtype f) → rows ≡ length f.views → a ≡ old ++ header_bytes kind 1 rows → new ≡ a ++ text_fields f.validity (text_sizes f) (text_bytes f) → new ≡ old ++ column_bytes (OfLeaf (OfVarBins f))
+puts_text_rows f kind rows old a new k r p q =
+    let fields : List ℕ = text_fields f.validity (text_sizes f) (text_bytes f) in
+    let header : List ℕ = header_bytes (kind_number (varbin_dtype f)) 1 (length f.views) in
+    let p' : a ≡ old ++ header = p ∙ ap (λ (n : ℕ). old ++ header_bytes n 1 rows) k ∙ ap (λ (n : ℕ). old ++ header_bytes (kind_number (varbin_dtype f)) 1 n) r in
+    q ∙ ap (λ (x : List ℕ). x ++ fields) p' ∙ append_assoc old header fields ∙ ap (λ (x : List ℕ). old ++ (header ++ x)) (sym (leaf_body (OfVarBins f)))
 
 pub puts_runs : (r : Runs) (t : PType) (kind rows offset : ℕ) (lengths values old a new : List ℕ) → t ≡ r.ends_type → kind ≡ kind_number (column_dtype r.values) → rows ≡ r.count → offset ≡ r.offset → lengths ≡ lengths_bytes 0 r.ends → values ≡ column_bytes r.values → a ≡ old ++ header_bytes kind 2 rows → new ≡ a ++ run_fields offset t lengths values → new ≡ old ++ column_bytes (column_of_runs r)
 puts_runs r t kind rows offset lengths values old a new t-is k rows-is o l v p q =

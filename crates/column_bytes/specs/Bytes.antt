@@ -3,6 +3,8 @@
 use Rattle.std.specs.Prelude.{ℕ, List, [], ◌++◌}
 use Rattle.column_base.specs.declared.dtype.DType.{DType}
 use Rattle.column_base.specs.declared.dtype.DType.TheVariants as column
+use Rattle.column_core.specs.declared.varbinview.VarBinKind.{VarBinKind}
+use Rattle.column_core.specs.declared.varbinview.VarBinKind.TheVariants.{Utf8, Binary}
 use Rattle.column_core.specs.Leaf.{Leaf, OfNumbers, OfTruths, OfDecimals, OfVarBins, leaf_count}
 use Rattle.column_fields.specs.BitBytes.{bit_bytes}
 use Rattle.column_fields.specs.DecimalBytes.{decimals_bytes}
@@ -15,6 +17,7 @@ use Rattle.column_fields.specs.RunFields.{run_fields}
 use Rattle.column_fields.specs.Types.{type_number}
 use Rattle.runend_array.specs.Column.{Column, OfLeaf, OfConstant, OfLists, OfRuns, column_dtype}
 use Rattle.runend_array.specs.Lists.{list_count}
+use Rattle.text_fields.specs.Texts.{text_bytes, text_fields, text_sizes}
 use Rattle.column_bytes.specs.Values.{value_fields}
 
 -- the number of a type: 1 to 8 the native types, then booleans, decimals, texts, bytes and lists
@@ -25,6 +28,11 @@ kind_number (column.Decimal d n) = 10
 kind_number (column.Utf8 n) = 11
 kind_number (column.Binary n) = 12
 kind_number (column.List e n) = 13
+
+-- the number of texts, and that of bytes
+abbrev pub varbin_number : VarBinKind → ℕ
+varbin_number Utf8 = 11
+varbin_number Binary = 12
 
 -- the number of a form
 abbrev pub form_number : Column → ℕ
@@ -40,12 +48,13 @@ column_count (OfRuns ends_type ends values offset count) = count
 column_count (OfConstant constant) = constant.count
 column_count (OfLists lists) = list_count lists
 
--- what a flat column's message says behind its header: which rows are null, and the items, stored under null too
+-- what a flat column's message says behind its header: which rows are null, and the items, stored under null too; of
+-- texts and bytes what the rows show
 abbrev pub leaf_fields : Leaf → List ℕ
 leaf_fields (OfNumbers form) = flat_fields form.validity (numbers_bytes form.ptype form.numbers)
 leaf_fields (OfTruths form) = flat_fields form.validity (bit_bytes form.bits)
 leaf_fields (OfDecimals form) = decimal_fields form.validity form.decimal (decimals_bytes form.numbers)
-leaf_fields (OfVarBins form) = []
+leaf_fields (OfVarBins form) = text_fields form.validity (text_sizes form) (text_bytes form)
 
 abbrev pub column_header : Column → List ℕ
 column_header c = header_bytes (kind_number (column_dtype c)) (form_number c) (column_count c)

@@ -1,4 +1,5 @@
 pub mod Values
+pub mod Packed
 pub mod Bytes
 pub mod Stored
 pub mod Read

@@ -16,6 +16,7 @@ use Rattle.column_fields.specs.NumberBytes.{number_bytes}
 use Rattle.column_fields.specs.Lengths.{lengths_bytes, Rises, AreEndsOf}
 use Rattle.runend_windows.specs.Ends.{IsEndsType, ends_of}
 use Rattle.runend_array.specs.Column.{Column, OfRuns, AreRuns, runs_with, column_dtype, depth}
+use Rattle.column_bytes.specs.Packed.{IsPacked}
 use Rattle.column_bytes.specs.Bytes.{kind_number, form_number, column_count, leaf_fields, column_body, column_bytes}
 use Rattle.column_bytes.specs.Values.{IsPlainType, IsStoredValue, some_bytes, value_fields}
 use Rattle.column_bytes.specs.Stored.{IsStored, AreNumbers, AreTruths, AreDecimals}
@@ -25,9 +26,10 @@ pub record IsWritable (levels : ℕ) (c : Column) : Type 0 where
   pub stored : IsStored c
   pub shallow : depth c ≤ levels
 
--- the bytes are those of the column
+-- the bytes are those of the column, whose texts and bytes are packed
 pub record IsMessage (levels : ℕ) (bytes : List ℕ) (c : Column) : Type 0 where
   pub writable : IsWritable levels c
+  pub packed : IsPacked c
   pub spelt : bytes ≡ column_bytes c
 
 pub record IsNoMessage (levels : ℕ) (bytes : List ℕ) : Type 0 where
@@ -36,6 +38,7 @@ pub record IsNoMessage (levels : ℕ) (bytes : List ℕ) : Type 0 where
 -- the bytes are what the message of the column says behind a header with these numbers
 pub record IsBody (levels kind form rows : ℕ) (bytes : List ℕ) (c : Column) : Type 0 where
   pub writable : IsWritable levels c
+  pub packed : IsPacked c
   pub kind_is : kind_number (column_dtype c) ≡ kind
   pub form_is : form_number c ≡ form
   pub rows_is : column_count c ≡ rows

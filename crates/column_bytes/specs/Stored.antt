@@ -10,6 +10,7 @@ use Rattle.column_core.specs.DecimalForm.{DecimalForm}
 use Rattle.column_fields.specs.DecimalFields.{IsDecimalType}
 use Rattle.column_fields.specs.Lengths.{AreEndsOf}
 use Rattle.column_bytes.specs.Values.{IsStoredValue}
+use Rattle.text_fields.specs.Texts.{AreTexts}
 use Rattle.runend_array.specs.Column.{Column, Constant, OfLeaf, OfConstant, OfLists, OfRuns, AreRuns, runs_with}
 
 -- each number is one of the type, and the validity speaks of each row
@@ -34,14 +35,14 @@ abbrev pub IsStoredLeaf : Leaf → Type 0
 IsStoredLeaf (OfNumbers form) = AreNumbers form
 IsStoredLeaf (OfTruths form) = AreTruths form
 IsStoredLeaf (OfDecimals form) = AreDecimals form
-IsStoredLeaf (OfVarBins form) = ⊥
+IsStoredLeaf (OfVarBins form) = AreTexts form
 
 -- the value is one of its type, or null where that has null
 pub record IsStoredConstant (constant : Constant) : Type 0 where
   pub value : IsStoredValue constant.dtype constant.value
   pub small : constant.count < 2 ^ 64
 
--- flat columns of integers, of booleans and of decimals, constants, and runs over columns that have bytes
+-- flat columns, constants, and runs over columns that have bytes
 abbrev pub IsStored : Column → Type 0
 IsStored (OfLeaf leaf) = IsStoredLeaf leaf
 IsStored (OfConstant constant) = IsStoredConstant constant

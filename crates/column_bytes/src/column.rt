@@ -8,6 +8,7 @@ ghost use Rattle.column_fields.specs.Refusal.{IsBadOrMemory};
 use crate::constants::{put_constant, read_constant};
 use crate::flat::{put_decimal_rows, put_numbers, put_truths, read_leaf};
 use crate::runs::{put_runs, read_runs};
+use crate::texts::put_texts;
 use column_base::{VortexError, VortexResult};
 use column_fields::{read_header, read_run_fields};
 use runend_array::{ArrayRef, RunEndArraySlotsExt};
@@ -17,8 +18,8 @@ use std::alloc::Allocator;
 pub const MOST_LEVELS: usize = 16;
 
 /// The message of a column, in memory of the allocator `alloc`. Refused as `Unsupported` exactly for a column that
-/// version 1 does not write: a flat one of texts or bytes, one of lists, a constant of decimals, runs over one of
-/// these, or more than 16 levels of runs; else as `OutOfMemory` alone.
+/// version 1 does not write: one of lists, a constant of decimals, runs over one of these, or more than 16 levels of
+/// runs; else as `OutOfMemory` alone.
 pub fn write_column<A: Allocator + Copy, B: Allocator + Copy>(
     alloc: B,
     array: &ArrayRef<A>,
@@ -59,6 +60,7 @@ fn put_column<A: Allocator + Copy, B: Allocator + Copy>(
         ArrayRef::Primitive(numbers) => put_numbers(out, numbers),
         ArrayRef::Bool(truths) => put_truths(out, truths),
         ArrayRef::Decimal(decimals) => put_decimal_rows(out, decimals),
+        ArrayRef::VarBinView(texts) => put_texts(alloc, out, texts),
         ArrayRef::Constant(constant) => put_constant(out, constant),
         ArrayRef::RunEnd(runs) => {
             if levels == 0 {

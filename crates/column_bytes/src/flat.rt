@@ -1,4 +1,4 @@
-//! Flat columns of integers, of booleans and of decimals.
+//! Flat columns of integers, of booleans and of decimals, and the reader of flat columns.
 ghost use Rattle.std.specs.Prelude.{◌≡◌, ◌*◌, ◌↔◌, ◌++◌, IsTrue, ℕ, length, OnOk, IfOk, IfErr, IsErrOf, IsOkUnless};
 ghost use Rattle.column_core.specs.Leaf.{OfNumbers, OfTruths, OfDecimals};
 ghost use Rattle.runend_array.specs.Column.{OfLeaf};
@@ -8,8 +8,9 @@ ghost use Rattle.column_bytes.specs.Bytes.{column_bytes};
 ghost use Rattle.column_bytes.specs.Stored.{AreNumbers, AreTruths, AreDecimals};
 ghost use Rattle.column_bytes.specs.Read.{IsBody, IsNoBody, AreNumbersOf, AreNoNumbersOf, AreTruthsOf, AreNoTruthsOf, AreDecimalsOf, AreNoDecimalsOf};
 
+use crate::texts::read_texts;
 use column_base::{PType, VortexError, VortexResult};
-use column_core::{BoolArray, DecimalArray, PrimitiveArray};
+use column_core::{BoolArray, DecimalArray, PrimitiveArray, VarBinKind};
 use column_fields::{
     DECIMAL_SIZE, Header, bytes_for, load_bits, load_decimals, load_values, number_of_type,
     put_bits, put_bytes_key, put_decimal_type, put_decimals, put_header, put_validity, put_values,
@@ -23,6 +24,12 @@ const TRUTHS: u64 = 9;
 
 /// The number of the type of decimals.
 const DECIMALS: u64 = 10;
+
+/// The number of the type of texts.
+const TEXTS: u64 = 11;
+
+/// The number of the type of bytes.
+const BYTES: u64 = 12;
 
 /// Writes a flat column of integers at the end. Refused as `OutOfMemory` alone.
 pub(crate) fn put_numbers<A: Allocator, B: Allocator>(
@@ -131,6 +138,12 @@ pub(crate) fn read_leaf<A: Allocator + Copy>(
             Ok(decimals) => Ok(ArrayRef::Decimal(decimals)),
             Err(error) => Err(error),
         };
+    }
+    if header.kind == TEXTS {
+        return read_texts(alloc, VarBinKind::Utf8, rows, bytes);
+    }
+    if header.kind == BYTES {
+        return read_texts(alloc, VarBinKind::Binary, rows, bytes);
     }
     let Some(ptype) = type_of_number(header.kind) else {
         return Err(VortexError::BadMetadata);

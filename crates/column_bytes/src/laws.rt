@@ -1,7 +1,9 @@
 //! The laws of columns as bytes. `spelling_is_unique` does nothing: its clause is the law.
 ghost use Rattle.std.specs.Prelude.{◌≡◌, IfOk, IfErr};
 ghost use Rattle.runend_array.specs.Array.{column_of};
+ghost use Rattle.runend_array.specs.Column.{plain_of};
 ghost use Rattle.column_bytes.specs.Laws.{SpellingIsUnique};
+ghost use Rattle.column_bytes.specs.Packed.{packed_column};
 ghost use Rattle.column_bytes.specs.Read.{IsUnsupportedOrMemory};
 
 use crate::column::{read_column, write_column};
@@ -14,13 +16,15 @@ pub fn spelling_is_unique()
     ensures { SpellingIsUnique }
 {}
 
-/// Writes a column and reads what was written: it is a column of the same form. Refused as `Unsupported` where
-/// `write_column` is, else as `OutOfMemory` alone.
+/// Writes a column and reads what was written: it is a column of the same form but for the views and buffers of texts
+/// and bytes, which are packed, and has the same rows. Refused as `Unsupported` where `write_column` is, else as
+/// `OutOfMemory` alone.
 pub fn write_then_read<A: Allocator + Copy>(
     alloc: A,
     array: &ArrayRef<A>,
 ) -> VortexResult<ArrayRef<A>>
-    ensures same { IfOk result (λ read. column_of read ≡ column_of array.now) }
+    ensures same { IfOk result (λ read. column_of read ≡ packed_column (column_of array.now)) }
+    ensures rows { IfOk result (λ read. plain_of (column_of read) ≡ plain_of (column_of array.now)) }
     ensures only { IfErr result IsUnsupportedOrMemory }
 {
     let bytes = write_column(alloc, array)?;

@@ -7,6 +7,7 @@ mod flat;
 mod kinds;
 pub mod laws;
 mod runs;
+mod texts;
 
 pub use column::{MOST_LEVELS, read_column, write_column};
 pub use column_base::{VortexError, VortexResult};

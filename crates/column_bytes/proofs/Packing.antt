@@ -1,0 +1,108 @@
+-- A column and the same one with its texts and bytes packed: the rows and the bytes are the same.
+use Rattle.std.proofs.Common.{◌≡◌, ℕ, ◌+◌, List, ◌++◌, length, map, refl, sym, ap, ◌∙◌, arith}
+use Rattle.std.specs.Prelude.{option_map, Option}
+use Rattle.column_core.specs.Leaf.{OfNumbers, OfTruths, OfDecimals, OfVarBins}
+use Rattle.column_core.specs.Value.{FlatValue, Value, Single}
+use Rattle.column_fields.specs.Header.{header_bytes}
+use Rattle.column_fields.specs.Lengths.{lengths_bytes}
+use Rattle.column_fields.specs.RunFields.{run_fields}
+use Rattle.runend_windows.specs.Window.{run_rows}
+use Rattle.runend_array.specs.Column.{Column, OfLeaf, OfConstant, OfLists, OfRuns, column_dtype, column_rows, depth, plain_of}
+use Rattle.text_fields.specs.Texts.{packed}
+use Rattle.text_fields.proofs.Packing.{AreTexts-packed, packed-packed, same-fields, same-count, varbin_rows-packed}
+use Rattle.column_bytes.specs.Bytes.{kind_number, form_number, column_count, column_header, column_body, column_bytes}
+use Rattle.column_bytes.specs.Packed.{IsPacked, packed_column}
+use Rattle.column_bytes.specs.Read.{IsWritable, IsMessage}
+use Rattle.column_bytes.specs.Stored.{IsStored}
+use Rattle.column_bytes.proofs.Leaves.{leaf_body}
+use Rattle.column_bytes.proofs.Messages.{run_body}
+
+dtype_packed : (c : Column) → column_dtype (packed_column c) ≡ column_dtype c
+dtype_packed (OfLeaf (OfNumbers form)) = refl
+dtype_packed (OfLeaf (OfTruths form)) = refl
+dtype_packed (OfLeaf (OfDecimals form)) = refl
+dtype_packed (OfLeaf (OfVarBins form)) = refl
+dtype_packed (OfConstant constant) = refl
+dtype_packed (OfLists lists) = refl
+dtype_packed (OfRuns ends_type ends values offset count) = dtype_packed values
+
+depth_packed : (c : Column) → depth (packed_column c) ≡ depth c
+depth_packed (OfLeaf (OfNumbers form)) = refl
+depth_packed (OfLeaf (OfTruths form)) = refl
+depth_packed (OfLeaf (OfDecimals form)) = refl
+depth_packed (OfLeaf (OfVarBins form)) = refl
+depth_packed (OfConstant constant) = refl
+depth_packed (OfLists lists) = refl
+depth_packed (OfRuns ends_type ends values offset count) = ap (λ (n : ℕ). n + 1) (depth_packed values)
+
+rows_packed : (c : Column) → IsStored c → column_rows (packed_column c) ≡ column_rows c
+rows_packed (OfLeaf (OfNumbers form)) s = refl
+rows_packed (OfLeaf (OfTruths form)) s = refl
+rows_packed (OfLeaf (OfDecimals form)) s = refl
+rows_packed (OfLeaf (OfVarBins form)) s = ap (map (option_map (λ (v : FlatValue). Single v))) (varbin_rows-packed form s.are.counted)
+rows_packed (OfConstant constant) s = refl
+rows_packed (OfLists lists) s = refl
+rows_packed (OfRuns ends_type ends values offset count) s = ap (λ (rows : List (Option Value)). run_rows ends rows offset count) (rows_packed values s.2)
+
+pub plain_packed : (c : Column) → IsStored c → plain_of (packed_column c) ≡ plain_of c
+plain_packed c s = λ i. record { dtype = dtype_packed c i; rows = rows_packed c s i }
+
+stored_packed : (c : Column) → IsStored c → IsStored (packed_column c)
+stored_packed (OfLeaf (OfNumbers form)) s = s
+stored_packed (OfLeaf (OfTruths form)) s = s
+stored_packed (OfLeaf (OfDecimals form)) s = s
+stored_packed (OfLeaf (OfVarBins form)) s = AreTexts-packed form s
+stored_packed (OfConstant constant) s = s
+stored_packed (OfLists lists) s = s
+stored_packed (OfRuns ends_type ends values offset count) s =
+    (s.0, record { window = s.1.window; paired = ap length (rows_packed values s.2) ∙ s.1.paired }, stored_packed values s.2)
+
+is_packed : (c : Column) → IsStored c → IsPacked (packed_column c)
+is_packed (OfLeaf (OfNumbers form)) s = tt
+is_packed (OfLeaf (OfTruths form)) s = tt
+is_packed (OfLeaf (OfDecimals form)) s = tt
+is_packed (OfLeaf (OfVarBins form)) s = packed-packed form s.are.counted
+is_packed (OfConstant constant) s = tt
+is_packed (OfLists lists) s = tt
+is_packed (OfRuns ends_type ends values offset count) s = is_packed values s.2
+
+form_packed : (c : Column) → form_number (packed_column c) ≡ form_number c
+form_packed (OfLeaf leaf) = refl
+form_packed (OfConstant constant) = refl
+form_packed (OfLists lists) = refl
+form_packed (OfRuns ends_type ends values offset count) = refl
+
+count_packed : (c : Column) → IsStored c → column_count (packed_column c) ≡ column_count c
+count_packed (OfLeaf (OfNumbers form)) s = refl
+count_packed (OfLeaf (OfTruths form)) s = refl
+count_packed (OfLeaf (OfDecimals form)) s = refl
+count_packed (OfLeaf (OfVarBins form)) s = same-count form s.are.counted
+count_packed (OfConstant constant) s = refl
+count_packed (OfLists lists) s = refl
+count_packed (OfRuns ends_type ends values offset count) s = refl
+
+header_packed : (c : Column) → IsStored c → column_header (packed_column c) ≡ column_header c
+header_packed c s =
+    ap (λ t. header_bytes (kind_number t) (form_number (packed_column c)) (column_count (packed_column c))) (dtype_packed c) ∙ ap (λ (n : ℕ). header_bytes (kind_number (column_dtype c)) n (column_count (packed_column c))) (form_packed c) ∙ ap (λ (n : ℕ). header_bytes (kind_number (column_dtype c)) (form_number c) n) (count_packed c s)
+
+body_packed : (c : Column) → IsStored c → column_body (packed_column c) ≡ column_body c
+body_packed (OfLeaf (OfNumbers form)) s = refl
+body_packed (OfLeaf (OfTruths form)) s = refl
+body_packed (OfLeaf (OfDecimals form)) s = refl
+body_packed (OfLeaf (OfVarBins form)) s = leaf_body (OfVarBins (packed form)) ∙ same-fields form s.are.counted ∙ sym (leaf_body (OfVarBins form))
+body_packed (OfConstant constant) s = refl
+body_packed (OfLists lists) s = refl
+body_packed (OfRuns ends_type ends values offset count) s =
+    let same : column_bytes (packed_column values) ≡ column_bytes values = ap (λ (x : List ℕ). x ++ column_body (packed_column values)) (header_packed values s.2) ∙ ap (λ (x : List ℕ). column_header values ++ x) (body_packed values s.2) in
+    run_body ends_type ends (packed_column values) offset count ∙ ap (λ (x : List ℕ). run_fields offset ends_type (lengths_bytes 0 ends) x) same ∙ sym (run_body ends_type ends values offset count)
+
+bytes_packed : (c : Column) → IsStored c → column_bytes (packed_column c) ≡ column_bytes c
+bytes_packed c s = ap (λ (x : List ℕ). x ++ column_body (packed_column c)) (header_packed c s) ∙ ap (λ (x : List ℕ). column_header c ++ x) (body_packed c s)
+
+-- what is written of a column is the message of the packed one
+pub packed_message : (levels : ℕ) (bytes : List ℕ) (c : Column) → IsWritable levels c → bytes ≡ column_bytes c → IsMessage levels bytes (packed_column c)
+packed_message levels bytes c w e = record {
+  writable = record { stored = stored_packed c w.stored; shallow = omega (arith, depth_packed c, w.shallow) };
+  packed = is_packed c w.stored;
+  spelt = e ∙ sym (bytes_packed c w.stored);
+}

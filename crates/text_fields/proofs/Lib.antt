@@ -1,0 +1,6 @@
+pub mod Pieces
+pub mod Packing
+pub mod Sizes
+pub mod TextLaws
+pub mod Nulls
+pub mod Written
