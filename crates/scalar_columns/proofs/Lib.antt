@@ -1,0 +1,3 @@
+pub mod StoredItems
+pub mod RowScalars
+pub mod Cuts
