@@ -1,0 +1,5 @@
+pub mod Pushed
+pub mod Seams
+pub mod Builds
+pub mod Encodings
+pub mod Faults
