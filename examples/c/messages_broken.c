@@ -73,16 +73,17 @@ static void make_column(size_t levels, hv_column *out) {
         make_flat(below(ROWS), out);
         return;
     }
-    hv_column values = HV_EMPTY, ends = HV_EMPTY;
+    hv_column values = HV_EMPTY, wide = HV_EMPTY, ends = HV_EMPTY;
     make_column(levels - 1, &values);
     uint64_t stops[ROWS + 1] = {0};
     size_t runs = hv_length(&values), reached = 0;
     for (size_t run = 0; run < runs; run++) stops[run] = reached += below(9) + (run > 0);
-    CHECK(!hv_u64(stops, runs, NOT_NULLABLE, &ends, &error));
-    hv_kind kind = {(uint8_t)below(4), 0, 0, 0};
-    if (reached < 256) CHECK(!hv_cast(&session, &ends, &kind, &ends, &error));
+    CHECK(!hv_u64(stops, runs, NOT_NULLABLE, &wide, &error));
+    hv_kind kind = {reached < 256 ? (uint8_t)below(4) : HV_U64, 0, 0, 0};
+    CHECK(!hv_cast(&session, &wide, &kind, &ends, &error));
     size_t offset = below(stops[0] + 1), left = reached - offset;
     CHECK(!hv_runs(&ends, &values, offset, below((left < ROWS ? left : ROWS) + 1), out, &error));
+    hv_free(&wide);
     hv_free(&values), hv_free(&ends);
 }
 

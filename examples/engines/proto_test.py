@@ -1,5 +1,5 @@
 #!/usr/bin/env python3
-"""Random columns by column.proto: what the extension for SQLite writes is what Protocol Buffers' own writer writes of
+"""Random columns by docs/column.proto: what the extension for SQLite writes is what Protocol Buffers' own writer writes of
 the same rows, and what that writes is read.
 
     python3 proto_test.py EXTENSION [COUNT]
@@ -17,7 +17,7 @@ import tempfile
 from itertools import groupby
 from pathlib import Path
 
-HERE = Path(__file__).resolve().parent
+SCHEMA = Path(__file__).resolve().parents[2] / "docs"
 FLAT, RUNS = 1, 2
 NEVER_NULL, ALL_NULL, BY_BITS = 1, 3, 4
 U8, U16, U32, I64, UTF8, BINARY = 1, 2, 3, 8, 11, 12
@@ -25,7 +25,7 @@ U8, U16, U32, I64, UTF8, BINARY = 1, 2, 3, 8, 11, 12
 
 def compiled(folder: str):
     """The class of messages, as protoc makes it of column.proto."""
-    subprocess.run(["protoc", f"-I{HERE}", f"--python_out={folder}", "column.proto"], check=True)
+    subprocess.run(["protoc", f"-I{SCHEMA}", f"--python_out={folder}", "column.proto"], check=True)
     sys.path.insert(0, folder)
     return importlib.import_module("column_pb2").Column
 
