@@ -101,5 +101,6 @@ pub fn encode_then_decode<A: Allocator + Copy>(
     ensures session { ctx.new ≡ ctx.old }
 {
     let runs = RunEnd::encode(array, ctx)?;
-    ArrayRef::of_runs(*ctx.allocator(), runs)?.canonicalize(ctx)
+    let encoded = ArrayRef::of_runs(*ctx.allocator(), runs)?;
+    encoded.canonicalize(ctx)
 }
