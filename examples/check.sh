@@ -43,11 +43,15 @@ done
 
 # the header's names are the library's, and the other way round
 names_agree() {
+    printf 'hv_abi\nhv_version\n' >"$work/versions"
     nm -g --defined-only lib/libhivevigil.a 2>/dev/null |
         awk '$2 == "T" && $3 ~ /^hv_/ { print $3 }' | sort -u >"$work/exported"
-    $cc -E -P -Iinclude include/hivevigil.h | tr '\n' ' ' | sed 's/static inline[^}]*}/ /g' |
-        grep -o 'hv_[a-z0-9_]*(' | tr -d '(' | sort -u >"$work/declared"
-    diff "$work/declared" "$work/exported" && echo "$(wc -l <"$work/declared") calls"
+    $cc -E -P -DHV_EXPORTS_ALONE -Iinclude include/hivevigil.h | grep -o 'hv_[a-z0-9_]*(' | tr -d '(' | sort -u \
+        >"$work/declared"
+    # each is a call of the header too, but for the two that take nothing
+    $cc -E -P -Iinclude include/hivevigil.h | grep -o 'hv_call_[a-z0-9_]*(' | tr -d '(' | sed 's/_call_/_/' |
+        sort -u - "$work/versions" | diff "$work/declared" - &&
+        diff "$work/declared" "$work/exported" && echo "$(wc -l <"$work/declared") calls"
 }
 # the shared object shows these, and for callers without a C header those over Arrow; and says its binary interface
 shared_agrees() {

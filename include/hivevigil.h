@@ -1,4 +1,5 @@
-/* Run-end encoded columns for C. Each call is an exported function of libhivevigil.a.
+/* Run-end encoded columns for C, over libhivevigil.a. Each call is an exported function of the library, and in C and
+ * C++ an inline function over it, which takes null where there is nothing.
  *
  * A column is a list of rows of one type, each a value or null. It may lie flat, as one constant, as lists, or as runs,
  * which store each stretch of equal rows once. Calls that ask about rows answer the same in whichever form.
@@ -8,19 +9,23 @@
  * hold anything. Under 0 `out` has the column that was made, and the one that it held before is freed. Nothing is
  * printed, nothing ends the process, and a refused malloc is answered 21.
  *
- * OWNERSHIP. A handle, hv_column, owns its column. A call that is lent columns leaves them as they are; what it makes is a
- * column of its own. What C passes (numbers, bits, bytes) is copied, and is C's own again when the call returns.
+ * OWNERSHIP. A handle, hv_column, owns its column. A call that is lent columns leaves them as they are; what it makes
+ * is a column of its own. What C passes (numbers, bits, bytes) is copied, and is C's own again when the call returns.
  *
  * WHAT IS BEHIND IT. What a call leaves, what it answers, and the number and fields by which it is refused are proved
  * of the library, where callers do what they owe (next); docs/PROVED.md says it call by call, and what is tested alone.
  *
+ * WHAT MAY BE NULL: a pointer to no items, where the length beside it is 0; `error`, where nobody asks for the fields;
+ * the handle that hv_free is given, which then does nothing.
+ *
  * WHAT A CALLER OWES:
  *  - a handle starts as HV_EMPTY, is written by this library alone, and hv_free empties it; a copy of the struct is no
  *    second handle (to move one, copy it and set the old one to HV_EMPTY), and `at` is never followed;
- *  - each pointer is valid for what it points to, aligned for its type, and not null, also where a length is 0: hv_some
- *    below gives a pointer where there is no item; a length times the width of an item is below 2^63;
- *  - what a call writes, and each handle that it is given, overlaps no other argument: to compare a column with itself
- *    lend hv_clone's result;
+ *  - any other pointer is not null, and each is valid for what it points to, and aligned for its type; a length times
+ *    the width of an item is below 2^63;
+ *  - what a call writes, and each handle that it is given, overlaps no other argument: to compare a column with
+ *    itself lend hv_clone's result. A handle that is lent (const hv_column *) is the same when the call returns, but
+ *    is written while it runs: it is no object that is defined const;
  *  - input is initialised; what a call only writes may hold any bytes before, but for `out`, which is a handle;
  *  - one call at a time on each column, also where it only reads. Any thread may make it: columns that were made one
  *    from the other share buffers, whose owners are counted by atomics, and threads may use them at once (tested). Of
@@ -41,18 +46,17 @@
 extern "C" {
 #endif
 
-/* No pointer is null, and an answer is looked at: what a compiler can tell of both, it says. */
+/* Calls are inline functions; that of an answer which is not looked at is told by the compiler. */
+#define HV_CALL static inline
 #ifdef __GNUC__
-#define HV_LENT __attribute__((nonnull))
-#define HV_ANSWER __attribute__((nonnull, warn_unused_result))
+#define HV_ANSWER __attribute__((warn_unused_result)) static inline int32_t
 #else
-#define HV_LENT
-#define HV_ANSWER
+#define HV_ANSWER static inline int32_t
 #endif
 
-/* The version of this header, and the number of its binary interface. hv_version answers the version of the library, as
- * major * 1000000 + minor * 1000 + patch, and hv_abi its interface: a program runs with a library of its own HV_ABI, and
- * finds there every call of a header that is no newer than the library. */
+/* The version of this header, and the number of its binary interface. hv_version answers the version of the library,
+ * as major * 1000000 + minor * 1000 + patch, and hv_abi its interface: a program runs with a library of its own
+ * HV_ABI, and finds there every call of a header that is no newer than the library. */
 #define HV_VERSION_MAJOR 0
 #define HV_VERSION_MINOR 1
 #define HV_VERSION_PATCH 0
@@ -102,13 +106,14 @@ enum { HV_U8, HV_U16, HV_U32, HV_U64, HV_I8, HV_I16, HV_I32, HV_I64, HV_BOOL, HV
 typedef struct hv_kind { uint8_t number, nullable, precision; int8_t scale; } hv_kind;
 
 /* A value. kind HV_NULL: null; HV_UNSIGNED: as_unsigned; HV_SIGNED: as_signed; HV_TRUTH: truth; HV_DECIMAL_VALUE:
- * as_signed * 2^64 + as_unsigned; HV_TEXT and HV_BYTES: as_unsigned bytes, which stand in a buffer beside it. A value of
- * an unsigned type is HV_UNSIGNED, one of a signed type HV_SIGNED. Where C passes a text, its bytes are those of the
- * buffer, and as_unsigned is not read. */
+ * as_signed * 2^64 + as_unsigned; HV_TEXT and HV_BYTES: as_unsigned bytes, which stand in a buffer beside it. A value
+ * of an unsigned type is HV_UNSIGNED, one of a signed type HV_SIGNED. Where C passes a text, its bytes are those of
+ * the buffer, and as_unsigned is not read. */
 enum { HV_NULL, HV_UNSIGNED, HV_SIGNED, HV_TRUTH, HV_DECIMAL_VALUE, HV_TEXT, HV_BYTES };
 typedef struct hv_value { uint64_t as_unsigned; int64_t as_signed; uint8_t kind, truth; } hv_value;
 
-/* A sum. kind 0: it left the range of 64 bits; 1: as_unsigned; 2: as_signed. empty: no row is valid, and the sum is 0. */
+/* A sum. kind HV_UNSIGNED: as_unsigned; HV_SIGNED: as_signed; HV_NULL: it left the range of 64 bits. empty: no row is
+ * valid, and the sum is 0. */
 typedef struct hv_total { uint64_t as_unsigned; int64_t as_signed; uint8_t kind, empty; } hv_total;
 
 /* A number of 128 bits: high * 2^64 + low, as in the buffers of Arrow's decimal128 on little-endian machines. */
@@ -120,184 +125,259 @@ enum { HV_FORM_FLAT, HV_FORM_CONSTANT, HV_FORM_LISTS, HV_FORM_RUNS, HV_FORM_NONE
 /* Which kernels are registered, a flag for each in this order, and the numbers by which they choose. A session decides
  * which form is left and at what cost, never an answer. {0} has no kernel; hv_session_initial sets all kernels and the
  * numbers of the crate that is ported. */
-enum { HV_SLICE, HV_FILTER, HV_TAKE, HV_TAKE_FROM, HV_COMPARE, HV_CAST, HV_FILL_NULL, HV_SCALAR_FN, HV_SUM, HV_MIN_MAX, HV_IS_CONSTANT, HV_IS_SORTED };
+enum {
+    HV_SLICE,
+    HV_FILTER,
+    HV_TAKE,
+    HV_TAKE_FROM,
+    HV_COMPARE,
+    HV_CAST,
+    HV_FILL_NULL,
+    HV_SCALAR_FN,
+    HV_SUM,
+    HV_MIN_MAX,
+    HV_IS_CONSTANT,
+    HV_IS_SORTED
+};
+/* `size` is sizeof(hv_session), or 0, which stands for the size of the first version, 80. A later header may have more
+ * behind `kernels`, which counts where `size` says that it is there; what was compiled before runs as it did. */
 typedef struct hv_session {
-    size_t prefill_runs, min_run_filter_rows, filter_factor, sorted_runs_per_index, table_len_per_index, unsorted_min_runs, unsorted_runs_per_index;
+    size_t size;
+    size_t prefill_runs, min_run_filter_rows, filter_factor, sorted_runs_per_index;
+    size_t table_len_per_index, unsorted_min_runs, unsorted_runs_per_index;
     uint8_t kernels[12];
 } hv_session;
-HV_LENT void hv_session_initial(hv_session *session);
 
-/* A pointer that is not null, for no items. */
-static inline const void *hv_some(const void *items) { static const uint64_t nothing = 0; return items ? items : &nothing; }
+/* Which rows are null. */
+typedef struct hv_validity {
+    const uint8_t *bits;
+    size_t bits_len, first;
+    uint8_t nulls;
+} hv_validity;
 
-/* ---- Making columns ----
- * nulls: 0, the type has no null; 1, the type has null and no row is null; any other: row i is null where bit `first + i`
- * is 0. Bit k is bit k % 8 of byte k / 8, as in Arrow. The bits are read under the last alone; refused as 11 (rows, bytes)
- * where they are fewer than the rows. */
-#define HV_VALIDITY uint8_t nulls, const uint8_t *bits, size_t bits_len, size_t first
-HV_ANSWER int32_t hv_u8(const uint8_t *items, size_t len, HV_VALIDITY, hv_column *out, hv_error *error);
-HV_ANSWER int32_t hv_u16(const uint16_t *items, size_t len, HV_VALIDITY, hv_column *out, hv_error *error);
-HV_ANSWER int32_t hv_u32(const uint32_t *items, size_t len, HV_VALIDITY, hv_column *out, hv_error *error);
-HV_ANSWER int32_t hv_u64(const uint64_t *items, size_t len, HV_VALIDITY, hv_column *out, hv_error *error);
-HV_ANSWER int32_t hv_i8(const int8_t *items, size_t len, HV_VALIDITY, hv_column *out, hv_error *error);
-HV_ANSWER int32_t hv_i16(const int16_t *items, size_t len, HV_VALIDITY, hv_column *out, hv_error *error);
-HV_ANSWER int32_t hv_i32(const int32_t *items, size_t len, HV_VALIDITY, hv_column *out, hv_error *error);
-HV_ANSWER int32_t hv_i64(const int64_t *items, size_t len, HV_VALIDITY, hv_column *out, hv_error *error);
+#include "hivevigil_exports.h"
+#ifndef HV_EXPORTS_ALONE
+
+HV_CALL void hv_session_initial(hv_session *session);
+
+/* ---- Making columns ---- */
+
+/* The validity of a type without null. */
+HV_CALL hv_validity hv_not_nullable(void) {
+    hv_validity validity = {NULL, 0, 0, 0};
+    return validity;
+}
+/* That of a type with null, of which no row is null. */
+HV_CALL hv_validity hv_all_valid(void) {
+    hv_validity validity = {NULL, 0, 0, 1};
+    return validity;
+}
+/* That by bits: row i is null where bit `first + i` is 0, and bit k is bit k % 8 of byte k / 8, as in Arrow. A call is
+ * refused as 11 (rows, bytes) where these are fewer bits than rows. */
+HV_CALL hv_validity hv_valid_bits(const uint8_t *bits, size_t bits_len, size_t first) {
+    hv_validity validity = {bits, bits_len, first, 2};
+    return validity;
+}
+
+HV_ANSWER hv_u8(const uint8_t *items, size_t len, hv_validity validity, hv_column *out, hv_error *error);
+HV_ANSWER hv_u16(const uint16_t *items, size_t len, hv_validity validity, hv_column *out, hv_error *error);
+HV_ANSWER hv_u32(const uint32_t *items, size_t len, hv_validity validity, hv_column *out, hv_error *error);
+HV_ANSWER hv_u64(const uint64_t *items, size_t len, hv_validity validity, hv_column *out, hv_error *error);
+HV_ANSWER hv_i8(const int8_t *items, size_t len, hv_validity validity, hv_column *out, hv_error *error);
+HV_ANSWER hv_i16(const int16_t *items, size_t len, hv_validity validity, hv_column *out, hv_error *error);
+HV_ANSWER hv_i32(const int32_t *items, size_t len, hv_validity validity, hv_column *out, hv_error *error);
+HV_ANSWER hv_i64(const int64_t *items, size_t len, hv_validity validity, hv_column *out, hv_error *error);
 /* `count` booleans, row i by bit `start + i` of `truths`; 11 (rows, bytes) where there are fewer bits */
-HV_ANSWER int32_t hv_bools(const uint8_t *truths, size_t truths_len, size_t start, size_t count, HV_VALIDITY, hv_column *out, hv_error *error);
-HV_ANSWER int32_t hv_decimals(const hv_pair *pairs, size_t len, uint8_t precision, int8_t scale, HV_VALIDITY, hv_column *out, hv_error *error);
-/* Row i is the bytes from offsets[i] to offsets[i + 1] - 1; there is one offset more than rows. 4 for offsets that fall,
- * 8 (row, rows) for a row that is not within the bytes, 12 for a text that is not UTF-8. binary: bytes, not texts. */
-HV_ANSWER int32_t hv_texts(uint8_t binary, const int32_t *offsets, size_t offsets_len, const uint8_t *bytes, size_t bytes_len, HV_VALIDITY, hv_column *out, hv_error *error);
-HV_ANSWER int32_t hv_large_texts(uint8_t binary, const int64_t *offsets, size_t offsets_len, const uint8_t *bytes, size_t bytes_len, HV_VALIDITY, hv_column *out, hv_error *error);
-/* The value, of this type, in each of `count` rows, in memory for one: 15 for null in a type without null, 12 for a value
- * that is none of the type, or a text that is not UTF-8; 23 where kind names no type, or lists. */
-HV_ANSWER int32_t hv_constant(const hv_kind *kind, const hv_value *value, const uint8_t *text, size_t text_len, size_t count, hv_column *out, hv_error *error);
-/* The run column of these ends and one value for each, of which `count` rows from row `offset` on are shown. Ends are a flat
- * column of an unsigned type without null, each above the one before. Both are shared. Refused by the first fault of 1 to 7
- * in their order, or as 21. */
-HV_ANSWER int32_t hv_runs(hv_column *ends, hv_column *values, size_t offset, size_t count, hv_column *out, hv_error *error);
-/* Lists: row i is the sizes[i] items of `elements` from item offsets[i] on, and lists may lie in any order and overlap.
- * `elements` is a flat column, which is shared; 11 (rows, bytes) as above, then 13 unless it is flat, 11 (offsets, sizes)
- * for another number of sizes, 8 (row, elements) for the first row that is not null and not within the elements. */
-HV_ANSWER int32_t hv_lists(hv_column *elements, const uint64_t *offsets, size_t offsets_len, const uint64_t *sizes, size_t sizes_len, HV_VALIDITY, hv_column *out, hv_error *error);
+HV_ANSWER hv_bools(const uint8_t *truths, size_t truths_len, size_t start, size_t count, hv_validity validity,
+                   hv_column *out, hv_error *error);
+HV_ANSWER hv_decimals(const hv_pair *pairs, size_t len, uint8_t precision, int8_t scale, hv_validity validity,
+                      hv_column *out, hv_error *error);
+/* Row i is the bytes from offsets[i] to offsets[i + 1] - 1; there is one offset more than rows. 4 for offsets that
+ * fall, 8 (row, rows) for a row that is not within the bytes, 12 for a text that is not UTF-8. binary: bytes, not
+ * texts. */
+HV_ANSWER hv_texts(uint8_t binary, const int32_t *offsets, size_t offsets_len, const uint8_t *bytes, size_t bytes_len,
+                   hv_validity validity, hv_column *out, hv_error *error);
+HV_ANSWER hv_large_texts(uint8_t binary, const int64_t *offsets, size_t offsets_len, const uint8_t *bytes,
+                         size_t bytes_len, hv_validity validity, hv_column *out, hv_error *error);
+/* The value, of this type, in each of `count` rows, in memory for one: 15 for null in a type without null, 12 for a
+ * value that is none of the type, or a text that is not UTF-8; 23 where kind names no type, or lists. */
+HV_ANSWER hv_constant(const hv_kind *kind, const hv_value *value, const uint8_t *text, size_t text_len, size_t count,
+                      hv_column *out, hv_error *error);
+/* The run column of these ends and one value for each, of which `count` rows from row `offset` on are shown. Ends are
+ * a flat column of an unsigned type without null, each above the one before. Both are shared. Refused by the first
+ * fault of 1 to 7 in their order, or as 21. */
+HV_ANSWER hv_runs(const hv_column *ends, const hv_column *values, size_t offset, size_t count, hv_column *out,
+                  hv_error *error);
+/* Lists: row i is the sizes[i] items of `elements` from item offsets[i] on, and lists may lie in any order and
+ * overlap. `elements` is a flat column, which is shared; 11 (rows, bytes) as above, then 13 unless it is flat, 11
+ * (offsets, sizes) for another number of sizes, 8 (row, elements) for the first row that is not null and not within
+ * the elements. */
+HV_ANSWER hv_lists(const hv_column *elements, const uint64_t *offsets, size_t offsets_len, const uint64_t *sizes,
+                   size_t sizes_len, hv_validity validity, hv_column *out, hv_error *error);
 /* The same column in the same form. What holds 32 items or more is shared and not copied. */
-HV_ANSWER int32_t hv_clone(hv_column *column, hv_column *out, hv_error *error);
+HV_ANSWER hv_clone(const hv_column *column, hv_column *out, hv_error *error);
 /* The same column in the same form, in buffers that no other column shares but for the bytes of texts. A slice of a few
  * rows keeps the whole buffers that it is a part of; of its compact copy they may be freed. */
-HV_ANSWER int32_t hv_compact(hv_column *column, hv_column *out, hv_error *error);
+HV_ANSWER hv_compact(const hv_column *column, hv_column *out, hv_error *error);
 
 /* ---- Commands: what they leave goes to `out` ----
- * Refused exactly as is said here, with these fields, or as 21. */
+ * Refused exactly as is said here, with these fields, or as 21. The session decides in which form rows are left. A run
+ * column of integers that is left has as few runs as can be, from row 0 on; hv_slice keeps those that there are. */
 /* as few runs as there can be, with ends of the least type; 20 unless the rows are integers */
-HV_ANSWER int32_t hv_encode(const hv_session *session, hv_column *column, hv_column *out, hv_error *error);
+HV_ANSWER hv_encode(const hv_session *session, const hv_column *column, hv_column *out, hv_error *error);
 /* the rows written out in a flat form */
-HV_ANSWER int32_t hv_decode(const hv_session *session, hv_column *column, hv_column *out, hv_error *error);
+HV_ANSWER hv_decode(const hv_session *session, const hv_column *column, hv_column *out, hv_error *error);
 /* the rows from start to stop - 1; 9 (start, stop, length) where start is above stop, or stop above the length */
-HV_ANSWER int32_t hv_slice(const hv_session *session, hv_column *column, size_t start, size_t stop, hv_column *out, hv_error *error);
+HV_ANSWER hv_slice(const hv_session *session, const hv_column *column, size_t start, size_t stop, hv_column *out,
+                   hv_error *error);
 /* each row as the same value of this type: 13 unless both types are of integers or of one kind that is no list; at the
  * first row that is no value of the type 15 for null and 14 for a number; 23 where kind names no type, or lists */
-HV_ANSWER int32_t hv_cast(const hv_session *session, hv_column *column, const hv_kind *kind, hv_column *out, hv_error *error);
+HV_ANSWER hv_cast(const hv_session *session, const hv_column *column, const hv_kind *kind, hv_column *out,
+                  hv_error *error);
 /* the rows at the indices, integers in any form (else 12): null at a null index; 8 (index, length) */
-HV_ANSWER int32_t hv_take(const hv_session *session, hv_column *column, hv_column *indices, hv_column *out, hv_error *error);
+HV_ANSWER hv_take(const hv_session *session, const hv_column *column, const hv_column *indices, hv_column *out,
+                  hv_error *error);
 /* the rows at which the mask, booleans in any form (else 12), is true: a null in the mask selects nothing, as in SQL's
  * WHERE; 10 (mask, length) */
-HV_ANSWER int32_t hv_filter(const hv_session *session, hv_column *column, hv_column *mask, hv_column *out, hv_error *error);
-/* each row of `codes` is replaced by the row of the dictionary that it numbers from 0, null stays null; 12 unless the codes
- * are integers, 8 (code, length of the dictionary) */
-HV_ANSWER int32_t hv_take_from(const hv_session *session, hv_column *codes, hv_column *dictionary, hv_column *out, hv_error *error);
-/* row by row whether `left operator right`, null where either is null; 13 for lists, 12 for two types that differ in more
- * than null, 11 (left, right) for another number of rows, 23 for no operator */
+HV_ANSWER hv_filter(const hv_session *session, const hv_column *column, const hv_column *mask, hv_column *out,
+                    hv_error *error);
+/* each row of `codes` is replaced by the row of the dictionary that it numbers from 0, null stays null; 12 unless the
+ * codes are integers, 8 (code, length of the dictionary) */
+HV_ANSWER hv_take_from(const hv_session *session, const hv_column *codes, const hv_column *dictionary, hv_column *out,
+                       hv_error *error);
+/* row by row whether `left operator right`, null where either is null; 13 for lists, 12 for two types that differ in
+ * more than null, 11 (left, right) for another number of rows, 23 for no operator */
 enum { HV_EQ, HV_NE, HV_GT, HV_GE, HV_LT, HV_LE };
-HV_ANSWER int32_t hv_compare(const hv_session *session, hv_column *column, uint8_t operator_, hv_column *right, hv_column *out, hv_error *error);
-/* the same against one value, of the column's type or null; 12 where it is none of that type, or a text that is not UTF-8 */
-HV_ANSWER int32_t hv_compare_scalar(const hv_session *session, hv_column *column, uint8_t operator_, const hv_value *value, const uint8_t *text, size_t text_len, hv_column *out, hv_error *error);
+HV_ANSWER hv_compare(const hv_session *session, const hv_column *column, uint8_t operator_, const hv_column *right,
+                     hv_column *out, hv_error *error);
+/* the same against one value, of the column's type or null; 12 where it is none of that type, or a text that is not
+ * UTF-8 */
+HV_ANSWER hv_compare_scalar(const hv_session *session, const hv_column *column, uint8_t operator_,
+                            const hv_value *value, const uint8_t *text, size_t text_len, hv_column *out,
+                            hv_error *error);
 /* a value in place of each null, after which the type has no null; 12 as above, 13 for lists, 16 for null */
-HV_ANSWER int32_t hv_fill(const hv_session *session, hv_column *column, const hv_value *value, const uint8_t *text, size_t text_len, hv_column *out, hv_error *error);
+HV_ANSWER hv_fill(const hv_session *session, const hv_column *column, const hv_value *value, const uint8_t *text,
+                  size_t text_len, hv_column *out, hv_error *error);
 
 /* ---- Questions ----
  * Refused exactly as is said here, with these fields, or, but for hv_at, as 21: never so over a flat column, nor, where
- * the question's kernel is registered, over runs or a constant, but for hv_extreme and hv_min_max of texts and bytes. */
+ * the question's kernel is registered, over runs or a constant, but for hv_extreme and hv_min_max of texts or bytes. */
 /* the sum of the rows that are not null; 13 unless they are integers */
-HV_ANSWER int32_t hv_sum(const hv_session *session, hv_column *column, hv_total *total, hv_error *error);
+HV_ANSWER hv_sum(const hv_session *session, const hv_column *column, hv_total *total, hv_error *error);
 /* are any two rows equal, null equal to null? 13 for lists */
-HV_ANSWER int32_t hv_is_constant(const hv_session *session, hv_column *column, uint8_t *truth, hv_error *error);
+HV_ANSWER hv_is_constant(const hv_session *session, const hv_column *column, uint8_t *truth, hv_error *error);
 /* is no row above the next (strict: is each below it), null below all else? 13 for lists */
-HV_ANSWER int32_t hv_is_sorted(const hv_session *session, hv_column *column, uint8_t strict, uint8_t *truth, hv_error *error);
-/* the least (greatest: the greatest) row that is not null, HV_NULL where all are null; 13 for lists, 11 as with hv_at */
-HV_ANSWER int32_t hv_extreme(const hv_session *session, hv_column *column, uint8_t greatest, hv_value *value, uint8_t *text, size_t text_len, hv_error *error);
-/* both at once, each with a buffer of its own; HV_NULL twice where all rows are null; 13 for lists, 11 for the one that has
- * no room in its buffer */
-HV_ANSWER int32_t hv_min_max(const hv_session *session, hv_column *column, hv_value *least, uint8_t *least_text, size_t least_text_len, hv_value *greatest, uint8_t *greatest_text, size_t greatest_text_len, hv_error *error);
-/* row `row`, which takes no memory; 13 for lists, then 8 (row, length). A text goes to the front of `text`: 11 (bytes of the
- * text, text_len) where it has no room there. */
-HV_ANSWER int32_t hv_at(hv_column *column, size_t row, hv_value *value, uint8_t *text, size_t text_len, hv_error *error);
-HV_LENT size_t hv_length(hv_column *column);       /* rows; 0 of no column */
-HV_LENT hv_kind hv_kind_of(hv_column *column);     /* the type; number 255 of no column */
-HV_LENT uint8_t hv_form(hv_column *column);        /* 0 flat, 1 a constant, 2 lists, 3 runs, 255 no column */
-HV_LENT size_t hv_offset(hv_column *column);       /* of runs: how many of their rows lie before the window; else 0 */
+HV_ANSWER hv_is_sorted(const hv_session *session, const hv_column *column, uint8_t strict, uint8_t *truth,
+                       hv_error *error);
+/* the least (greatest: the greatest) row that is not null, HV_NULL where all are; 13 for lists, 11 as with hv_at */
+HV_ANSWER hv_extreme(const hv_session *session, const hv_column *column, uint8_t greatest, hv_value *value,
+                     uint8_t *text, size_t text_len, hv_error *error);
+/* both at once, each with a buffer of its own; HV_NULL twice where all rows are null; 13 for lists, 11 for the one
+ * that has no room in its buffer */
+HV_ANSWER hv_min_max(const hv_session *session, const hv_column *column, hv_value *least, uint8_t *least_text,
+                     size_t least_text_len, hv_value *greatest, uint8_t *greatest_text, size_t greatest_text_len,
+                     hv_error *error);
+/* row `row`, which takes no memory; 13 for lists, then 8 (row, length). A text goes to the front of `text`: 11 (bytes
+ * of the text, text_len) where it has no room there. */
+HV_ANSWER hv_at(const hv_column *column, size_t row, hv_value *value, uint8_t *text, size_t text_len, hv_error *error);
+HV_CALL size_t hv_length(const hv_column *column);     /* rows; 0 of no column */
+HV_CALL hv_kind hv_kind_of(const hv_column *column);   /* the type; number 255 of no column */
+HV_CALL uint8_t hv_form(const hv_column *column);      /* HV_FORM_FLAT to HV_FORM_RUNS; HV_FORM_NONE of no column */
+HV_CALL size_t hv_offset(const hv_column *column);     /* of runs: how many rows lie before the window; else 0 */
 
-/* How many bytes the column takes for what it shows, in its form: numbers as wide as their type, decimals 16 each, bits
- * eight to a byte, of texts and bytes 24 for each row and what the rows show. Bits of validity count where there are some.
- * Runs take their ends and their values, a constant its value, lists an offset and a size of 8 each and all elements.
- * What columns share counts for each of them; 2^64 - 1 where there are more, 0 of no column. No memory is taken. */
-HV_LENT size_t hv_bytes_used(hv_column *column);
+/* How many bytes the column takes for what it shows, in its form: numbers as wide as their type, decimals 16 each,
+ * bits eight to a byte, of texts and bytes 24 for each row and what the rows show. Bits of validity count where there
+ * are some. Runs take their ends and their values, a constant its value, lists an offset and a size of 8 each and all
+ * elements. What columns share counts for each of them; 2^64 - 1 where there are more, 0 of no column. No memory is
+ * taken. */
+HV_CALL size_t hv_bytes_used(const hv_column *column);
 
 /* ---- Reading many rows ----
- * Of columns in any form. Of a flat column it takes no memory, and what is stored under null is read as it stands. Rows in
- * any other form are written flat first, these alone, which may be refused as 21; under null any number may stand.
- * Refused exactly as is said here, with these fields; 9 also where no row is asked for, from a row past the end on, and its
- * stop is 2^64 - 1 where no uint64_t has it. */
+ * Of columns in any form. Of a flat column it takes no memory, and what is stored under null is read as it stands.
+ * Rows in any other form are written flat first, these alone, which may be refused as 21; under null any number may
+ * stand. Refused exactly as is said here, with these fields; 9 also where no row is asked for, from a row past the
+ * end on, and its stop is 2^64 - 1 where no uint64_t has it. */
 /* as many integers as there is room for, from row `start` on: 13 unless the rows are integers, 12 where they are
  * of another type, 9 (start, stop, length) past the end; of decimals 13 unless they are decimals, 9 */
-HV_ANSWER int32_t hv_read_u8(hv_column *column, size_t start, uint8_t *items, size_t len, hv_error *error);
-HV_ANSWER int32_t hv_read_u16(hv_column *column, size_t start, uint16_t *items, size_t len, hv_error *error);
-HV_ANSWER int32_t hv_read_u32(hv_column *column, size_t start, uint32_t *items, size_t len, hv_error *error);
-HV_ANSWER int32_t hv_read_u64(hv_column *column, size_t start, uint64_t *items, size_t len, hv_error *error);
-HV_ANSWER int32_t hv_read_i8(hv_column *column, size_t start, int8_t *items, size_t len, hv_error *error);
-HV_ANSWER int32_t hv_read_i16(hv_column *column, size_t start, int16_t *items, size_t len, hv_error *error);
-HV_ANSWER int32_t hv_read_i32(hv_column *column, size_t start, int32_t *items, size_t len, hv_error *error);
-HV_ANSWER int32_t hv_read_i64(hv_column *column, size_t start, int64_t *items, size_t len, hv_error *error);
-HV_ANSWER int32_t hv_read_decimals(hv_column *column, size_t start, hv_pair *pairs, size_t len, hv_error *error);
+HV_ANSWER hv_read_u8(const hv_column *column, size_t start, uint8_t *items, size_t len, hv_error *error);
+HV_ANSWER hv_read_u16(const hv_column *column, size_t start, uint16_t *items, size_t len, hv_error *error);
+HV_ANSWER hv_read_u32(const hv_column *column, size_t start, uint32_t *items, size_t len, hv_error *error);
+HV_ANSWER hv_read_u64(const hv_column *column, size_t start, uint64_t *items, size_t len, hv_error *error);
+HV_ANSWER hv_read_i8(const hv_column *column, size_t start, int8_t *items, size_t len, hv_error *error);
+HV_ANSWER hv_read_i16(const hv_column *column, size_t start, int16_t *items, size_t len, hv_error *error);
+HV_ANSWER hv_read_i32(const hv_column *column, size_t start, int32_t *items, size_t len, hv_error *error);
+HV_ANSWER hv_read_i64(const hv_column *column, size_t start, int64_t *items, size_t len, hv_error *error);
+HV_ANSWER hv_read_decimals(const hv_column *column, size_t start, hv_pair *pairs, size_t len, hv_error *error);
 /* Bits, 64 to a word, all rows of the column, and 0 behind the last: 13 unless they are flat booleans, for validity
  * unless the column is flat; 11 (needed, len) unless len is (length + 63) / 64. No memory is taken. On a little-endian
  * machine the words are the bytes of Arrow's bitmaps. */
-HV_ANSWER int32_t hv_read_bools(hv_column *column, uint64_t *words, size_t len, hv_error *error);
-HV_ANSWER int32_t hv_read_validity(hv_column *column, uint64_t *words, size_t len, hv_error *error);
+HV_ANSWER hv_read_bools(const hv_column *column, uint64_t *words, size_t len, hv_error *error);
+HV_ANSWER hv_read_validity(const hv_column *column, uint64_t *words, size_t len, hv_error *error);
 /* The same of `rows` rows from row `start` on, in any form, the bit of row `start` first: 13 unless they are booleans,
  * for validity 13 for lists; 9, then 11 (needed, len) unless len is (rows + 63) / 64, or 21. */
-HV_ANSWER int32_t hv_read_bools_from(hv_column *column, size_t start, size_t rows, uint64_t *words, size_t len, hv_error *error);
-HV_ANSWER int32_t hv_read_validity_from(hv_column *column, size_t start, size_t rows, uint64_t *words, size_t len, hv_error *error);
+HV_ANSWER hv_read_bools_from(const hv_column *column, size_t start, size_t rows, uint64_t *words, size_t len,
+                             hv_error *error);
+HV_ANSWER hv_read_validity_from(const hv_column *column, size_t start, size_t rows, uint64_t *words, size_t len,
+                                hv_error *error);
 /* Texts and bytes, in two calls: 13 unless the rows are texts or bytes. First the offsets of `len - 1` rows from row
- * `start` on, from 0: row k is bytes offsets[k] to offsets[k + 1] - 1, and the last offset is how many bytes there are; a
- * null is no bytes. 9 (start, start, length) where len is 0, 9 past the end, 14 where the type has no such offset. Then the
- * bytes of `rows` rows one after the other: 9, and 11 (needed, len) unless len is their number, for which needed is 2^64 - 1
- * where no uint64_t has it. */
-HV_ANSWER int32_t hv_read_offsets(hv_column *column, size_t start, int32_t *offsets, size_t len, hv_error *error);
-HV_ANSWER int32_t hv_read_large_offsets(hv_column *column, size_t start, int64_t *offsets, size_t len, hv_error *error);
-HV_ANSWER int32_t hv_read_bytes(hv_column *column, size_t start, size_t rows, uint8_t *bytes, size_t len, hv_error *error);
+ * `start` on, from 0: row k is bytes offsets[k] to offsets[k + 1] - 1, and the last offset is how many bytes there
+ * are; a null is no bytes. 9 (start, start, length) where len is 0, 9 past the end, 14 where the type has no such
+ * offset. Then the bytes of `rows` rows one after the other: 9, and 11 (needed, len) unless len is their number, for
+ * which needed is 2^64 - 1 where no uint64_t has it. */
+HV_ANSWER hv_read_offsets(const hv_column *column, size_t start, int32_t *offsets, size_t len, hv_error *error);
+HV_ANSWER hv_read_large_offsets(const hv_column *column, size_t start, int64_t *offsets, size_t len, hv_error *error);
+HV_ANSWER hv_read_bytes(const hv_column *column, size_t start, size_t rows, uint8_t *bytes, size_t len,
+                        hv_error *error);
 
 /* ---- Run columns ---- (13 of other forms) */
-HV_ANSWER int32_t hv_ends(hv_column *column, hv_column *out, hv_error *error);    /* the ends, shared: flat, unsigned, no null */
-HV_ANSWER int32_t hv_values(hv_column *column, hv_column *out, hv_error *error);  /* the values, shared */
-/* How many runs there are. Runs are counted from 0, as hv_ends and hv_values have them, and rows are those of the column:
- * run k shows the rows from its start to its stop - 1, and starts where run k - 1 stops. One that the column does not reach
- * shows none. None of these calls takes memory. */
-HV_ANSWER int32_t hv_run_count(hv_column *column, size_t *count, hv_error *error);
+/* the ends, shared: flat, of an unsigned type, without null; and the values, shared */
+HV_ANSWER hv_ends(const hv_column *column, hv_column *out, hv_error *error);
+HV_ANSWER hv_values(const hv_column *column, hv_column *out, hv_error *error);
+/* How many runs there are. Runs are counted from 0, as hv_ends and hv_values have them, and rows are those of the
+ * column: run k shows the rows from its start to its stop - 1, and starts where run k - 1 stops. One that the column
+ * does not reach shows none. None of these calls takes memory. */
+HV_ANSWER hv_run_count(const hv_column *column, size_t *count, hv_error *error);
 /* The rows of run `run` and the value that they have; 13 also for lists, 8 (run, runs), 11 as with hv_at. */
-HV_ANSWER int32_t hv_run(hv_column *column, size_t run, size_t *start, size_t *stop, hv_value *value, uint8_t *text, size_t text_len, hv_error *error);
+HV_ANSWER hv_run(const hv_column *column, size_t run, size_t *start, size_t *stop, hv_value *value, uint8_t *text,
+                 size_t text_len, hv_error *error);
 /* The run of row `row`; 8 (row, length). */
-HV_ANSWER int32_t hv_run_of(hv_column *column, size_t row, size_t *run, hv_error *error);
+HV_ANSWER hv_run_of(const hv_column *column, size_t row, size_t *run, hv_error *error);
 /* Where `len` runs stop, from run `first` on; 9 (first, stop, runs) past the last run. */
-HV_ANSWER int32_t hv_read_ends_u64(hv_column *column, size_t first, uint64_t *stops, size_t len, hv_error *error);
-/* The metadata record: it goes to the front of `bytes`, and *size says how many they are; 11 (needed, bytes_len) where it
- * has no room there. */
-HV_ANSWER int32_t hv_serialize(hv_column *column, uint8_t *bytes, size_t bytes_len, size_t *size, hv_error *error);
-/* The run column of `count` rows of this type by its record, over clones of these ends and values; 17 for bytes that are no
- * record, 18 (number), 12 for ends that are not of the type that it states or values that are not of this one, 19 (stated,
- * found), 23 where kind names no type, or as hv_runs. */
-HV_ANSWER int32_t hv_deserialize(const hv_kind *kind, size_t count, const uint8_t *bytes, size_t bytes_len, hv_column *ends, hv_column *values, hv_column *out, hv_error *error);
+HV_ANSWER hv_read_ends_u64(const hv_column *column, size_t first, uint64_t *stops, size_t len, hv_error *error);
+/* The metadata record: it goes to the front of `bytes`, and *size says how many they are; 11 (needed, bytes_len)
+ * where it has no room there. */
+HV_ANSWER hv_serialize(const hv_column *column, uint8_t *bytes, size_t bytes_len, size_t *size, hv_error *error);
+/* The run column of `count` rows of this type by its record, over clones of these ends and values; 17 for bytes that
+ * are no record, 18 (number), 12 for ends that are not of the type that it states or values that are not of this one,
+ * 19 (stated, found), 23 where kind names no type, or as hv_runs. */
+HV_ANSWER hv_deserialize(const hv_kind *kind, size_t count, const uint8_t *bytes, size_t bytes_len,
+                         const hv_column *ends, const hv_column *values, hv_column *out, hv_error *error);
 
 /* ---- Lists ---- (13 of other forms: hv_decode writes runs of lists as lists)
  * Row i is the items of the elements from its offset on, as many as its size; where it is null any offset and size may
  * stand. Offsets and sizes are u64 without null, flat or in runs, and read by hv_read_u64. All are shared. */
-HV_ANSWER int32_t hv_list_elements(hv_column *column, hv_column *out, hv_error *error);  /* of all lists, flat */
-HV_ANSWER int32_t hv_list_offsets(hv_column *column, hv_column *out, hv_error *error);
-HV_ANSWER int32_t hv_list_sizes(hv_column *column, hv_column *out, hv_error *error);
-HV_ANSWER int32_t hv_list_validity(hv_column *column, hv_column *out, hv_error *error);  /* booleans: is the row valid? */
+HV_ANSWER hv_list_elements(const hv_column *column, hv_column *out, hv_error *error);  /* of all lists, flat */
+HV_ANSWER hv_list_offsets(const hv_column *column, hv_column *out, hv_error *error);
+HV_ANSWER hv_list_sizes(const hv_column *column, hv_column *out, hv_error *error);
+HV_ANSWER hv_list_validity(const hv_column *column, hv_column *out, hv_error *error);  /* booleans: is the row valid? */
 
-/* A column as bytes, in any form, to keep or to send: a message of the Protocol Buffers encoding (docs/column.proto), in the
- * form that the column has, with its window; of flat texts and bytes the rows, which are read into one buffer. Equal forms
- * have equal bytes. 13 for lists, constants of decimals, runs over these, and more than 16 levels of runs. */
+/* A column as bytes, in any form, to keep or to send: a message of the Protocol Buffers encoding (docs/column.proto),
+ * in the form that the column has, with its window; of flat texts and bytes the rows, which are read into one buffer.
+ * Equal forms have equal bytes. 13 for lists, constants of decimals, runs over these, and more than 16 levels of runs.
+ */
 /* How many bytes they are. */
-HV_ANSWER int32_t hv_write_size(hv_column *column, size_t *size, hv_error *error);
-/* They go to the front of `bytes`, and *size says how many they are; 11 (needed, bytes_len) where they have no room there. */
-HV_ANSWER int32_t hv_write(hv_column *column, uint8_t *bytes, size_t bytes_len, size_t *size, hv_error *error);
+HV_ANSWER hv_write_size(const hv_column *column, size_t *size, hv_error *error);
+/* They go to the front of `bytes`, and *size says how many they are; 11 (needed, bytes_len) where they have no room
+ * there. */
+HV_ANSWER hv_write(const hv_column *column, uint8_t *bytes, size_t bytes_len, size_t *size, hv_error *error);
 /* The column that was written so; 17 for bytes that are the message of no column. */
-HV_ANSWER int32_t hv_read_column(const uint8_t *bytes, size_t bytes_len, hv_column *out, hv_error *error);
+HV_ANSWER hv_read_column(const uint8_t *bytes, size_t bytes_len, hv_column *out, hv_error *error);
 
 /* Frees the column, if there is one; the handle is empty after. */
-HV_LENT void hv_free(hv_column *column);
+HV_CALL void hv_free(hv_column *column);
+
+#include "hivevigil_calls.h"
+#endif
 
 #ifdef __cplusplus
 }

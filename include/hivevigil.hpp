@@ -63,16 +63,16 @@ public:
     }
     static Column truths(const std::vector<bool> &rows, const std::vector<bool> *valid = nullptr) {
         const Bytes bits = detail::bits_of(rows);
-        return with_nulls(rows.size(), valid, [&](auto nulls, auto *valid_bits, auto size, auto *out, auto *error) {
-            return hv_bools(bits.data(), bits.size(), 0, rows.size(), nulls, valid_bits, size, 0, out, error);
+        return with_nulls(rows.size(), valid, [&](auto validity, auto *out, auto *error) {
+            return hv_bools(bits.data(), bits.size(), 0, rows.size(), validity, out, error);
         });
     }
     static Column decimals(const std::vector<Decimal> &rows, uint8_t precision, int8_t scale,
                            const std::vector<bool> *valid = nullptr) {
-        std::vector<hv_pair> pairs(rows.size() + 1);
+        std::vector<hv_pair> pairs(rows.size());
         for (size_t row = 0; row < rows.size(); row++) pairs[row] = {rows[row].low, rows[row].high};
-        return with_nulls(rows.size(), valid, [&](auto nulls, auto *bits, auto size, auto *out, auto *error) {
-            return hv_decimals(pairs.data(), rows.size(), precision, scale, nulls, bits, size, 0, out, error);
+        return with_nulls(rows.size(), valid, [&](auto validity, auto *out, auto *error) {
+            return hv_decimals(pairs.data(), pairs.size(), precision, scale, validity, out, error);
         });
     }
     // Texts, which are refused where one is not UTF-8.
@@ -91,18 +91,16 @@ public:
     // Lists: row i is the sizes[i] elements from offsets[i] on, null where the flag is false. Elements are flat.
     static Column lists(const Column &elements, const std::vector<uint64_t> &offsets,
                         const std::vector<uint64_t> &sizes, const std::vector<bool> *valid = nullptr) {
-        const uint64_t none = 0;
-        return with_nulls(offsets.size(), valid, [&](auto nulls, auto *bits, auto size, auto *out, auto *error) {
-            return hv_lists(&elements.handle, offsets.empty() ? &none : offsets.data(), offsets.size(),
-                            sizes.empty() ? &none : sizes.data(), sizes.size(), nulls, bits, size, 0, out, error);
+        return with_nulls(offsets.size(), valid, [&](auto validity, auto *out, auto *error) {
+            return hv_lists(&elements.handle, offsets.data(), offsets.size(), sizes.data(), sizes.size(), validity,
+                            out, error);
         });
     }
     // The runs that a record describes, over these ends and values.
     static Column deserialize(hv_kind kind, size_t rows, const Bytes &record, const Column &ends,
                               const Column &values) {
-        const Bytes some = record.empty() ? Bytes(1) : record;
         return ends.beside(values, [&](auto *other, auto *out, auto *error) {
-            return hv_deserialize(&kind, rows, some.data(), record.size(), &ends.handle, other, out, error);
+            return hv_deserialize(&kind, rows, record.data(), record.size(), &ends.handle, other, out, error);
         });
     }
     // The value in each of `rows` rows of a type, in memory for one; of an integer or a text as it is written.
@@ -118,9 +116,8 @@ public:
     }
     // The column that to_bytes wrote.
     static Column from_bytes(const Bytes &message) {
-        const Bytes some = message.empty() ? Bytes(1) : message;
         return made([&](auto *out, auto *error) {
-            return hv_read_column(some.data(), message.size(), out, error);
+            return hv_read_column(message.data(), message.size(), out, error);
         });
     }
     Column clone() const {
@@ -278,10 +275,7 @@ public:
     }
     // As many of them as there is room for, from row `start` on; refused as HV_BAD_RANGE past the end.
     template <class T> void read(size_t start, T *items, size_t count) const {
-        T none{};
-        detail::ask([&](auto *error) {
-            return detail::Native<T>::read(&handle, start, count ? items : &none, count, error);
-        });
+        detail::ask([&](auto *error) { return detail::Native<T>::read(&handle, start, items, count, error); });
     }
     // The rows as T (as get has them), none where a row is null; integers by one call for all.
     template <class T> std::vector<std::optional<T>> optionals() const {
@@ -290,8 +284,8 @@ public:
         for (const Value &row : *this) rows.push_back(detail::optional_of<T>(row));
         return rows;
     }
-    std::vector<bool> truths() const { return flags(hv_read_bools_from); }
-    std::vector<bool> validity() const { return flags(hv_read_validity_from); }
+    std::vector<bool> truths() const { return flags(hv_call_read_bools_from); }
+    std::vector<bool> validity() const { return flags(hv_call_read_validity_from); }
     // Of runs, copied.
     Column ends() const {
         return made([&](auto *out, auto *error) { return hv_ends(&handle, out, error); });
@@ -300,10 +294,10 @@ public:
         return made([&](auto *out, auto *error) { return hv_values(&handle, out, error); });
     }
     // Of lists: the elements of all, where those of each start, how many they are, and whether it is valid.
-    Column list_elements() const { return part(hv_list_elements); }
-    Column list_offsets() const { return part(hv_list_offsets); }
-    Column list_sizes() const { return part(hv_list_sizes); }
-    Column list_validity() const { return part(hv_list_validity); }
+    Column list_elements() const { return part(hv_call_list_elements); }
+    Column list_offsets() const { return part(hv_call_list_offsets); }
+    Column list_sizes() const { return part(hv_call_list_sizes); }
+    Column list_validity() const { return part(hv_call_list_validity); }
     Bytes serialize() const {
         Bytes record(64);
         size_t size = 0;
@@ -342,15 +336,15 @@ private:
     }
     template <class Call> static Column with_nulls(size_t rows, const std::vector<bool> *valid, Call call) {
         if (valid && valid->size() != rows) throw Error(HV_COLUMN_LENGTH, {rows, valid->size(), 0});
-        const Bytes bits = detail::bits_of(valid ? *valid : std::vector<bool>{});
-        const uint8_t nulls = valid ? 2 : 0;
-        return made(
-            [&](auto *out, auto *error) { return call(nulls, bits.data(), valid ? bits.size() : 0, out, error); });
+        if (!valid) return made([&](auto *out, auto *error) { return call(hv_not_nullable(), out, error); });
+        const Bytes bits = detail::bits_of(*valid);
+        return made([&](auto *out, auto *error) {
+            return call(hv_valid_bits(bits.data(), bits.size(), 0), out, error);
+        });
     }
     template <class T> static Column of(const T *items, size_t rows, const std::vector<bool> *valid) {
-        const T none{};
-        return with_nulls(rows, valid, [&](auto nulls, auto *bits, auto size, auto *out, auto *error) {
-            return detail::Native<T>::make(rows ? items : &none, rows, nulls, bits, size, 0, out, error);
+        return with_nulls(rows, valid, [&](auto validity, auto *out, auto *error) {
+            return detail::Native<T>::make(items, rows, validity, out, error);
         });
     }
     // Rows that may be null, gathered as the makers take them.
@@ -381,9 +375,9 @@ private:
         std::string all;
         std::vector<int64_t> offsets{0};
         for (std::string_view row : rows) all += row, offsets.push_back(static_cast<int64_t>(all.size()));
-        return with_nulls(rows.size(), valid, [&](auto nulls, auto *bits, auto size, auto *out, auto *error) {
+        return with_nulls(rows.size(), valid, [&](auto validity, auto *out, auto *error) {
             return hv_large_texts(binary, offsets.data(), offsets.size(), reinterpret_cast<const uint8_t *>(all.data()),
-                                  all.size(), nulls, bits, size, 0, out, error);
+                                  all.size(), validity, out, error);
         });
     }
     // A row, asked for again with more room where its text has none.
@@ -407,7 +401,7 @@ private:
     template <class Call> std::vector<bool> flags(Call call) const {
         if (!*this) return {};
         const size_t rows = size(), count = rows / 64 + (rows % 64 != 0);
-        std::vector<uint64_t> words(count + 1);
+        std::vector<uint64_t> words(count);
         detail::ask([&](auto *error) { return call(&handle, 0, rows, words.data(), count, error); });
         return detail::flags_of(words, rows);
     }

@@ -117,25 +117,25 @@ static inline int32_t hv_arrow_gather(const hv_session *session, hv_arrow_gather
 static inline int32_t hv_arrow_make_gathered(const hv_arrow_gathered *gathered, hv_column *out, hv_error *error) {
     static const int64_t no_offset = 0;
     const hv_kind *kind = &gathered->kind;
-    const void *items = hv_some(gathered->items.bytes);
+    const void *items = gathered->items.bytes;
     hv_arrow_rows rows;
     memset(&rows, 0, sizeof rows);
     rows.layout.number = kind->number;
     rows.count = gathered->rows;
     rows.nulls = kind->nullable;
     if (kind->nullable && gathered->rows > 0) rows.nulls = HV_ARROW_NULLS_BY_BITS;
-    rows.bits = (const uint8_t *)hv_some(gathered->valid.bytes);
+    rows.bits = gathered->valid.bytes;
     rows.bits_len = gathered->valid.size;
     if (kind->number == HV_DECIMAL)
-        return hv_decimals((const hv_pair *)items, rows.count, kind->precision, kind->scale, HV_ARROW_NULLS(&rows), out,
-                           error);
+        return hv_decimals((const hv_pair *)items, rows.count, kind->precision, kind->scale, hv_arrow_validity(&rows),
+                           out, error);
     if (kind->number == HV_BOOL)
-        return hv_bools((const uint8_t *)items, gathered->items.size, 0, rows.count, HV_ARROW_NULLS(&rows), out, error);
+        return hv_bools((const uint8_t *)items, gathered->items.size, 0, rows.count, hv_arrow_validity(&rows), out,
+                        error);
     if (kind->number < HV_BOOL) return hv_arrow_make_numbers(&rows, items, out, error);
     const int64_t *offsets = rows.count ? (const int64_t *)(const void *)gathered->offsets.bytes : &no_offset;
-    return hv_large_texts(kind->number == HV_BINARY, offsets, rows.count + 1,
-                          (const uint8_t *)hv_some(gathered->bytes.bytes), gathered->bytes.size, HV_ARROW_NULLS(&rows),
-                          out, error);
+    return hv_large_texts(kind->number == HV_BINARY, offsets, rows.count + 1, gathered->bytes.bytes,
+                          gathered->bytes.size, hv_arrow_validity(&rows), out, error);
 }
 
 /* The type of all columns, nullable where one is; whether each lies as runs or a constant. */
@@ -180,8 +180,8 @@ static inline int32_t hv_arrow_make_runs(const hv_session *session, const hv_arr
     hv_kind kind = {HV_U32, 0, 0, 0};
     hv_column wide = HV_EMPTY, ends = HV_EMPTY, flat = HV_EMPTY;
     if (rows > UINT32_MAX) kind.number = HV_U64;
-    int32_t answer = hv_u64((const uint64_t *)hv_some(room->bytes), values->rows, HV_ARROW_NOT_NULLABLE,
-                            hv_arrow_nothing(), 0, 0, &wide, error);
+    const uint64_t *stops = (const uint64_t *)(const void *)room->bytes;
+    int32_t answer = hv_u64(stops, values->rows, hv_not_nullable(), &wide, error);
     if (!answer) answer = hv_cast(session, &wide, &kind, &ends, error);
     if (!answer) answer = hv_arrow_make_gathered(values, &flat, error);
     if (!answer) answer = hv_runs(&ends, &flat, 0, rows, out, error);

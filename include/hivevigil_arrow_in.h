@@ -7,7 +7,7 @@
 
 static inline int32_t hv_arrow_make_numbers(const hv_arrow_rows *rows, const void *items, hv_column *out,
                                             hv_error *error) {
-#define HV_ARROW_MAKE(type, make) return make((const type *)items, rows->count, HV_ARROW_NULLS(rows), out, error)
+#define HV_ARROW_MAKE(type, make) return make((const type *)items, rows->count, hv_arrow_validity(rows), out, error)
     switch (rows->layout.number) {
     case HV_U8: HV_ARROW_MAKE(uint8_t, hv_u8);
     case HV_U16: HV_ARROW_MAKE(uint16_t, hv_u16);
@@ -32,10 +32,10 @@ static inline int32_t hv_arrow_read_numbers(const hv_arrow_rows *rows, hv_column
 
 static inline int32_t hv_arrow_read_truths(const hv_arrow_rows *rows, hv_column *out, hv_error *error) {
     const uint8_t *truths = (const uint8_t *)rows->array->buffers[1];
-    if (rows->count == 0) return hv_bools(hv_arrow_nothing(), 0, 0, 0, HV_ARROW_NULLS(rows), out, error);
+    if (rows->count == 0) return hv_bools(NULL, 0, 0, 0, hv_arrow_validity(rows), out, error);
     if (!truths) return hv_arrow_invalid(HV_ARROW_NO_POINTER, error);
     return hv_bools(truths, hv_arrow_bytes_of_bits(rows->start + rows->count), rows->start, rows->count,
-                    HV_ARROW_NULLS(rows), out, error);
+                    hv_arrow_validity(rows), out, error);
 }
 
 /* Decimals of 4 or 8 bytes each, as 16. */
@@ -66,7 +66,7 @@ static inline int32_t hv_arrow_read_decimals(const hv_arrow_rows *rows, hv_colum
     }
     if (!answer)
         answer = hv_decimals((const hv_pair *)items, rows->count, layout->precision, layout->scale,
-                             HV_ARROW_NULLS(rows), out, error);
+                             hv_arrow_validity(rows), out, error);
     free(wide);
     free(copy);
     return answer;
@@ -101,8 +101,8 @@ static inline int32_t hv_arrow_read_texts(const hv_arrow_rows *rows, hv_column *
     size_t size = offsets[rows->count] > 0 ? (size_t)offsets[rows->count] : 0;
     int32_t answer = size > 0 && !bytes ? hv_arrow_invalid(HV_ARROW_NO_POINTER, error) : HV_OK;
     if (!answer)
-        answer = hv_large_texts(binary, offsets, rows->count + 1, size ? bytes + first : hv_arrow_nothing(), size,
-                                HV_ARROW_NULLS(rows), out, error);
+        answer = hv_large_texts(binary, offsets, rows->count + 1, size ? bytes + first : NULL, size,
+                                hv_arrow_validity(rows), out, error);
     free(offsets);
     return answer;
 }
@@ -115,9 +115,8 @@ static inline int32_t hv_arrow_read_fixed(const hv_arrow_rows *rows, hv_column *
     int64_t *offsets = (int64_t *)malloc((rows->count + 1) * sizeof *offsets);
     if (!offsets) return hv_arrow_refuse(HV_OUT_OF_MEMORY, 0, 0, error);
     for (size_t row = 0; row <= rows->count; row++) offsets[row] = (int64_t)(row * width);
-    int32_t answer =
-        hv_large_texts(1, offsets, rows->count + 1, size ? bytes + rows->start * width : hv_arrow_nothing(), size,
-                       HV_ARROW_NULLS(rows), out, error);
+    int32_t answer = hv_large_texts(1, offsets, rows->count + 1, size ? bytes + rows->start * width : NULL, size,
+                                    hv_arrow_validity(rows), out, error);
     free(offsets);
     return answer;
 }
@@ -186,7 +185,7 @@ static inline int32_t hv_arrow_read_views(const hv_arrow_rows *rows, hv_column *
     if (!answer && !bytes) answer = hv_arrow_refuse(HV_OUT_OF_MEMORY, 0, 0, error);
     if (!answer)
         answer = hv_large_texts(rows->layout.number == HV_BINARY, offsets, rows->count + 1, bytes,
-                                (size_t)offsets[rows->count], HV_ARROW_NULLS(rows), out, error);
+                                (size_t)offsets[rows->count], hv_arrow_validity(rows), out, error);
     free(bytes);
     free(offsets);
     return answer;
@@ -325,16 +324,15 @@ static inline int32_t hv_arrow_shown_runs(const hv_arrow_rows *rows, const hv_ar
 /* Ends `first` to `stop - 1`, which are above 0, as numbers without sign of their width. */
 static inline int32_t hv_arrow_read_ends(const hv_arrow_rows *ends, size_t first, size_t stop, hv_column *out,
                                          hv_error *error) {
-    const uint8_t *none = hv_arrow_nothing();
     size_t count = stop - first;
     const void *items;
     void *copy;
     int32_t answer = hv_arrow_items(ends, 1, ends->start + first, count, ends->layout.width, &items, &copy, error);
     if (answer) return answer;
     switch (ends->layout.width) {
-    case 2: answer = hv_u16((const uint16_t *)items, count, HV_ARROW_NOT_NULLABLE, none, 0, 0, out, error); break;
-    case 4: answer = hv_u32((const uint32_t *)items, count, HV_ARROW_NOT_NULLABLE, none, 0, 0, out, error); break;
-    default: answer = hv_u64((const uint64_t *)items, count, HV_ARROW_NOT_NULLABLE, none, 0, 0, out, error);
+    case 2: answer = hv_u16((const uint16_t *)items, count, hv_not_nullable(), out, error); break;
+    case 4: answer = hv_u32((const uint32_t *)items, count, hv_not_nullable(), out, error); break;
+    default: answer = hv_u64((const uint64_t *)items, count, hv_not_nullable(), out, error);
     }
     free(copy);
     return answer;
@@ -392,7 +390,7 @@ static inline int32_t hv_arrow_mask(const hv_session *session, hv_column *column
     hv_column indices = HV_EMPTY;
     if (!numbers) return hv_arrow_refuse(HV_OUT_OF_MEMORY, 0, 0, error);
     for (size_t row = 0; row < batch->count; row++) numbers[row] = row;
-    int32_t answer = hv_u64(numbers, batch->count, HV_ARROW_NULLS(batch), &indices, error);
+    int32_t answer = hv_u64(numbers, batch->count, hv_arrow_validity(batch), &indices, error);
     if (!answer) answer = hv_take(session, column, &indices, out, error);
     free(numbers);
     hv_free(&indices);

@@ -43,15 +43,14 @@ static inline int32_t hv_arrow_read_list_items(const hv_arrow_reading *reading, 
 
 static inline int32_t hv_arrow_read_lists(const hv_arrow_reading *reading, const hv_arrow_rows *rows, hv_column *out) {
     const size_t count = rows->count;
-    uint64_t *offsets = (uint64_t *)malloc(2 * count * sizeof *offsets + 1);
+    uint64_t *offsets = (uint64_t *)malloc((2 * count + 1) * sizeof *offsets);
     hv_column elements = HV_EMPTY;
     int64_t first, stop;
     if (!offsets) return hv_arrow_refuse(HV_OUT_OF_MEMORY, 0, 0, reading->error);
     int32_t answer = hv_arrow_read_spans(rows, offsets, offsets + count, &first, &stop, reading->error);
     if (!answer) answer = hv_arrow_read_list_items(reading, rows, first, stop, &elements);
     if (!answer)
-        answer = hv_lists(&elements, count ? offsets : (const uint64_t *)hv_some(NULL), count,
-                          count ? offsets + count : (const uint64_t *)hv_some(NULL), count, HV_ARROW_NULLS(rows), out,
+        answer = hv_lists(&elements, offsets, count, offsets + count, count, hv_arrow_validity(rows), out,
                           reading->error);
     free(offsets);
     hv_free(&elements);
@@ -109,7 +108,7 @@ static inline int32_t hv_arrow_gather_items(const hv_arrow_writing *writing, hv_
     if (!numbers) return hv_arrow_no_memory(writing);
     for (size_t row = 0; row < parts->rows; row++)
         for (uint64_t item = 0; item < parts->sizes[row]; item++) numbers[done++] = parts->offsets[row] + item;
-    int32_t answer = hv_u64(numbers, done, HV_ARROW_NOT_NULLABLE, hv_arrow_nothing(), 0, 0, &indices, writing->error);
+    int32_t answer = hv_u64(numbers, done, hv_not_nullable(), &indices, writing->error);
     if (!answer) answer = hv_take(writing->session, &parts->elements, &indices, &taken, writing->error);
     if (!answer) answer = hv_decode(writing->session, &taken, out, writing->error);
     free(numbers);

@@ -340,7 +340,7 @@ static inline int32_t hv_arrow_first_values(const hv_arrow_writing *writing, hv_
     hv_column indices = HV_EMPTY, taken = HV_EMPTY;
     if (!starts) return hv_arrow_no_memory(writing);
     for (size_t run = 0; run < count; run++) starts[run] = run ? ends[run - 1] : 0;
-    int32_t answer = hv_u64(starts, count, HV_ARROW_NOT_NULLABLE, hv_arrow_nothing(), 0, 0, &indices, writing->error);
+    int32_t answer = hv_u64(starts, count, hv_not_nullable(), &indices, writing->error);
     if (!answer) answer = hv_take(writing->session, column, &indices, &taken, writing->error);
     if (!answer) answer = hv_decode(writing->session, &taken, out, writing->error);
     free(starts);

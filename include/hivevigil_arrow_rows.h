@@ -6,12 +6,15 @@
 #define HIVEVIGIL_ARROW_ROWS_H
 #include "hivevigil_arrow.h"
 
-/* What the makers of hivevigil.h take as `nulls`, and what hv_form answers. */
+/* Which rows are null, and what hv_form answers. */
 enum { HV_ARROW_NOT_NULLABLE = 0, HV_ARROW_NO_NULLS = 1, HV_ARROW_NULLS_BY_BITS = 2 };
 enum { HV_ARROW_FLAT = 0, HV_ARROW_CONSTANT = 1, HV_ARROW_OF_LISTS = 2, HV_ARROW_RUNS = 3, HV_ARROW_NO_FORM = 255 };
 
-/* A value for no items: a maker's pointer is never null, and nothing is read behind this one. */
-static inline const uint8_t *hv_arrow_nothing(void) { return (const uint8_t *)hv_some(NULL); }
+/* No items, by an address that is not null: nothing is read behind it. */
+static inline const uint8_t *hv_arrow_nothing(void) {
+    static const uint64_t nothing = 0;
+    return (const uint8_t *)&nothing;
+}
 
 static inline int32_t hv_arrow_refuse(int32_t number, uint64_t first, uint64_t second, hv_error *error) {
     error->first = first;
@@ -185,7 +188,10 @@ typedef struct hv_arrow_rows {
 } hv_arrow_rows;
 
 /* The nulls as the makers of hivevigil.h take them. */
-#define HV_ARROW_NULLS(rows) (rows)->nulls, (rows)->bits, (rows)->bits_len, (rows)->start
+static inline hv_validity hv_arrow_validity(const hv_arrow_rows *rows) {
+    if (rows->nulls == HV_ARROW_NULLS_BY_BITS) return hv_valid_bits(rows->bits, rows->bits_len, rows->start);
+    return rows->nulls == HV_ARROW_NO_NULLS ? hv_all_valid() : hv_not_nullable();
+}
 
 static inline int32_t hv_arrow_read(const hv_arrow_reading *reading, const hv_arrow_rows *rows, hv_column *out);
 static inline int32_t hv_arrow_read_lists(const hv_arrow_reading *reading, const hv_arrow_rows *rows, hv_column *out);
@@ -254,7 +260,7 @@ static inline int32_t hv_arrow_select_nulls(hv_arrow_rows *rows, hv_error *error
     const struct ArrowArray *array = rows->array;
     const uint8_t *bits = array->n_buffers > 0 ? (const uint8_t *)array->buffers[0] : NULL;
     rows->nulls = rows->schema->flags & ARROW_FLAG_NULLABLE ? HV_ARROW_NO_NULLS : HV_ARROW_NOT_NULLABLE;
-    rows->bits = hv_arrow_nothing();
+    rows->bits = NULL;
     rows->bits_len = 0;
     rows->null_count = 0;
     if (rows->layout.what == HV_ARROW_RUN_ENDS && (bits || array->null_count > 0))

@@ -1,16 +1,11 @@
-/* What a C program may want around the calls of hivevigil.h, which take no null pointer. Header alone, C11 and C++17.
- * Nothing here is proved. */
+/* What a C program may want around the calls of hivevigil.h: columns that are moved, and masks and indices that lie in
+ * C's own buffers. Header alone, C11 and C++17. Nothing here is proved. */
 #ifndef HIVEVIGIL_HELPERS_H
 #define HIVEVIGIL_HELPERS_H
 #include "hivevigil.h"
 #ifdef __cplusplus
 extern "C" {
 #endif
-
-/* As free(): frees the column of a handle, and does nothing where there is no handle. */
-static inline void hv_free_if(hv_column *column) {
-    if (column) hv_free(column);
-}
 
 /* The column of a handle, which is empty after: hv_column kept = hv_moved(&made). Empty where there is no handle. */
 static inline hv_column hv_moved(hv_column *from) {
@@ -32,10 +27,49 @@ static inline void hv_put(hv_column *to, hv_column *from) {
 /* Is there no column in the handle, or no handle? */
 static inline int hv_is_empty(const hv_column *column) { return !column || !column->at; }
 
-/* Room for the fields of an error that nobody looks at: hv_clone(&column, &copy, HV_IGNORED). C alone. */
-#ifndef __cplusplus
-#define HV_IGNORED (&(hv_error){0, 0, 0})
-#endif
+/* The rows whose bit is 1: that of row i is bit `first + i` of `bits`. 11 (rows, bytes) where there are fewer bits. */
+HV_ANSWER hv_filter_bits(const hv_session *session, const hv_column *column, const uint8_t *bits, size_t bits_len,
+                         size_t first, hv_column *out, hv_error *error) {
+    hv_column mask = HV_EMPTY;
+    int32_t answer = hv_bools(bits, bits_len, first, hv_length(column), hv_not_nullable(), &mask, error);
+    if (!answer) answer = hv_filter(session, column, &mask, out, error);
+    hv_free(&mask);
+    return answer;
+}
+
+/* The rows whose flag is not 0; 10 (flags, length) unless there is one for each row. */
+HV_ANSWER hv_filter_flags(const hv_session *session, const hv_column *column, const uint8_t *flags, size_t len,
+                          hv_column *out, hv_error *error) {
+    const hv_value zero = {0, 0, HV_UNSIGNED, 0};
+    hv_column numbers = HV_EMPTY, mask = HV_EMPTY;
+    int32_t answer = hv_u8(flags, len, hv_not_nullable(), &numbers, error);
+    if (!answer) answer = hv_compare_scalar(session, &numbers, HV_NE, &zero, NULL, 0, &mask, error);
+    if (!answer) answer = hv_filter(session, column, &mask, out, error);
+    hv_free(&numbers);
+    hv_free(&mask);
+    return answer;
+}
+
+/* The rows at indices of any native type, hv_take_u8 to hv_take_i64; null where the validity says so, and refused as
+ * hv_take. */
+#define HV_TAKE_OF(type, suffix) \
+    HV_ANSWER hv_take_##suffix(const hv_session *session, const hv_column *column, const type *indices, size_t len, \
+                               hv_validity validity, hv_column *out, hv_error *error) { \
+        hv_column places = HV_EMPTY; \
+        int32_t answer = hv_##suffix(indices, len, validity, &places, error); \
+        if (!answer) answer = hv_take(session, column, &places, out, error); \
+        hv_free(&places); \
+        return answer; \
+    }
+HV_TAKE_OF(uint8_t, u8)
+HV_TAKE_OF(uint16_t, u16)
+HV_TAKE_OF(uint32_t, u32)
+HV_TAKE_OF(uint64_t, u64)
+HV_TAKE_OF(int8_t, i8)
+HV_TAKE_OF(int16_t, i16)
+HV_TAKE_OF(int32_t, i32)
+HV_TAKE_OF(int64_t, i64)
+#undef HV_TAKE_OF
 
 #ifdef __cplusplus
 }

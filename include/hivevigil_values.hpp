@@ -176,8 +176,8 @@ namespace detail {
 template <class T> struct Native;
 #define HV_NATIVE(type, suffix) \
     template <> struct Native<type> { \
-        static constexpr auto make = hv_##suffix; \
-        static constexpr auto read = hv_read_##suffix; \
+        static constexpr auto make = hv_call_##suffix; \
+        static constexpr auto read = hv_call_read_##suffix; \
     };
 HV_NATIVE(uint8_t, u8)
 HV_NATIVE(uint16_t, u16)
@@ -189,9 +189,9 @@ HV_NATIVE(int32_t, i32)
 HV_NATIVE(int64_t, i64)
 #undef HV_NATIVE
 
-// The flags as bits, 8 to a byte, and a byte where there are none.
+// The flags as bits, 8 to a byte.
 inline Bytes bits_of(const std::vector<bool> &flags) {
-    Bytes bits(flags.size() / 8 + 1);
+    Bytes bits((flags.size() + 7) / 8);
     for (size_t row = 0; row < flags.size(); row++)
         bits[row / 8] = static_cast<uint8_t>(bits[row / 8] | (flags[row] << (row % 8)));
     return bits;
@@ -210,11 +210,10 @@ public:
         std::visit([this](const auto &item) { set(item); }, row);
     }
     hv_value value{};
-    const uint8_t *text = &none;
+    const uint8_t *text = nullptr;
     size_t size = 0;
 
 private:
-    uint8_t none = 0;
     void set(Null) { value.kind = HV_NULL; }
     void set(uint64_t item) { value.kind = HV_UNSIGNED, value.as_unsigned = item; }
     void set(int64_t item) { value.kind = HV_SIGNED, value.as_signed = item; }
@@ -223,8 +222,7 @@ private:
     void set(const std::string &item) { point(HV_TEXT, reinterpret_cast<const uint8_t *>(item.data()), item.size()); }
     void set(const Bytes &item) { point(HV_BYTES, item.data(), item.size()); }
     void point(uint8_t kind, const uint8_t *bytes, size_t length) {
-        value.kind = kind, value.as_unsigned = length;
-        if (length) text = bytes, size = length;
+        value.kind = kind, value.as_unsigned = length, text = bytes, size = length;
     }
 };
 

@@ -127,14 +127,14 @@ def with_visible_exports(text: str, exports: list[str], structs: set[str]) -> st
 
 
 def struct_calls(header: str, exports: list[str]) -> dict[str, tuple[str, str]]:
-    """Of each export that returns a struct: the struct, and the parameters, as the header has them."""
+    """Of each export that returns a struct: the struct, and the parameters, as the exports' header has them."""
     found = re.findall(r"^(?:HV_\w+ )?(hv_\w+) (hv_\w+)\((.*?)\);", header, re.M)
     return {name: (struct, parameters) for struct, name, parameters in found if name in exports}
 
 
 def adapters(calls: dict[str, tuple[str, str]]) -> str:
     """C that returns a struct as C does, over the call of the module, which writes it where it is told."""
-    lines = ['#include "hivevigil.h"']
+    lines = ["#define HV_EXPORTS_ALONE", '#include "hivevigil.h"']
     for name, (struct, parameters) in calls.items():
         passed = ", ".join(re.search(r"(\w+)$", each.strip())[1] for each in parameters.split(","))
         lines += [
@@ -146,7 +146,7 @@ def adapters(calls: dict[str, tuple[str, str]]) -> str:
 
 def compile_archive(kit: Path, work: Path, module: Path, exports: list[str], out: Path) -> None:
     """Compiles the module with its exports visible, and puts it into an archive."""
-    calls = struct_calls((ROOT / "include/hivevigil.h").read_text(encoding="utf-8"), exports)
+    calls = struct_calls((ROOT / "include/hivevigil_exports.h").read_text(encoding="utf-8"), exports)
     text, library, shims = work / "module.ll", work / "hivevigil.o", work / "adapters.o"
     tool(kit, "clang", *TARGET, "-S", "-emit-llvm", "-O0", "-Xclang", "-disable-llvm-passes", module, "-o", text)
     text.write_text(with_visible_exports(text.read_text(), exports, set(calls)))

@@ -34,7 +34,7 @@ static void check_session(void) {
         CHECK(!hv_##suffix(items, 1, NO_NULLS, &column, &error)); \
         CHECK(hv_length(&column) == 1 && hv_kind_of(&column).nullable == 1); \
         CHECK(!hv_##suffix(items, 1, NOT_NULLABLE, &column, &error) && hv_kind_of(&column).nullable == 0); \
-        CHECK(!hv_##suffix(hv_some(NULL), 0, NOT_NULLABLE, &column, &error) && hv_length(&column) == 0); \
+        CHECK(!hv_##suffix(NULL, 0, NOT_NULLABLE, &column, &error) && hv_length(&column) == 0); \
         hv_free(&column); \
         CHECK(hv_form(&column) == FORM_NONE); \
     } while (0)
@@ -189,7 +189,7 @@ static void check_sums(void) {
     CHECK(total.kind == 1 && total.as_unsigned == UINT64_MAX && total.empty == 0);
     CHECK(!hv_u64(large, 2, NOT_NULLABLE, &column, &error) && !hv_sum(&session, &column, &total, &error));
     CHECK(total.kind == 0 && total.empty == 0); /* 2^64 */
-    CHECK(!hv_i64(hv_some(NULL), 0, NO_NULLS, &column, &error) && !hv_sum(&session, &column, &total, &error));
+    CHECK(!hv_i64(NULL, 0, NO_NULLS, &column, &error) && !hv_sum(&session, &column, &total, &error));
     CHECK(total.kind == 2 && total.as_signed == 0 && total.empty == 1);
     hv_free(&column);
 }

@@ -255,7 +255,7 @@ static void check_exact_formats(void) {
         "tDs:",   "tdx",     "tdDx",     "ttx",       "tiD",        "tin",       "d:x",     "d:",     "d:5",
         "d:5,",   "d:,2",    "d:5,1,",   "d:5,1x",    "d:5,1,128x", "d:5,1,129", "d: 5,1",  "d:+5,1", "d:0,0",
         "d:39,0", "d:5,128", "d:5,-129", "d:19,0,64", "d:10,0,32",  "d:5,1,256", "n",       "e",      "f",
-        "g",      "w:",      "w:x",      "w:-1",      "w:8x",       "+l",        "+L",      "+vl",    "+w:2",
+        "g",      "w:",      "w:x",      "w:-1",      "w:8x",       "+lx",       "+Lx",     "+vl",    "+w:2",
         "+m",     "+ud:0",   "u ",       "v"};
     const int64_t items[2] = {-1, 5};
     struct ArrowArray array = array_of(2, 0, 2, BUFFERS(NULL, items));

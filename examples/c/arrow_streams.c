@@ -83,7 +83,7 @@ static void check_no_chunks(void) {
     check_released(&from, &stream);
     from.schema.format = "d:12,3", from.schema.n_children = 0, stream = stream_of(&from);
     CHECK(!IMPORT(&stream, 1) && hv_kind_of(&columns[0]).precision == 12 && hv_kind_of(&columns[0]).scale == 3);
-    from.schema.format = "+l", stream = stream_of(&from);
+    from.schema.format = "+m", stream = stream_of(&from);
     CHECK_REFUSED(IMPORT(&stream, 1), HV_UNSUPPORTED, 0, 0, 0);
     check_released(&from, &stream);
 }

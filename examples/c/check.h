@@ -18,10 +18,10 @@
 #define FILL(what) memset(&(what), 0xA5, sizeof(what))
 
 /* validity: of a type without null; no row is null; null by the bits of an array */
-#define NOT_NULLABLE 0, (const uint8_t *)hv_some(NULL), 0, 0
-#define NO_NULLS 1, (const uint8_t *)hv_some(NULL), 0, 0
-#define NULLS_BY(bits, first) 2, bits, sizeof(bits), first
-#define NO_TEXT (const uint8_t *)hv_some(NULL), 0
+#define NOT_NULLABLE hv_not_nullable()
+#define NO_NULLS hv_all_valid()
+#define NULLS_BY(bits, first) hv_valid_bits(bits, sizeof(bits), first)
+#define NO_TEXT NULL, 0
 #define NO_TEXT_ROOM (uint8_t[1]){0}, 0
 #define COUNT(array) (sizeof(array) / sizeof *(array))
 

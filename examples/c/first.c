@@ -5,14 +5,13 @@
 
 int main(void) {
     const int64_t rows[9] = {4, 4, 4, 7, 7, 9, 9, 9, 9};
-    const uint8_t *no_bits = hv_some(NULL);
     hv_session session;
     hv_error error;
     hv_column flat = HV_EMPTY, runs = HV_EMPTY, part = HV_EMPTY;
     hv_total total;
     hv_session_initial(&session);
 
-    int32_t answer = hv_i64(rows, 9, 0, no_bits, 0, 0, &flat, &error);
+    int32_t answer = hv_i64(rows, 9, hv_not_nullable(), &flat, &error);
     if (!answer) answer = hv_encode(&session, &flat, &runs, &error);
     if (!answer) answer = hv_sum(&session, &runs, &total, &error);
     if (!answer) printf("%zu rows, sum %" PRId64 "\n", hv_length(&runs), total.as_signed); /* 9 rows, sum 62 */

@@ -183,6 +183,34 @@ static void check_windows(const rows *of, int form) {
     for (size_t i = 0; i < COUNT(all); i++) hv_free(all[i]);
 }
 
+/* ---- What commands leave ---- */
+
+static size_t least_seen;
+
+/* a run column of whole numbers that a command leaves has one run for each stretch of equal rows, from row 0 on */
+static void check_least(hv_column *column, const rows *of) {
+    size_t stretches = of->len > 0, runs = 0;
+    if (hv_form(column) != HV_FORM_RUNS) return;
+    for (size_t row = 1; row < of->len; row++) stretches += !same_row(of, row - 1, row);
+    CHECK(!hv_run_count(column, &runs, &error) && runs == stretches && hv_offset(column) == 0);
+    least_seen++;
+}
+
+static void check_casts_and_fills(const rows *of, int form) {
+    const hv_kind narrow = {HV_I32, 1, 0, 0};
+    const hv_value seven = {.kind = HV_SIGNED, .as_signed = 7};
+    hv_column column = HV_EMPTY, out = HV_EMPTY;
+    rows filled = *of;
+    make(make_flat, of, form, &column);
+    CHECK(!hv_cast(&session, &column, &narrow, &out, &error) && hv_kind_of(&out).number == HV_I32);
+    check_least(&out, of);
+    for (size_t row = 0; row < of->len; row++)
+        if (!of->valid[row]) filled.valid[row] = true, filled.number[row] = 7;
+    CHECK(!hv_fill(&session, &column, &seven, NO_TEXT, &out, &error) && hv_kind_of(&out).nullable == 0);
+    check_least(&out, &filled);
+    hv_free(&column), hv_free(&out);
+}
+
 /* ---- Masks and indices ---- */
 
 static void check_filter(const rows *of, const rows *mask, int form, int mask_form) {
@@ -194,7 +222,7 @@ static void check_filter(const rows *of, const rows *mask, int form, int mask_fo
             kept.number[kept.len] = of->number[row], kept.valid[kept.len++] = of->valid[row];
     FILL(error);
     CHECK(!hv_filter(&session, &column, &selects, &out, &error));
-    make_flat(&kept, &wanted);
+    make_flat(&kept, &wanted), check_least(&out, &kept);
     char text[1 << 13];
     CHECK(strlen(rows_of(&wanted)) < sizeof text), strcpy(text, rows_of(&wanted));
     CHECK_ROWS(&out, text);
@@ -212,7 +240,7 @@ static void check_take(const rows *of, const rows *indices, int form, int index_
     }
     FILL(error);
     CHECK(!hv_take(&session, &column, &places, &out, &error));
-    make_flat(&taken, &wanted);
+    make_flat(&taken, &wanted), check_least(&out, &taken);
     char text[1 << 13];
     CHECK(strlen(rows_of(&wanted)) < sizeof text), strcpy(text, rows_of(&wanted));
     CHECK_ROWS(&out, text);
@@ -394,7 +422,7 @@ int main(void) {
         rows of = random_rows(1 + below(MOST - 1), 30), mask = random_rows(of.len, 2);
         rows indices = random_rows(below(MOST), (int64_t)of.len);
         for (int form = FLAT; form < FORMS; form++) {
-            check_windows(&of, form), check_extremes(&of, form);
+            check_windows(&of, form), check_extremes(&of, form), check_casts_and_fills(&of, form);
             if (form != FLAT) check_runs(&of, form);
             for (int other = FLAT; other < FORMS; other++)
                 check_filter(&of, &mask, form, other), check_take(&of, &indices, form, other);
@@ -402,6 +430,7 @@ int main(void) {
     }
     for (int form = FLAT; form < FORMS; form++) check_refusals(form);
     check_constants(), check_other_runs(), check_text_extremes();
+    CHECK(least_seen > 1000);
     puts("60 times 4 forms: windows, masks and indices in 4 forms each, runs, least and greatest");
     return 0;
 }

@@ -17,8 +17,12 @@ SIZE(hv_total, 24);
 PLACE(hv_total, empty, 17);
 SIZE(hv_pair, 16);
 PLACE(hv_pair, high, 8);
-SIZE(hv_session, 72);
-PLACE(hv_session, kernels, 56);
+SIZE(hv_session, 80);
+PLACE(hv_session, size, 0);
+PLACE(hv_session, prefill_runs, 8);
+PLACE(hv_session, kernels, 64);
+SIZE(hv_settings, 72);
+PLACE(hv_settings, kernels, 56);
 
 /* What the library writes lies where the header says: every byte of the session, and none behind it. */
 int main(void) {
@@ -28,7 +32,7 @@ int main(void) {
     } room;
     for (size_t byte = 0; byte < sizeof room; byte++) ((unsigned char *)&room)[byte] = 0xA5;
     hv_session_initial(&room.session);
-    int wrong = 0;
+    int wrong = room.session.size != sizeof room.session;
     for (size_t kernel = 0; kernel < 12; kernel++) wrong += room.session.kernels[kernel] != 1;
     for (size_t byte = 0; byte < sizeof room.behind; byte++) wrong += room.behind[byte] != 0xA5;
     wrong += room.session.prefill_runs == 0xA5A5A5A5A5A5A5A5u;

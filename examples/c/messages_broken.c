@@ -48,21 +48,22 @@ static void make_flat(size_t rows, hv_column *out) {
     uint64_t items[2 * ROWS], bits[2];
     for (size_t i = 0; i < COUNT(items); i++) items[i] = below(2) ? below(9) : chance();
     bits[0] = below(4) ? chance() : 0, bits[1] = below(2) ? bits[0] : chance();
-#define SOME_NULLS (uint8_t)below(3), (const uint8_t *)bits, sizeof bits, below(64)
+    hv_validity some = hv_valid_bits((const uint8_t *)bits, sizeof bits, below(64));
+    some.nulls = (uint8_t)below(3);
     switch (below(10)) {
-    case 0: CHECK(!hv_u8((const uint8_t *)items, rows, SOME_NULLS, out, &error)); break;
-    case 1: CHECK(!hv_u16((const uint16_t *)items, rows, SOME_NULLS, out, &error)); break;
-    case 2: CHECK(!hv_u32((const uint32_t *)items, rows, SOME_NULLS, out, &error)); break;
-    case 3: CHECK(!hv_u64(items, rows, SOME_NULLS, out, &error)); break;
-    case 4: CHECK(!hv_i8((const int8_t *)items, rows, SOME_NULLS, out, &error)); break;
-    case 5: CHECK(!hv_i16((const int16_t *)items, rows, SOME_NULLS, out, &error)); break;
-    case 6: CHECK(!hv_i32((const int32_t *)items, rows, SOME_NULLS, out, &error)); break;
-    case 7: CHECK(!hv_i64((const int64_t *)items, rows, SOME_NULLS, out, &error)); break;
-    case 8: CHECK(!hv_bools((const uint8_t *)bits, sizeof bits, below(64), rows, SOME_NULLS, out, &error)); break;
+    case 0: CHECK(!hv_u8((const uint8_t *)items, rows, some, out, &error)); break;
+    case 1: CHECK(!hv_u16((const uint16_t *)items, rows, some, out, &error)); break;
+    case 2: CHECK(!hv_u32((const uint32_t *)items, rows, some, out, &error)); break;
+    case 3: CHECK(!hv_u64(items, rows, some, out, &error)); break;
+    case 4: CHECK(!hv_i8((const int8_t *)items, rows, some, out, &error)); break;
+    case 5: CHECK(!hv_i16((const int16_t *)items, rows, some, out, &error)); break;
+    case 6: CHECK(!hv_i32((const int32_t *)items, rows, some, out, &error)); break;
+    case 7: CHECK(!hv_i64((const int64_t *)items, rows, some, out, &error)); break;
+    case 8: CHECK(!hv_bools((const uint8_t *)bits, sizeof bits, below(64), rows, some, out, &error)); break;
     default: {
         hv_pair pairs[ROWS];
         for (size_t i = 0; i < ROWS; i++) pairs[i] = (hv_pair){items[i], below(2) ? 0 : -1};
-        CHECK(!hv_decimals(pairs, rows, 38, (int8_t)(below(9) - 4), SOME_NULLS, out, &error));
+        CHECK(!hv_decimals(pairs, rows, 38, (int8_t)(below(9) - 4), some, out, &error));
     }
     }
 }

@@ -48,7 +48,7 @@ static void check_makers(void) {
     REFUSED(hv_u8(items, 9, NULLS_BY(bits, 0), &out, &error), HV_COLUMN_LENGTH, 9, 1, 0);
     REFUSED(hv_u8(items, 8, NULLS_BY(bits, 1), &out, &error), HV_COLUMN_LENGTH, 8, 1, 0);
     REFUSED(hv_u8(items, 8, NULLS_BY(bits, SIZE_MAX), &out, &error), HV_COLUMN_LENGTH, 8, 1, 0);
-    REFUSED(hv_u8(items, 1, 2, hv_some(NULL), 0, 0, &out, &error), HV_COLUMN_LENGTH, 1, 0, 0);
+    REFUSED(hv_u8(items, 1, hv_valid_bits(NULL, 0, 0), &out, &error), HV_COLUMN_LENGTH, 1, 0, 0);
     REFUSED(hv_bools(items, 1, 5, 4, NOT_NULLABLE, &out, &error), HV_COLUMN_LENGTH, 4, 1, 0);
     REFUSED(hv_bools(items, 1, 1, SIZE_MAX, NOT_NULLABLE, &out, &error), HV_COLUMN_LENGTH, SIZE_MAX, 1, 0);
     REFUSED(hv_decimals(pairs, 2, 10, 2, NULLS_BY(bits, 7), &out, &error), HV_COLUMN_LENGTH, 2, 1, 0);
@@ -56,11 +56,11 @@ static void check_makers(void) {
     REFUSED(hv_large_texts(1, large, 3, bytes, 3, NOT_NULLABLE, &out, &error), HV_ENDS_NOT_STRICT, 1, 0, 0);
     REFUSED(hv_texts(0, negative, 2, bytes, 3, NOT_NULLABLE, &out, &error), HV_ENDS_NOT_STRICT, 0, 0, 0);
     REFUSED(hv_texts(0, far, 2, bytes, 3, NOT_NULLABLE, &out, &error), HV_OUT_OF_BOUNDS, 0, 1, 0);
-    REFUSED(hv_texts(0, hv_some(NULL), 0, hv_some(NULL), 0, NOT_NULLABLE, &out, &error), HV_NO_RUNS_WINDOW, 0, 0, 0);
+    REFUSED(hv_texts(0, NULL, 0, NULL, 0, NOT_NULLABLE, &out, &error), HV_NO_RUNS_WINDOW, 0, 0, 0);
     REFUSED(hv_texts(0, two, 2, broken, 2, NOT_NULLABLE, &out, &error), HV_TYPE_MISMATCH, 0, 0, 0);
     REFUSED(hv_texts(0, two, 2, cut, 2, NOT_NULLABLE, &out, &error), HV_TYPE_MISMATCH, 0, 0, 0);
     REFUSED(hv_texts(0, two, 2, bytes, 3, NULLS_BY(bits, 8), &out, &error), HV_COLUMN_LENGTH, 1, 1, 0);
-    REFUSED(hv_large_texts(0, hv_some(NULL), 0, bytes, 3, NOT_NULLABLE, &out, &error), HV_NO_RUNS_WINDOW, 0, 0, 0);
+    REFUSED(hv_large_texts(0, NULL, 0, bytes, 3, NOT_NULLABLE, &out, &error), HV_NO_RUNS_WINDOW, 0, 0, 0);
     REFUSED(hv_large_texts(0, large_far, 3, bytes, 3, NOT_NULLABLE, &out, &error), HV_OUT_OF_BOUNDS, 1, 2, 0);
     REFUSED(hv_large_texts(0, large_two, 2, broken, 2, NOT_NULLABLE, &out, &error), HV_TYPE_MISMATCH, 0, 0, 0);
 }
@@ -303,26 +303,65 @@ static void check_empty_handles(void) {
     check_kept();
 }
 
-/* A null pointer for no items goes through hv_some: no rows are made of it, read into it, or found there. */
+/* A null pointer for no items is no fault: no rows are made of it, read into it, or found there. */
 static void check_no_items(void) {
     const int32_t zero[1] = {0};
     const hv_value no_letters = {.kind = HV_TEXT};
     hv_value value;
     hv_column none = HV_EMPTY, no_texts = HV_EMPTY, made = HV_EMPTY;
-#define NOTHING hv_some(NULL), 0
-    CHECK(!hv_i64(NOTHING, 2, NOTHING, 0, &none, &error) && hv_length(&none) == 0);
-    CHECK(!hv_bools(NOTHING, 0, 0, 2, NOTHING, 0, &made, &error) && hv_length(&made) == 0);
-    CHECK(!hv_decimals(NOTHING, 3, 0, 1, NOTHING, 0, &made, &error) && hv_length(&made) == 0);
-    CHECK(!hv_texts(0, zero, 1, NOTHING, 0, NOTHING, 0, &no_texts, &error) && hv_length(&no_texts) == 0);
-    CHECK(!hv_read_i64(&none, 0, (int64_t *)hv_some(NULL), 0, &error));
-    CHECK(!hv_read_validity(&none, (uint64_t *)hv_some(NULL), 0, &error));
-    CHECK(!hv_read_bytes(&no_texts, 0, 0, (uint8_t *)hv_some(NULL), 0, &error));
-    CHECK(!hv_compare_scalar(&session, &no_texts, HV_EQ, &no_letters, NOTHING, &made, &error));
+    hv_value other;
+    const hv_validity no_bits = hv_valid_bits(NULL, 0, 0);
+    CHECK(!hv_i64(NULL, 0, no_bits, &none, &error) && hv_length(&none) == 0 && hv_kind_of(&none).nullable == 1);
+    CHECK(!hv_bools(NULL, 0, 0, 0, no_bits, &made, &error) && hv_length(&made) == 0);
+    CHECK(!hv_decimals(NULL, 0, 3, 0, no_bits, &made, &error) && hv_length(&made) == 0);
+    CHECK(!hv_texts(0, zero, 1, NULL, 0, no_bits, &no_texts, &error) && hv_length(&no_texts) == 0);
+    CHECK(!hv_lists(&none, NULL, 0, NULL, 0, no_bits, &made, &error) && hv_length(&made) == 0);
+    CHECK(!hv_read_i64(&none, 0, NULL, 0, &error));
+    CHECK(!hv_read_validity(&none, NULL, 0, &error));
+    CHECK(!hv_read_bytes(&no_texts, 0, 0, NULL, 0, &error));
+    CHECK(!hv_compare_scalar(&session, &no_texts, HV_EQ, &no_letters, NULL, 0, &made, &error));
     CHECK(hv_length(&made) == 0);
-    REFUSED(hv_at(&none, 0, &value, (uint8_t *)hv_some(NULL), 0, &error), HV_OUT_OF_BOUNDS, 0, 0, 0);
-    REFUSED(hv_extreme(&session, &texts, 1, &value, (uint8_t *)hv_some(NULL), 0, &error), HV_COLUMN_LENGTH, 3, 0, 0);
+    CHECK(!hv_min_max(&session, &none, &value, NULL, 0, &other, NULL, 0, &error) && value.kind == HV_NULL);
+    REFUSED(hv_at(&none, 0, &value, NULL, 0, &error), HV_OUT_OF_BOUNDS, 0, 0, 0);
+    REFUSED(hv_extreme(&session, &texts, 1, &value, NULL, 0, &error), HV_COLUMN_LENGTH, 3, 0, 0);
+    REFUSED(hv_read_column(NULL, 0, &out, &error), HV_BAD_METADATA, 0, 0, 0);
     hv_free(&none);
     hv_free(&no_texts);
+    hv_free(&made);
+}
+
+/* Nor is an `error` that nobody asks for, whether the call is done or refused, or no handle to free. What is lent may
+ * be lent by a pointer to const, and is the same after. */
+static void check_nothing_asked(void) {
+    const hv_column *lent = &numbers;
+    const void *const at = lent->at;
+    hv_column copy = HV_EMPTY, made = HV_EMPTY;
+    hv_value value;
+    CHECK(hv_clone(lent, &copy, NULL) == HV_OK && hv_length(&copy) == hv_length(lent));
+    CHECK(hv_slice(&session, lent, 1, SIZE_MAX, &copy, NULL) == HV_BAD_RANGE);
+    CHECK(hv_at(lent, SIZE_MAX, &value, NULL, 0, NULL) == HV_OUT_OF_BOUNDS);
+    CHECK(hv_read_column(NULL, 0, &copy, NULL) == HV_BAD_METADATA);
+    CHECK(hv_compare(&session, lent, HV_EQ, &copy, &made, NULL) == HV_OK && lent->at == at);
+    hv_free(NULL);
+    hv_free(&copy);
+    hv_free(&copy);
+    hv_free(&made);
+    check_kept();
+}
+
+/* The size that a session begins with says which part of it is there; the exports read what stands behind it. */
+static void check_session(void) {
+    hv_session set, none = {0};
+    hv_column made = HV_EMPTY;
+    FILL(set);
+    hv_session_initial(&set);
+    CHECK(set.size == sizeof set && set.kernels[HV_SLICE] == 1 && set.kernels[HV_IS_SORTED] == 1);
+    CHECK(set.prefill_runs == 32 && set.unsorted_runs_per_index == 4);
+    CHECK(!hv_slice(&set, &runs, 1, 3, &made, NULL) && hv_form(&made) == FORM_RUNS);
+    CHECK(!hv_slice(&none, &runs, 1, 3, &made, NULL) && hv_form(&made) == FORM_FLAT);
+    none.kernels[HV_SLICE] = 1;
+    CHECK(!hv_slice(&none, &runs, 1, 3, &made, NULL) && hv_form(&made) == FORM_RUNS);
+    CHECK((hv_length)(&made) == 2); /* the export itself */
     hv_free(&made);
 }
 
@@ -330,6 +369,7 @@ static void check_no_items(void) {
 static void check_flags(void) {
     const int32_t offsets[2] = {0, 1};
     const uint8_t growing[2] = {1, 2}, none[1] = {0};
+    hv_validity by_bits = NULLS_BY(none, 0);
     const hv_kind i64 = {HV_I64, 2, 0, 0};
     const hv_value truth = {.kind = HV_TRUTH, .truth = 2};
     uint8_t answer = 9, text[1];
@@ -343,7 +383,8 @@ static void check_flags(void) {
     CHECK(!hv_cast(&session, &runs, &i64, &made, &error) && hv_kind_of(&made).nullable == 1);
     CHECK(!hv_compare_scalar(&session, &truths, HV_EQ, &truth, NO_TEXT, &made, &error));
     CHECK_ROWS(&made, "true false true");
-    CHECK(!hv_u8(growing, 2, 200, none, 1, 0, &made, &error)); /* null by the bits */
+    by_bits.nulls = 200;
+    CHECK(!hv_u8(growing, 2, by_bits, &made, &error)); /* null by the bits */
     CHECK_ROWS(&made, "null null");
     check_kept();
     hv_free(&made);
@@ -363,6 +404,8 @@ int main(void) {
     check_far_offsets();
     check_empty_handles();
     check_no_items();
+    check_nothing_asked();
+    check_session();
     check_flags();
     hv_column *all[] = {&numbers, &runs, &truths, &texts, &out};
     for (size_t i = 0; i < COUNT(all); i++) hv_free(all[i]);

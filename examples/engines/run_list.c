@@ -92,27 +92,24 @@ void run_list_free(run_list *list) {
 
 int32_t run_list_values(const run_list *list, bool nulls, hv_column *out, hv_error *error) {
     static const int64_t no_number = 0;
-    const uint8_t *some = (const uint8_t *)&no_number;
     size_t size = list->runs / 8 + 1;
     uint8_t *bits = calloc(size, 1);
     if (!bits) return HV_OUT_OF_MEMORY;
     for (size_t run = 0; run < list->runs; run++)
         bits[run / 8] = (uint8_t)(bits[run / 8] | (list->valid[run] << run % 8));
     const int64_t *numbers = list->numbers ? list->numbers : &no_number;
-    const uint8_t *bytes = list->bytes ? list->bytes : some;
-    uint8_t how = nulls ? 2 : 0;
+    const hv_validity validity = nulls ? hv_valid_bits(bits, size, 0) : hv_not_nullable();
     int32_t answer;
     if (list->kind == HV_TEXT || list->kind == HV_BYTES)
-        answer = hv_large_texts(list->kind == HV_BYTES, numbers, list->runs + 1, bytes, list->bytes_len, how, bits,
-                                size, 0, out, error);
-    else answer = hv_i64(list->runs ? numbers + 1 : numbers, list->runs, how, bits, size, 0, out, error);
+        answer = hv_large_texts(list->kind == HV_BYTES, numbers, list->runs + 1, list->bytes, list->bytes_len, validity,
+                                out, error);
+    else answer = hv_i64(list->runs ? numbers + 1 : NULL, list->runs, validity, out, error);
     free(bits);
     return answer;
 }
 
 /* the ends, in the least type that has the last one */
 static int32_t least_ends(const run_list *list, hv_column *out, hv_error *error) {
-    static const uint64_t none = 0;
     const uint8_t number = list->rows <= UINT8_MAX    ? HV_U8
                            : list->rows <= UINT16_MAX ? HV_U16
                            : list->rows <= UINT32_MAX ? HV_U32
@@ -121,8 +118,7 @@ static int32_t least_ends(const run_list *list, hv_column *out, hv_error *error)
     hv_session session;
     hv_column wide = HV_EMPTY;
     hv_session_initial(&session);
-    int32_t answer =
-        hv_u64(list->stops ? list->stops : &none, list->runs, 0, (const uint8_t *)&none, 0, 0, &wide, error);
+    int32_t answer = hv_u64(list->stops, list->runs, hv_not_nullable(), &wide, error);
     if (!answer) answer = hv_cast(&session, &wide, &kind, out, error);
     hv_free(&wide);
     return answer;

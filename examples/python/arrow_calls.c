@@ -2,29 +2,42 @@
  * said there, under the name that it calls here. At the end: what drops a PyCapsule of Arrow's structs, for Python. */
 #include "hivevigil_arrow.h"
 
-int32_t hv_import_array(const hv_session *session, const struct ArrowSchema *schema, const struct ArrowArray *array,
+/* Who reads no C header has the part of a session that the exports read. */
+static hv_session session_of(const hv_settings *settings) {
+    hv_session session;
+    session.size = sizeof session;
+    memcpy(hv_settings_of(&session), settings, sizeof *settings);
+    return session;
+}
+
+int32_t hv_import_array(const hv_settings *settings, const struct ArrowSchema *schema, const struct ArrowArray *array,
                         hv_column *out, hv_error *error) {
-    return hv_arrow_import(session, schema, array, out, error);
+    const hv_session session = session_of(settings);
+    return hv_arrow_import(&session, schema, array, out, error);
 }
 
-int32_t hv_import_bits(const hv_session *session, const struct ArrowSchema *schema, const struct ArrowArray *array,
+int32_t hv_import_bits(const hv_settings *settings, const struct ArrowSchema *schema, const struct ArrowArray *array,
                        hv_column *out, hv_error *error) {
-    return hv_arrow_import_bits(session, schema, array, out, error);
+    const hv_session session = session_of(settings);
+    return hv_arrow_import_bits(&session, schema, array, out, error);
 }
 
-int32_t hv_import_child(const hv_session *session, const struct ArrowSchema *schema, const struct ArrowArray *batch,
+int32_t hv_import_child(const hv_settings *settings, const struct ArrowSchema *schema, const struct ArrowArray *batch,
                         int64_t child, hv_column *out, hv_error *error) {
-    return hv_arrow_import_child(session, schema, batch, child, out, error);
+    const hv_session session = session_of(settings);
+    return hv_arrow_import_child(&session, schema, batch, child, out, error);
 }
 
-int32_t hv_import_child_bits(const hv_session *session, const struct ArrowSchema *schema,
+int32_t hv_import_child_bits(const hv_settings *settings, const struct ArrowSchema *schema,
                              const struct ArrowArray *batch, int64_t child, hv_column *out, hv_error *error) {
-    return hv_arrow_import_child_bits(session, schema, batch, child, out, error);
+    const hv_session session = session_of(settings);
+    return hv_arrow_import_child_bits(&session, schema, batch, child, out, error);
 }
 
-int32_t hv_import_stream(const hv_session *session, struct ArrowArrayStream *stream, hv_column *columns, size_t count,
+int32_t hv_import_stream(const hv_settings *settings, struct ArrowArrayStream *stream, hv_column *columns, size_t count,
                          const uint8_t *how, char *words, size_t words_len, hv_error *error) {
-    return hv_arrow_import_stream(session, stream, columns, count, how, words, words_len, error);
+    const hv_session session = session_of(settings);
+    return hv_arrow_import_stream(&session, stream, columns, count, how, words, words_len, error);
 }
 
 int32_t hv_open_stream(struct ArrowArrayStream *stream, hv_arrow_reader **reader, hv_error *error) {
@@ -37,51 +50,60 @@ size_t hv_stream_width(const hv_arrow_reader *reader) { return hv_arrow_width(re
 
 void hv_stream_choose(hv_arrow_reader *reader, size_t column, uint8_t how) { hv_arrow_choose(reader, column, how); }
 
-int32_t hv_stream_next(const hv_session *session, hv_arrow_reader *reader, hv_column *columns, size_t count,
+int32_t hv_stream_next(const hv_settings *settings, hv_arrow_reader *reader, hv_column *columns, size_t count,
                        uint8_t *more, hv_error *error) {
-    return hv_arrow_next(session, reader, columns, count, more, error);
+    const hv_session session = session_of(settings);
+    return hv_arrow_next(&session, reader, columns, count, more, error);
 }
 
 const char *hv_stream_words(const hv_arrow_reader *reader) { return hv_arrow_words(reader); }
 
 void hv_close_stream(hv_arrow_reader *reader) { hv_arrow_close(reader); }
 
-int32_t hv_concat_columns(const hv_session *session, hv_column *columns, size_t count, hv_column *out,
+int32_t hv_concat_columns(const hv_settings *settings, hv_column *columns, size_t count, hv_column *out,
                           hv_error *error) {
-    return hv_arrow_concat(session, columns, count, out, error);
+    const hv_session session = session_of(settings);
+    return hv_arrow_concat(&session, columns, count, out, error);
 }
 
 const char *hv_value_format(const struct ArrowSchema *schema) { return hv_arrow_value_format(schema); }
 
-int32_t hv_export_array(const hv_session *session, hv_column *column, const char *name, struct ArrowSchema *schema,
+int32_t hv_export_array(const hv_settings *settings, hv_column *column, const char *name, struct ArrowSchema *schema,
                         struct ArrowArray *array, hv_error *error) {
-    return hv_arrow_export(session, column, name, schema, array, error);
+    const hv_session session = session_of(settings);
+    return hv_arrow_export(&session, column, name, schema, array, error);
 }
 
-int32_t hv_export_with(const hv_session *session, hv_column *column, const char *name, const hv_arrow_options *options,
-                       struct ArrowSchema *schema, struct ArrowArray *array, hv_error *error) {
-    return hv_arrow_export_with(session, column, name, options, schema, array, error);
+int32_t hv_export_with(const hv_settings *settings, hv_column *column, const char *name,
+                       const hv_arrow_options *options, struct ArrowSchema *schema, struct ArrowArray *array,
+                       hv_error *error) {
+    const hv_session session = session_of(settings);
+    return hv_arrow_export_with(&session, column, name, options, schema, array, error);
 }
 
-int32_t hv_export_as(const hv_session *session, hv_column *column, const char *name, const char *format,
+int32_t hv_export_as(const hv_settings *settings, hv_column *column, const char *name, const char *format,
                      struct ArrowSchema *schema, struct ArrowArray *array, hv_error *error) {
-    return hv_arrow_export_as(session, column, name, format, schema, array, error);
+    const hv_session session = session_of(settings);
+    return hv_arrow_export_as(&session, column, name, format, schema, array, error);
 }
 
-int32_t hv_export_bits(const hv_session *session, hv_column *column, const char *name, struct ArrowSchema *schema,
+int32_t hv_export_bits(const hv_settings *settings, hv_column *column, const char *name, struct ArrowSchema *schema,
                        struct ArrowArray *array, hv_error *error) {
-    return hv_arrow_export_bits(session, column, name, schema, array, error);
+    const hv_session session = session_of(settings);
+    return hv_arrow_export_bits(&session, column, name, schema, array, error);
 }
 
-int32_t hv_export_dictionary(const hv_session *session, hv_column *codes, hv_column *dictionary, const char *name,
+int32_t hv_export_dictionary(const hv_settings *settings, hv_column *codes, hv_column *dictionary, const char *name,
                              struct ArrowSchema *schema, struct ArrowArray *array, hv_error *error) {
-    return hv_arrow_export_dictionary(session, codes, dictionary, name, schema, array, error);
+    const hv_session session = session_of(settings);
+    return hv_arrow_export_dictionary(&session, codes, dictionary, name, schema, array, error);
 }
 
-int32_t hv_export_stream(const hv_session *session, hv_column *columns, const char *const *names, size_t count,
+int32_t hv_export_stream(const hv_settings *settings, hv_column *columns, const char *const *names, size_t count,
                          size_t chunk_rows, const hv_arrow_options *options, struct ArrowArrayStream *stream,
                          hv_error *error) {
-    return hv_arrow_export_stream(session, columns, names, count, chunk_rows, options, stream, error);
+    const hv_session session = session_of(settings);
+    return hv_arrow_export_stream(&session, columns, names, count, chunk_rows, options, stream, error);
 }
 
 /* ---- PyCapsules ----

@@ -1,4 +1,4 @@
-"""The shared object: where it is, the structs of hivevigil.h, and what each call takes, as ctypes declares it.
+"""The shared object: where it is, the structs of hivevigil.h, and what each export takes, as ctypes declares it.
 
 Calls hold the interpreter's lock (PyDLL), so that threads call one at a time, as the header asks of columns that were
 made one from the other.

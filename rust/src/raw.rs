@@ -1,4 +1,4 @@
-//! hivevigil.h, as Rust declares it.
+//! The exports of hivevigil_exports.h, as Rust declares them.
 #![allow(clippy::too_many_arguments)]
 
 /// A handle: a column that the library owns, or none.

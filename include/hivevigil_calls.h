@@ -1,0 +1,302 @@
+/* The calls of hivevigil.h, which includes this one and says what each answers: inline functions over the exports of
+ * the same names, which stand here in parentheses. A null pointer for no items becomes an address, and so does an
+ * `error` that nobody asks for. Nothing here is proved. */
+#ifndef HIVEVIGIL_CALLS_H
+#define HIVEVIGIL_CALLS_H
+#ifndef HIVEVIGIL_EXPORTS_H
+#error "include hivevigil.h, which includes this part"
+#endif
+
+/* no items: behind this address nothing is read or written */
+static inline void *hv_items(const void *items) {
+    static const uint64_t nothing = 0;
+    return (void *)(uintptr_t)(items ? items : &nothing);
+}
+#define HV_ITEMS(type, items) ((type *)hv_items(items))
+#define HV_FIELDS (error ? error : &ignored)
+#define HV_PARTS(of) of.nulls, HV_ITEMS(const uint8_t, of.bits), of.bits_len, of.first
+
+/* the handle of a column that is lent: an export takes the column out, and puts it back before it returns */
+static inline hv_column *hv_lent(const hv_column *column) { return (hv_column *)(uintptr_t)column; }
+
+/* what the exports read of a session, which stands behind its size */
+static inline hv_settings *hv_settings_of(const hv_session *session) {
+    return (hv_settings *)((uintptr_t)session + offsetof(hv_session, prefill_runs));
+}
+
+HV_CALL void hv_session_initial(hv_session *session) {
+    session->size = sizeof *session;
+    (hv_session_initial)(hv_settings_of(session));
+}
+HV_CALL void hv_free(hv_column *column) {
+    if (column) (hv_free)(column);
+}
+
+/* Numbers of each native type */
+#define HV_NATIVE(type, suffix) \
+    HV_ANSWER hv_##suffix(const type *items, size_t len, hv_validity validity, hv_column *out, hv_error *error) { \
+        hv_error ignored; \
+        return (hv_##suffix)(HV_ITEMS(const type, items), len, HV_PARTS(validity), out, HV_FIELDS); \
+    } \
+    HV_ANSWER hv_read_##suffix(const hv_column *column, size_t start, type *items, size_t len, hv_error *error) { \
+        hv_error ignored; \
+        return (hv_read_##suffix)(hv_lent(column), start, HV_ITEMS(type, items), len, HV_FIELDS); \
+    }
+HV_NATIVE(uint8_t, u8)
+HV_NATIVE(uint16_t, u16)
+HV_NATIVE(uint32_t, u32)
+HV_NATIVE(uint64_t, u64)
+HV_NATIVE(int8_t, i8)
+HV_NATIVE(int16_t, i16)
+HV_NATIVE(int32_t, i32)
+HV_NATIVE(int64_t, i64)
+#undef HV_NATIVE
+
+/* Making columns */
+HV_ANSWER hv_bools(const uint8_t *truths, size_t truths_len, size_t start, size_t count, hv_validity validity,
+                   hv_column *out, hv_error *error) {
+    hv_error ignored;
+    return (hv_bools)(HV_ITEMS(const uint8_t, truths), truths_len, start, count, HV_PARTS(validity), out, HV_FIELDS);
+}
+HV_ANSWER hv_decimals(const hv_pair *pairs, size_t len, uint8_t precision, int8_t scale, hv_validity validity,
+                      hv_column *out, hv_error *error) {
+    hv_error ignored;
+    return (hv_decimals)(HV_ITEMS(const hv_pair, pairs), len, precision, scale, HV_PARTS(validity), out, HV_FIELDS);
+}
+HV_ANSWER hv_texts(uint8_t binary, const int32_t *offsets, size_t offsets_len, const uint8_t *bytes, size_t bytes_len,
+                   hv_validity validity, hv_column *out, hv_error *error) {
+    hv_error ignored;
+    return (hv_texts)(binary, HV_ITEMS(const int32_t, offsets), offsets_len, HV_ITEMS(const uint8_t, bytes), bytes_len,
+                      HV_PARTS(validity), out, HV_FIELDS);
+}
+HV_ANSWER hv_large_texts(uint8_t binary, const int64_t *offsets, size_t offsets_len, const uint8_t *bytes,
+                         size_t bytes_len, hv_validity validity, hv_column *out, hv_error *error) {
+    hv_error ignored;
+    return (hv_large_texts)(binary, HV_ITEMS(const int64_t, offsets), offsets_len, HV_ITEMS(const uint8_t, bytes),
+                            bytes_len, HV_PARTS(validity), out, HV_FIELDS);
+}
+HV_ANSWER hv_constant(const hv_kind *kind, const hv_value *value, const uint8_t *text, size_t text_len, size_t count,
+                      hv_column *out, hv_error *error) {
+    hv_error ignored;
+    return (hv_constant)(kind, value, HV_ITEMS(const uint8_t, text), text_len, count, out, HV_FIELDS);
+}
+HV_ANSWER hv_runs(const hv_column *ends, const hv_column *values, size_t offset, size_t count, hv_column *out,
+                  hv_error *error) {
+    hv_error ignored;
+    return (hv_runs)(hv_lent(ends), hv_lent(values), offset, count, out, HV_FIELDS);
+}
+HV_ANSWER hv_lists(const hv_column *elements, const uint64_t *offsets, size_t offsets_len, const uint64_t *sizes,
+                   size_t sizes_len, hv_validity validity, hv_column *out, hv_error *error) {
+    hv_error ignored;
+    return (hv_lists)(hv_lent(elements), HV_ITEMS(const uint64_t, offsets), offsets_len,
+                      HV_ITEMS(const uint64_t, sizes), sizes_len, HV_PARTS(validity), out, HV_FIELDS);
+}
+HV_ANSWER hv_clone(const hv_column *column, hv_column *out, hv_error *error) {
+    hv_error ignored;
+    return (hv_clone)(hv_lent(column), out, HV_FIELDS);
+}
+HV_ANSWER hv_compact(const hv_column *column, hv_column *out, hv_error *error) {
+    hv_error ignored;
+    return (hv_compact)(hv_lent(column), out, HV_FIELDS);
+}
+
+/* Commands */
+HV_ANSWER hv_encode(const hv_session *session, const hv_column *column, hv_column *out, hv_error *error) {
+    hv_error ignored;
+    return (hv_encode)(hv_settings_of(session), hv_lent(column), out, HV_FIELDS);
+}
+HV_ANSWER hv_decode(const hv_session *session, const hv_column *column, hv_column *out, hv_error *error) {
+    hv_error ignored;
+    return (hv_decode)(hv_settings_of(session), hv_lent(column), out, HV_FIELDS);
+}
+HV_ANSWER hv_slice(const hv_session *session, const hv_column *column, size_t start, size_t stop, hv_column *out,
+                   hv_error *error) {
+    hv_error ignored;
+    return (hv_slice)(hv_settings_of(session), hv_lent(column), start, stop, out, HV_FIELDS);
+}
+HV_ANSWER hv_cast(const hv_session *session, const hv_column *column, const hv_kind *kind, hv_column *out,
+                  hv_error *error) {
+    hv_error ignored;
+    return (hv_cast)(hv_settings_of(session), hv_lent(column), kind, out, HV_FIELDS);
+}
+HV_ANSWER hv_take(const hv_session *session, const hv_column *column, const hv_column *indices, hv_column *out,
+                  hv_error *error) {
+    hv_error ignored;
+    return (hv_take)(hv_settings_of(session), hv_lent(column), hv_lent(indices), out, HV_FIELDS);
+}
+HV_ANSWER hv_filter(const hv_session *session, const hv_column *column, const hv_column *mask, hv_column *out,
+                    hv_error *error) {
+    hv_error ignored;
+    return (hv_filter)(hv_settings_of(session), hv_lent(column), hv_lent(mask), out, HV_FIELDS);
+}
+HV_ANSWER hv_take_from(const hv_session *session, const hv_column *codes, const hv_column *dictionary, hv_column *out,
+                       hv_error *error) {
+    hv_error ignored;
+    return (hv_take_from)(hv_settings_of(session), hv_lent(codes), hv_lent(dictionary), out, HV_FIELDS);
+}
+HV_ANSWER hv_compare(const hv_session *session, const hv_column *column, uint8_t operator_, const hv_column *right,
+                     hv_column *out, hv_error *error) {
+    hv_error ignored;
+    return (hv_compare)(hv_settings_of(session), hv_lent(column), operator_, hv_lent(right), out, HV_FIELDS);
+}
+HV_ANSWER hv_compare_scalar(const hv_session *session, const hv_column *column, uint8_t operator_,
+                            const hv_value *value, const uint8_t *text, size_t text_len, hv_column *out,
+                            hv_error *error) {
+    hv_error ignored;
+    return (hv_compare_scalar)(hv_settings_of(session), hv_lent(column), operator_, value,
+                               HV_ITEMS(const uint8_t, text), text_len, out, HV_FIELDS);
+}
+HV_ANSWER hv_fill(const hv_session *session, const hv_column *column, const hv_value *value, const uint8_t *text,
+                  size_t text_len, hv_column *out, hv_error *error) {
+    hv_error ignored;
+    return (hv_fill)(hv_settings_of(session), hv_lent(column), value, HV_ITEMS(const uint8_t, text), text_len, out,
+                     HV_FIELDS);
+}
+
+/* Questions */
+HV_ANSWER hv_sum(const hv_session *session, const hv_column *column, hv_total *total, hv_error *error) {
+    hv_error ignored;
+    return (hv_sum)(hv_settings_of(session), hv_lent(column), total, HV_FIELDS);
+}
+HV_ANSWER hv_is_constant(const hv_session *session, const hv_column *column, uint8_t *truth, hv_error *error) {
+    hv_error ignored;
+    return (hv_is_constant)(hv_settings_of(session), hv_lent(column), truth, HV_FIELDS);
+}
+HV_ANSWER hv_is_sorted(const hv_session *session, const hv_column *column, uint8_t strict, uint8_t *truth,
+                       hv_error *error) {
+    hv_error ignored;
+    return (hv_is_sorted)(hv_settings_of(session), hv_lent(column), strict, truth, HV_FIELDS);
+}
+HV_ANSWER hv_extreme(const hv_session *session, const hv_column *column, uint8_t greatest, hv_value *value,
+                     uint8_t *text, size_t text_len, hv_error *error) {
+    hv_error ignored;
+    return (hv_extreme)(hv_settings_of(session), hv_lent(column), greatest, value, HV_ITEMS(uint8_t, text), text_len,
+                        HV_FIELDS);
+}
+HV_ANSWER hv_min_max(const hv_session *session, const hv_column *column, hv_value *least, uint8_t *least_text,
+                     size_t least_text_len, hv_value *greatest, uint8_t *greatest_text, size_t greatest_text_len,
+                     hv_error *error) {
+    hv_error ignored;
+    return (hv_min_max)(hv_settings_of(session), hv_lent(column), least, HV_ITEMS(uint8_t, least_text), least_text_len,
+                        greatest, HV_ITEMS(uint8_t, greatest_text), greatest_text_len, HV_FIELDS);
+}
+HV_ANSWER hv_at(const hv_column *column, size_t row, hv_value *value, uint8_t *text, size_t text_len, hv_error *error) {
+    hv_error ignored;
+    return (hv_at)(hv_lent(column), row, value, HV_ITEMS(uint8_t, text), text_len, HV_FIELDS);
+}
+HV_CALL size_t hv_length(const hv_column *column) { return (hv_length)(hv_lent(column)); }
+HV_CALL hv_kind hv_kind_of(const hv_column *column) { return (hv_kind_of)(hv_lent(column)); }
+HV_CALL uint8_t hv_form(const hv_column *column) { return (hv_form)(hv_lent(column)); }
+HV_CALL size_t hv_offset(const hv_column *column) { return (hv_offset)(hv_lent(column)); }
+HV_CALL size_t hv_bytes_used(const hv_column *column) { return (hv_bytes_used)(hv_lent(column)); }
+
+/* Reading many rows */
+HV_ANSWER hv_read_decimals(const hv_column *column, size_t start, hv_pair *pairs, size_t len, hv_error *error) {
+    hv_error ignored;
+    return (hv_read_decimals)(hv_lent(column), start, HV_ITEMS(hv_pair, pairs), len, HV_FIELDS);
+}
+HV_ANSWER hv_read_bools(const hv_column *column, uint64_t *words, size_t len, hv_error *error) {
+    hv_error ignored;
+    return (hv_read_bools)(hv_lent(column), HV_ITEMS(uint64_t, words), len, HV_FIELDS);
+}
+HV_ANSWER hv_read_validity(const hv_column *column, uint64_t *words, size_t len, hv_error *error) {
+    hv_error ignored;
+    return (hv_read_validity)(hv_lent(column), HV_ITEMS(uint64_t, words), len, HV_FIELDS);
+}
+HV_ANSWER hv_read_bools_from(const hv_column *column, size_t start, size_t rows, uint64_t *words, size_t len,
+                             hv_error *error) {
+    hv_error ignored;
+    return (hv_read_bools_from)(hv_lent(column), start, rows, HV_ITEMS(uint64_t, words), len, HV_FIELDS);
+}
+HV_ANSWER hv_read_validity_from(const hv_column *column, size_t start, size_t rows, uint64_t *words, size_t len,
+                                hv_error *error) {
+    hv_error ignored;
+    return (hv_read_validity_from)(hv_lent(column), start, rows, HV_ITEMS(uint64_t, words), len, HV_FIELDS);
+}
+HV_ANSWER hv_read_offsets(const hv_column *column, size_t start, int32_t *offsets, size_t len, hv_error *error) {
+    hv_error ignored;
+    return (hv_read_offsets)(hv_lent(column), start, HV_ITEMS(int32_t, offsets), len, HV_FIELDS);
+}
+HV_ANSWER hv_read_large_offsets(const hv_column *column, size_t start, int64_t *offsets, size_t len, hv_error *error) {
+    hv_error ignored;
+    return (hv_read_large_offsets)(hv_lent(column), start, HV_ITEMS(int64_t, offsets), len, HV_FIELDS);
+}
+HV_ANSWER hv_read_bytes(const hv_column *column, size_t start, size_t rows, uint8_t *bytes, size_t len,
+                        hv_error *error) {
+    hv_error ignored;
+    return (hv_read_bytes)(hv_lent(column), start, rows, HV_ITEMS(uint8_t, bytes), len, HV_FIELDS);
+}
+
+/* Run columns */
+HV_ANSWER hv_ends(const hv_column *column, hv_column *out, hv_error *error) {
+    hv_error ignored;
+    return (hv_ends)(hv_lent(column), out, HV_FIELDS);
+}
+HV_ANSWER hv_values(const hv_column *column, hv_column *out, hv_error *error) {
+    hv_error ignored;
+    return (hv_values)(hv_lent(column), out, HV_FIELDS);
+}
+HV_ANSWER hv_run_count(const hv_column *column, size_t *count, hv_error *error) {
+    hv_error ignored;
+    return (hv_run_count)(hv_lent(column), count, HV_FIELDS);
+}
+HV_ANSWER hv_run(const hv_column *column, size_t run, size_t *start, size_t *stop, hv_value *value, uint8_t *text,
+                 size_t text_len, hv_error *error) {
+    hv_error ignored;
+    return (hv_run)(hv_lent(column), run, start, stop, value, HV_ITEMS(uint8_t, text), text_len, HV_FIELDS);
+}
+HV_ANSWER hv_run_of(const hv_column *column, size_t row, size_t *run, hv_error *error) {
+    hv_error ignored;
+    return (hv_run_of)(hv_lent(column), row, run, HV_FIELDS);
+}
+HV_ANSWER hv_read_ends_u64(const hv_column *column, size_t first, uint64_t *stops, size_t len, hv_error *error) {
+    hv_error ignored;
+    return (hv_read_ends_u64)(hv_lent(column), first, HV_ITEMS(uint64_t, stops), len, HV_FIELDS);
+}
+HV_ANSWER hv_serialize(const hv_column *column, uint8_t *bytes, size_t bytes_len, size_t *size, hv_error *error) {
+    hv_error ignored;
+    return (hv_serialize)(hv_lent(column), HV_ITEMS(uint8_t, bytes), bytes_len, size, HV_FIELDS);
+}
+HV_ANSWER hv_deserialize(const hv_kind *kind, size_t count, const uint8_t *bytes, size_t bytes_len,
+                         const hv_column *ends, const hv_column *values, hv_column *out, hv_error *error) {
+    hv_error ignored;
+    return (hv_deserialize)(kind, count, HV_ITEMS(const uint8_t, bytes), bytes_len, hv_lent(ends), hv_lent(values), out,
+                            HV_FIELDS);
+}
+
+/* Lists */
+HV_ANSWER hv_list_elements(const hv_column *column, hv_column *out, hv_error *error) {
+    hv_error ignored;
+    return (hv_list_elements)(hv_lent(column), out, HV_FIELDS);
+}
+HV_ANSWER hv_list_offsets(const hv_column *column, hv_column *out, hv_error *error) {
+    hv_error ignored;
+    return (hv_list_offsets)(hv_lent(column), out, HV_FIELDS);
+}
+HV_ANSWER hv_list_sizes(const hv_column *column, hv_column *out, hv_error *error) {
+    hv_error ignored;
+    return (hv_list_sizes)(hv_lent(column), out, HV_FIELDS);
+}
+HV_ANSWER hv_list_validity(const hv_column *column, hv_column *out, hv_error *error) {
+    hv_error ignored;
+    return (hv_list_validity)(hv_lent(column), out, HV_FIELDS);
+}
+
+/* Messages */
+HV_ANSWER hv_write_size(const hv_column *column, size_t *size, hv_error *error) {
+    hv_error ignored;
+    return (hv_write_size)(hv_lent(column), size, HV_FIELDS);
+}
+HV_ANSWER hv_write(const hv_column *column, uint8_t *bytes, size_t bytes_len, size_t *size, hv_error *error) {
+    hv_error ignored;
+    return (hv_write)(hv_lent(column), HV_ITEMS(uint8_t, bytes), bytes_len, size, HV_FIELDS);
+}
+HV_ANSWER hv_read_column(const uint8_t *bytes, size_t bytes_len, hv_column *out, hv_error *error) {
+    hv_error ignored;
+    return (hv_read_column)(HV_ITEMS(const uint8_t, bytes), bytes_len, out, HV_FIELDS);
+}
+
+#undef HV_ITEMS
+#undef HV_FIELDS
+#undef HV_PARTS
+#endif
