@@ -1,0 +1,67 @@
+#!/usr/bin/env python3
+"""Names in pages that stand nowhere any more: a reader looks for what a page names.
+
+    python3 tools/page_names.py        names each; ends in 'N passed, M failed', N the pages
+
+A name is a word, or a path of words, in backquotes: `filter_ends`, `ArrayRef::flat_view`. It stands where each of its
+words is one of a file that is no page, or of a file's path. Words of less than four letters and parts of words
+(`_decimal`) are not looked at, nor are the pages of wrong bodies and the page on the Rust crate, which has its names.
+OTHERS has words of programs and toolchains that this repository does not hold.
+"""
+
+import re
+import subprocess
+import sys
+from pathlib import Path
+
+ROOT = Path(__file__).resolve().parent.parent
+WITHOUT = ("docs/DIFFERENCES.md", "must-fail/")
+NAME = re.compile(r"`([A-Za-z]\w*(?:::\w+)*)(?:\(\))?`")
+WORD = re.compile(r"[A-Za-z]\w*")
+# By word whose it is.
+OTHERS = {
+    "also_shares": "the toolchain",
+    "perf": "Linux",
+    "array_agg": "PostgreSQL",
+    "work_mem": "PostgreSQL",
+}
+# What is no name: the toolchain's sum of a gate, and letters of a file of vectors.
+NO_NAME = re.compile(r"[0-9a-f]{16}|x00FF")
+
+
+def unknown(page: str, known: set[str]) -> list[tuple[int, str]]:
+    """The names of a page that have a word which nothing knows, with their lines."""
+    return [
+        (number, name)
+        for number, line in enumerate(page.split("\n"), 1)
+        for name in NAME.findall(line)
+        for word in [word for word in name.split("::") if len(word) > 3 and not NO_NAME.fullmatch(word)]
+        if word not in known and word not in OTHERS
+    ]
+
+
+def words_of(root: Path, paths: list[str]) -> set[str]:
+    """All words of the files that are no pages, and of all paths."""
+    words = {word for path in paths for word in WORD.findall(path)}
+    for path in paths:
+        if not path.endswith((".md", ".png")) and not path.startswith("crates/vectors/std"):
+            words.update(WORD.findall((root / path).read_text(encoding="utf-8", errors="ignore")))
+    return words
+
+
+def main() -> int:
+    listed = subprocess.run(["git", "ls-files"], cwd=ROOT, capture_output=True, text=True, check=True)
+    paths = [path for path in listed.stdout.split("\n") if path]
+    known = words_of(ROOT, paths)
+    pages = [path for path in paths if path.endswith(".md") and not any(part in path for part in WITHOUT)]
+    found = {path: unknown((ROOT / path).read_text(encoding="utf-8"), known) for path in pages}
+    for path, names in found.items():
+        for number, name in names:
+            print(f"{path}:{number}: {name} stands nowhere")
+    failed = sum(bool(names) for names in found.values())
+    print(f"{len(pages) - failed} passed, {failed} failed")
+    return 1 if failed else 0
+
+
+if __name__ == "__main__":
+    sys.exit(main())
