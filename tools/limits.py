@@ -4,8 +4,9 @@
     python3 tools/limits.py        names what is too long; ends in 'N passed, M failed', N the files that were read
 
 Sources (.rt) have at most 500 lines, their functions 40 from brace to brace, documents (.md) lines of 120 characters
-outside of tables and of indented text. How many lines of sources are past 120, and how many past 140, may only fall:
-LONG_LINES has what stands. Imports and attributes don't count, since `rt fmt` writes each as one line.
+outside of tables and of indented text that is no item of a list. How many lines of sources are past 120, and how many
+past 140, may only fall: LONG_LINES has what stands. Imports and attributes don't count, since `rt fmt` writes each as
+one line.
 """
 
 import re
@@ -17,6 +18,7 @@ ROOT = Path(__file__).resolve().parent.parent
 FILE, FUNCTION, PROSE = 500, 40, 120
 # Lines of sources that may be longer than so many characters. Lower the numbers when lines become shorter.
 LONG_LINES = {120: 0, 140: 0}
+ITEM = re.compile(r" *(?:\d+\.|[-*]) ")
 ONE_LINE = re.compile(r"\s*(?:(?:pub )?(?:ghost )?use |#!?\[)")
 HEAD = re.compile(r"^(\s*)(?:pub(?:\(crate\))? )?(?:const )?(?:unsafe )?(?:extern \"C\" )?fn (\w+)")
 
@@ -38,9 +40,15 @@ def long_functions(text: str) -> list[tuple[str, int]]:
 
 
 def long_prose(text: str) -> list[int]:
-    """The numbers of lines of a document that are longer than they may be, from 1."""
-    lines = enumerate(text.split("\n"), 1)
-    return [number for number, line in lines if len(line) > PROSE and not line.startswith(("|", "    "))]
+    """The numbers of lines of a document that are longer than they may be, from 1. What is indented is prose where it
+    goes on with an item of a list."""
+    found, in_item = [], False
+    for number, line in enumerate(text.split("\n"), 1):
+        in_item = bool(ITEM.match(line)) or (in_item and line.startswith(" "))
+        is_prose = in_item or not line.startswith(("|", "    "))
+        if len(line) > PROSE and is_prose:
+            found.append(number)
+    return found
 
 
 def faults_of(path: str, text: str) -> list[str]:

@@ -24,6 +24,11 @@ class Limits(unittest.TestCase):
         long = "x" * (PROSE + 1)
         self.assertEqual(long_prose("\n".join([long, "| " + long, "    " + long, "x" * PROSE])), [1])
 
+    def test_what_goes_on_with_an_item_of_a_list_is_prose(self) -> None:
+        long = "     " + "x" * PROSE
+        self.assertEqual(long_prose("\n".join(["181. **An item**", long, "", long])), [2])
+        self.assertEqual(long_prose("\n".join(["- an item", long, "no item", long])), [2])
+
     def test_a_file_has_a_length(self) -> None:
         self.assertEqual(faults_of("a.rt", "//\n" * FILE), [])
         self.assertEqual(faults_of("a.rt", "//\n" * (FILE + 1)), [f"a.rt: {FILE + 1} lines"])
