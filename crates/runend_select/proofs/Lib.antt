@@ -13,3 +13,4 @@ pub mod Forms
 pub mod MinimalForms
 pub mod PassedOn
 pub mod WithoutRuns
+pub mod WrittenBits

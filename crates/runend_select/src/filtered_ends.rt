@@ -9,6 +9,7 @@ ghost use Rattle.runend_windows.specs.Ends.{ends_of};
 ghost use Rattle.runend_windows.specs.Window.{last_end};
 ghost use Rattle.runend_select.specs.KeptRuns.{AreKept};
 
+use crate::bit_writer::BitWriter;
 use crate::rank::{ones_before, rank_within_word};
 use column_base::match_each_unsigned;
 use column_core::{
@@ -113,7 +114,7 @@ fn filtered_ends<E: UnsignedPType, A: Allocator + Copy>(
         (map unsigned_abs (map E.number parts.0.items))) }
 {
     let mut kept_ends = Vec::with_capacity(alloc, ends.len())?;
-    let mut kept = BitBufferMut::with_capacity(alloc, ends.len())?;
+    let mut kept = BitWriter::with_capacity(alloc, ends.len())?;
     let mut index = 0;
     let mut before = 0;
     let mut selected = 0;
@@ -127,6 +128,7 @@ fn filtered_ends<E: UnsignedPType, A: Allocator + Copy>(
         kept.append(more > 0)?;
         selected = passed;
     }
+    let kept = kept.finish(ends.len())?;
     Ok((kept_ends, kept))
 }
 

@@ -98,7 +98,8 @@ returns-clause-kept g c =
     let number = g.E.NativePType.number in
     let ends = map unsigned_abs (map number c.args.ends.now) in
     let all : c.loop-run.run ≡ length ends = omega (arith, length-naturals number c.args.ends.now) in
-    AreKept-all ends c.args.offset c.args.count c.args.mask.now c.loop-run.run (reached ends c.args.offset c.args.count c.loop-run.run) c.loop-run.selected c.loop-run.kept (map unsigned_abs (map number c.loop-run.kept_ends.items)) all c.loop-run.invariant.kept
+    rw c.in_ok-kept-2.ensures.bits
+    (AreKept-all ends c.args.offset c.args.count c.args.mask.now c.loop-run.run (reached ends c.args.offset c.args.count c.loop-run.run) c.loop-run.selected c.loop-run.kept (map unsigned_abs (map number c.loop-run.kept_ends.items)) all c.loop-run.invariant.kept)
 
 pub loop-run-init : goal.loop-run-init
 loop-run-init g c =
