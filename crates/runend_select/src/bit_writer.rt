@@ -1,5 +1,5 @@
-//! Bits that are written one behind the other, 64 to a word. The word that is not full yet stands in a register, so that
-//! no bit waits for memory.
+//! Bits that are written one behind the other, 64 to a word. The word that is not full yet stands in a register, so
+//! that no bit waits for memory.
 ghost use Rattle.std.specs.Prelude.{◌≡◌, ◌∷◌, ◌++◌, [], length, IfOk, IsOkUnless, OnOk};
 
 use column_core::{BitBufferMut, VortexError, VortexResult};
