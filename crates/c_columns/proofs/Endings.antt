@@ -19,6 +19,7 @@ use Rattle.c_columns.specs.Flags.{Tells}
 use Rattle.c_columns.specs.Values.{IsPassed}
 use Rattle.c_columns.specs.declared.error_fields.ErrorFields.{ErrorFields}
 use Rattle.c_columns.specs.declared.row_value.RowValue.{RowValue}
+use Rattle.c_columns.specs.declared.sessions.Session.{Session}
 
 abbrev Held : Type 0
 Held = Option (ArrayRef Global)
@@ -53,12 +54,12 @@ given_empty (Some a) given code fields none is = absurd (cc)
 on_given : (c : Held) (a : ArrayRef Global) (given : Result (Command Global) VortexError) (code : ℤ) (fields : ErrorFields) → c ≡ Some a → EndsBy (fault_given given a) code fields → EndsOnGiven c given code fields
 on_given c a given code fields some ends = subst (λ (h : Held). EndsOnGiven h given code fields) (sym some) ends
 
-no_fault : (given : Result (Command Global) VortexError) (a d : ArrayRef Global) → LeavesGiven given a d → fault_given given a ≡ None
-no_fault (Ok command) a d left = left.accepted
-no_fault (Err error) a d left = absurd left
+no_fault : (s : Session) (given : Result (Command Global) VortexError) (a d : ArrayRef Global) → LeavesGiven s given a d → fault_given given a ≡ None
+no_fault s (Ok command) a d left = left.accepted
+no_fault s (Err error) a d left = absurd left
 
-pub given_done : (c : Held) (a d : ArrayRef Global) (given : Result (Command Global) VortexError) (code : ℤ) (fields : ErrorFields) → c ≡ Some a → LeavesGiven given a d → code ≡ pos 0 → EndsOnGiven c given code fields
-given_done c a d given code fields some left is = on_given c a given code fields some (ends_done (fault_given given a) code fields (no_fault given a d left) is)
+pub given_done : (s : Session) (c : Held) (a d : ArrayRef Global) (given : Result (Command Global) VortexError) (code : ℤ) (fields : ErrorFields) → c ≡ Some a → LeavesGiven s given a d → code ≡ pos 0 → EndsOnGiven c given code fields
+given_done s c a d given code fields some left is = on_given c a given code fields some (ends_done (fault_given given a) code fields (no_fault s given a d left) is)
 
 pub given_refused : (c : Held) (a : ArrayRef Global) (given : Result (Command Global) VortexError) (error : VortexError) (code : ℤ) (fields : ErrorFields)
     → c ≡ Some a → IsErrorFor (fault_given given a) error → code ≡ pos (number_of error) → HasFields error fields → EndsOnGiven c given code fields
@@ -69,24 +70,25 @@ pub ends_with : (c : Held) (command : Command Global) (code : ℤ) (fields : Err
 ends_with None command code fields ends = ends
 ends_with (Some a) command code fields ends = ends
 
-pub left_with : (c d : Held) (command : Command Global) → WhereBoth (LeavesGiven (Ok command)) c d → WhereBoth (Leaves command) c d
-left_with None d command left = absurd left
-left_with (Some a) None command left = absurd left
-left_with (Some a) (Some b) command left = left
+pub left_with : (s : Session) (c d : Held) (command : Command Global) → WhereBoth (LeavesGiven s (Ok command)) c d → WhereBoth (Leaves s command) c d
+left_with s None d command left = absurd left
+left_with s (Some a) None command left = absurd left
+left_with s (Some a) (Some b) command left = left
 
 -- a command that is made of a scalar that is passed
-left_by_passed : (Given : Type 0) (f : ArrayRef Global → Command Global) (given : Result (Command Global) VortexError) (a b : ArrayRef Global) → IsPassedBuilt Given (f a) given → LeavesGiven given a b → LeavesPassed f a b
-left_by_passed Given f (Ok n) a b built left = subst (λ (m : Command Global). Leaves m a b) built.0 left
-left_by_passed Given f (Err error) a b built left = absurd left
+left_by_passed : (s : Session) (Given : Type 0) (f : ArrayRef Global → Command Global) (given : Result (Command Global) VortexError) (a b : ArrayRef Global) → IsPassedBuilt Given (f a) given → LeavesGiven s given a b → LeavesPassed s f a b
+left_by_passed s Given f (Ok n) a b built left = subst (λ (m : Command Global). Leaves s m a b) built.0 left
+left_by_passed s Given f (Err error) a b built left = absurd left
 
-both_passed : (Given : Type 0) (f : ArrayRef Global → Command Global) (given : Result (Command Global) VortexError) (a : ArrayRef Global) (d : Held) → IsPassedBuilt Given (f a) given → WhereBoth (LeavesGiven given) (Some a) d → WhereBoth (LeavesPassed f) (Some a) d
-both_passed Given f given a None built left = absurd left
-both_passed Given f given a (Some b) built left = left_by_passed Given f given a b built left
+both_passed : (s : Session) (Given : Type 0) (f : ArrayRef Global → Command Global) (given : Result (Command Global) VortexError) (a : ArrayRef Global) (d : Held)
+    → IsPassedBuilt Given (f a) given → WhereBoth (LeavesGiven s given) (Some a) d → WhereBoth (LeavesPassed s f) (Some a) d
+both_passed s Given f given a None built left = absurd left
+both_passed s Given f given a (Some b) built left = left_by_passed s Given f given a b built left
 
-pub left_passed : (Given : Type 0) (f : ArrayRef Global → Command Global) (given : Result (Command Global) VortexError) (c d : Held) (a : ArrayRef Global)
-    → c ≡ Some a → IsPassedBuilt Given (f a) given → WhereBoth (LeavesGiven given) c d → WhereBoth (LeavesPassed f) c d
-left_passed Given f given c d a some built left =
-    subst (λ (h : Held). WhereBoth (LeavesPassed f) h d) (sym some) (both_passed Given f given a d built (subst (λ (h : Held). WhereBoth (LeavesGiven given) h d) some left))
+pub left_passed : (s : Session) (Given : Type 0) (f : ArrayRef Global → Command Global) (given : Result (Command Global) VortexError) (c d : Held) (a : ArrayRef Global)
+    → c ≡ Some a → IsPassedBuilt Given (f a) given → WhereBoth (LeavesGiven s given) c d → WhereBoth (LeavesPassed s f) c d
+left_passed s Given f given c d a some built left =
+    subst (λ (h : Held). WhereBoth (LeavesPassed s f) h d) (sym some) (both_passed s Given f given a d built (subst (λ (h : Held). WhereBoth (LeavesGiven s given) h d) some left))
 
 by_passed : (Given : Type 0) (m : Command Global) (given : Result (Command Global) VortexError) (a : ArrayRef Global) (code : ℤ) (fields : ErrorFields) → IsPassedBuilt Given m given → EndsBy (fault_given given a) code fields → EndsByPassed Given (refusal (plain a) m) code fields
 by_passed Given m (Ok n) a code fields built ends = inr (inr (built.1, subst (λ (k : Command Global). EndsBy (refusal (plain a) k) code fields) built.0 ends))
@@ -104,17 +106,17 @@ ends_passed value text f given c a code fields some built ends =
 abbrev Passes : RowValue → List ℕ → ArrayRef Global → Type 0
 Passes value text a = IsPassed (dtype_of a) value.kind value text
 
-pub left_compared : (operator : CompareOperator) (value : RowValue) (text : List ℕ) (given : Result (Command Global) VortexError) (c d : Held) (a : ArrayRef Global)
-    → c ≡ Some a → IsPassedBuilt (Passes value text a) (compare_with_passed operator value text a) given → WhereBoth (LeavesGiven given) c d → WhereBoth (LeavesPassed (compare_with_passed operator value text)) c d
-left_compared operator value text given c d a = left_passed (Passes value text a) (compare_with_passed operator value text) given c d a
+pub left_compared : (s : Session) (operator : CompareOperator) (value : RowValue) (text : List ℕ) (given : Result (Command Global) VortexError) (c d : Held) (a : ArrayRef Global)
+    → c ≡ Some a → IsPassedBuilt (Passes value text a) (compare_with_passed operator value text a) given → WhereBoth (LeavesGiven s given) c d → WhereBoth (LeavesPassed s (compare_with_passed operator value text)) c d
+left_compared s operator value text given c d a = left_passed s (Passes value text a) (compare_with_passed operator value text) given c d a
 
 pub ends_compared : (operator : CompareOperator) (value : RowValue) (text : List ℕ) (given : Result (Command Global) VortexError) (c : Held) (a : ArrayRef Global) (code : ℤ) (fields : ErrorFields)
     → c ≡ Some a → IsPassedBuilt (Passes value text a) (compare_with_passed operator value text a) given → EndsOnGiven c given code fields → EndsOnPassed value text (compare_with_passed operator value text) c code fields
 ends_compared operator value text given c a code fields = ends_passed value text (compare_with_passed operator value text) given c a code fields
 
-pub left_filled : (value : RowValue) (text : List ℕ) (given : Result (Command Global) VortexError) (c d : Held) (a : ArrayRef Global)
-    → c ≡ Some a → IsPassedBuilt (Passes value text a) (fill_with_passed value text a) given → WhereBoth (LeavesGiven given) c d → WhereBoth (LeavesPassed (fill_with_passed value text)) c d
-left_filled value text given c d a = left_passed (Passes value text a) (fill_with_passed value text) given c d a
+pub left_filled : (s : Session) (value : RowValue) (text : List ℕ) (given : Result (Command Global) VortexError) (c d : Held) (a : ArrayRef Global)
+    → c ≡ Some a → IsPassedBuilt (Passes value text a) (fill_with_passed value text a) given → WhereBoth (LeavesGiven s given) c d → WhereBoth (LeavesPassed s (fill_with_passed value text)) c d
+left_filled s value text given c d a = left_passed s (Passes value text a) (fill_with_passed value text) given c d a
 
 pub ends_filled : (value : RowValue) (text : List ℕ) (given : Result (Command Global) VortexError) (c : Held) (a : ArrayRef Global) (code : ℤ) (fields : ErrorFields)
     → c ≡ Some a → IsPassedBuilt (Passes value text a) (fill_with_passed value text a) given → EndsOnGiven c given code fields → EndsOnPassed value text (fill_with_passed value text) c code fields
@@ -130,8 +132,8 @@ asked_empty c command code fields none is = subst (λ (h : Held). EndsOn h (Some
 pub asked_done : (c : Held) (a : ArrayRef Global) (command : Command Global) (code : ℤ) (fields : ErrorFields) → c ≡ Some a → refusal (plain a) command ≡ None → code ≡ pos 0 → EndsOn c (Some command) code fields
 asked_done c a command code fields some accepted is = subst (λ (h : Held). EndsOn h (Some command) code fields) (sym some) (ends_done (refusal (plain a) command) code fields accepted is)
 
-pub asked_left : (c : Held) (a d : ArrayRef Global) (command : Command Global) (code : ℤ) (fields : ErrorFields) → c ≡ Some a → Leaves command a d → code ≡ pos 0 → EndsOn c (Some command) code fields
-asked_left c a d command code fields some left is = asked_done c a command code fields some left.accepted is
+pub asked_left : (s : Session) (c : Held) (a d : ArrayRef Global) (command : Command Global) (code : ℤ) (fields : ErrorFields) → c ≡ Some a → Leaves s command a d → code ≡ pos 0 → EndsOn c (Some command) code fields
+asked_left s c a d command code fields some left is = asked_done c a command code fields some left.accepted is
 
 pub asked_refused : (c : Held) (a : ArrayRef Global) (command : Command Global) (error : VortexError) (code : ℤ) (fields : ErrorFields)
     → c ≡ Some a → IsErrorFor (refusal (plain a) command) error → code ≡ pos (number_of error) → HasFields error fields → EndsOn c (Some command) code fields

@@ -3,6 +3,7 @@ mod Cuts
 pub mod Endings
 pub mod Extremes
 pub mod FlatParts
+pub mod Forms
 pub mod Left
 mod ListsPassed
 pub mod LookUps

@@ -1,21 +1,40 @@
 -- Commands that are made of a second column: how a mask is read, and what is refused because of it.
-use Rattle.std.proofs.Common.{◌≡◌, ◌∙◌, ◌+◌, ◌≤◌, inl, inr, sym, ap, subst, ℕ, zero, suc, List, [], ◌∷◌, ◌++◌, Bool, length, map, take, refl}
-use Rattle.std.specs.Prelude.{Option, Some, None, slice_get, replicate}
+use Rattle.std.proofs.Common.{◌≡◌, ◌∙◌, ◌+◌, ◌≤◌, inl, inr, sym, ap, subst, ℕ, ℤ, zero, suc, List, [], ◌∷◌, ◌++◌, Bool, length, map, take, refl}
+use Rattle.std.specs.Prelude.{Option, Some, None, Result, Ok, Err, IfOk, slice_get, replicate}
 use Rattle.std.specs.Option.{option_or}
 use Rattle.std.specs.Global.{Global}
 use Rattle.std.proofs.lemmas.List.{map_push, take_all}
+use Rattle.column_base.specs.Mask.{mask_bits}
 use Rattle.column_base.specs.declared.error.VortexError.{VortexError}
+use Rattle.column_base.specs.declared.mask.Mask.{Mask}
 use Rattle.column_core.specs.Refusal.{IsErrorFor}
 use Rattle.column_core.specs.Value.{Value}
 use Rattle.column_core.specs.Leaf.{OfNumbers, single_rows}
 use Rattle.column_core.specs.PrimitiveForm.{PrimitiveForm, optional_numbers}
 use Rattle.column_ops.proofs.CodeRows.{code_numbers-of}
 use Rattle.column_ops.proofs.Passed.{take_more}
-use Rattle.column_ops.specs.Codes.{code_numbers}
+use Rattle.column_ops.specs.Codes.{code_numbers, code_rows}
 use Rattle.column_ops.specs.Filter.{filter_fault, filter_rows}
-use Rattle.runend_array.specs.Array.{dtype_of, rows}
+use Rattle.column_ops.specs.Nullable.{take_dtype}
+use Rattle.column_ops.specs.Take.{take_rows}
+use Rattle.column_order.specs.Comparing.{compare_dtype, compare_rows}
+use Rattle.column_order.specs.declared.operator.CompareOperator.{CompareOperator}
+use Rattle.runend_array.specs.Array.{column_of, dtype_of, rows}
+use Rattle.runend_array.specs.Column.{IsFlat}
+use Rattle.runend_array.specs.SessionForm.{SessionForm}
 use Rattle.runend_array.specs.declared.array_ref.ArrayRef.{ArrayRef}
-use Rattle.c_columns.specs.TwoColumns.{HasPlain, filtered_by, is_true, mask_fault, mask_filter_fault}
+use Rattle.runend_array.specs.declared.array_ref.ArrayRef.TheVariants as array
+use Rattle.runend_array.specs.declared.session.Kernel.TheVariants as kernel
+use Rattle.runend_commands.specs.KernelForms.{ByKernel, HasKernel, OnRuns}
+use Rattle.runend_commands.specs.declared.command.Command.TheVariants.{Filter, Take}
+use Rattle.runend_map.specs.Codes.{keeps_runs}
+use Rattle.runend_map.specs.ComparisonForm.{IsComparisonForm}
+use Rattle.runend_map.specs.TakenForm.{TakeFromLeaves}
+use Rattle.c_columns.specs.Calls.{Leaves}
+use Rattle.c_columns.specs.Sessions.{IsSessionOf}
+use Rattle.c_columns.specs.TwoColumns.{HasPlain, IsComparedIn, IsFilteredIn, IsLookedUpIn, IsTakenIn, compared_by, filtered_by, is_true, looked_up_by, mask_fault, mask_filter_fault}
+use Rattle.c_columns.specs.declared.sessions.Session.{Session}
+use Rattle.c_columns.proofs.Forms.{beside_least, coded_least, on_runs}
 
 -- one row more of a mask
 pub one_row_more : (rows : List (Option Value)) (row : ℕ) (bits more : List Bool) (bit : Bool) (seen : Option Value) → bits ≡ map is_true (take row rows) → more ≡ bits ++ bit ∷ [] → bit ≡ is_true seen
@@ -51,9 +70,51 @@ module _ (mask c : ArrayRef Global) where
   pub filter_done : (bits : List Bool) → mask_fault (dtype_of mask) ≡ None → bits ≡ map is_true (rows mask) → filter_fault (length bits) (length (rows c)) ≡ None → mask_filter_fault mask c ≡ None
   filter_done bits none is accepted = sym (same_fault bits none is) ∙ accepted
 
-  pub filter_left : (bits : List Bool) (d : ArrayRef Global) → bits ≡ map is_true (rows mask) → rows d ≡ filter_rows bits (rows c) → dtype_of d ≡ dtype_of c → HasPlain (filtered_by mask c) d
-  filter_left bits d is kept typed = record { rows = kept ∙ ap (λ (b : List Bool). filter_rows b (rows c)) is; dtype = typed }
+  pub filter_left : (s : Session) (selected : Mask Global) (d : ArrayRef Global) → mask_bits selected ≡ map is_true (rows mask) → Leaves s (Filter selected) c d → HasPlain (filtered_by mask c) (IsFilteredIn s mask c) d
+  filter_left s selected d is left = record {
+    rows = left.rows ∙ ap (λ (b : List Bool). filter_rows b (rows c)) is;
+    dtype = left.dtype;
+    form = record { selected = selected; bits = is; form = left.form };
+    least = left.least;
+  }
 
 -- indices that lie flat, as codes
 pub same_codes : (form : PrimitiveForm) → code_numbers (single_rows (OfNumbers form)) ≡ optional_numbers form
 same_codes form = code_numbers-of form
+
+-- rows that are taken by them
+pub take_left : (s : Session) (numbers : PrimitiveForm) (indices c d : ArrayRef Global) → indices ≡ array.Primitive numbers → Leaves s (Take numbers) c d → HasPlain (looked_up_by indices c) (IsTakenIn s indices c) d
+take_left s numbers indices c d is left =
+    subst (λ (a : ArrayRef Global). HasPlain (looked_up_by a c) (IsTakenIn s a c) d) (sym is)
+    (record {
+      rows = left.rows ∙ ap (λ (ns : List (Option ℤ)). take_rows (rows c) ns) (sym (same_codes numbers));
+      dtype = left.dtype;
+      form = left.form;
+      least = left.least;
+    })
+
+-- rows that are looked up by codes
+pub look_up_left : (s : Session) (session : SessionForm) (codes c d : ArrayRef Global) → IsSessionOf s session → rows d ≡ code_rows (rows c) (rows codes) → dtype_of d ≡ take_dtype (dtype_of c) (dtype_of codes)
+    → (HasKernel session kernel.TakeFrom (column_of codes) → OnRuns (column_of codes) (λ runs. TakeFromLeaves (keeps_runs (dtype_of c)) (dtype_of c) runs (column_of d)))
+    → (¬ HasKernel session kernel.TakeFrom (column_of codes) → IsFlat (column_of d)) → HasPlain (looked_up_by codes c) (IsLookedUpIn s codes c) d
+look_up_left s session codes c d set kept typed served otherwise =
+    let by : ByKernel session kernel.TakeFrom (column_of codes) (λ runs. TakeFromLeaves (keeps_runs (dtype_of c)) (dtype_of c) runs (column_of d)) (IsFlat (column_of d)) = record { served = served; otherwise = otherwise } in
+    record { rows = kept; dtype = typed; form = record { session = session; set = set; by_kernel = by }; least = coded_least session codes c d typed by }
+
+-- indices that do not lie flat are looked up as codes
+pub looked_up_taken : (s : Session) (indices c d : ArrayRef Global) → ((numbers : PrimitiveForm) → ¬ (indices ≡ array.Primitive numbers)) → HasPlain (looked_up_by indices c) (IsLookedUpIn s indices c) d → HasPlain (looked_up_by indices c) (IsTakenIn s indices c) d
+looked_up_taken s (array.Primitive numbers) c d other left = absurd (other numbers refl)
+looked_up_taken s indices c d other left = record { rows = left.rows; dtype = left.dtype; form = left.form; least = left.least }
+
+pub all_looked_up_taken : {B : Type 0} (outcome : Result B VortexError) (value : B → ArrayRef Global) (s : Session) (indices c : ArrayRef Global) → ((numbers : PrimitiveForm) → ¬ (indices ≡ array.Primitive numbers))
+    → IfOk outcome (λ made. HasPlain (looked_up_by indices c) (IsLookedUpIn s indices c) (value made)) → IfOk outcome (λ made. HasPlain (looked_up_by indices c) (IsTakenIn s indices c) (value made))
+all_looked_up_taken (Ok made) value s indices c other left = looked_up_taken s indices c (value made) other left
+all_looked_up_taken (Err error) value s indices c other left = tt
+
+-- rows that are compared
+pub compare_left : (operator : CompareOperator) (s : Session) (session : SessionForm) (c right d : ArrayRef Global) → IsSessionOf s session → rows d ≡ compare_rows operator (rows c) (rows right) → dtype_of d ≡ compare_dtype (dtype_of c) (dtype_of right)
+    → (HasKernel session kernel.Compare (column_of c) → IsComparisonForm (column_of right) (column_of d)) → (¬ HasKernel session kernel.Compare (column_of c) → IsFlat (column_of d))
+    → HasPlain (compared_by operator c right) (IsComparedIn operator s c right) d
+compare_left operator s session c right d set kept typed served otherwise =
+    let by : ByKernel session kernel.Compare (column_of c) (λ runs. IsComparisonForm (column_of right) (column_of d)) (IsFlat (column_of d)) = record { served = λ has. on_runs (column_of c) (IsComparisonForm (column_of right) (column_of d)) (served has); otherwise = otherwise } in
+    record { rows = kept; dtype = typed; form = record { session = session; set = set; by_kernel = by }; least = beside_least session c right d by }

@@ -11,21 +11,25 @@ use Rattle.runend_commands.specs.declared.command.Command.{Command}
 use Rattle.runend_commands.specs.declared.command.Command.TheVariants.{CompareScalar, FillNull, Encode, Decode}
 use Rattle.runend_commands.specs.Refusal.{refusal}
 use Rattle.runend_commands.specs.Meaning.{plain, rows_after, dtype_after, IsTightColumn}
+use Rattle.c_columns.specs.Forms.{LeavesFormIn, LeavesLeast}
 use Rattle.c_columns.specs.Values.{scalar_in}
 use Rattle.c_columns.specs.declared.row_value.RowValue.{RowValue}
+use Rattle.c_columns.specs.declared.sessions.Session.{Session}
 
--- the form that a command promises of what it leaves
+-- the form that a command promises of what it leaves, whatever the session
 abbrev pub LeavesShape : Column → Command Global → Column → Type 0
 LeavesShape before Encode after = IsTightColumn (column_rows before) after
 LeavesShape before Decode after = IsFlat after
 LeavesShape before command after = Unit {0}
 
--- what a command leaves of a column: it is not refused, and rows, type and form are those that it is defined to have
-pub record Leaves (command : Command Global) (c d : ArrayRef Global) : Type 0 where
+-- what a command leaves of a column in a session: it is not refused, and rows, type and form are those that it is defined to have
+pub record Leaves (s : Session) (command : Command Global) (c d : ArrayRef Global) : Type 0 where
   pub accepted : refusal (plain c) command ≡ None
   pub rows : rows d ≡ rows_after (plain c) command
   pub dtype : dtype_of d ≡ dtype_after (plain c) command
   pub shape : LeavesShape (column_of c) command (column_of d)
+  pub form : LeavesFormIn s command c d
+  pub least : LeavesLeast command (column_of d)
 
 -- the command was built of a scalar that is passed, which is a value of the type; or it is none, or memory was refused
 abbrev pub IsPassedBuilt : Type 0 → Command Global → Result (Command Global) VortexError → Type 0

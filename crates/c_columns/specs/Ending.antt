@@ -17,6 +17,7 @@ use Rattle.c_columns.specs.RunParts.{no_runs_fault}
 use Rattle.c_columns.specs.Values.{IsFurthestRow, IsPassed, IsRoomFault}
 use Rattle.c_columns.specs.declared.row_value.RowValue.{RowValue}
 use Rattle.c_columns.specs.declared.error_fields.ErrorFields.{ErrorFields}
+use Rattle.c_columns.specs.declared.sessions.Session.{Session}
 
 -- an index as a field: itself, or 2^64 - 1 where it is negative or no number of 64 bits
 abbrev pub IsIndexField : ℤ → ℕ → Type 0
@@ -84,9 +85,9 @@ fault_given (Ok command) c = refusal (plain c) command
 fault_given (Err error) c = Some error
 
 -- what a command leaves that was built
-abbrev pub LeavesGiven : Result (Command Global) VortexError → ArrayRef Global → ArrayRef Global → Type 0
-LeavesGiven (Ok command) c d = Leaves command c d
-LeavesGiven (Err error) c d = ⊥
+abbrev pub LeavesGiven : Session → Result (Command Global) VortexError → ArrayRef Global → ArrayRef Global → Type 0
+LeavesGiven s (Ok command) c d = Leaves s command c d
+LeavesGiven s (Err error) c d = ⊥
 
 -- how the call of a command ends that was built, or was not
 abbrev pub EndsOnGiven : Option (ArrayRef Global) → Result (Command Global) VortexError → ℤ → ErrorFields → Type 0
@@ -102,8 +103,8 @@ EndsOnPassed value text command None code fields = code ≡ pos 22
 EndsOnPassed value text command (Some c) code fields = EndsByPassed (IsPassed (dtype_of c) value.kind value text) (refusal (plain c) (command c)) code fields
 
 -- what the command leaves that is made of a scalar in the column's type
-abbrev pub LeavesPassed : (ArrayRef Global → Command Global) → ArrayRef Global → ArrayRef Global → Type 0
-LeavesPassed command c d = Leaves (command c) c d
+abbrev pub LeavesPassed : Session → (ArrayRef Global → Command Global) → ArrayRef Global → ArrayRef Global → Type 0
+LeavesPassed s command c d = Leaves s (command c) c d
 
 -- the value, if there is a row, has no room
 abbrev pub HasNoRoom : Option (Option Value) → ℕ → VortexError → Type 0

@@ -2,6 +2,7 @@ pub mod Bits
 pub mod Calls
 pub mod Ending
 pub mod Flags
+pub mod Forms
 pub mod Handle
 pub mod InPlace
 pub mod Kinds

@@ -4,8 +4,11 @@ use Rattle.std.specs.Option.{option_or}
 use Rattle.std.specs.Global.{Global}
 use Rattle.column_base.specs.declared.dtype.DType.{DType}
 use Rattle.column_base.specs.declared.dtype.DType.TheVariants as column
+use Rattle.column_base.specs.Mask.{mask_bits}
 use Rattle.column_base.specs.declared.error.VortexError.{VortexError}
 use Rattle.column_base.specs.declared.error.VortexError.TheVariants.{TypeMismatch}
+use Rattle.column_base.specs.declared.mask.Mask.{Mask}
+use Rattle.column_core.specs.Leaf.{OfNumbers}
 use Rattle.column_core.specs.Value.{PlainColumn, Value, Single, Truth}
 use Rattle.column_ops.specs.Codes.{code_fault, code_rows}
 use Rattle.column_ops.specs.Filter.{filter_fault, filter_rows}
@@ -13,11 +16,15 @@ use Rattle.column_ops.specs.Nullable.{take_dtype}
 use Rattle.column_order.specs.CompareFault.{compare_column_fault}
 use Rattle.column_order.specs.Comparing.{compare_dtype, compare_rows}
 use Rattle.column_order.specs.declared.operator.CompareOperator.{CompareOperator}
-use Rattle.runend_array.specs.Array.{dtype_of, rows}
+use Rattle.runend_array.specs.Array.{column_of, dtype_of, rows}
+use Rattle.runend_array.specs.Column.{Column, OfLeaf}
 use Rattle.runend_array.specs.declared.array_ref.ArrayRef.{ArrayRef}
+use Rattle.runend_commands.specs.declared.command.Command.TheVariants.{Filter, Take, TakeFrom, CompareColumn}
 use Rattle.runend_commands.specs.Meaning.{plain}
 use Rattle.c_columns.specs.Ending.{EndsBy}
+use Rattle.c_columns.specs.Forms.{IsLeastIfRuns, LeavesFormIn}
 use Rattle.c_columns.specs.declared.error_fields.ErrorFields.{ErrorFields}
+use Rattle.c_columns.specs.declared.sessions.Session.{Session}
 
 -- is the row true? null is not
 abbrev pub is_true : Option Value → Bool
@@ -59,14 +66,38 @@ beside_fault c right = compare_column_fault (dtype_of c) (dtype_of right) (lengt
 abbrev pub compared_by : CompareOperator → ArrayRef Global → ArrayRef Global → PlainColumn
 compared_by operator c right = record { dtype = compare_dtype (dtype_of c) (dtype_of right); rows = compare_rows operator (rows c) (rows right) }
 
--- the column has these rows, of this type
-pub record HasPlain (wanted : PlainColumn) (d : ArrayRef Global) : Type 0 where
+-- the form in which a filter by the rows of a mask leaves a column: that of a filter by such bits
+pub record IsFilteredIn (s : Session) (mask c d : ArrayRef Global) : Type 0 where
+  pub selected : Mask Global
+  pub bits : mask_bits selected ≡ map is_true (rows mask)
+  pub form : LeavesFormIn s (Filter selected) c d
+
+-- that of rows that are looked up by codes
+abbrev pub IsLookedUpIn : Session → ArrayRef Global → ArrayRef Global → ArrayRef Global → Type 0
+IsLookedUpIn s codes dictionary d = LeavesFormIn s (TakeFrom dictionary) codes d
+
+-- that of rows at indices: where these lie flat the rows are taken, else they are looked up as by codes
+abbrev pub IsTakenBy : Column → Session → ArrayRef Global → ArrayRef Global → ArrayRef Global → Type 0
+IsTakenBy (OfLeaf (OfNumbers numbers)) s indices c d = LeavesFormIn s (Take numbers) c d
+IsTakenBy lies s indices c d = IsLookedUpIn s indices c d
+
+abbrev pub IsTakenIn : Session → ArrayRef Global → ArrayRef Global → ArrayRef Global → Type 0
+IsTakenIn s indices c d = IsTakenBy (column_of indices) s indices c d
+
+-- that of rows that are compared with those of another column
+abbrev pub IsComparedIn : CompareOperator → Session → ArrayRef Global → ArrayRef Global → ArrayRef Global → Type 0
+IsComparedIn operator s c right d = LeavesFormIn s (CompareColumn operator right) c d
+
+-- the column has these rows, of this type, and lies in this form
+pub record HasPlain (wanted : PlainColumn) (Form : ArrayRef Global → Type 0) (d : ArrayRef Global) : Type 0 where
   pub rows : rows d ≡ wanted.rows
   pub dtype : dtype_of d ≡ wanted.dtype
+  pub form : Form d
+  pub least : IsLeastIfRuns (column_of d)
 
 -- the same of what is made of two columns
-abbrev pub LeavesPlain : (ArrayRef Global → ArrayRef Global → PlainColumn) → ArrayRef Global → ArrayRef Global → ArrayRef Global → Type 0
-LeavesPlain wanted c other d = HasPlain (wanted c other) d
+abbrev pub LeavesPlain : (ArrayRef Global → ArrayRef Global → PlainColumn) → (ArrayRef Global → ArrayRef Global → ArrayRef Global → Type 0) → ArrayRef Global → ArrayRef Global → ArrayRef Global → Type 0
+LeavesPlain wanted Form c other d = HasPlain (wanted c other) (Form c other) d
 
 -- how a call on two columns ends: with 22 where one of the two handles is empty
 abbrev pub EndsOnTwo : (ArrayRef Global → ArrayRef Global → Option VortexError) → Option (ArrayRef Global) → Option (ArrayRef Global) → ℤ → ErrorFields → Type 0

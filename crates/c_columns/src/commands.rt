@@ -28,7 +28,7 @@ pub fn apply(
     error: &mut ErrorFields,
 ) -> i32
     ensures same { column.new.column ≡ column.old.column }
-    ensures made { result ≡ pos 0 → WhereBoth (LeavesGiven command) column.old.column out.new.column }
+    ensures made { result ≡ pos 0 → WhereBoth (LeavesGiven session.now command) column.old.column out.new.column }
     ensures kept { result ≢ pos 0 → out.new.column ≡ out.old.column }
     ensures ended { EndsOnGiven column.old.column command result error.new }
 {
@@ -64,7 +64,7 @@ fn left_by(
     array: &ArrayRef<Global>,
     command: VortexResult<Command<Global>>,
 ) -> VortexResult<Boxed>
-    ensures left { IfOk result (λ made. LeavesGiven command array.now made.value) }
+    ensures left { IfOk result (λ made. LeavesGiven session.now command array.now made.value) }
     ensures refused { IfErr result (λ error. IsErrorFor (fault_given command array.now) error) }
 {
     match command {
@@ -85,7 +85,7 @@ fn left_of(
     array: &ArrayRef<Global>,
     command: &Command<Global>,
 ) -> VortexResult<Boxed>
-    ensures left { IfOk result (λ made. Leaves command.now array.now made.value) }
+    ensures left { IfOk result (λ made. Leaves session.now command.now array.now made.value) }
     ensures refused { IfErr result (λ error. IsErrorFor (refusal (plain array.now) command.now) error) }
 {
     let mut ctx = context(alloc, session);

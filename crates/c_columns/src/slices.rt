@@ -29,7 +29,7 @@ pub fn slice(
     error: &mut ErrorFields,
 ) -> i32
     ensures same { column.new.column ≡ column.old.column }
-    ensures made { result ≡ pos 0 → WhereBoth (Leaves (Slice range)) column.old.column out.new.column }
+    ensures made { result ≡ pos 0 → WhereBoth (Leaves session.now (Slice range)) column.old.column out.new.column }
     ensures kept { result ≢ pos 0 → out.new.column ≡ out.old.column }
     ensures ended { EndsOn column.old.column (Some (Slice range)) result error.new }
 {
@@ -42,13 +42,14 @@ pub fn slice(
 }
 
 // The rows of the range.
+#[tactic(auto, using(crate::proofs::Left::left_sliced))]
 fn sliced(
     alloc: Global,
     session: &Session,
     array: &ArrayRef<Global>,
     range: Range<usize>,
 ) -> VortexResult<Boxed>
-    ensures left { IfOk result (λ made. Leaves (Slice range) array.now made.value) }
+    ensures left { IfOk result (λ made. Leaves session.now (Slice range) array.now made.value) }
     ensures refused { IfErr result
         (λ error. IsErrorFor (range_fault range.start range.end (length (rows array.now))) error) }
 {

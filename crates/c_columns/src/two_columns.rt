@@ -1,12 +1,19 @@
 //! Commands that are made of a second column, which may have any form. Neither column is copied.
-ghost use Rattle.std.specs.Prelude.{IfOk};
+ghost use Rattle.std.specs.Prelude.{IfOk, length};
+ghost use Rattle.column_base.specs.Mask.{mask_bits};
 ghost use Rattle.column_core.specs.Refusal.{IsRefusedBy};
-ghost use Rattle.c_columns.specs.TwoColumns.{HasPlain, beside_fault, code_look_up_fault, compared_by, filtered_by, looked_up_by, mask_filter_fault};
+ghost use Rattle.column_core.specs.PrimitiveForm.{optional_numbers};
+ghost use Rattle.column_ops.specs.Filter.{filter_fault};
+ghost use Rattle.column_ops.specs.Take.{take_fault};
+ghost use Rattle.runend_array.specs.Array.{rows};
+ghost use Rattle.runend_commands.specs.declared.command.Command.TheVariants.{Filter, Take};
+ghost use Rattle.c_columns.specs.Calls.{Leaves};
+ghost use Rattle.c_columns.specs.TwoColumns.{HasPlain, IsComparedIn, IsFilteredIn, IsLookedUpIn, IsTakenIn, beside_fault, code_look_up_fault, compared_by, filtered_by, looked_up_by, mask_filter_fault};
 
 use crate::flat::{Boxed, boxed};
 use crate::masks::mask_of;
 use crate::sessions::{Session, context};
-use column_core::VortexResult;
+use column_core::{Mask, PrimitiveArray, VortexResult};
 use column_order::CompareOperator;
 use runend_array::ArrayRef;
 use runend_commands::compute;
@@ -21,47 +28,54 @@ pub fn filtered(
     mask: &ArrayRef<Global>,
     array: &ArrayRef<Global>,
 ) -> VortexResult<Boxed>
-    ensures left { IfOk result (λ made. HasPlain (filtered_by mask.now array.now) made.value) }
+    ensures left { IfOk result (λ made.
+        HasPlain (filtered_by mask.now array.now) (IsFilteredIn session.now mask.now array.now) made.value) }
     ensures refused { IsRefusedBy (mask_filter_fault mask.now array.now) result }
 {
     let selected = mask_of(alloc, mask)?;
-    let mut ctx = context(alloc, session);
-    let kept = compute::filter(array, &selected, &mut ctx);
+    let kept = rows_selected(alloc, session, &selected, array);
     drop(selected);
-    boxed(alloc, kept?)
+    let kept = kept?;
+    Ok(kept)
 }
 
 /// The row at each index, null at a null index. Refused as `TypeMismatch` unless the indices are integers, and
 /// then as `OutOfBounds`, with the index and the number of rows, at the first that is negative or of no row.
-#[tactic(auto, using(crate::proofs::TwoColumns::same_codes))]
+#[tactic(auto, using(crate::proofs::TwoColumns::same_codes, crate::proofs::TwoColumns::take_left, crate::proofs::TwoColumns::looked_up_taken))]
 pub fn taken(
     alloc: Global,
     session: &Session,
     indices: &ArrayRef<Global>,
     array: &ArrayRef<Global>,
 ) -> VortexResult<Boxed>
-    ensures left { IfOk result (λ made. HasPlain (looked_up_by indices.now array.now) made.value) }
+    ensures left { IfOk result (λ made.
+        HasPlain (looked_up_by indices.now array.now) (IsTakenIn session.now indices.now array.now) made.value) }
     ensures refused { IsRefusedBy (code_look_up_fault indices.now array.now) result }
 {
     match indices {
         ArrayRef::Primitive(numbers) => {
-            let mut ctx = context(alloc, session);
-            let taken = compute::take(array, numbers, &mut ctx)?;
-            boxed(alloc, taken)
+            let taken = rows_taken(alloc, session, numbers, array)?;
+            Ok(taken)
         }
-        _ => looked_up(alloc, session, indices, array),
+        _ => {
+            let taken = looked_up(alloc, session, indices, array)?;
+            Ok(taken)
+        }
     }
 }
 
 /// The dictionary's row for each code, null for null. Refused as `TypeMismatch` unless the codes are integers,
 /// and then as `OutOfBounds`, with the code and the dictionary's rows, at the first that is negative or of no row.
+#[tactic(auto, using(crate::proofs::TwoColumns::look_up_left))]
 pub fn looked_up(
     alloc: Global,
     session: &Session,
     codes: &ArrayRef<Global>,
     dictionary: &ArrayRef<Global>,
 ) -> VortexResult<Boxed>
-    ensures left { IfOk result (λ made. HasPlain (looked_up_by codes.now dictionary.now) made.value) }
+    ensures left { IfOk result (λ made.
+        HasPlain (looked_up_by codes.now dictionary.now)
+        (IsLookedUpIn session.now codes.now dictionary.now) made.value) }
     ensures refused { IsRefusedBy (code_look_up_fault codes.now dictionary.now) result }
 {
     let mut ctx = context(alloc, session);
@@ -71,6 +85,7 @@ pub fn looked_up(
 
 /// Whether the operator holds of each row and the row of `right` beside it, null where either is. Refused as
 /// `Unsupported` for lists, then as `TypeMismatch` for two kinds, then as `ColumnLength` for two numbers of rows.
+#[tactic(auto, using(crate::proofs::TwoColumns::compare_left))]
 pub fn compared(
     alloc: Global,
     session: &Session,
@@ -78,10 +93,44 @@ pub fn compared(
     operator: CompareOperator,
     right: &ArrayRef<Global>,
 ) -> VortexResult<Boxed>
-    ensures left { IfOk result (λ made. HasPlain (compared_by operator array.now right.now) made.value) }
+    ensures left { IfOk result (λ made.
+        HasPlain (compared_by operator array.now right.now)
+        (IsComparedIn operator session.now array.now right.now) made.value) }
     ensures refused { IsRefusedBy (beside_fault array.now right.now) result }
 {
     let mut ctx = context(alloc, session);
     let truths = compute::compare(array, operator, right, &mut ctx)?;
     boxed(alloc, truths)
+}
+
+// The rows at which the bits of the mask are true. Refused as `MaskLength` where it has not a bit for each row.
+#[tactic(auto, using(crate::proofs::Left::left_filtered))]
+fn rows_selected(
+    alloc: Global,
+    session: &Session,
+    selected: &Mask<Global>,
+    array: &ArrayRef<Global>,
+) -> VortexResult<Boxed>
+    ensures left { IfOk result (λ made. Leaves session.now (Filter selected.now) array.now made.value) }
+    ensures refused { IsRefusedBy (filter_fault (length (mask_bits selected.now)) (length (rows array.now))) result }
+{
+    let mut ctx = context(alloc, session);
+    let kept = compute::filter(array, selected, &mut ctx)?;
+    boxed(alloc, kept)
+}
+
+// The rows at indices that lie flat. Refused as `OutOfBounds` at the first that is negative or of no row.
+#[tactic(auto, using(crate::proofs::Left::left_taken))]
+fn rows_taken(
+    alloc: Global,
+    session: &Session,
+    numbers: &PrimitiveArray<Global>,
+    array: &ArrayRef<Global>,
+) -> VortexResult<Boxed>
+    ensures left { IfOk result (λ made. Leaves session.now (Take numbers.now) array.now made.value) }
+    ensures refused { IsRefusedBy (take_fault (optional_numbers numbers.now) (length (rows array.now))) result }
+{
+    let mut ctx = context(alloc, session);
+    let taken = compute::take(array, numbers, &mut ctx)?;
+    boxed(alloc, taken)
 }
