@@ -19,7 +19,7 @@ from pathlib import Path
 
 SCHEMA = Path(__file__).resolve().parents[2] / "docs"
 FLAT, RUNS = 1, 2
-NEVER_NULL, ALL_NULL, BY_BITS = 1, 3, 4
+NEVER_NULL, BY_BITS = 1, 4
 U8, U16, U32, I64, UTF8, BINARY = 1, 2, 3, 8, 11, 12
 
 
@@ -55,7 +55,7 @@ def kind_of(rows: list) -> int:
 def write_values(message, values: list, kind: int) -> None:
     flags = [value is not None for value in values]
     message.version, message.type, message.form, message.rows = 1, kind, FLAT, len(values)
-    message.validity = NEVER_NULL if all(flags) else BY_BITS if any(flags) else ALL_NULL
+    message.validity = NEVER_NULL if all(flags) else BY_BITS
     if message.validity == BY_BITS:
         number = sum(flag << place for place, flag in enumerate(flags))
         message.validity_bits = number.to_bytes((len(flags) + 7) // 8, "little")

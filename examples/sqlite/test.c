@@ -118,7 +118,8 @@ static void check_bytes(void) {
     /* what other programs write: two rows of u8, five of a constant of i16, and a boolean, which SQLite has not */
     CHECK_SQL("SELECT hv_sum(x'080110011801200228013A020102')", "3");
     CHECK_SQL("SELECT hv_sum(x'080110061803200528013A020700')", "35");
-    CHECK_SQL("SELECT hv_rows(x'080110091801200128013A0101')", "error: hv_rows: ?");
+    CHECK_SQL("SELECT hv_rows(x'080110091801200128013A0101')",
+              "error: hv_rows: the call does not serve columns of this type or form");
     /* 2^62 rows in one run */
     CHECK_SQL("SELECT hv_rows(c), hv_at(c, 4611686018427387903), hv_max(hv_filter(c, '=', 1)) FROM (SELECT "
               "x'0801100818022080808080808080804040004804520980808080808080804"
