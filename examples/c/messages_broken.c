@@ -1,6 +1,6 @@
 /* Messages of random columns, in which bytes are changed, left out, put in or moved: each has an answer, and under a
  * sanitizer no byte is read that is not the message's. What is read is written as these very bytes again; what is
- * refused leaves the handle as it was. Reading holds at most 16 bytes for each byte of the message, and 4 KiB.
+ * refused leaves the handle as it was. Reading holds at most 24 bytes for each byte of the message, and 4 KiB.
  * messages_broken [COUNT [SEED]], linked with -Wl,--wrap=malloc,--wrap=calloc,--wrap=realloc,--wrap=free */
 #include "check.h"
 #include <malloc.h>
@@ -43,14 +43,46 @@ enum { ROWS = 40, LEVELS = 4, MESSAGE = 1 << 14, EDITS = 4 };
 static hv_session session;
 static hv_error error;
 
-/* a flat column of integers, booleans or decimals, with null told in one of the four ways */
+/* texts or bytes of at most seven bytes each, some of two bytes a letter */
+static void make_texts(size_t rows, hv_validity some, hv_column *out) {
+    static const uint8_t letters[] = "ab\xc3\xa9 cd\xc3\xbc ef\xc3\xa8 gh\xc3\xb6";
+    uint8_t text[ROWS * sizeof letters];
+    int32_t offsets[ROWS + 1] = {0};
+    for (size_t row = 0; row < rows; row++) {
+        static const uint8_t cuts[] = {0, 1, 2, 4, 5, 6, 7};
+        size_t len = cuts[below(COUNT(cuts))], start = (size_t)offsets[row];
+        memcpy(text + start, letters, len);
+        offsets[row + 1] = (int32_t)(start + len);
+    }
+    CHECK(!hv_texts((uint8_t)below(2), offsets, rows + 1, text, (size_t)offsets[rows], some, out, &error));
+}
+
+/* one number, boolean or text in each row, or null */
+static void make_constant(size_t rows, hv_column *out) {
+    static const uint8_t kinds[] = {HV_U8, HV_U64, HV_I16, HV_I64, HV_BOOL, HV_UTF8, HV_BINARY};
+    hv_kind kind = {kinds[below(COUNT(kinds))], (uint8_t)below(2), 0, 0};
+    hv_value value = {.kind = HV_NULL};
+    size_t len = 0;
+    if (!kind.nullable || below(4)) {
+        bool is_text = kind.number == HV_UTF8 || kind.number == HV_BINARY;
+        bool is_signed = kind.number == HV_I16 || kind.number == HV_I64;
+        len = is_text ? below(9) : 0;
+        value.kind = kind.number == HV_BOOL ? HV_TRUTH : is_signed ? HV_SIGNED : HV_UNSIGNED;
+        if (is_text) value.kind = kind.number == HV_UTF8 ? HV_TEXT : HV_BYTES;
+        value.as_unsigned = is_text ? len : below(256), value.as_signed = (int64_t)below(9) - 4;
+        value.truth = (uint8_t)below(2);
+    }
+    CHECK(!hv_constant(&kind, &value, (const uint8_t *)"constant", len, rows, out, &error));
+}
+
+/* a flat column or a constant, with null told in one of the four ways */
 static void make_flat(size_t rows, hv_column *out) {
     uint64_t items[2 * ROWS], bits[2];
     for (size_t i = 0; i < COUNT(items); i++) items[i] = below(2) ? below(9) : chance();
     bits[0] = below(4) ? chance() : 0, bits[1] = below(2) ? bits[0] : chance();
     hv_validity some = hv_valid_bits((const uint8_t *)bits, sizeof bits, below(64));
     some.nulls = (uint8_t)below(3);
-    switch (below(10)) {
+    switch (below(14)) {
     case 0: CHECK(!hv_u8((const uint8_t *)items, rows, some, out, &error)); break;
     case 1: CHECK(!hv_u16((const uint16_t *)items, rows, some, out, &error)); break;
     case 2: CHECK(!hv_u32((const uint32_t *)items, rows, some, out, &error)); break;
@@ -60,6 +92,10 @@ static void make_flat(size_t rows, hv_column *out) {
     case 6: CHECK(!hv_i32((const int32_t *)items, rows, some, out, &error)); break;
     case 7: CHECK(!hv_i64((const int64_t *)items, rows, some, out, &error)); break;
     case 8: CHECK(!hv_bools((const uint8_t *)bits, sizeof bits, below(64), rows, some, out, &error)); break;
+    case 9:
+    case 10: make_texts(rows, some, out); break;
+    case 11:
+    case 12: make_constant(rows, out); break;
     default: {
         hv_pair pairs[ROWS];
         for (size_t i = 0; i < ROWS; i++) pairs[i] = (hv_pair){items[i], below(2) ? 0 : -1};
@@ -134,17 +170,17 @@ static bool check_answer(const uint8_t *bytes, size_t len, hv_column *kept) {
     most_held = held;
     int32_t answer = hv_read_column(message, len, &out, &error);
     CHECK(answer == 0 || answer == HV_BAD_METADATA);
-    CHECK(most_held - before <= 16 * len + 4096);
+    CHECK(most_held - before <= 24 * len + 4096);
     if (answer != 0) {
         CHECK(held == before);
         CHECK_REFUSED(hv_read_column(message, len, kept, &error), HV_BAD_METADATA, 0, 0, 0);
     } else {
-        static uint8_t again[MESSAGE];
+        static uint8_t again[MESSAGE], text[MESSAGE];
         CHECK(!hv_write(&out, again, sizeof again, &size, &error) && size == len && memcmp(again, message, len) == 0);
         size_t rows = hv_length(&out);
         for (size_t row = 0; row < rows && row < ROWS; row++) {
             hv_value value;
-            CHECK(!hv_at(&out, row, &value, NO_TEXT_ROOM, &error));
+            CHECK(!hv_at(&out, row, &value, text, sizeof text, &error));
         }
         hv_free(&out);
     }
