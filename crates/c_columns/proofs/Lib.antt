@@ -1,3 +1,5 @@
+mod Appended
+mod BuilderValues
 pub mod CountedRows
 mod Cuts
 pub mod Endings

@@ -45,7 +45,7 @@ pair_value v w = vstruct (vcons v (vcons w vnil))
 pub as_one : {M : Type 1} (𝓤 : Ura M) (Run : List Val → SProp 𝓤) (w : Val) {us : List Val} → us ≡ w ∷ [] → ent 𝓤 (Run (w ∷ [])) (Run (us ++ []))
 as_one 𝓤 Run w is = subst (λ (us : List Val). ent 𝓤 (Run (w ∷ [])) (Run us)) (sym (λ i. is i ++ [])) (id⊢ 𝓤 (Run (w ∷ [])))
 
-both_true : (x y : Bool) → T x → T y → T (x && (y && true))
+pub both_true : (x y : Bool) → T x → T y → T (x && (y && true))
 both_true true true s t = tt
 both_true true false s t = absurd t
 both_true false y s t = absurd s
@@ -55,7 +55,7 @@ module _ (R Z : RattleType) (L : Laws Z) (g : Ghosts Z.Denot) where
   abbrev pub RawBox : RattleType
   RawBox = parked.the_row R Z g
 
-  abbrev allocator : Al
+  abbrev pub allocator : Al
   allocator = record { row = Z; laws = L; g = g; d = impl [] tnil dnil; drops = impl [] tnil dnil }
 
   -- its pointer into a block and its allocator fit their types

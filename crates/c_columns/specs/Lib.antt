@@ -1,5 +1,6 @@
 pub mod Bits
 pub mod Calls
+pub mod Builders
 pub mod Ending
 pub mod Flags
 pub mod Forms

@@ -4,6 +4,8 @@
 
 pub mod arguments;
 mod bits;
+pub mod builder_handle;
+pub mod builders;
 pub mod commands;
 pub mod constants;
 pub mod error_fields;

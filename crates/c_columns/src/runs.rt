@@ -168,7 +168,8 @@ pub(crate) fn copies(
     }
 }
 
-fn boxed_runs(alloc: Global, runs: RunEndArray<Global>) -> VortexResult<Boxed>
+/// A run column on the heap. Refused for want of memory alone.
+pub(crate) fn boxed_runs(alloc: Global, runs: RunEndArray<Global>) -> VortexResult<Boxed>
     ensures column { IfOk result (λ made. column_of made.value ≡ column_of_runs runs) }
     ensures only { IsOkUnless result VortexError.OutOfMemory }
 {

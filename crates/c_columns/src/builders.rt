@@ -1,0 +1,85 @@
+//! Encodings of columns of any form, and of rows that come batch by batch.
+ghost use Rattle.std.specs.Prelude.{◌≡◌, [], length, replicate, IfErr, IfOk, IsOkUnless, OnErr, OnOk};
+ghost use Rattle.column_core.specs.Kinds.{list_fault};
+ghost use Rattle.column_core.specs.Refusal.{IsRefusedBy};
+ghost use Rattle.runend_array.specs.Array.{column_of, rows};
+ghost use Rattle.runend_builder.specs.Builder.{built_with};
+ghost use Rattle.c_columns.specs.Builders.{AreBuilt, AreEncoded, PassedAppendFault, column_append_fault, encoding_fault, passed_row, with_rows};
+ghost use Rattle.c_columns.specs.Ending.{IsShortOr};
+
+use crate::flat::Boxed;
+use crate::row_value::{RowValue, scalar_of_type};
+use crate::runs::boxed_runs;
+use crate::sessions::plain_context;
+use column_core::{DType, VortexError, VortexResult};
+use runend_array::ArrayRef;
+use runend_builder::RunBuilder;
+use runend_encode_rows::encode_rows;
+use std::alloc::Global;
+
+/// A builder on the heap.
+pub type BoxedBuilder = Box<RunBuilder<Global>>;
+
+/// The run column of the encoding of the rows. Refused as `Unsupported` exactly for lists.
+pub fn encoded_rows(alloc: Global, array: &ArrayRef<Global>) -> VortexResult<Boxed>
+    ensures made { IfOk result (λ made. AreEncoded array.now made.value) }
+    ensures refused { IsRefusedBy (encoding_fault (column_of array.now)) result }
+{
+    let runs = encode_rows(array, &mut plain_context(alloc))?;
+    boxed_runs(alloc, runs)
+}
+
+/// A builder of rows of this type, without rows. Refused as `Unsupported` exactly for lists.
+pub fn new_builder(alloc: Global, dtype: DType) -> VortexResult<BoxedBuilder>
+    ensures empty { IfOk result (λ made. made.value ≡ built_with dtype []) }
+    ensures refused { IsRefusedBy (list_fault dtype) result }
+{
+    let builder = RunBuilder::new(alloc, dtype)?;
+    Ok(Box::new(alloc, builder)?)
+}
+
+/// Puts the rows of a column behind those of the builder. Refused as `RunBuilder::append_rows` refuses, and then the
+/// builder stays as it is.
+#[tactic(auto, using(crate::proofs::Appended::column_grown, crate::proofs::Appended::still_kept))]
+pub fn append_column(
+    alloc: Global,
+    builder: &mut RunBuilder<Global>,
+    array: &ArrayRef<Global>,
+) -> VortexResult<()>
+    ensures grown { OnOk result (builder.new ≡ with_rows builder.old (rows array.now)) }
+    ensures kept { OnErr result (builder.new ≡ builder.old) }
+    ensures refused { IsRefusedBy (column_append_fault builder.old array.now) result }
+{
+    builder.append_rows(array, &mut plain_context(alloc))
+}
+
+/// Puts `count` rows of the value that C passes, of the builder's type, behind its rows. Refused as `scalar_of_type`
+/// says, and then as `RunBuilder::append_value` refuses; the builder stays as it is then.
+#[tactic(auto, using(crate::proofs::Appended::value_grown, crate::proofs::Appended::still_kept, crate::proofs::Appended::no_value, crate::proofs::Appended::value_refused))]
+pub fn append_passed(
+    alloc: Global,
+    builder: &mut RunBuilder<Global>,
+    value: &RowValue,
+    text: &[u8],
+    count: usize,
+) -> VortexResult<()>
+    ensures grown { OnOk result
+        (builder.new ≡ with_rows builder.old (replicate count (passed_row value.now text.now))) }
+    ensures kept { OnErr result (builder.new ≡ builder.old) }
+    ensures refused { IfErr result
+        (λ error. IsShortOr (PassedAppendFault builder.old value.now text.now count) error) }
+{
+    let scalar = scalar_of_type(alloc, builder.dtype(), value, text)?;
+    let appended = builder.append_value(&scalar, count);
+    drop(scalar);
+    appended
+}
+
+/// The run column of the encoding of all rows so far, which the builder keeps. Refused for want of memory alone.
+pub fn encoding_of(alloc: Global, builder: &RunBuilder<Global>) -> VortexResult<Boxed>
+    ensures made { IfOk result (λ made. AreBuilt builder.now made.value) }
+    ensures only { IsOkUnless result VortexError.OutOfMemory }
+{
+    let runs = builder.encoding(&mut plain_context(alloc))?;
+    boxed_runs(alloc, runs)
+}
