@@ -19,7 +19,7 @@ pub use bytes::{read, write};
 pub use compare::{less_by_ones, less_by_runs, less_by_turns};
 pub use decode::{decode, decode_truths, decode_truths_by_ones, decode_truths_by_turns};
 pub use encode::{encode, encode_by_words};
-pub use filter::{filter, filter_joined, filter_truths, Kept};
+pub use filter::{filter, filter_by_fours, filter_joined, filter_truths, Kept};
 pub use look::{look_up, look_up_by_halves, run_of, slice, window, Slice};
 pub use map::{cast, fill, take_from};
 pub use shared::{cast_shared, fill_shared, take_from_shared, SharedRuns, SharedSlice};

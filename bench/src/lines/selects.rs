@@ -2,7 +2,7 @@
 use super::{same_runs, session, shape, Number};
 use crate::bits::Bits;
 use crate::data::{Flat, Runs, Truths};
-use crate::kernels::{filter_joined, take, take_by_blocks, take_by_fours, Kept};
+use crate::kernels::{filter_by_fours, filter_joined, take, take_by_blocks, take_by_fours, Kept};
 use crate::library::{Column, Item};
 use crate::line::Bench;
 use crate::load::{Load, Random};
@@ -16,11 +16,13 @@ pub const TAKES: [(&str, usize, bool); 4] = [
     ("take, a fortieth at random", FEW, false),
     ("take, a fortieth in order", FEW, true),
 ];
+/// Of so many rows a filter keeps one where it keeps few.
+const RARE: u64 = 1000;
 /// The names of filters, and of how many rows one is kept.
 pub const FILTERS: [(&str, u64); 3] = [
     ("filter, half", 2),
     ("filter, a tenth", 10),
-    ("filter, a thousandth", 1000),
+    ("filter, a thousandth", RARE),
 ];
 
 pub fn indices(rows: usize, every: usize, ordered: bool) -> Vec<u64> {
@@ -93,14 +95,15 @@ fn filters<T: Number>(bench: &mut Bench, load: &Load, column: &Column, runs: &Ru
             continue;
         }
         let (session, mask) = (session(), mask(load.rows(), every));
-        let ours = mask_column(&mask);
-        bench.line(
-            shape(load, name, T::NAME),
-            (load.rows(), "row"),
-            || column.filter(&session, &ours),
-            || filter_joined(&runs.ends, &runs.values, &mask),
-            same_kept,
-        );
+        let (places, units) = (mask_column(&mask), (load.rows(), "row"));
+        let ours = || column.filter(&session, &places);
+        let rust = || filter_joined(&runs.ends, &runs.values, &mask);
+        bench.line(shape(load, name, T::NAME), units, ours, rust, same_kept);
+        if every == RARE {
+            let name = format!("{name}, beside fours");
+            let rust = || filter_by_fours(&runs.ends, &runs.values, &mask);
+            bench.line(shape(load, &name, T::NAME), units, ours, rust, same_kept);
+        }
     }
 }
 
