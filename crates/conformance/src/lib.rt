@@ -5,6 +5,8 @@
 #[cfg(test)]
 mod bits;
 #[cfg(test)]
+mod builder;
+#[cfg(test)]
 mod columns;
 #[cfg(test)]
 mod commands;
