@@ -4,7 +4,7 @@ ghost use Rattle.runend_commands.specs.declared.command.Command.TheVariants.{Sli
 ghost use Rattle.c_columns.specs.Calls.{Leaves, compare_with_passed, fill_with_passed};
 ghost use Rattle.c_columns.specs.Ending.{EndsOn, EndsOnPassed, LeavesPassed, WhereAll, WhereBoth};
 ghost use Rattle.c_columns.specs.Kinds.{dtype_by, operator_by};
-ghost use Rattle.c_columns.specs.TwoColumns.{EndsOnTwo, LeavesPlain, beside_fault, code_look_up_fault, compared_by, filtered_by, looked_up_by, mask_filter_fault};
+ghost use Rattle.c_columns.specs.TwoColumns.{EndsOnTwo, IsComparedIn, IsFilteredIn, IsLookedUpIn, IsTakenIn, LeavesPlain, beside_fault, code_look_up_fault, compared_by, filtered_by, looked_up_by, mask_filter_fault};
 
 use c_columns::arguments::{compare_scalar_command, fill_command};
 use c_columns::commands::{answer, apply};
@@ -30,7 +30,7 @@ pub extern "C" fn hv_encode(
     error: &mut ErrorFields,
 ) -> i32
     ensures same { column.new.column ≡ column.old.column }
-    ensures made { result ≡ pos 0 → WhereBoth (Leaves Encode) column.old.column out.new.column }
+    ensures made { result ≡ pos 0 → WhereBoth (Leaves session.now Encode) column.old.column out.new.column }
     ensures kept { result ≢ pos 0 → out.new.column ≡ out.old.column }
     ensures ended { EndsOn column.old.column (Some Encode) result error.new }
 {
@@ -48,7 +48,7 @@ pub extern "C" fn hv_decode(
     error: &mut ErrorFields,
 ) -> i32
     ensures same { column.new.column ≡ column.old.column }
-    ensures made { result ≡ pos 0 → WhereBoth (Leaves Decode) column.old.column out.new.column }
+    ensures made { result ≡ pos 0 → WhereBoth (Leaves session.now Decode) column.old.column out.new.column }
     ensures kept { result ≢ pos 0 → out.new.column ≡ out.old.column }
     ensures ended { EndsOn column.old.column (Some Decode) result error.new }
 {
@@ -68,7 +68,8 @@ pub extern "C" fn hv_slice(
 ) -> i32
     ensures same { column.new.column ≡ column.old.column }
     ensures made { result ≡ pos 0
-        → WhereBoth (Leaves (Slice (record { start = start; end = stop }))) column.old.column out.new.column }
+        → WhereBoth (Leaves session.now (Slice (record { start = start; end = stop })))
+        column.old.column out.new.column }
     ensures kept { result ≢ pos 0 → out.new.column ≡ out.old.column }
     ensures ended { EndsOn column.old.column (Some (Slice (record { start = start; end = stop }))) result error.new }
 {
@@ -89,7 +90,7 @@ pub extern "C" fn hv_cast(
     ensures same { column.new.column ≡ column.old.column }
     ensures made { result ≡ pos 0
         → IsSomeAnd (dtype_by kind.now.number kind.now)
-        (λ dtype. WhereBoth (Leaves (Cast dtype)) column.old.column out.new.column) }
+        (λ dtype. WhereBoth (Leaves session.now (Cast dtype)) column.old.column out.new.column) }
     ensures kept { result ≢ pos 0 → out.new.column ≡ out.old.column }
     ensures ended { MatchOption (dtype_by kind.now.number kind.now) (result ≡ pos 23)
         (λ dtype. EndsOn column.old.column (Some (Cast dtype)) result error.new) }
@@ -114,7 +115,8 @@ pub extern "C" fn hv_take(
     ensures same { column.new.column ≡ column.old.column }
     ensures same_indices { indices.new.column ≡ indices.old.column }
     ensures made { result ≡ pos 0
-        → WhereAll (LeavesPlain looked_up_by) indices.old.column column.old.column out.new.column }
+        → WhereAll (LeavesPlain looked_up_by (IsTakenIn session.now))
+        indices.old.column column.old.column out.new.column }
     ensures kept { result ≢ pos 0 → out.new.column ≡ out.old.column }
     ensures ended { EndsOnTwo code_look_up_fault indices.old.column column.old.column result error.new }
 {
@@ -145,7 +147,8 @@ pub extern "C" fn hv_filter(
     ensures same { column.new.column ≡ column.old.column }
     ensures same_mask { mask.new.column ≡ mask.old.column }
     ensures made { result ≡ pos 0
-        → WhereAll (LeavesPlain filtered_by) mask.old.column column.old.column out.new.column }
+        → WhereAll (LeavesPlain filtered_by (IsFilteredIn session.now))
+        mask.old.column column.old.column out.new.column }
     ensures kept { result ≢ pos 0 → out.new.column ≡ out.old.column }
     ensures ended { EndsOnTwo mask_filter_fault mask.old.column column.old.column result error.new }
 {
@@ -176,7 +179,8 @@ pub extern "C" fn hv_take_from(
     ensures same { column.new.column ≡ column.old.column }
     ensures same_dictionary { dictionary.new.column ≡ dictionary.old.column }
     ensures made { result ≡ pos 0
-        → WhereAll (LeavesPlain looked_up_by) column.old.column dictionary.old.column out.new.column }
+        → WhereAll (LeavesPlain looked_up_by (IsLookedUpIn session.now))
+        column.old.column dictionary.old.column out.new.column }
     ensures kept { result ≢ pos 0 → out.new.column ≡ out.old.column }
     ensures ended { EndsOnTwo code_look_up_fault column.old.column dictionary.old.column result error.new }
 {
@@ -208,7 +212,8 @@ pub extern "C" fn hv_compare(
     ensures same_right { right.new.column ≡ right.old.column }
     ensures made { result ≡ pos 0
         → IsSomeAnd (operator_by operator)
-        (λ op. WhereAll (LeavesPlain (compared_by op)) column.old.column right.old.column out.new.column) }
+        (λ op. WhereAll (LeavesPlain (compared_by op) (IsComparedIn op session.now))
+        column.old.column right.old.column out.new.column) }
     ensures kept { result ≢ pos 0 → out.new.column ≡ out.old.column }
     ensures ended { MatchOption (operator_by operator) (result ≡ pos 23)
         (λ op. EndsOnTwo beside_fault column.old.column right.old.column result error.new) }
@@ -235,7 +240,8 @@ pub extern "C" fn hv_compare_scalar(
     ensures same { column.new.column ≡ column.old.column }
     ensures made { result ≡ pos 0
         → IsSomeAnd (operator_by operator)
-        (λ op. WhereBoth (LeavesPassed (compare_with_passed op value.now text.now)) column.old.column out.new.column) }
+        (λ op. WhereBoth (LeavesPassed session.now (compare_with_passed op value.now text.now))
+        column.old.column out.new.column) }
     ensures kept { result ≢ pos 0 → out.new.column ≡ out.old.column }
     ensures ended { MatchOption (operator_by operator) (result ≡ pos 23)
         (λ op. EndsOnPassed value.now text.now
@@ -263,7 +269,8 @@ pub extern "C" fn hv_fill(
 ) -> i32
     ensures same { column.new.column ≡ column.old.column }
     ensures made { result ≡ pos 0
-        → WhereBoth (LeavesPassed (fill_with_passed value.now text.now)) column.old.column out.new.column }
+        → WhereBoth (LeavesPassed session.now (fill_with_passed value.now text.now))
+        column.old.column out.new.column }
     ensures kept { result ≢ pos 0 → out.new.column ≡ out.old.column }
     ensures ended { EndsOnPassed value.now text.now
         (fill_with_passed value.now text.now) column.old.column result error.new }
@@ -290,7 +297,8 @@ fn compare_columns(
     ensures same { column.new.column ≡ column.old.column }
     ensures same_right { right.new.column ≡ right.old.column }
     ensures made { result ≡ pos 0
-        → WhereAll (LeavesPlain (compared_by operator)) column.old.column right.old.column out.new.column }
+        → WhereAll (LeavesPlain (compared_by operator) (IsComparedIn operator session.now))
+        column.old.column right.old.column out.new.column }
     ensures kept { result ≢ pos 0 → out.new.column ≡ out.old.column }
     ensures ended { EndsOnTwo beside_fault column.old.column right.old.column result error.new }
 {
@@ -321,7 +329,8 @@ fn compare_with_value(
 ) -> i32
     ensures same { column.new.column ≡ column.old.column }
     ensures made { result ≡ pos 0
-        → WhereBoth (LeavesPassed (compare_with_passed operator value.now text.now)) column.old.column out.new.column }
+        → WhereBoth (LeavesPassed session.now (compare_with_passed operator value.now text.now))
+        column.old.column out.new.column }
     ensures kept { result ≢ pos 0 → out.new.column ≡ out.old.column }
     ensures ended { EndsOnPassed value.now text.now
         (compare_with_passed operator value.now text.now) column.old.column result error.new }

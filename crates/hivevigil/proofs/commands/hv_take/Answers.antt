@@ -1,14 +1,14 @@
 use Rattle.std.proofs.Common.{◌∙◌, ap, sym, subst, w32, ℤ}
 use Rattle.std.specs.Prelude.{Some}
 use Rattle.std.proofs.lemmas.Int.{to_z-of_z}
-use Rattle.c_columns.specs.TwoColumns.{EndsOnTwo, code_look_up_fault, looked_up_by}
+use Rattle.c_columns.specs.TwoColumns.{EndsOnTwo, IsTakenIn, code_look_up_fault, looked_up_by}
 use Rattle.hivevigil.proofs.TwoColumns.{outcome_ends, outcome_left}
 use Rattle.hivevigil.proofs.commands.hv_take.Goals as goal
 
 pub returns-clause-made : goal.returns-clause-made
 returns-clause-made c = λ zero.
     let back = to_z-of_z w32 c.answer.result (record { sfits = c.answer.type_inv }) in
-    outcome_left c.taken-outcome.result (λ made. made.value) looked_up_by c.args.indices.now.column c.args.column.now.column c.answer.new.out.column _ c.deref.result.now c.deref-2.result.now c.answer.result _
+    outcome_left c.taken-outcome.result (λ made. made.value) looked_up_by (IsTakenIn c.args.session.now) c.args.indices.now.column c.args.column.now.column c.answer.new.out.column _ c.deref.result.now c.deref-2.result.now c.answer.result _
     (c.in-Some.ensures.found ∙ ap Some (sym c.deref.ensures)) (c.in-Some-take.ensures.found ∙ ap Some (sym c.deref-2.ensures)) c.taken-outcome.ensures.left c.answer.ensures.ok c.answer.ensures.err (sym back ∙ zero)
 
 pub returns-clause-ended : goal.returns-clause-ended
