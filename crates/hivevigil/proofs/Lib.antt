@@ -1,3 +1,4 @@
+pub mod BuilderEndings
 pub mod EndsEndings
 pub mod PartEndings
 pub mod ReadEndings

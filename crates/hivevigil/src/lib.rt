@@ -5,6 +5,7 @@
 
 mod commands;
 mod constants;
+mod encodings;
 mod flat;
 mod lists;
 mod messages;
