@@ -288,20 +288,22 @@ fn list_validity<A: Allocator + Copy>(
 ) -> LineResult<RowValidity<A>> {
     match read_validity(*ctx.allocator(), word) {
         Ok(validity) => Ok(row_validity(validity)),
-        Err(LineError::Bad) => run_validity(clone_named(word, columns, ctx)?),
+        Err(LineError::Bad) => run_validity(word, columns, ctx),
         Err(error) => Err(error),
     }
 }
 
-// The validity that a run column tells.
-fn run_validity<A: Allocator>(array: ArrayRef<A>) -> LineResult<RowValidity<A>> {
-    match array {
-        ArrayRef::RunEnd(runs) => Ok(RowValidity::Runs(runs)),
-        other => {
-            drop(other);
-            Err(LineError::Bad)
-        }
-    }
+// The validity that the run column of this name tells.
+fn run_validity<A: Allocator + Copy>(
+    name: &str,
+    columns: &Columns<A>,
+    ctx: &mut ExecutionCtx<A>,
+) -> LineResult<RowValidity<A>> {
+    let Some(ArrayRef::RunEnd(runs)) = columns.get(name) else {
+        return Err(LineError::Bad);
+    };
+    let copy = runs.try_clone(ctx)?;
+    Ok(RowValidity::Runs(Box::new(*ctx.allocator(), copy)?))
 }
 
 fn prepared_views<A: Allocator + Copy>(alloc: A, line: Views<'_>) -> LineResult<Maker<A>> {
