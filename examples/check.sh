@@ -68,7 +68,7 @@ else
     skip "names of the header" "nm and readelf"
 fi
 
-for test in first errors layout answers refusals forms lists messages arrow_arrays; do
+for test in first errors layout answers refusals forms lists builders messages arrow_arrays; do
     run "c/$test.c" built "$cc" "$c_flags -O2" "examples/c/$test.c"
 done
 wraps="-Wl,--wrap=malloc,--wrap=calloc,--wrap=realloc,--wrap=free"
@@ -77,7 +77,7 @@ run "c/helpers.c" built "$cc" "$c_flags -O2" examples/c/helpers.c
 
 echo 'int main(void) { return 0; }' >"$work/empty.c"
 if $cc $watched "$work/empty.c" -o "$work/empty" 2>/dev/null && "$work/empty"; then
-    for test in errors answers refusals forms lists messages arrow_arrays; do
+    for test in errors answers refusals forms lists builders messages arrow_arrays; do
         run "c/$test.c under sanitizers" built "$cc" "$c_flags $watched" "examples/c/$test.c"
     done
     has "$cxx" && run "cpp/demo.cpp under sanitizers" built "$cxx" "$cxx_flags $watched" examples/cpp/demo.cpp
@@ -101,7 +101,7 @@ under_valgrind() {
         timeout 300 valgrind --quiet --error-exitcode=1 --leak-check=full --show-leak-kinds=all "$work/program"
 }
 if has valgrind; then
-    for test in answers refusals lists arrow_arrays; do run "c/$test.c under valgrind" under_valgrind "$test"; done
+    for test in answers refusals lists builders arrow_arrays; do run "c/$test.c under valgrind" under_valgrind "$test"; done
     run "c/refused_memory.c under valgrind" under_valgrind refused_memory "$wraps"
     run "c/helpers.c under valgrind" under_valgrind helpers
 else

@@ -16,7 +16,7 @@
  * of the library, where callers do what they owe (next); docs/PROVED.md says it call by call, and what is tested alone.
  *
  * WHAT MAY BE NULL: a pointer to no items, where the length beside it is 0; `error`, where nobody asks for the fields;
- * the handle that hv_free is given, which then does nothing.
+ * the handle that hv_free or hv_builder_free is given, which then does nothing.
  *
  * WHAT A CALLER OWES:
  *  - a handle starts as HV_EMPTY, is written by this library alone, and hv_free empties it; a copy of the struct is no
@@ -67,6 +67,8 @@ uint32_t hv_abi(void);
 
 /* A handle: a column that the library owns, or none. */
 typedef struct hv_column { void *at; } hv_column;
+/* The handle of a builder, likewise. */
+typedef struct hv_builder { void *at; } hv_builder;
 #define HV_EMPTY {0}
 
 /* The fields of an error, in the order that the list below gives, and 0 for each that it does not have. */
@@ -360,6 +362,32 @@ HV_ANSWER hv_list_elements(const hv_column *column, hv_column *out, hv_error *er
 HV_ANSWER hv_list_offsets(const hv_column *column, hv_column *out, hv_error *error);
 HV_ANSWER hv_list_sizes(const hv_column *column, hv_column *out, hv_error *error);
 HV_ANSWER hv_list_validity(const hv_column *column, hv_column *out, hv_error *error);  /* booleans: is the row valid? */
+
+/* ---- Encodings of any column, and of rows that come batch by batch ----
+ * An encoding is a run column of as few runs as there can be, with ends of the least type and with flat values. */
+/* The rows, of any type but lists (13), encoded. Of runs and of a constant only the runs that the column shows are
+ * looked at, and not the rows. */
+HV_ANSWER hv_encode_rows(const hv_column *column, hv_column *out, hv_error *error);
+
+/* A builder takes rows batch by batch, joins runs of equal rows across the seams of the batches, and holds an end and a
+ * value for each run, and nothing for a row. Its handle owns it as that of a column does. Where a call is refused, the
+ * builder is as it was. */
+/* A builder of rows of this type, without rows; the one that the handle held before is freed. 23 where kind names no
+ * type, or lists. */
+HV_ANSWER hv_builder_new(const hv_kind *kind, hv_builder *builder, hv_error *error);
+/* The rows of a column, in any form, go behind those of the builder: 12 unless its type is the builder's (null or not
+ * belongs to a type), then 5 for 2^64 rows or more in all. */
+HV_ANSWER hv_append(hv_builder *builder, const hv_column *column, hv_error *error);
+/* `count` rows of one value of the builder's type: 15 for null in a type without null, 12 for a value that is none of
+ * the type, or a text that is not UTF-8; 5 as above. */
+HV_ANSWER hv_append_value(hv_builder *builder, const hv_value *value, const uint8_t *text, size_t text_len,
+                          size_t count, hv_error *error);
+/* The encoding of all rows so far, which the builder keeps. */
+HV_ANSWER hv_encoding(const hv_builder *builder, hv_column *out, hv_error *error);
+HV_CALL size_t hv_builder_rows(const hv_builder *builder);  /* 0 of no builder */
+HV_CALL size_t hv_builder_runs(const hv_builder *builder);  /* as many as the encoding has; 0 of no builder */
+/* Frees the builder, if there is one; the handle is empty after. */
+HV_CALL void hv_builder_free(hv_builder *builder);
 
 /* A column as bytes, in any form, to keep or to send: a message of the Protocol Buffers encoding (docs/column.proto),
  * in the form that the column has, with its window; of flat texts and bytes the rows, which are read into one buffer.

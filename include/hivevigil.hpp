@@ -133,6 +133,8 @@ public:
     Column encode(const hv_session &session = initial_session()) const {
         return made([&](auto *out, auto *error) { return hv_encode(&session, &handle, out, error); });
     }
+    // The rows of any type but lists as runs, as few as there can be.
+    Column encode_rows() const { return part(hv_encode_rows); }
     Column decode(const hv_session &session = initial_session()) const {
         return made([&](auto *out, auto *error) { return hv_decode(&session, &handle, out, error); });
     }
@@ -449,4 +451,5 @@ inline Runs Column::runs() const & { return Runs(*this); }
 inline Runs Column::runs() && { return Runs(std::move(*this)); }
 
 } // namespace hv
+#include "hivevigil_builder.hpp"
 #endif

@@ -18,6 +18,7 @@ static inline void *hv_items(const void *items) {
 
 /* the handle of a column that is lent: an export takes the column out, and puts it back before it returns */
 static inline hv_column *hv_lent(const hv_column *column) { return (hv_column *)(uintptr_t)column; }
+static inline hv_builder *hv_lent_builder(const hv_builder *builder) { return (hv_builder *)(uintptr_t)builder; }
 
 /* what the exports read of a session, which stands behind its size */
 static inline hv_settings *hv_settings_of(const hv_session *session) {
@@ -280,6 +281,34 @@ HV_ANSWER hv_list_sizes(const hv_column *column, hv_column *out, hv_error *error
 HV_ANSWER hv_list_validity(const hv_column *column, hv_column *out, hv_error *error) {
     hv_error ignored;
     return (hv_list_validity)(hv_lent(column), out, HV_FIELDS);
+}
+
+/* Encodings, and builders */
+HV_ANSWER hv_encode_rows(const hv_column *column, hv_column *out, hv_error *error) {
+    hv_error ignored;
+    return (hv_encode_rows)(hv_lent(column), out, HV_FIELDS);
+}
+HV_ANSWER hv_builder_new(const hv_kind *kind, hv_builder *builder, hv_error *error) {
+    hv_error ignored;
+    return (hv_builder_new)(kind, builder, HV_FIELDS);
+}
+HV_ANSWER hv_append(hv_builder *builder, const hv_column *column, hv_error *error) {
+    hv_error ignored;
+    return (hv_append)(builder, hv_lent(column), HV_FIELDS);
+}
+HV_ANSWER hv_append_value(hv_builder *builder, const hv_value *value, const uint8_t *text, size_t text_len,
+                          size_t count, hv_error *error) {
+    hv_error ignored;
+    return (hv_append_value)(builder, value, HV_ITEMS(const uint8_t, text), text_len, count, HV_FIELDS);
+}
+HV_ANSWER hv_encoding(const hv_builder *builder, hv_column *out, hv_error *error) {
+    hv_error ignored;
+    return (hv_encoding)(hv_lent_builder(builder), out, HV_FIELDS);
+}
+HV_CALL size_t hv_builder_rows(const hv_builder *builder) { return (hv_builder_rows)(hv_lent_builder(builder)); }
+HV_CALL size_t hv_builder_runs(const hv_builder *builder) { return (hv_builder_runs)(hv_lent_builder(builder)); }
+HV_CALL void hv_builder_free(hv_builder *builder) {
+    if (builder) (hv_builder_free)(builder);
 }
 
 /* Messages */

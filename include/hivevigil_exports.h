@@ -139,6 +139,17 @@ HV_EXPORT int32_t hv_write_size(hv_column *column, size_t *size, hv_error *error
 HV_EXPORT int32_t hv_write(hv_column *column, uint8_t *bytes, size_t bytes_len, size_t *size, hv_error *error);
 HV_EXPORT int32_t hv_read_column(const uint8_t *bytes, size_t bytes_len, hv_column *out, hv_error *error);
 
+/* Encodings, and builders */
+HV_EXPORT int32_t hv_encode_rows(hv_column *column, hv_column *out, hv_error *error);
+HV_EXPORT int32_t hv_builder_new(const hv_kind *kind, hv_builder *builder, hv_error *error);
+HV_EXPORT int32_t hv_append(hv_builder *builder, hv_column *column, hv_error *error);
+HV_EXPORT int32_t hv_append_value(hv_builder *builder, const hv_value *value, const uint8_t *text, size_t text_len,
+                                  size_t count, hv_error *error);
+HV_EXPORT int32_t hv_encoding(hv_builder *builder, hv_column *out, hv_error *error);
+HV_EXPORT size_t hv_builder_rows(hv_builder *builder);
+HV_EXPORT size_t hv_builder_runs(hv_builder *builder);
+HV_EXPORT void hv_builder_free(hv_builder *builder);
+
 #ifndef HV_EXPORTS_ALONE
 #define hv_session_initial(...) hv_call_session_initial(__VA_ARGS__)
 #define hv_u8(...) hv_call_u8(__VA_ARGS__)
@@ -207,6 +218,14 @@ HV_EXPORT int32_t hv_read_column(const uint8_t *bytes, size_t bytes_len, hv_colu
 #define hv_list_offsets(...) hv_call_list_offsets(__VA_ARGS__)
 #define hv_list_sizes(...) hv_call_list_sizes(__VA_ARGS__)
 #define hv_list_validity(...) hv_call_list_validity(__VA_ARGS__)
+#define hv_encode_rows(...) hv_call_encode_rows(__VA_ARGS__)
+#define hv_builder_new(...) hv_call_builder_new(__VA_ARGS__)
+#define hv_append(...) hv_call_append(__VA_ARGS__)
+#define hv_append_value(...) hv_call_append_value(__VA_ARGS__)
+#define hv_encoding(...) hv_call_encoding(__VA_ARGS__)
+#define hv_builder_rows(...) hv_call_builder_rows(__VA_ARGS__)
+#define hv_builder_runs(...) hv_call_builder_runs(__VA_ARGS__)
+#define hv_builder_free(...) hv_call_builder_free(__VA_ARGS__)
 #define hv_write_size(...) hv_call_write_size(__VA_ARGS__)
 #define hv_write(...) hv_call_write(__VA_ARGS__)
 #define hv_read_column(...) hv_call_read_column(__VA_ARGS__)

@@ -35,6 +35,7 @@ static const uint8_t text_message[] = {8, 1, 16, 11, 24, 3, 32, 9, 40, 1, 58, 4,
 static uint64_t list_offsets[ROWS / 2], list_sizes[ROWS / 2];
 static const hv_pair pairs[2] = {{5, 0}, {UINT64_MAX, -1}};
 static const hv_kind i32_type = {HV_I32, 1, 0, 0}, i64_type = {HV_I64, 1, 0, 0}, text_type = {HV_UTF8, 0, 0, 0};
+static const hv_kind i64_or_null = {HV_I64, 1, 0, 0}, text_or_null = {HV_UTF8, 1, 0, 0};
 static const hv_value five = {.kind = HV_SIGNED, .as_signed = 5}, letter = {.kind = HV_TEXT, .as_unsigned = 1};
 
 /* numbers in stretches of three, two of seven null; texts of four letters each */
@@ -129,6 +130,9 @@ STEP(clone_texts, hv_clone(&texts, &out, &error))
 STEP(compact_runs, hv_compact(&runs, &out, &error))
 STEP(compact_texts, hv_compact(&texts, &out, &error))
 STEP(encode, hv_encode(&session, &flat, &out, &error))
+STEP(encode_rows, hv_encode_rows(&flat, &out, &error))
+STEP(encode_texts, hv_encode_rows(&texts, &out, &error))
+STEP(encode_part, hv_encode_rows(&part, &out, &error))
 STEP(decode, hv_decode(&session, &part, &out, &error))
 STEP(slice_runs, hv_slice(&session, &runs, 10, 70, &out, &error))
 STEP(slice_texts, hv_slice(&session, &texts, 10, 70, &out, &error))
@@ -207,6 +211,25 @@ STEP(export_dictionary, hv_arrow_export_dictionary(&session, &places, &texts, "c
 STEP(import_texts, hv_arrow_import(&session, &texts_schema, &texts_array, &out, &error))
 STEP(import_dictionary, hv_arrow_import(&session, &codes_schema, &codes_array, &out, &error))
 
+/* Batches and a value, built as one step: a builder that is refused memory has the rows that it had. */
+static int32_t built(const hv_kind *kind, hv_column *first, hv_column *second, const hv_value *passed) {
+    hv_builder builder = HV_EMPTY;
+    hv_column *const batches[2] = {first, second};
+    int32_t answer = hv_builder_new(kind, &builder, &error);
+    for (int i = 0; i < 4 && !answer; i++) {
+        const size_t rows = hv_builder_rows(&builder), runs = hv_builder_runs(&builder);
+        answer = i % 2 ? hv_append_value(&builder, passed, letters, 4, 3, &error)
+                       : hv_append(&builder, batches[i / 2], &error);
+        if (answer) CHECK(hv_builder_rows(&builder) == rows && hv_builder_runs(&builder) == runs);
+    }
+    if (!answer) answer = hv_encoding(&builder, &out, &error);
+    if (!answer) CHECK(hv_length(&out) == hv_builder_rows(&builder));
+    hv_builder_free(&builder);
+    return answer;
+}
+static int32_t build_numbers(void) { return built(&i64_or_null, &flat, &part, &five); }
+static int32_t build_texts(void) { return built(&text_or_null, &texts, &text_runs, &letter); }
+
 /* what is exported and imported again, as one step */
 static int32_t export_and_import(void) {
     int32_t answer = hv_arrow_export(&session, &part, "runs", &schema, &array, &error);
@@ -225,6 +248,7 @@ static const step steps[] = {
     NAMED(make_u8), NAMED(make_u16), NAMED(make_u32), NAMED(make_u64), NAMED(make_i8), NAMED(make_i16),
     NAMED(make_i32), NAMED(make_i64), NAMED(make_bools), NAMED(make_decimals), NAMED(make_texts),
     NAMED(make_large_texts), NAMED(make_runs), NAMED(clone_runs), NAMED(clone_texts), NAMED(encode), NAMED(decode),
+    NAMED(encode_rows), NAMED(encode_texts), NAMED(encode_part), NAMED(build_numbers), NAMED(build_texts),
     NAMED(compact_runs), NAMED(compact_texts),
     NAMED(slice_runs), NAMED(slice_texts), NAMED(cast), NAMED(take), NAMED(take_texts), NAMED(filter),
     NAMED(filter_texts), NAMED(filter_by_runs), NAMED(take_by_runs), NAMED(take_from), NAMED(compare), NAMED(compare_scalar), NAMED(compare_text), NAMED(fill),

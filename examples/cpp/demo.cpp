@@ -239,6 +239,31 @@ static void check_moves() {
     } catch (const hv::Error &error) { CHECK(error.number == HV_NO_COLUMN); }
 }
 
+// 7 7 null, 9 out of runs, 9 twice, null
+static void check_builders() {
+    hv::Builder builder({HV_I64, 1, 0, 0});
+    CHECK(builder.empty() && builder.runs() == 0 && builder.encoding().empty());
+    builder.append(Column::of<int64_t>({7, 7, 0}, {true, true, false}));
+    builder.append(Column::of<int64_t>({8, 9, 9}, {true, true, true}).encode().slice(1, 2));
+    builder.append(9, 2);
+    builder.append(Value(Null{}));
+    CHECK(builder.size() == 7 && builder.runs() == 4 && builder.kind().number == HV_I64);
+    const Column built = builder.encoding();
+    CHECK(built.form() == hv::Form::runs && built.ends().numbers<uint8_t>() == (std::vector<uint8_t>{2, 3, 6, 7}));
+    CHECK(rows_of(built) == (std::vector<Value>{number(7), number(7), Null{}, number(9), number(9), number(9), Null{}}));
+    hv::Builder moved(std::move(builder));
+    CHECK(builder.empty() && moved.size() == 7);
+    try {
+        moved.append(Column::of<int64_t>({1}));
+        CHECK(!"refused");
+    } catch (const hv::Error &error) { CHECK(error.number == HV_TYPE_MISMATCH && moved.size() == 7); }
+    hv::Builder texts({HV_UTF8, 0, 0, 0});
+    texts.append("oak", 2), texts.append(Column::of({"oak", "elm"}));
+    CHECK(texts.runs() == 2 && texts.encoding().at(3) == Value(std::string("elm")));
+    const Column truths = Column::of({true, true, false}).encode_rows();
+    CHECK(truths.ends().numbers<uint8_t>() == (std::vector<uint8_t>{2, 3}));
+}
+
 static void check_arrow() {
     const Column part = made().encode().slice(1, 9);
     ArrowSchema schema;
@@ -263,6 +288,7 @@ int main() {
     check_words();
     check_moves();
     check_lists();
+    check_builders();
     check_refusals();
     check_arrow();
     std::cout << "columns are freed by scope, and refusals are thrown\n";

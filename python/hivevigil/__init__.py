@@ -15,13 +15,14 @@ from typing import Any
 from ._arrow_structs import ArrowArray, ArrowArrayStream, ArrowSchema
 from ._runs import Run
 from ._types import FORMS, OPERATORS, TYPES
+from .builder import Builder
 from .column import Column
 from .errors import CLASSES, HivevigilError
 from .functions import columns_from_arrow, concat, version
 
 __all__ = [
-    "ArrowArray", "ArrowArrayStream", "ArrowSchema", "CLASSES", "Column", "FORMS", "HivevigilError", "OPERATORS", "Run",
-    "TYPES", "columns_from_arrow", "concat",
+    "ArrowArray", "ArrowArrayStream", "ArrowSchema", "Builder", "CLASSES", "Column", "FORMS", "HivevigilError",
+    "OPERATORS", "Run", "TYPES", "columns_from_arrow", "concat",
 ]
 
 

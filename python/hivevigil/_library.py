@@ -23,6 +23,10 @@ class Handle(ctypes.Structure):
     _fields_ = [("at", c_void_p)]
 
 
+class BuilderHandle(ctypes.Structure):
+    _fields_ = [("at", c_void_p)]
+
+
 class Fields(ctypes.Structure):
     _fields_ = [("first", c_uint64), ("second", c_uint64), ("third", c_uint64)]
 
@@ -64,6 +68,7 @@ NUMBERS = {
 }
 
 _HANDLE, _FIELDS, _SESSION = POINTER(Handle), POINTER(Fields), POINTER(Session)
+_BUILDER = POINTER(BuilderHandle)
 _VALIDITY = [c_uint8, c_char_p, c_size_t, c_size_t]
 _VALUE = [POINTER(Value), c_char_p, c_size_t]
 _SHOWN = [POINTER(Value), c_void_p, c_size_t]
@@ -84,6 +89,8 @@ _MAKERS: dict[str, list[Any]] = {
     "hv_clone": [_HANDLE],
     "hv_compact": [_HANDLE],
     "hv_encode": _COMMAND,
+    "hv_encode_rows": [_HANDLE],
+    "hv_encoding": [_BUILDER],
     "hv_decode": _COMMAND,
     "hv_slice": [*_COMMAND, c_size_t, c_size_t],
     "hv_cast": [*_COMMAND, POINTER(Kind)],
@@ -108,6 +115,9 @@ _QUESTIONS: dict[str, list[Any]] = {
     "hv_extreme": [*_COMMAND, c_uint8, *_SHOWN],
     "hv_min_max": [*_COMMAND, *_SHOWN, *_SHOWN],
     "hv_at": [_HANDLE, c_size_t, *_SHOWN],
+    "hv_builder_new": [POINTER(Kind), _BUILDER],
+    "hv_append": [_BUILDER, _HANDLE],
+    "hv_append_value": [_BUILDER, *_VALUE, c_size_t],
     "hv_run_of": [_HANDLE, c_size_t, POINTER(c_size_t)],
     "hv_read_ends_u64": [_HANDLE, c_size_t, POINTER(c_uint64), c_size_t],
     "hv_read_bools_from": [_HANDLE, c_size_t, c_size_t, POINTER(c_uint64), c_size_t],
@@ -132,6 +142,9 @@ _PLAIN: dict[str, tuple[list[Any], Any]] = {
     "hv_offset": ([_HANDLE], c_size_t),
     "hv_bytes_used": ([_HANDLE], c_size_t),
     "hv_free": ([_HANDLE], None),
+    "hv_builder_rows": ([_BUILDER], c_size_t),
+    "hv_builder_runs": ([_BUILDER], c_size_t),
+    "hv_builder_free": ([_BUILDER], None),
     "hv_capsule_calls": ([c_void_p, c_void_p], None),
     "hv_capsule_room": ([c_size_t], c_void_p),
 }
@@ -187,7 +200,7 @@ session = initial_session()
 _METHODS = {
     "extreme": "min and max", "compare_scalar": "compare", "serialize": "record", "deserialize": "from_record",
     "runs": "from_runs", "lists": "from_lists", "clone": "copy", "concat_columns": "concat", "export_with": "to_arrow",
-    "export_stream": "to_arrow", "read_bools": "truths", "read_validity": "validity",
+    "export_stream": "to_arrow", "encode_rows": "to_runs", "read_bools": "truths", "read_validity": "validity",
 }
 
 

@@ -1,7 +1,6 @@
-"""The runs that a column shows, its rows by way of them, and columns of any type put into runs."""
+"""The runs that a column shows, and its rows by way of them."""
 from __future__ import annotations
 
-import array
 import ctypes
 import sys
 from collections.abc import Iterator
@@ -10,8 +9,6 @@ from typing import TYPE_CHECKING, NamedTuple, Optional
 
 from . import _lists, _reading
 from ._library import ask, calls
-from ._making import numbers_of, truths_of, validity_of
-from ._types import WHOLE_NUMBERS
 from ._values import Scalar
 
 if TYPE_CHECKING:
@@ -101,30 +98,3 @@ def null_count(column: Column) -> int:
         shown = visible(column)
         return sum(compress(lengths(shown.stops), _reading.null_flags(shown.values)))
     return _reading.null_flags(column).count(1)
-
-
-def to_runs(column: Column) -> Column:
-    """The column in as few runs as there can be. Integers are encoded by the library; of other types the last row
-    of each run is found by comparing each row with the next, where null is equal to null."""
-    if column.type.rstrip("?") in WHOLE_NUMBERS:
-        return column.encode()
-    flat, length = column._flat(), column._length
-    if length == 0:
-        return column.from_runs(column.of([], "u8"), flat)
-    last_of_run = column._made(*truths_of(_ends_of_runs(flat), length, validity_of(None, length)))
-    letter = "B" if length < 2**8 else "H" if length < 2**16 else "I" if length < 2**32 else "Q"
-    numbers = array.array(letter, range(1, length + 1))
-    ends = column._made(*numbers_of(numbers, validity_of(None, length))).filter(last_of_run)
-    return column.from_runs(ends._flat(), flat.filter(last_of_run)._flat())
-
-
-def _ends_of_runs(flat: Column) -> bytes:
-    """A bit for each row: 1 where the next row differs, and behind the last."""
-    length = len(flat)
-    pairs = (1 << (length - 1)) - 1
-    equal = flat.slice(0, length - 1).eq(flat.slice(1, length))
-    same = int.from_bytes(_reading.truths(equal, 0, length - 1), "little")
-    if flat.nullable:
-        valid = int.from_bytes(_reading.validity(flat, 0, length), "little")
-        same = same & valid & (valid >> 1) | ~valid & ~(valid >> 1)
-    return (~same & pairs | 1 << (length - 1)).to_bytes(length // 8 + 1, "little")

@@ -196,8 +196,8 @@ class Column:
         return self._made(calls.hv_encode, session, self)
 
     def to_runs(self) -> Column:
-        """As few runs as there can be, of rows of any type."""
-        return _runs.to_runs(self)
+        """As few runs as there can be, of rows of any type but lists."""
+        return self._made(calls.hv_encode_rows, self)
 
     def decode(self) -> Column:
         """The rows written out in a flat form."""

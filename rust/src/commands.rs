@@ -21,6 +21,11 @@ impl Column {
         })
     }
 
+    /// The rows of any type but lists as runs, as few as there can be; refused as `Unsupported` for lists.
+    pub fn encode_rows(&self) -> Result<Column, Error> {
+        Column::made(|out, fields| unsafe { raw::hv_encode_rows(self.handle.get(), out, fields) })
+    }
+
     /// The rows written out in a flat form.
     pub fn decode(&self) -> Result<Column, Error> {
         self.command(|session, column, out, fields| unsafe {

@@ -17,6 +17,7 @@
 //! ```
 #![warn(missing_docs)]
 
+mod builder;
 mod column;
 mod commands;
 mod convert;
@@ -29,6 +30,7 @@ mod raw;
 mod show;
 mod value;
 
+pub use builder::Builder;
 pub use column::Column;
 pub use convert::Row;
 pub use error::{Error, ErrorKind, Fields};

@@ -7,6 +7,12 @@ pub struct Handle {
     pub at: *mut u8,
 }
 
+/// The handle of a builder: one that the library owns, or none.
+#[repr(C)]
+pub struct BuilderHandle {
+    pub at: *mut u8,
+}
+
 #[repr(C)]
 #[derive(Clone, Copy, Debug, Default)]
 pub struct RawValue {
@@ -299,4 +305,31 @@ extern "C" {
         error: *mut Fields,
     ) -> i32;
     pub fn hv_free(column: *mut Handle);
+    pub fn hv_encode_rows(column: *mut Handle, out: *mut Handle, error: *mut Fields) -> i32;
+    pub fn hv_builder_new(
+        kind: *const Kind,
+        builder: *mut BuilderHandle,
+        error: *mut Fields,
+    ) -> i32;
+    pub fn hv_append(
+        builder: *mut BuilderHandle,
+        column: *mut Handle,
+        error: *mut Fields,
+    ) -> i32;
+    pub fn hv_append_value(
+        builder: *mut BuilderHandle,
+        value: *const RawValue,
+        text: *const u8,
+        text_len: usize,
+        count: usize,
+        error: *mut Fields,
+    ) -> i32;
+    pub fn hv_encoding(
+        builder: *mut BuilderHandle,
+        out: *mut Handle,
+        error: *mut Fields,
+    ) -> i32;
+    pub fn hv_builder_rows(builder: *mut BuilderHandle) -> usize;
+    pub fn hv_builder_runs(builder: *mut BuilderHandle) -> usize;
+    pub fn hv_builder_free(builder: *mut BuilderHandle);
 }
