@@ -1,7 +1,7 @@
 //! The library's columns, by its calls for C and with nothing between.
 use crate::bits::Bits;
 use crate::data::{Flat, Runs, Truths};
-use crate::raw::{self, Handle, Pair, RawTotal, RawValue};
+use crate::raw::{self, BuilderHandle, Handle, Pair, RawTotal, RawValue};
 use hivevigil::{Fields, Form, Kind, Session};
 use std::cell::UnsafeCell;
 use std::ops::Range;
@@ -190,6 +190,25 @@ impl Column {
 
     pub fn encode(&self, session: &Session) -> Column {
         self.command(|column, out, fields| unsafe { raw::hv_encode(session, column, out, fields) })
+    }
+
+    pub fn encode_rows(&self) -> Column {
+        self.command(|column, out, fields| unsafe { raw::hv_encode_rows(column, out, fields) })
+    }
+
+    /// The encoding of these columns of one type, one behind the other, by a builder.
+    pub fn built(batches: &[Column]) -> Column {
+        let mut builder = BuilderHandle {
+            at: ptr::null_mut(),
+        };
+        let kind = unsafe { raw::hv_kind_of(batches[0].0.get()) };
+        done(|fields| unsafe { raw::hv_builder_new(&kind, &mut builder, fields) });
+        for batch in batches {
+            done(|fields| unsafe { raw::hv_append(&mut builder, batch.0.get(), fields) });
+        }
+        let encoding = made(|out, fields| unsafe { raw::hv_encoding(&mut builder, out, fields) });
+        unsafe { raw::hv_builder_free(&mut builder) };
+        encoding
     }
 
     pub fn decode(&self, session: &Session) -> Column {
@@ -395,13 +414,21 @@ impl Column {
 
     /// The runs of a run column whose first row is the first of its runs.
     pub fn read_runs<T: Item>(&self) -> Runs<T> {
-        let ends = made(|out, fields| unsafe { raw::hv_ends(self.0.get(), out, fields) });
-        let values = made(|out, fields| unsafe { raw::hv_values(self.0.get(), out, fields) });
-        let ends = u32::read(&ends.cast(&Session::initial(), Kind::U32));
         Runs {
-            ends,
-            values: values.read_flat(),
+            ends: self.run_ends(),
+            values: self.run_values().read_flat(),
         }
+    }
+
+    /// Where the runs of a run column end.
+    pub fn run_ends(&self) -> Vec<u32> {
+        let ends = made(|out, fields| unsafe { raw::hv_ends(self.0.get(), out, fields) });
+        u32::read(&ends.cast(&Session::initial(), Kind::U32))
+    }
+
+    /// The values of a run column.
+    pub fn run_values(&self) -> Column {
+        made(|out, fields| unsafe { raw::hv_values(self.0.get(), out, fields) })
     }
 
     pub fn read_truths(&self) -> Truths {

@@ -1,6 +1,6 @@
 //! Rows to runs.
 use crate::bits::Bits;
-use crate::data::{Flat, Runs};
+use crate::data::{Flat, Runs, Texts, TruthRuns, Truths, View};
 
 /// A row is compared with the row before it, one after the other.
 #[inline(never)]
@@ -122,4 +122,65 @@ fn changes<T: Copy + PartialEq>(rows: &Flat<T>, start: usize) -> u64 {
     let before = valid << 1 | carry;
     let shown = u64::MAX >> (63 - (stop - start - 1));
     ((valid ^ before) | (valid & before & items)) & shown
+}
+
+/// Each boolean is compared with the one before it.
+#[inline(never)]
+pub fn encode_truths(rows: &Truths) -> TruthRuns {
+    let row = |at: usize| match &rows.flags {
+        Some(flags) if !flags.get(at) => None,
+        _ => Some(rows.bits.get(at)),
+    };
+    let (mut ends, mut shown) = (Vec::new(), Vec::new());
+    for at in 1..=rows.bits.len {
+        let before = row(at - 1);
+        if at == rows.bits.len || row(at) != before {
+            ends.push(at as u32);
+            shown.push(before);
+        }
+    }
+    let bits = Bits::from_fn(shown.len(), |run| shown[run] == Some(true));
+    let flags = rows.flags.as_ref();
+    let flags = flags.map(|_| Bits::from_fn(shown.len(), |run| shown[run].is_some()));
+    TruthRuns {
+        ends,
+        values: Truths { bits, flags },
+    }
+}
+
+/// Each text is compared with the one before it: by its length and first bytes, and then by all.
+#[inline(never)]
+pub fn encode_texts(rows: &Texts<Flat<View>>) -> Texts<Runs<View>> {
+    let Flat { items, flags } = &rows.views;
+    let valid = |at: usize| flags.as_ref().is_none_or(|flags| flags.get(at));
+    let bytes = |view: &View| &rows.bytes[view.start as usize..][..view.len as usize];
+    let same = |left: &View, right: &View| {
+        (left.len, left.prefix) == (right.len, right.prefix) && bytes(left) == bytes(right)
+    };
+    let (mut ends, mut views, mut shown) = (Vec::new(), Vec::new(), Vec::new());
+    for at in 1..=items.len() {
+        let before = valid(at - 1);
+        let goes_on = at < items.len()
+            && valid(at) == before
+            && (!before || same(&items[at - 1], &items[at]));
+        if !goes_on {
+            ends.push(at as u32);
+            views.push(if before {
+                items[at - 1]
+            } else {
+                View::default()
+            });
+            shown.push(before);
+        }
+    }
+    let flags = flags.as_ref();
+    let flags = flags.map(|_| Bits::from_fn(shown.len(), |run| shown[run]));
+    let values = Flat {
+        items: views,
+        flags,
+    };
+    Texts {
+        views: Runs { ends, values },
+        bytes: rows.bytes.clone(),
+    }
 }

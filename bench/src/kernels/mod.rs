@@ -18,7 +18,7 @@ pub use arrays::{ArrayColumn, NumberType, RunArray};
 pub use bytes::{read, write};
 pub use compare::{less_by_ones, less_by_runs, less_by_turns};
 pub use decode::{decode, decode_truths, decode_truths_by_ones, decode_truths_by_turns};
-pub use encode::{encode, encode_by_words};
+pub use encode::{encode, encode_by_words, encode_texts, encode_truths};
 pub use filter::{filter, filter_by_fours, filter_joined, filter_truths, Kept};
 pub use look::{look_up, look_up_by_halves, run_of, slice, window, Slice};
 pub use map::{cast, fill, take_from};

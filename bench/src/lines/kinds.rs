@@ -149,7 +149,7 @@ const TRUTHS: [(&str, DecodeTruths); 2] = [
 ];
 
 /// Texts of 12 to 20 bytes, one for each run.
-fn written(load: &Load) -> (Vec<i64>, Texts<Runs<View>>) {
+pub fn written(load: &Load) -> (Vec<i64>, Texts<Runs<View>>) {
     let (mut bytes, mut offsets, mut items) = (Vec::new(), vec![0], Vec::new());
     for (run, number) in load.numbers.iter().enumerate() {
         let start = bytes.len();

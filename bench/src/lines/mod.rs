@@ -3,6 +3,7 @@ mod aggregates;
 mod bytes;
 mod calls;
 mod codec;
+mod encodings;
 mod first;
 mod growth;
 mod kinds;
@@ -74,6 +75,7 @@ pub fn all(bench: &mut Bench) {
             numbers::<i32>(bench, &load);
             numbers::<u8>(bench, &load);
             kinds::lines(bench, &load);
+            encodings::lines(bench, &load);
         }
     }
     looks::lines(bench);

@@ -1,0 +1,102 @@
+//! Rows of any kind to runs, and batches of them.
+use super::kinds::written;
+use super::{same_runs, shape};
+use crate::bits::Bits;
+use crate::data::{Flat, Runs, Texts, TruthRuns, Truths, View};
+use crate::kernels::{decode, decode_truths, encode, encode_texts, encode_truths};
+use crate::library::{Column, Item};
+use crate::line::Bench;
+use crate::load::Load;
+
+pub fn lines(bench: &mut Bench, load: &Load) {
+    if !["encode rows", "built"]
+        .iter()
+        .any(|call| bench.wants(call))
+    {
+        return;
+    }
+    decimals(bench, load);
+    truths(bench, load);
+    texts(bench, load);
+    batches(bench, load);
+}
+
+fn decimals(bench: &mut Bench, load: &Load) {
+    let flat = decode(&load.runs(|number| i128::from(number) << 30));
+    let column = i128::column(&flat);
+    bench.line(
+        shape(load, "encode rows", "decimals"),
+        (load.rows(), "row"),
+        || column.encode_rows(),
+        || encode(&flat),
+        same_runs,
+    );
+}
+
+fn truths(bench: &mut Bench, load: &Load) {
+    let bits = Bits::from_fn(load.ends.len(), |run| {
+        load.numbers[run] % 3 == 0 && load.flags.as_ref().is_none_or(|flags| flags.get(run))
+    });
+    let flags = load.flags.clone();
+    let ends = load.ends.clone();
+    let values = Truths { bits, flags };
+    let rows = decode_truths(&TruthRuns { ends, values });
+    let column = Column::truths(&rows);
+    bench.line(
+        shape(load, "encode rows", "booleans"),
+        (load.rows(), "row"),
+        || column.encode_rows(),
+        || encode_truths(&rows),
+        |ours, rust| {
+            let values = ours.run_values().read_truths().flat();
+            ours.run_ends() == rust.ends && values.same_rows(&rust.values.flat())
+        },
+    );
+}
+
+fn texts(bench: &mut Bench, load: &Load) {
+    let (offsets, texts) = written(load);
+    let values = Column::texts(&offsets, &texts.bytes, &load.flags);
+    let column = Column::runs(&load.ends, &values).decode(&super::session());
+    let views = decode(&texts.views);
+    let bytes = texts.bytes.clone();
+    let rows = Texts { views, bytes };
+    bench.line(
+        shape(load, "encode rows", "texts"),
+        (load.rows(), "row"),
+        || column.encode_rows(),
+        || encode_texts(&rows),
+        same_texts,
+    );
+}
+
+fn same_texts(ours: &Column, rust: &Texts<Runs<View>>) -> bool {
+    let (offsets, bytes, flags) = ours.run_values().read_texts();
+    let items = offsets
+        .windows(2)
+        .map(|pair| &bytes[pair[0] as usize..pair[1] as usize])
+        .collect();
+    let values = Texts {
+        views: rust.views.values.clone(),
+        bytes: rust.bytes.clone(),
+    };
+    ours.run_ends() == rust.views.ends && Flat { items, flags }.same_rows(&values.flat())
+}
+
+/// A hundred batches, which the Rust loop has as one column.
+fn batches(bench: &mut Bench, load: &Load) {
+    let flat = decode(&load.runs(|number| number));
+    let column = u64::column(&flat);
+    let (rows, session) = (load.rows(), super::session());
+    let cut = |batch: usize| rows * batch / 100;
+    let parts: Vec<Column> = (0..100)
+        .map(|batch| column.slice(&session, cut(batch), cut(batch + 1)))
+        .collect();
+    bench.line(
+        shape(load, "built of a hundred batches", "u64"),
+        (rows, "row"),
+        || Column::built(&parts),
+        || encode(&flat),
+        same_runs,
+    );
+}
