@@ -87,6 +87,11 @@ impl Builder {
 
 impl fmt::Debug for Builder {
     fn fmt(&self, formatter: &mut fmt::Formatter<'_>) -> fmt::Result {
-        write!(formatter, "Builder {{ rows: {}, runs: {} }}", self.len(), self.runs())
+        write!(
+            formatter,
+            "Builder {{ rows: {}, runs: {} }}",
+            self.len(),
+            self.runs()
+        )
     }
 }

@@ -14,7 +14,7 @@ impl Column {
     }
 
     /// As few runs as there can be, with ends of the least type; refused as `OnlyPrimitive` unless the rows are integers.
-    /// 
+    ///
     pub fn encode(&self) -> Result<Column, Error> {
         self.command(|session, column, out, fields| unsafe {
             raw::hv_encode(session, column, out, fields)

@@ -311,11 +311,7 @@ extern "C" {
         builder: *mut BuilderHandle,
         error: *mut Fields,
     ) -> i32;
-    pub fn hv_append(
-        builder: *mut BuilderHandle,
-        column: *mut Handle,
-        error: *mut Fields,
-    ) -> i32;
+    pub fn hv_append(builder: *mut BuilderHandle, column: *mut Handle, error: *mut Fields) -> i32;
     pub fn hv_append_value(
         builder: *mut BuilderHandle,
         value: *const RawValue,
@@ -324,11 +320,7 @@ extern "C" {
         count: usize,
         error: *mut Fields,
     ) -> i32;
-    pub fn hv_encoding(
-        builder: *mut BuilderHandle,
-        out: *mut Handle,
-        error: *mut Fields,
-    ) -> i32;
+    pub fn hv_encoding(builder: *mut BuilderHandle, out: *mut Handle, error: *mut Fields) -> i32;
     pub fn hv_builder_rows(builder: *mut BuilderHandle) -> usize;
     pub fn hv_builder_runs(builder: *mut BuilderHandle) -> usize;
     pub fn hv_builder_free(builder: *mut BuilderHandle);

@@ -138,8 +138,8 @@ fn columns_as_bytes() -> Result<(), Error> {
     let message = own.to_bytes()?;
     // version 1, type i8, form runs, four rows; offset 1, ends u16, lengths 2, 1, 2; three values without null
     let due = [
-        8, 1, 16, 5, 24, 2, 32, 4, 64, 1, 72, 2, 82, 3, 2, 1, 2, 90, 15, 8, 1, 16, 5, 24, 1, 32, 3, 40, 1,
-        58, 3, 7, 8, 9,
+        8, 1, 16, 5, 24, 2, 32, 4, 64, 1, 72, 2, 82, 3, 2, 1, 2, 90, 15, 8, 1, 16, 5, 24, 1, 32, 3,
+        40, 1, 58, 3, 7, 8, 9,
     ];
     assert_eq!(message, due);
     let again = Column::from_bytes(&message)?;

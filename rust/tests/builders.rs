@@ -18,11 +18,18 @@ fn text(item: &str) -> Value {
 fn batches_join_across_their_seams() -> Result<(), Error> {
     let mut builder = Builder::new(Kind::I64.nullable())?;
     builder.append(&Column::try_from(&[Some(7i64), Some(7), None, Some(3)])?)?;
-    builder.append(&Column::try_from(&[Some(9i64), Some(3), Some(4)])?.encode()?.slice(1..3)?)?;
+    builder.append(
+        &Column::try_from(&[Some(9i64), Some(3), Some(4)])?
+            .encode()?
+            .slice(1..3)?,
+    )?;
     builder.append_value(4, 3)?;
     builder.append_value(Value::Null, 0)?;
     builder.append(&Column::constant(Kind::I64.nullable(), Value::Null, 2)?)?;
-    assert_eq!((builder.len(), builder.runs(), builder.is_empty()), (11, 5, false));
+    assert_eq!(
+        (builder.len(), builder.runs(), builder.is_empty()),
+        (11, 5, false)
+    );
     let due = vec![
         (2, Value::Signed(7)),
         (3, Value::Null),
@@ -40,9 +47,15 @@ fn texts_and_truths_are_built() -> Result<(), Error> {
     let mut builder = Builder::new(Kind::UTF8)?;
     builder.append_value("oak", 2)?;
     builder.append(&Column::texts(&["oak", "elm"], None)?)?;
-    assert_eq!(runs(&builder.encoding()?)?, vec![(3, text("oak")), (4, text("elm"))]);
+    assert_eq!(
+        runs(&builder.encoding()?)?,
+        vec![(3, text("oak")), (4, text("elm"))]
+    );
     let truths = Column::truths(&[true, true, false], None)?.encode_rows()?;
-    assert_eq!(runs(&truths)?, vec![(2, Value::Truth(true)), (3, Value::Truth(false))]);
+    assert_eq!(
+        runs(&truths)?,
+        vec![(2, Value::Truth(true)), (3, Value::Truth(false))]
+    );
     Ok(())
 }
 
