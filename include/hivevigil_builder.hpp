@@ -14,7 +14,7 @@ namespace hv {
 class Builder {
 public:
     // Of rows of this type, which is none of lists.
-    explicit Builder(hv_kind type) : type(type) {
+    explicit Builder(hv_kind kind) : type(kind) {
         detail::ask([&](auto *error) { return hv_builder_new(&type, &handle, error); });
     }
     // A builder that was moved away has no rows; a call on it is refused as HV_NO_COLUMN.
