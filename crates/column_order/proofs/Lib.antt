@@ -5,6 +5,7 @@ pub mod BestRows
 pub mod WrittenTruths
 pub mod ConstantBits
 pub mod ItemRows
+pub mod WordFlags
 pub mod ItemEnds
 pub mod ItemOrder
 pub mod ItemColumns

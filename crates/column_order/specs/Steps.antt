@@ -1,9 +1,10 @@
 -- What the functions that look at one or two rows answer.
-use Rattle.std.specs.Prelude.{◌≡◌, ◌==◌, ◌+◌, ◌<◌, ◌≤◌, ℕ, Bool, true, false, List, Option, Some, None, slice_get}
+use Rattle.std.specs.Prelude.{◌≡◌, ◌==◌, ◌+◌, ◌<◌, ◌≤◌, ℕ, Bool, true, false, List, Option, Some, None, slice_get, Contains}
 use Rattle.std.specs.Ordering.{is_le, is_lt, ordering_index}
 use Rattle.std.specs.declared.cmp.Ordering.{Ordering}
 use Rattle.column_core.specs.Value.{Value, Single, Items}
 use Rattle.column_order.specs.Order.{kind_index, row_cmp}
+use Rattle.column_order.specs.OrderFacts.{IsGreatest, IsLeast}
 
 -- where the kind of a row stands among the kinds: null first, and lists last
 abbrev pub row_index : Option Value → ℕ
@@ -30,3 +31,9 @@ is_past side (Some value) (Some best) = ordering_index (row_cmp (Some value) bes
 abbrev pub AreSteps : Bool → List (Option Value) → ℕ → ℕ → Type 0
 AreSteps strict rows start stop = (k : ℕ) → start ≤ k → k < stop → (a b : Option Value) → slice_get rows k ≡ Some a → slice_get rows (k + 1) ≡ Some b
     → is_step_of strict (row_cmp a b) ≡ true
+
+-- a row that is among these, and a least and a greatest of them
+pub record AreEndsSoFar (rows : List (Option Value)) (first least greatest : Option Value) : Type 0 where
+  pub among : Contains rows first
+  pub low : IsLeast rows least
+  pub high : IsGreatest rows greatest

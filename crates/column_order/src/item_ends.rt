@@ -1,11 +1,12 @@
 //! The least and the greatest of the items of a flat column.
-ghost use Rattle.std.specs.Prelude.{◌≡◌, ◌≤◌, All, IfNone, IfSome, None, length, slice_range, MatchOption};
+ghost use Rattle.std.specs.Prelude.{◌≡◌, ◌/◌, ◌<◌, ◌≤◌, ℕ, All, IfNone, IfSome, None, length, slice_range, MatchOption};
 ghost use Rattle.column_base.specs.ValidityForm.{HasLength, flags};
 ghost use Rattle.column_base.specs.Validity.{form_of};
 ghost use Rattle.column_base.specs.declared.dtype.DecimalDType.{DecimalDType};
 ghost use Rattle.column_base.specs.declared.dtype.Nullability.{Nullability};
 ghost use Rattle.column_order.specs.Items.{flagged_rows, item_row, item_rows, IsFirstValid};
 ghost use Rattle.column_order.specs.OrderFacts.{AreEnds, IsGreatest, IsLeast};
+ghost use Rattle.column_order.specs.Steps.{AreEndsSoFar};
 
 use crate::items::FlatItem;
 use column_core::{BitBuffer, ScalarView, Validity};
@@ -96,8 +97,7 @@ pub(crate) fn first_valid<A: Allocator>(flags: &BitBuffer<A>, start: usize, stop
     stop
 }
 
-// The least and the greatest of items that are null where their flag is false. In the place of a null the first item
-// that is none is looked at once more, so that each row takes the same steps.
+// The least and the greatest of items that are null where their flag is false, a word of flags at a time.
 fn ends_of_flagged<T: FlatItem, A: Allocator>(
     items: &[T],
     flags: &BitBuffer<A>,
@@ -119,13 +119,54 @@ fn ends_of_flagged<T: FlatItem, A: Allocator>(
         return None;
     }
     let first = items[from];
-    let mut least = first;
-    let mut greatest = first;
-    for row in from + 1..stop {
+    let mut ends = (first, first);
+    let mut row = from + 1;
+    while row < stop {
+        let end = word_end(row, stop);
+        ends = ends_in_word(items, flags, row..end, first, ends);
+        row = end;
+    }
+    Some(ends)
+}
+
+// Where the rows end that have their flags in the same word as a row.
+fn word_end(row: usize, stop: usize) -> usize
+    requires { row < stop }
+    ensures low { row < result }
+    ensures high { result ≤ stop }
+    ensures same_word { (k : ℕ) → row ≤ k → k < result → k / 64 ≡ row / 64 }
+{
+    row + (64 - row % 64).min(stop - row)
+}
+
+// The least and the greatest of the items before some rows and of those rows, whose flags stand in one word. In the
+// place of a null the first item that is none is looked at once more, so that each row takes the same steps.
+#[inline(always)]
+fn ends_in_word<T: FlatItem, A: Allocator>(
+    items: &[T],
+    flags: &BitBuffer<A>,
+    range: Range<usize>,
+    first: T,
+    ends: (T, T),
+) -> (T, T)
+    requires fits { length flags.now ≡ length items.now }
+    requires ordered { range.start < range.end }
+    requires in_bounds { range.end ≤ length items.now }
+    requires one_word { (k : ℕ) → range.start ≤ k → k < range.end → k / 64 ≡ range.start / 64 }
+    ensures { (start : ℕ) → start ≤ range.start
+        → AreEndsSoFar (slice_range (flagged_rows T.value items.now flags.now) start range.start)
+        (item_row T.value first) (item_row T.value ends.0) (item_row T.value ends.1)
+        → AreEndsSoFar (slice_range (flagged_rows T.value items.now flags.now) start range.end)
+        (item_row T.value first) (item_row T.value result.0) (item_row T.value result.1) }
+{
+    let word = flags.words()[range.start / 64];
+    let (mut least, mut greatest) = ends;
+    for row in range.start..range.end {
         let item = items[row];
-        let shown = if flags.value(row) { item } else { first };
+        let is_valid = (word >> (row % 64)) & 1 == 1;
+        let shown = if is_valid { item } else { first };
         least = least.min(shown);
         greatest = greatest.max(shown);
     }
-    Some((least, greatest))
+    (least, greatest)
 }
