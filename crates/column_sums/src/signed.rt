@@ -117,8 +117,8 @@ fn room_for(value: i64, sum: i64) -> usize
 }
 
 // The sum and `len` times the value, where that is in the range, by 128 bits: a product may leave 64 bits where the sum
-// is in the range.
-#[inline]
+// is in the range. A call, since the loop around it is a third slower where it stands inside.
+#[inline(never)]
 fn wide_sum(sum: i64, value: i64, len: usize) -> Option<i64>
     ensures { MatchOption result (is_within SignedRange (sum +ℤ value *ℤ pos len) ≡ false) (λ wide. wide ≡
         sum +ℤ value *ℤ pos len) }
