@@ -17,3 +17,4 @@ pub mod WordsAt
 pub mod BitItems
 pub mod Lowest
 pub mod NoFaults
+pub mod WrittenBits

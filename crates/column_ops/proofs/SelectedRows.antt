@@ -213,11 +213,37 @@ mask-none (AllTrue n) count rows same = cc
 mask-none (AllFalse n) count rows same = filter_rows-none n rows
 mask-none (Values bits) count rows same = cc
 
+-- the bits of a mask that is alike in all rows
+pub mask_bits-all : {A : Type 0} (mask : Mask A) (count n : ℕ) → mask ≡ AllTrue count → length (mask_bits mask) ≡ n → mask_bits mask ≡ replicate n true
+mask_bits-all (AllTrue k) count n same long = ap (λ m. replicate m true) (sym (length-replicate k true) ∙ long)
+mask_bits-all (AllFalse k) count n same long = cc
+mask_bits-all (Values bits) count n same long = cc
+
+pub mask_bits-none : {A : Type 0} (mask : Mask A) (count n : ℕ) → mask ≡ AllFalse count → length (mask_bits mask) ≡ n → mask_bits mask ≡ replicate n false
+mask_bits-none (AllTrue k) count n same long = cc
+mask_bits-none (AllFalse k) count n same long = ap (λ m. replicate m false) (sym (length-replicate k false) ∙ long)
+mask_bits-none (Values bits) count n same long = cc
+
 -- the mark at the place that came
 pub mark-here : (marks : List Bool) (row : ℕ) (mark : Bool) → slice_get marks row ≡ Some mark → Some mark ≡ get_or (map (λ x. Some x) marks) row None
 mark-here [] row mark here = cc
 mark-here (b ∷ marks) zero mark here = sym here
 mark-here (b ∷ marks) (suc row) mark here = mark-here marks row mark here
+
+-- the item there, with a blank one where its mark is false
+pub valid-here : {B : Type 0} (items : List B) (marks : List Bool) (row : ℕ) (item blank : B) → slice_get items row ≡ Some item → slice_get marks row ≡ Some true → slice_get (items_or items marks blank) row ≡ Some item
+valid-here [] marks row item blank here valid = cc
+valid-here (x ∷ items) [] row item blank here valid = cc
+valid-here (x ∷ items) (true ∷ marks) zero item blank here valid = here
+valid-here (x ∷ items) (false ∷ marks) zero item blank here valid = cc
+valid-here (x ∷ items) (b ∷ marks) (suc row) item blank here valid = valid-here items marks row item blank here valid
+
+pub null-here : {B : Type 0} (items : List B) (marks : List Bool) (row : ℕ) (blank : B) → row < length items → slice_get marks row ≡ Some false → slice_get (items_or items marks blank) row ≡ Some blank
+null-here [] marks row blank within null = absurd (omega arith)
+null-here (x ∷ items) [] row blank within null = cc
+null-here (x ∷ items) (true ∷ marks) zero blank within null = cc
+null-here (x ∷ items) (false ∷ marks) zero blank within null = refl
+null-here (x ∷ items) (b ∷ marks) (suc row) blank within null = null-here items marks row blank (omega arith) null
 
 optionals-selected : {B : Type 0} (bits : List Bool) (items : List B) (marks : List Bool) → length bits ≡ length items → length marks ≡ length items
     → optionals (filter_rows bits items) (filter_rows bits marks) ≡ filter_rows bits (optionals items marks)

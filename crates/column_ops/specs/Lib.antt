@@ -7,3 +7,4 @@ pub mod Filter
 pub mod Fill
 pub mod Cast
 pub mod Codes
+pub mod WrittenBits

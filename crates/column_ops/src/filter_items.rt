@@ -9,6 +9,7 @@ ghost use Rattle.column_ops.specs.Filter.{filter_rows};
 ghost use Rattle.column_ops.specs.Written.{AreStoredAs, IsValidityOf};
 
 use crate::computed_validity::is_all_valid;
+use crate::filter_bits::selected_bits;
 use crate::items_or::{items_or, with_item_at_nulls};
 use crate::rows::item_at;
 use column_core::{BitBuffer, BitBufferMut, Mask, Validity, VortexError, VortexResult};
@@ -53,7 +54,7 @@ fn filter_marked<T: Copy + Drop, A: Allocator + Copy>(
     ensures filtered { IfOk result (λ parts. AreStoredAs blank
         (filter_rows bits.now (optionals items.now marks.now)) Nullable parts.0.items (form_of parts.1)) }
 {
-    let flags = selected_marks(alloc, marks, bits)?;
+    let flags = selected_bits(alloc, marks, bits)?;
     match selected_items(alloc, items, bits) {
         Ok(kept) => {
             let shown = with_item_at_nulls(kept, &flags, blank);
@@ -64,23 +65,6 @@ fn filter_marked<T: Copy + Drop, A: Allocator + Copy>(
             Err(error)
         }
     }
-}
-
-// The marks at which the bits are true.
-fn selected_marks<A: Allocator + Copy>(
-    alloc: A,
-    marks: &BitBuffer<A>,
-    bits: &BitBuffer<A>,
-) -> VortexResult<BitBuffer<A>>
-    requires { length bits.now ≡ length marks.now }
-    ensures only { IsOkUnless result VortexError.OutOfMemory }
-    ensures flags { IfOk result (λ kept. kept ≡ filter_rows bits.now marks.now) }
-{
-    let mut kept = BitBufferMut::with_capacity(alloc, bits.true_count())?;
-    for row in bits.set_indices() {
-        kept.append(marks.value(row))?;
-    }
-    Ok(kept.freeze())
 }
 
 // The selected rows and their validity, for each form of mask and of validity.

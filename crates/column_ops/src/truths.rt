@@ -6,7 +6,7 @@ ghost use Rattle.column_core.specs.BoolForm.{bool_with};
 ghost use Rattle.column_core.specs.Leaf.{OfTruths};
 
 use crate::fill_items::fill_items;
-use crate::filter_items::filter_items;
+use crate::filter_bits::filter_bits;
 use crate::keep_items::keep_items;
 use crate::ops::ColumnOps;
 use crate::take_items::take_bits;
@@ -45,11 +45,8 @@ impl<A: Allocator + Copy> ColumnOps<A> for BoolArray<A> {
                 length: self.len(),
             });
         }
-        let own = items_of(alloc, self.values())?;
-        let kept = filter_items(alloc, own.as_slice(), self.validity(), false, mask);
-        drop(own);
-        let (kept, rows) = kept?;
-        array_of(alloc, kept, rows)
+        let (kept, rows) = filter_bits(alloc, self.values(), self.validity(), mask)?;
+        Ok(BoolArray::new_unchecked(kept, rows))
     }
 
     fn fill_with(&self, alloc: A, value: &ScalarValue<A>) -> VortexResult<BoolArray<A>> {

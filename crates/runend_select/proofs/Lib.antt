@@ -13,4 +13,3 @@ pub mod Forms
 pub mod MinimalForms
 pub mod PassedOn
 pub mod WithoutRuns
-pub mod WrittenBits

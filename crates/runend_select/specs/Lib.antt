@@ -5,4 +5,3 @@ pub mod TakeForm
 pub mod Laws
 pub mod SessionPicks
 pub mod Told
-pub mod WrittenBits

@@ -9,13 +9,13 @@ ghost use Rattle.runend_windows.specs.Ends.{ends_of};
 ghost use Rattle.runend_windows.specs.Window.{last_end};
 ghost use Rattle.runend_select.specs.KeptRuns.{AreKept};
 
-use crate::bit_writer::BitWriter;
 use crate::rank::{ones_before, rank_within_word};
 use column_base::match_each_unsigned;
 use column_core::{
     BitBuffer, BitBufferMut, Mask, NativePType, PrimitiveArray, PrimitiveValues, UnsignedPType,
     Validity, VortexError, VortexResult,
 };
+use column_ops::BitWriter;
 use runend_array::ExecutionCtx;
 use runend_decode::reach_of;
 use std::alloc::Allocator;

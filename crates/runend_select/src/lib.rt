@@ -1,7 +1,6 @@
 //! Rows of run columns that a mask selects or that indices name, found by runs.
 #![tactic(auto)]
 
-mod bit_writer;
 mod filtered_ends;
 mod filtered_runs;
 mod filters;

@@ -1,7 +1,7 @@
 use Rattle.std.proofs.Common.{◌∙◌, ◌≤◌, ◌*◌, ℕ, List, Bool, ap, length, sym, subst}
 use Rattle.column_base.specs.Words.{first_bits}
-use Rattle.runend_select.proofs.WrittenBits.{first_bits-whole, first_bits-written, within_whole, within_words}
-use Rattle.runend_select.proofs.bit_writer.BitWriter.finish.Goals as goal
+use Rattle.column_ops.proofs.WrittenBits.{first_bits-whole, first_bits-written, within_whole, within_words}
+use Rattle.column_ops.proofs.bit_writer.BitWriter.finish.Goals as goal
 
 pub from_words-requires : goal.from_words-requires
 from_words-requires g c =

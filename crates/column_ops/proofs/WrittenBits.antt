@@ -5,7 +5,7 @@ use mir.Val.{bool_byte}
 use Rattle.column_base.specs.Words.{first_bits, IsWordOf}
 use Rattle.column_base.proofs.WordBits.{bits_of_digits, bits_push, IsWordOf-none, IsWordOf-push}
 use Rattle.column_base.proofs.WordDigits.{length-first_bits}
-use Rattle.runend_select.specs.WrittenBits.{written_bits, IsPartWord}
+use Rattle.column_ops.specs.WrittenBits.{written_bits, IsPartWord}
 
 -- no bits
 first_bits-none : (words : List ℕ) → first_bits 0 words ≡ []

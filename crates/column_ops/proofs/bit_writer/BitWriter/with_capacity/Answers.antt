@@ -1,5 +1,5 @@
-use Rattle.runend_select.proofs.WrittenBits.{IsPartWord-none, written_bits-none}
-use Rattle.runend_select.proofs.bit_writer.BitWriter.with_capacity.Goals as goal
+use Rattle.column_ops.proofs.WrittenBits.{IsPartWord-none, written_bits-none}
+use Rattle.column_ops.proofs.bit_writer.BitWriter.with_capacity.Goals as goal
 
 pub invariant_of-result : goal.invariant_of-result
 invariant_of-result g c = IsPartWord-none

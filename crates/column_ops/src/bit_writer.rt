@@ -8,7 +8,7 @@ use std::marker::Model;
 
 /// Bits that are being written.
 #[derive(Drop)]
-pub(crate) struct BitWriter<A: Allocator> {
+pub struct BitWriter<A: Allocator> {
     words: Vec<u64, A>,
     // The last bits, fewer than 64 of them.
     word: u64,
@@ -17,7 +17,7 @@ pub(crate) struct BitWriter<A: Allocator> {
 
 impl<A: Allocator> Model for BitWriter<A> {
     ghost use Rattle.std.specs.Prelude.{List, Bool};
-    ghost use Rattle.runend_select.specs.WrittenBits.{written_bits, IsPartWord};
+    ghost use Rattle.column_ops.specs.WrittenBits.{written_bits, IsPartWord};
 
     ghost Value = { List Bool };
 
@@ -28,7 +28,7 @@ impl<A: Allocator> Model for BitWriter<A> {
 
 impl<A: Allocator + Copy> BitWriter<A> {
     /// No bits, and room for `capacity` bits. Refused for want of memory alone.
-    pub(crate) fn with_capacity(alloc: A, capacity: usize) -> VortexResult<Self>
+    pub fn with_capacity(alloc: A, capacity: usize) -> VortexResult<Self>
         ensures empty { IfOk result (λ writer. writer ≡ []) }
         ensures only { IsOkUnless result VortexError.OutOfMemory }
     {
@@ -41,7 +41,7 @@ impl<A: Allocator + Copy> BitWriter<A> {
 
     /// Puts `bit` behind the last bit. Refused for want of memory alone.
     #[inline(always)]
-    pub(crate) fn append(&mut self, bit: bool) -> VortexResult<()>
+    pub fn append(&mut self, bit: bool) -> VortexResult<()>
         ensures ok { OnOk result (self.new ≡ self.old ++ bit ∷ []) }
         ensures only { IsOkUnless result VortexError.OutOfMemory }
     {
@@ -58,7 +58,7 @@ impl<A: Allocator + Copy> BitWriter<A> {
     }
 
     /// The bits that were written, `count` of them. Refused for want of memory alone.
-    pub(crate) fn finish(self, count: usize) -> VortexResult<BitBufferMut<A>>
+    pub fn finish(self, count: usize) -> VortexResult<BitBufferMut<A>>
         requires { count ≡ length self }
         ensures only { IsOkUnless result VortexError.OutOfMemory }
         ensures bits { IfOk result (λ bits. bits ≡ self) }

@@ -1,7 +1,7 @@
 use Rattle.std.proofs.Common.{◌∙◌, ◌∷◌, ◌++◌, [], List, Bool, ap, arith}
-use Rattle.runend_select.specs.WrittenBits.{written_bits}
-use Rattle.runend_select.proofs.WrittenBits.{IsPartWord-none, IsPartWord-push, written_bits-full, written_bits-push}
-use Rattle.runend_select.proofs.bit_writer.BitWriter.append.Goals as goal
+use Rattle.column_ops.specs.WrittenBits.{written_bits}
+use Rattle.column_ops.proofs.WrittenBits.{IsPartWord-none, IsPartWord-push, written_bits-full, written_bits-push}
+use Rattle.column_ops.proofs.bit_writer.BitWriter.append.Goals as goal
 
 pub invariant_of-self : goal.invariant_of-self
 invariant_of-self g c =
