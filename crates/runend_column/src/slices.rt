@@ -5,6 +5,7 @@ ghost use Rattle.column_core.specs.Ranges.{IsBadRange};
 ghost use Rattle.column_core.specs.Refusal.{IsRefusedBy, range_fault};
 ghost use Rattle.runend_windows.specs.Window.{IsWindow};
 ghost use Rattle.runend_array.specs.Array.{column_of, dtype_of, rows};
+ghost use Rattle.runend_array.specs.Canonical.{IsFlatPart};
 ghost use Rattle.runend_array.specs.Column.{column_dtype, column_of_runs, column_rows};
 ghost use Rattle.runend_column.specs.SliceForm.{IsOfRuns, SliceLeaves, RepeatsRun};
 
@@ -135,9 +136,29 @@ fn runs_between<A: Allocator + Copy>(
 {
     let alloc = *ctx.allocator();
     let ends = array.ends_between(alloc, runs.start, runs.end)?;
-    let values = array.values().rows_between(alloc, runs.start, runs.end)?;
-    let values = values.into_array(alloc)?;
+    let values = values_between(alloc, array.values(), runs.start, runs.end)?;
     let ends = ArrayRef::Primitive(ends);
     let part = RunEnd::new_unchecked(ends, values, offset, count);
     ArrayRef::of_runs(alloc, part)
+}
+
+// The values from `start` to `stop - 1`, flat. Those of integers, which are cut most often, are moved no more than once.
+fn values_between<A: Allocator + Copy>(
+    alloc: A,
+    values: &ArrayRef<A>,
+    start: usize,
+    stop: usize,
+) -> VortexResult<ArrayRef<A>>
+    requires ordered { start ≤ stop }
+    requires within { stop ≤ length (rows values.now) }
+    ensures only { IsOkUnless result VortexError.OutOfMemory }
+    ensures part { IfOk result (λ part. IsFlatPart (column_of values.now) start stop (column_of part)) }
+{
+    if let ArrayRef::Primitive(integers) = values {
+        prove!(stop <= integers.len());
+        let part = integers.slice(alloc, start..stop)?;
+        return Ok(ArrayRef::Primitive(part));
+    }
+    let part = values.rows_between(alloc, start, stop)?;
+    part.into_array(alloc)
 }
