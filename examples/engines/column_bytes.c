@@ -1,8 +1,55 @@
 #include "column_bytes.h"
-#include "run_list.h"
+#include "hivevigil_helpers.h"
 #include <stdlib.h>
 
-static int32_t written(hv_column *column, uint8_t **bytes, size_t *size, hv_error *error) {
+/* The same of an encoding: it has no run, or one, which is null. */
+static uint8_t is_null_encoding(const hv_column *runs) {
+    hv_error error;
+    hv_value value;
+    size_t count = 2;
+    if (hv_length(runs) == 0) return 1;
+    if (hv_run_count(runs, &count, &error) || count > 1) return 0;
+    return !hv_at(runs, 0, &value, NULL, 0, &error) && value.kind == HV_NULL;
+}
+
+int32_t column_is_null_alone(const hv_column *column, uint8_t *is_null, hv_error *error) {
+    hv_column runs = HV_EMPTY;
+    const int32_t answer = hv_encode_rows(column, &runs, error);
+    if (!answer) *is_null = is_null_encoding(&runs);
+    hv_free(&runs);
+    return answer;
+}
+
+/* The rows of an encoding of null alone as numbers, which are null by bits. */
+static int32_t null_numbers(const hv_column *runs, hv_column *out, hv_error *error) {
+    const int64_t under_null = 0;
+    const uint8_t no_bit = 0;
+    const size_t count = hv_length(runs) != 0;
+    hv_column ends = HV_EMPTY, values = HV_EMPTY;
+    const hv_validity validity = count ? hv_valid_bits(&no_bit, 1, 0) : hv_not_nullable();
+    int32_t answer = hv_ends(runs, &ends, error);
+    if (!answer) answer = hv_i64(&under_null, count, validity, &values, error);
+    if (!answer) answer = hv_runs(&ends, &values, 0, hv_length(runs), out, error);
+    hv_free(&ends);
+    hv_free(&values);
+    return answer;
+}
+
+/* The rows of an encoding in a type without null, where none is null; else the encoding itself. */
+static int32_t least_type(hv_column *runs, hv_column *out, hv_error *error) {
+    hv_kind kind = hv_kind_of(runs);
+    hv_session session;
+    hv_session_initial(&session);
+    if (kind.nullable) {
+        kind.nullable = 0;
+        const int32_t answer = hv_cast(&session, runs, &kind, out, error);
+        if (answer != HV_NULL_NOT_ALLOWED) return answer;
+    }
+    hv_put(out, runs);
+    return HV_OK;
+}
+
+static int32_t written(const hv_column *column, uint8_t **bytes, size_t *size, hv_error *error) {
     int32_t answer = hv_write_size(column, size, error);
     if (answer) return answer;
     *bytes = malloc(*size);
@@ -12,14 +59,14 @@ static int32_t written(hv_column *column, uint8_t **bytes, size_t *size, hv_erro
     return answer;
 }
 
-int32_t column_bytes_write(hv_column *column, uint8_t **bytes, size_t *size, hv_error *error) {
-    run_list list = RUN_LIST_EMPTY;
-    hv_column runs = HV_EMPTY;
-    int32_t answer = run_list_add_column(&list, column, error);
-    if (!answer) answer = run_list_column(&list, &runs, error);
-    if (!answer) answer = written(&runs, bytes, size, error);
-    run_list_free(&list);
+int32_t column_bytes_write(const hv_column *column, uint8_t **bytes, size_t *size, hv_error *error) {
+    hv_column runs = HV_EMPTY, least = HV_EMPTY;
+    int32_t answer = hv_encode_rows(column, &runs, error);
+    if (!answer && is_null_encoding(&runs)) answer = null_numbers(&runs, &least, error);
+    else if (!answer) answer = least_type(&runs, &least, error);
+    if (!answer) answer = written(&least, bytes, size, error);
     hv_free(&runs);
+    hv_free(&least);
     return answer;
 }
 
@@ -29,8 +76,7 @@ int32_t column_bytes_read(const uint8_t *bytes, size_t size, hv_column *out, hv_
     if (answer) return answer;
     hv_kind kind = hv_kind_of(&column);
     if (kind.number == HV_I64 || kind.number == HV_UTF8 || kind.number == HV_BINARY) {
-        hv_free(out);
-        *out = column;
+        hv_put(out, &column);
         return HV_OK;
     }
     if (kind.number < HV_I64) {

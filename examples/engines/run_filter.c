@@ -1,4 +1,5 @@
 #include "run_filter.h"
+#include "hivevigil_helpers.h"
 #include <stdlib.h>
 #include <string.h>
 
@@ -13,47 +14,105 @@ uint8_t operator_number(const char *name) {
     return NO_OPERATOR;
 }
 
-static uint64_t rows_of_run(const run_list *list, size_t run) {
-    return list->stops[run] - (run ? list->stops[run - 1] : 0);
+/* The runs of a column, which may be hidden: where each stops, its value, and a bit for each. */
+typedef struct run_parts {
+    size_t count, words;
+    uint64_t *stops, *valid;
+    hv_column values; /* flat */
+} run_parts;
+
+static void free_parts(run_parts *runs) {
+    free(runs->stops);
+    free(runs->valid);
+    hv_free(&runs->values);
 }
 
-uint64_t run_list_valid_rows(const run_list *list) {
-    uint64_t rows = 0;
-    for (size_t run = 0; run < list->runs; run++) rows += list->valid[run] ? rows_of_run(list, run) : 0;
-    return rows;
-}
-
-/* The runs that a flat mask of a boolean for each keeps; a null keeps none. */
-static int32_t keep_runs(const run_list *list, hv_column *mask, run_list *kept, hv_error *error) {
-    const size_t words = (list->runs + 63) / 64;
-    uint64_t *truths = calloc(words + 1, sizeof *truths), *valid = calloc(words + 1, sizeof *valid);
-    int32_t answer = truths && valid ? hv_read_bools(mask, truths, words, error) : HV_OUT_OF_MEMORY;
-    if (!answer) answer = hv_read_validity(mask, valid, words, error);
-    for (size_t run = 0; !answer && run < list->runs; run++) {
-        const run_value value = run_list_value(list, run);
-        const uint64_t is_kept = truths[run / 64] & valid[run / 64] & (uint64_t)1 << run % 64;
-        if (is_kept) answer = run_list_add(kept, rows_of_run(list, run), &value);
+static int32_t read_parts(const hv_session *session, const hv_column *column, run_parts *runs, hv_error *error) {
+    hv_column encoding = HV_EMPTY, values = HV_EMPTY;
+    int32_t answer = HV_OK;
+    if (hv_form(column) != HV_FORM_RUNS) answer = hv_encode_rows(column, &encoding, error), column = &encoding;
+    if (!answer) answer = hv_run_count(column, &runs->count, error);
+    if (!answer) answer = hv_values(column, &values, error);
+    if (!answer) answer = hv_decode(session, &values, &runs->values, error);
+    if (!answer) {
+        runs->words = (runs->count + 63) / 64;
+        runs->stops = calloc(runs->count + 1, sizeof *runs->stops);
+        runs->valid = calloc(runs->words + 1, sizeof *runs->valid);
+        if (!runs->stops || !runs->valid) answer = HV_OUT_OF_MEMORY;
     }
-    free(truths);
-    free(valid);
+    if (!answer) answer = hv_read_ends_u64(column, 0, runs->stops, runs->count, error);
+    if (!answer) answer = hv_read_validity(&runs->values, runs->valid, runs->words, error);
+    hv_free(&encoding);
+    hv_free(&values);
     return answer;
 }
 
-int32_t run_list_filter(const run_list *list, uint8_t operator_, const run_value *value, run_list *kept,
-                        hv_error *error) {
-    const hv_value right = {value->len, value->number, value->kind, 0};
-    const uint8_t *text = value->len ? value->bytes : (const uint8_t *)"";
-    hv_column values = HV_EMPTY, mask = HV_EMPTY, flat = HV_EMPTY;
+/* How many rows the runs have that are not null. */
+static uint64_t valid_rows(const run_parts *runs) {
+    uint64_t start = 0, rows = 0;
+    for (size_t run = 0; run < runs->count; run++) {
+        if (runs->valid[run / 64] >> run % 64 & 1) rows += runs->stops[run] - start;
+        start = runs->stops[run];
+    }
+    return rows;
+}
+
+int32_t column_valid_rows(const hv_column *column, uint64_t *rows, hv_error *error) {
+    run_parts runs = {.values = HV_EMPTY};
     hv_session session;
-    if (value->kind == HV_NULL || list->kind == HV_NULL) return HV_OK;
-    if (value->kind != list->kind) return HV_TYPE_MISMATCH;
     hv_session_initial(&session);
-    int32_t answer = run_list_values(list, list->nulls, &values, error);
-    if (!answer) answer = hv_compare_scalar(&session, &values, operator_, &right, text, value->len, &mask, error);
-    if (!answer) answer = hv_decode(&session, &mask, &flat, error);
-    if (!answer) answer = keep_runs(list, &flat, kept, error);
+    const int32_t answer = read_parts(&session, column, &runs, error);
+    if (!answer) *rows = valid_rows(&runs);
+    free_parts(&runs);
+    return answer;
+}
+
+/* Leaves the stops and the bits of the runs that are kept, those that show rows and have a bit in `valid` and in
+ * `kept`; answers how many. */
+static size_t keep_stops(run_parts *runs, uint64_t *kept) {
+    uint64_t start = 0, rows = 0;
+    size_t count = 0;
+    for (size_t run = 0; run < runs->count; run++) {
+        const uint64_t stop = runs->stops[run], bit = (uint64_t)1 << run % 64;
+        if (start == stop || !(runs->valid[run / 64] & bit)) kept[run / 64] &= ~bit;
+        if (kept[run / 64] & bit) runs->stops[count++] = rows += stop - start;
+        start = stop;
+    }
+    return count;
+}
+
+/* The runs that a mask has a true for. */
+static int32_t keep_runs(const hv_session *session, run_parts *runs, const hv_column *mask, hv_column *out,
+                         hv_error *error) {
+    uint64_t *bits = calloc(runs->words + 1, sizeof *bits);
+    hv_column ends = HV_EMPTY, values = HV_EMPTY;
+    int32_t answer = bits ? hv_read_bools_from(mask, 0, runs->count, bits, runs->words, error) : HV_OUT_OF_MEMORY;
+    const size_t count = answer ? 0 : keep_stops(runs, bits);
+    if (!answer)
+        answer = hv_filter_bits(session, &runs->values, (const uint8_t *)bits, 8 * runs->words, 0, &values, error);
+    if (!answer) answer = hv_u64(runs->stops, count, hv_not_nullable(), &ends, error);
+    if (!answer) answer = hv_runs(&ends, &values, 0, count ? runs->stops[count - 1] : 0, out, error);
+    free(bits);
+    hv_free(&ends);
     hv_free(&values);
+    return answer;
+}
+
+int32_t column_filter(const hv_column *column, uint8_t operator_, const row_value *value, hv_column *out,
+                      hv_error *error) {
+    const hv_value right = {value->len, value->number, value->kind, 0};
+    run_parts runs = {.values = HV_EMPTY};
+    hv_column mask = HV_EMPTY;
+    hv_session session;
+    hv_session_initial(&session);
+    int32_t answer = read_parts(&session, column, &runs, error);
+    if (!answer && (value->kind == HV_NULL || !valid_rows(&runs))) {
+        answer = hv_slice(&session, column, 0, 0, out, error);
+    } else if (!answer) {
+        answer = hv_compare_scalar(&session, &runs.values, operator_, &right, value->bytes, value->len, &mask, error);
+        if (!answer) answer = keep_runs(&session, &runs, &mask, out, error);
+    }
+    free_parts(&runs);
     hv_free(&mask);
-    hv_free(&flat);
     return answer;
 }

@@ -60,14 +60,6 @@ bytea *hv_bytes_of_column(const char *function, hv_column *column) {
     return made;
 }
 
-bytea *hv_bytes_of_list(const char *function, const run_list *list) {
-    hv_error error = {0, 0, 0};
-    hv_column column = HV_EMPTY;
-    const int32_t answer = list->rows > PG_INT64_MAX ? HV_WINDOW_OVERFLOW : run_list_column(list, &column, &error);
-    hv_raise(function, answer, &error);
-    return hv_bytes_of_column(function, &column);
-}
-
 text *hv_text_of(const char *function, const uint8_t *bytes, size_t len) {
     if (GetDatabaseEncoding() != PG_UTF8 || memchr(bytes, 0, len))
         ereport(ERROR, (errcode(ERRCODE_CHARACTER_NOT_IN_REPERTOIRE),
@@ -75,8 +67,8 @@ text *hv_text_of(const char *function, const uint8_t *bytes, size_t len) {
     return cstring_to_text_with_len((const char *)bytes, (int)len);
 }
 
-run_value hv_value_of_text(const char *function, text *value) {
-    const run_value found = {HV_TEXT, 0, (const uint8_t *)VARDATA_ANY(value), VARSIZE_ANY_EXHDR(value)};
+row_value hv_value_of_text(const char *function, text *value) {
+    const row_value found = {HV_TEXT, 0, (const uint8_t *)VARDATA_ANY(value), VARSIZE_ANY_EXHDR(value)};
     if (GetDatabaseEncoding() != PG_UTF8)
         ereport(ERROR, (errcode(ERRCODE_FEATURE_NOT_SUPPORTED),
                         errmsg("%s: columns of texts are for databases in UTF8", function)));
@@ -119,11 +111,9 @@ HV_FUNCTION(pg_hv_rows) {
 HV_FUNCTION(pg_hv_count) {
     hv_error error = {0, 0, 0};
     hv_column column = HV_EMPTY;
-    run_list list = RUN_LIST_EMPTY;
+    uint64_t rows = 0;
     hv_column_of("hv_count", PG_GETARG_BYTEA_PP(0), &column);
-    const int32_t answer = run_list_add_column(&list, &column, &error);
-    const uint64_t rows = run_list_valid_rows(&list);
-    run_list_free(&list);
+    const int32_t answer = column_valid_rows(&column, &rows, &error);
     hv_free(&column);
     hv_raise("hv_count", answer, &error);
     PG_RETURN_INT64((int64)rows);
@@ -229,27 +219,22 @@ HV_FUNCTION(pg_hv_slice) {
 }
 
 /* The rows of which `row operator value` holds. */
-static Datum filtered(FunctionCallInfo fcinfo, const run_value *value) {
+static Datum filtered(FunctionCallInfo fcinfo, const row_value *value) {
     const uint8_t operator_ = PG_ARGISNULL(1) ? NO_OPERATOR : operator_number(text_to_cstring(PG_GETARG_TEXT_PP(1)));
     hv_error error = {0, 0, 0};
     hv_column column = HV_EMPTY, left = HV_EMPTY;
-    run_list list = RUN_LIST_EMPTY, kept = RUN_LIST_EMPTY;
     if (operator_ == NO_OPERATOR)
         ereport(ERROR,
                 (errcode(ERRCODE_INVALID_PARAMETER_VALUE), errmsg("hv_filter: an operator is one of = <> > >= < <=")));
     hv_column_of("hv_filter", PG_GETARG_BYTEA_PP(0), &column);
-    int32_t answer = run_list_add_column(&list, &column, &error);
-    if (!answer) answer = run_list_filter(&list, operator_, value, &kept, &error);
-    if (!answer) answer = run_list_column(&kept, &left, &error);
+    const int32_t answer = column_filter(&column, operator_, value, &left, &error);
     hv_free(&column);
-    run_list_free(&list);
-    run_list_free(&kept);
     hv_raise("hv_filter", answer, &error);
     PG_RETURN_BYTEA_P(hv_bytes_of_column("hv_filter", &left));
 }
 
 HV_FUNCTION(pg_hv_filter_numbers) {
-    run_value value = {HV_NULL, 0, NULL, 0};
+    row_value value = {HV_NULL, 0, NULL, 0};
     if (PG_ARGISNULL(0)) PG_RETURN_NULL();
     if (!PG_ARGISNULL(2)) {
         value.kind = HV_SIGNED;
@@ -259,7 +244,7 @@ HV_FUNCTION(pg_hv_filter_numbers) {
 }
 
 HV_FUNCTION(pg_hv_filter_texts) {
-    run_value value = {HV_NULL, 0, NULL, 0};
+    row_value value = {HV_NULL, 0, NULL, 0};
     if (PG_ARGISNULL(0)) PG_RETURN_NULL();
     if (!PG_ARGISNULL(2)) value = hv_value_of_text("hv_filter", PG_GETARG_TEXT_PP(2));
     return filtered(fcinfo, &value);

@@ -23,17 +23,13 @@ void hv_raise(const char *function, int32_t answer, const hv_error *error);
 /* The column of an argument, or the error that it is none. */
 void hv_column_of(const char *function, bytea *bytes, hv_column *out);
 
-/* What a column shows, freed with the memory context. */
-run_list *hv_list_in(MemoryContext context);
-
-/* The rows of a list as bytes of PostgreSQL's, and the column, which is freed; or the error. */
-bytea *hv_bytes_of_list(const char *function, const run_list *list);
+/* The bytes of a column as PostgreSQL's, or the error; the column is freed. */
 bytea *hv_bytes_of_column(const char *function, hv_column *column);
 
 /* The bytes of a text as PostgreSQL's, or the error that it cannot be one. */
 text *hv_text_of(const char *function, const uint8_t *bytes, size_t len);
 
-/* A text of PostgreSQL's, which has to be UTF-8, as a value of a list. */
-run_value hv_value_of_text(const char *function, text *value);
+/* A text of PostgreSQL's, which has to be UTF-8, as a row of a column. */
+row_value hv_value_of_text(const char *function, text *value);
 
 #endif

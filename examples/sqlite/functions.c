@@ -81,20 +81,9 @@ static void answer_column(sqlite3_context *context, const char *function, hv_col
     else sqlite3_result_blob64(context, bytes, size, free);
 }
 
-static void answer_list(sqlite3_context *context, const char *function, const run_list *list) {
-    hv_error error = {0, 0, 0};
-    hv_column column = HV_EMPTY;
-    const int32_t answer = run_list_column(list, &column, &error);
-    if (list->rows > INT64_MAX) refuse(context, function, HV_WINDOW_OVERFLOW, &error);
-    else if (answer == HV_TYPE_MISMATCH) fail(context, sqlite3_mprintf("%s: a text is not UTF-8", function));
-    else if (answer) refuse(context, function, answer, &error);
-    else answer_column(context, function, &column);
-    hv_free(&column);
-}
-
-/* The SQL value as one of a list; false for a real number. */
-static bool run_value_of(sqlite3_value *from, run_value *value) {
-    const run_value null = {HV_NULL, 0, NULL, 0};
+/* The SQL value as a row of a column; false for a real number. */
+static bool row_value_of(sqlite3_value *from, row_value *value) {
+    const row_value null = {HV_NULL, 0, NULL, 0};
     *value = null;
     switch (sqlite3_value_type(from)) {
     case SQLITE_NULL: return true;
@@ -132,47 +121,54 @@ static uint8_t kind_by_name(sqlite3_value *name) {
 
 /* The kind that a second argument asks for, HV_NULL where there is none; false, and an error, where it names no type or
  * another than that of the rows before. */
-static bool is_asked(sqlite3_context *context, const run_list *list, int count, sqlite3_value **values,
+static bool is_asked(sqlite3_context *context, const row_builder *rows, int count, sqlite3_value **values,
                      uint8_t *kind) {
     *kind = count == 2 ? kind_by_name(values[1]) : HV_NULL;
     if (count == 2 && *kind == HV_NULL) {
         fail(context, sqlite3_mprintf("hv_column: a type is one of 'integer', 'text' and 'blob'"));
         return false;
     }
-    if (*kind == HV_NULL || list->kind == HV_NULL || *kind == list->kind) return true;
+    if (*kind == HV_NULL || rows->kind == HV_NULL || *kind == rows->kind) return true;
     fail(context, sqlite3_mprintf("hv_column: row %llu asks for %s, and the rows before it are %s",
-                                  (unsigned long long)list->rows, kind_in_words(*kind), kind_in_words(list->kind)));
+                                  (unsigned long long)rows->rows, kind_in_words(*kind), kind_in_words(rows->kind)));
     return false;
 }
 
+/* Ends the call where rows were refused that are of one type: then a text is meant. */
+static void refuse_rows(sqlite3_context *context, const char *function, int32_t answer, const hv_error *error) {
+    if (answer == HV_TYPE_MISMATCH) fail(context, sqlite3_mprintf("%s: a text is not UTF-8", function));
+    else refuse(context, function, answer, error);
+}
+
 static void column_step(sqlite3_context *context, int count, sqlite3_value **values) {
-    run_list *list = sqlite3_aggregate_context(context, sizeof *list);
-    const hv_error none = {0, 0, 0};
-    run_value value;
+    row_builder *rows = sqlite3_aggregate_context(context, sizeof *rows);
+    hv_error error = {0, 0, 0};
+    row_value value;
     uint8_t kind;
-    if (!list) {
+    if (!rows) {
         sqlite3_result_error_nomem(context);
         return;
     }
-    if (!is_asked(context, list, count, values, &kind)) return;
-    if (kind == HV_NULL) kind = list->kind;
-    const bool fits = run_value_of(values[0], &value) && (!kind || !value.kind || value.kind == kind);
-    const int32_t answer = fits ? run_list_add(list, 1, &value) : HV_TYPE_MISMATCH;
-    if (answer == HV_TYPE_MISMATCH)
-        fail(context, sqlite3_mprintf("hv_column: row %llu is %s, and %s holds %s", (unsigned long long)list->rows,
+    if (!is_asked(context, rows, count, values, &kind)) return;
+    if (kind == HV_NULL) kind = rows->kind;
+    if (!row_value_of(values[0], &value) || (kind && value.kind && value.kind != kind)) {
+        fail(context, sqlite3_mprintf("hv_column: row %llu is %s, and %s holds %s", (unsigned long long)rows->rows,
                                       type_in_words(sqlite3_value_type(values[0])),
                                       count == 2 ? "the column that is asked for" : "a column",
                                       kind ? kind_in_words(kind) : "integers, texts or blobs"));
-    else if (answer) refuse(context, "hv_column", answer, &none);
+        return;
+    }
+    const int32_t answer = row_builder_add(rows, &value, &error);
+    if (answer) refuse_rows(context, "hv_column", answer, &error);
 }
 
 static void concat_step(sqlite3_context *context, int count, sqlite3_value **values) {
-    run_list *list = sqlite3_aggregate_context(context, sizeof *list);
+    row_builder *rows = sqlite3_aggregate_context(context, sizeof *rows);
     hv_error error = {0, 0, 0};
     hv_column column = HV_EMPTY;
     char *reason = NULL;
     (void)count;
-    if (!list) {
+    if (!rows) {
         sqlite3_result_error_nomem(context);
         return;
     }
@@ -181,22 +177,28 @@ static void concat_step(sqlite3_context *context, int count, sqlite3_value **val
         fail(context, reason);
         return;
     }
-    const int32_t answer = run_list_add_column(list, &column, &error);
+    const int32_t answer = row_builder_add_column(rows, &column, &error);
     if (answer == HV_TYPE_MISMATCH)
         fail(context, sqlite3_mprintf("hv_concat: a column of %s after columns of %s",
-                                      kind_in_words(hv_kind_of(&column).number), kind_in_words(list->kind)));
+                                      kind_in_words(hv_kind_of(&column).number), kind_in_words(rows->kind)));
     else if (answer) refuse(context, "hv_concat", answer, &error);
     hv_free(&column);
 }
 
 /* It is called where a statement ends early too, to give the memory back. */
 static void finish(sqlite3_context *context) {
-    run_list nothing = RUN_LIST_EMPTY, *list = sqlite3_aggregate_context(context, 0);
-    answer_list(context, sqlite3_user_data(context), list ? list : &nothing);
-    run_list_free(list ? list : &nothing);
+    row_builder nothing = ROW_BUILDER_EMPTY, *rows = sqlite3_aggregate_context(context, 0);
+    hv_error error = {0, 0, 0};
+    hv_column column = HV_EMPTY;
+    if (!rows) rows = &nothing;
+    const int32_t answer = rows->rows > INT64_MAX ? HV_WINDOW_OVERFLOW : row_builder_column(rows, &column, &error);
+    if (answer) refuse_rows(context, sqlite3_user_data(context), answer, &error);
+    else answer_column(context, sqlite3_user_data(context), &column);
+    hv_free(&column);
+    row_builder_free(rows);
 }
 
-void answer_value(sqlite3_context *context, const run_value *value) {
+void answer_value(sqlite3_context *context, const row_value *value) {
     const char *bytes = value->len ? (const char *)value->bytes : "";
     switch (value->kind) {
     case HV_SIGNED: sqlite3_result_int64(context, value->number); break;
@@ -229,10 +231,9 @@ static int32_t ask_rows(question *asked) {
 }
 
 static int32_t ask_count(question *asked) {
-    run_list list = RUN_LIST_EMPTY;
-    const int32_t answer = run_list_add_column(&list, asked->column, &asked->error);
-    if (!answer) sqlite3_result_int64(asked->context, (sqlite3_int64)run_list_valid_rows(&list));
-    run_list_free(&list);
+    uint64_t rows = 0;
+    const int32_t answer = column_valid_rows(asked->column, &rows, &asked->error);
+    if (!answer) sqlite3_result_int64(asked->context, (sqlite3_int64)rows);
     return answer;
 }
 
@@ -261,7 +262,7 @@ static int32_t answer_look(question *asked, look *at) {
         answer = text ? at(asked, &found, text, len) : HV_OUT_OF_MEMORY;
     }
     if (!answer) {
-        const run_value value = {found.kind, found.as_signed, text, (size_t)found.as_unsigned};
+        const row_value value = {found.kind, found.as_signed, text, (size_t)found.as_unsigned};
         answer_value(asked->context, &value);
     }
     if (text != few) free(text);
@@ -316,19 +317,17 @@ static int32_t ask_slice(question *asked) {
 
 static int32_t ask_filter(question *asked) {
     const uint8_t operator_ = operator_number((const char *)sqlite3_value_text(asked->values[1]));
-    run_list list = RUN_LIST_EMPTY, kept = RUN_LIST_EMPTY;
-    run_value value;
+    hv_column kept = HV_EMPTY;
+    row_value value;
     if (operator_ == NO_OPERATOR) return say(asked, sqlite3_mprintf("hv_filter: an operator is one of = <> > >= < <="));
-    int32_t answer = run_list_add_column(&list, asked->column, &asked->error);
-    if (!answer && !run_value_of(asked->values[2], &value)) answer = HV_TYPE_MISMATCH;
-    if (!answer) answer = run_list_filter(&list, operator_, &value, &kept, &asked->error);
-    if (!answer) answer_list(asked->context, "hv_filter", &kept);
+    int32_t answer = row_value_of(asked->values[2], &value) ? HV_OK : HV_TYPE_MISMATCH;
+    if (!answer) answer = column_filter(asked->column, operator_, &value, &kept, &asked->error);
+    if (!answer) answer_column(asked->context, "hv_filter", &kept);
     if (answer == HV_TYPE_MISMATCH)
-        answer =
-            say(asked, sqlite3_mprintf("hv_filter: a column of %s is not compared with %s", kind_in_words(list.kind),
-                                       type_in_words(sqlite3_value_type(asked->values[2]))));
-    run_list_free(&list);
-    run_list_free(&kept);
+        answer = say(asked, sqlite3_mprintf("hv_filter: a column of %s is not compared with %s",
+                                            kind_in_words(hv_kind_of(asked->column).number),
+                                            type_in_words(sqlite3_value_type(asked->values[2]))));
+    hv_free(&kept);
     return answer;
 }
 

@@ -46,6 +46,8 @@ int main(void) {
         "SELECT length(hv_column(v)) FROM t",
         "SELECT length(hv_column('a text of number ' || v)) FROM t",
         "SELECT length(hv_column(v, 'integer')) FROM t",
+        "SELECT length(hv_column(i)) FROM m",
+        "SELECT length(hv_column('a text of number ' || i)) FROM m",
         "SELECT length(hv_concat(c)) FROM p",
         "SELECT length(hv_concat(hv_slice(w, 1, 20))) FROM p",
         "SELECT hv_rows(c) + hv_count(c) + hv_sum(c) + hv_at(c, 3) FROM p",
@@ -55,6 +57,7 @@ int main(void) {
         "SELECT length(hv_slice(c, 3, 20)) FROM p",
         "SELECT length(hv_slice(c, 3, 4)) FROM p",
         "SELECT sum(stop * length(value)) FROM p, hv_runs(w)",
+        "SELECT sum(hv_count(c)) FROM (SELECT hv_concat(x'0801100B180120022803620200006A00') AS c)",
     };
     long all = 0;
     CHECK(sqlite3_open(":memory:", &db) == SQLITE_OK);
@@ -63,6 +66,8 @@ int main(void) {
     ask("WITH RECURSIVE n(i) AS (SELECT 0 UNION ALL SELECT i + 1 FROM n WHERE i < 99) INSERT INTO t SELECT CASE WHEN i "
         "% 7 "
         "THEN i / 3 END FROM n");
+    ask("CREATE TABLE m AS WITH RECURSIVE n(i) AS (SELECT NULL UNION ALL SELECT ifnull(i, 0) + 1 FROM n LIMIT 1200) "
+        "SELECT i FROM n");
     ask("CREATE TABLE p AS SELECT hv_column(v) AS c, hv_column('a text of number ' || v || ' and more, so that it is "
         "longer "
         "than any room that there is at first') AS w FROM t");

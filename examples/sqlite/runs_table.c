@@ -1,14 +1,45 @@
 /* hv_runs(column): a table of a row for each run, made when it is asked for. */
 #include "sqlite_column.h"
+#include <stdlib.h>
 #include <string.h>
 
 enum { START, STOP, VALUE, COLUMN };
 
+/* The runs are those of an encoding, and one of them is looked at. */
 typedef struct cursor {
     sqlite3_vtab_cursor base;
-    run_list list;
-    size_t run;
+    hv_column runs;
+    size_t count, run, start, stop;
+    row_value value;
+    uint8_t *text; /* of the value */
+    size_t room;
 } cursor;
+
+static void forget(cursor *at) {
+    hv_free(&at->runs);
+    free(at->text);
+    at->text = NULL;
+    at->room = at->count = at->run = 0;
+}
+
+/* Looks at the run, if there is one; its text is asked for again with room for it. */
+static int32_t look(cursor *at, hv_error *error) {
+    hv_value found = {.kind = HV_NULL};
+    if (at->run >= at->count) return HV_OK;
+    int32_t answer = hv_run(&at->runs, at->run, &at->start, &at->stop, &found, at->text, at->room, error);
+    if (answer == HV_COLUMN_LENGTH) {
+        uint8_t *text = realloc(at->text, (size_t)error->first);
+        if (!text) return HV_OUT_OF_MEMORY;
+        at->text = text;
+        at->room = (size_t)error->first;
+        answer = hv_run(&at->runs, at->run, &at->start, &at->stop, &found, at->text, at->room, error);
+    }
+    at->value.kind = found.kind;
+    at->value.number = found.as_signed;
+    at->value.bytes = at->text;
+    at->value.len = (size_t)found.as_unsigned;
+    return answer;
+}
 
 static int connect_table(sqlite3 *db, void *data, int count, const char *const *words, sqlite3_vtab **table,
                          char **error) {
@@ -54,7 +85,7 @@ static int open_cursor(sqlite3_vtab *table, sqlite3_vtab_cursor **opened) {
 }
 
 static int close_cursor(sqlite3_vtab_cursor *base) {
-    run_list_free(&((cursor *)base)->list);
+    forget((cursor *)base);
     sqlite3_free(base);
     return SQLITE_OK;
 }
@@ -65,12 +96,13 @@ static int begin(sqlite3_vtab_cursor *base, int plan, const char *name, int coun
     hv_error error = {0, 0, 0};
     char *reason = NULL;
     (void)plan, (void)name, (void)count;
-    run_list_free(&at->list);
-    at->run = 0;
+    forget(at);
     if (sqlite3_value_type(values[0]) == SQLITE_NULL) return SQLITE_OK;
     bool done = column_of("hv_runs", values[0], &column, &reason);
     if (done) {
-        const int32_t answer = run_list_add_column(&at->list, &column, &error);
+        int32_t answer = hv_encode_rows(&column, &at->runs, &error);
+        if (!answer) answer = hv_run_count(&at->runs, &at->count, &error);
+        if (!answer) answer = look(at, &error);
         if (answer) reason = refusal("hv_runs", answer, &error);
         done = !answer;
     }
@@ -81,21 +113,22 @@ static int begin(sqlite3_vtab_cursor *base, int plan, const char *name, int coun
 }
 
 static int next_run(sqlite3_vtab_cursor *base) {
-    ((cursor *)base)->run++;
-    return SQLITE_OK;
+    cursor *at = (cursor *)base;
+    hv_error error;
+    at->run++;
+    return look(at, &error) ? SQLITE_NOMEM : SQLITE_OK;
 }
 
 static int at_end(sqlite3_vtab_cursor *base) {
     const cursor *at = (const cursor *)base;
-    return at->run >= at->list.runs;
+    return at->run >= at->count;
 }
 
 static int column_value(sqlite3_vtab_cursor *base, sqlite3_context *context, int column) {
     const cursor *at = (const cursor *)base;
-    const run_value value = run_list_value(&at->list, at->run);
-    if (column == START) sqlite3_result_int64(context, at->run ? (sqlite3_int64)at->list.stops[at->run - 1] : 0);
-    if (column == STOP) sqlite3_result_int64(context, (sqlite3_int64)at->list.stops[at->run]);
-    if (column == VALUE) answer_value(context, &value);
+    if (column == START) sqlite3_result_int64(context, (sqlite3_int64)at->start);
+    if (column == STOP) sqlite3_result_int64(context, (sqlite3_int64)at->stop);
+    if (column == VALUE) answer_value(context, &at->value);
     return SQLITE_OK;
 }
 

@@ -18,7 +18,7 @@ char *refusal(const char *function, int32_t answer, const hv_error *error);
 /* The column that a blob is; if it is none, false and the reason as with `refusal`, or null. */
 bool column_of(const char *function, sqlite3_value *value, hv_column *out, char **reason);
 
-void answer_value(sqlite3_context *context, const run_value *value);
+void answer_value(sqlite3_context *context, const row_value *value);
 
 /* The table-valued function hv_runs. */
 int register_runs_table(sqlite3 *db);

@@ -161,6 +161,55 @@ static void check_refusals(void) {
     CHECK_SQL("SELECT hv_concat(c) OVER () FROM p", "error: hv_concat() may not be used as a window function");
 }
 
+static void same(const char *runs, const char *rows) {
+    static char wanted[sizeof answer];
+    strcpy(wanted, ask(rows));
+    check_text(ask(runs), wanted, runs, __FILE__, __LINE__);
+}
+
+/* More rows, and more bytes of texts, than wait for the library's builder at a time. */
+static void check_many(void) {
+    ask("CREATE TABLE m AS WITH RECURSIVE n(i) AS (SELECT 0 UNION ALL SELECT i + 1 FROM n WHERE i < 4999) SELECT i, "
+        "CASE WHEN i % 5 THEN i * 7919 % 1000 END AS v, 'a text of number ' || i AS s, "
+        "printf('%.*c', 30000, 'x') || (i % 7) AS l FROM n");
+    same("SELECT hv_rows(c), hv_count(c), hv_sum(c), hv_min(c), hv_max(c) FROM (SELECT hv_column(v) AS c FROM m)",
+         "SELECT count(*), count(v), sum(v), min(v), max(v) FROM m");
+    same("SELECT start, stop, value FROM hv_runs((SELECT hv_column(v) FROM m))", "SELECT i, i + 1, v FROM m");
+    same("SELECT start, stop, value FROM hv_runs((SELECT hv_column(s) FROM m))", "SELECT i, i + 1, s FROM m");
+    same("SELECT start, stop, value FROM hv_runs((SELECT hv_column(l) FROM m WHERE i < 20))",
+         "SELECT i, i + 1, l FROM m WHERE i < 20");
+    CHECK_SQL("SELECT hv_rows(c), hv_count(c), hv_at(c, 2999), hv_at(c, 3000) FROM (SELECT hv_column(CASE WHEN i >= "
+              "3000 THEN s END) AS c FROM m)",
+              "5000|2000|NULL|a text of number 3000");
+    same("SELECT hex(hv_concat(c)) FROM (SELECT hv_column(CAST(s AS BLOB)) AS c FROM m GROUP BY i / 700)",
+         "SELECT hex(hv_column(CAST(s AS BLOB))) FROM m");
+    CHECK_SQL("SELECT hv_column(CASE i WHEN 10 THEN CAST(x'C328' AS TEXT) ELSE s END) FROM m",
+              "error: hv_column: a text is not UTF-8");
+}
+
+/* Columns that other programs wrote: null alone as texts, which goes with every type, a constant, and runs with the
+ * values 1 2 2 3 and lengths 3 1 2 1, of which four rows are shown from the third on: 1 2 2 2. */
+static void check_others(void) {
+    ask("CREATE TABLE o AS SELECT x'0801100B180120022803620200006A00' AS nulls, "
+        "x'0801100B1803200328013A026162' AS three, x'0801100818022004400248015204030102015A2C080110081801200428013A20"
+        "0100000000000000020000000000000002000000000000000300000000000000' AS part");
+    CHECK_SQL("SELECT hv_rows(nulls), hv_count(nulls), hv_rows(hv_filter(nulls, '=', 5)) FROM o", "2|0|0");
+    CHECK_SQL("SELECT start, stop, value FROM o, hv_runs(three)", "0|3|ab");
+    CHECK_SQL("SELECT hv_count(three), hv_rows(hv_filter(three, '>', 'aa')), hv_rows(hv_filter(three, '=', 'aa')) "
+              "FROM o",
+              "3|3|0");
+    CHECK_SQL("SELECT start, stop, value, hv_count(part) FROM o, hv_runs(part)", "0|1|1|4 1|4|2|4");
+    CHECK_SQL("SELECT start, stop, value FROM o, hv_runs(hv_filter(part, '>=', 2))", "0|3|2");
+    CHECK_SQL("SELECT hv_rows(hv_filter(part, '=', 3)), hv_rows(hv_filter(part, '<', 9)) FROM o", "0|4");
+    CHECK_SQL("SELECT start, stop, value FROM hv_runs((SELECT hv_concat(c) FROM (SELECT nulls AS c FROM o UNION ALL "
+              "SELECT part FROM o UNION ALL SELECT nulls FROM o)))",
+              "0|2|NULL 2|3|1 3|6|2 6|8|NULL");
+    same("SELECT hex(hv_concat(nulls)) FROM o", "SELECT hex(hv_column(NULL)) FROM (SELECT 1 UNION ALL SELECT 2)");
+    CHECK_SQL("SELECT hv_concat(c) FROM (SELECT three AS c FROM o UNION ALL SELECT nulls FROM o UNION ALL "
+              "SELECT part FROM o)",
+              "error: hv_concat: a column of integers after columns of texts");
+}
+
 /* ---- Random tables ---- */
 
 static uint64_t state = 88172645463325252;
@@ -188,12 +237,6 @@ static void make_table(void) {
     if (!stretches) return;
     sql[used - 1] = 0;
     CHECK_SQL(sql, "");
-}
-
-static void same(const char *runs, const char *rows) {
-    static char wanted[sizeof answer];
-    strcpy(wanted, ask(rows));
-    check_text(ask(runs), wanted, runs, __FILE__, __LINE__);
 }
 
 static void check_table(void) {
@@ -270,6 +313,8 @@ int main(int count, char **words) {
     check_texts();
     check_types();
     check_bytes();
+    check_many();
+    check_others();
     check_refusals();
     ask("CREATE TABLE r(v)");
     ask("CREATE TABLE k AS SELECT 0 AS first, 0 AS stop");

@@ -1,0 +1,49 @@
+/* Rows as they come to an aggregate of a database: the library's builder joins them to runs. Before it some runs wait
+ * in C's memory, and are handed over together, since a call of the library for each row takes longer. So memory goes by
+ * runs and not by rows. Numbers of 64 bits, texts and bytes, with null.
+ *
+ * A call answers 0, or the number of an error of hivevigil.h, and then the rows are those that there were. */
+#ifndef HIVEVIGIL_ROW_BUILDER_H
+#define HIVEVIGIL_ROW_BUILDER_H
+#include "hivevigil.h"
+
+typedef struct row_builder {
+    uint8_t kind;         /* of the rows: HV_SIGNED, HV_TEXT or HV_BYTES, and HV_NULL as long as each is null */
+    uint64_t rows;        /* all of them */
+    hv_builder joined;    /* the rows but those that wait; none as long as each row is null */
+    size_t waiting, room; /* runs that wait, and for how many there is room */
+    uint64_t *stops;      /* run i of them has the rows from stops[i - 1] to stops[i] - 1 */
+    uint8_t *valid;       /* it is null where bit i % 8 of byte i / 8 is 0 */
+    int64_t *numbers;     /* its value is numbers[i + 1]; of texts those from numbers[i] to numbers[i + 1] - 1 */
+    uint8_t *bytes;
+    size_t bytes_len, bytes_room;
+} row_builder;
+
+/* No rows. */
+#define ROW_BUILDER_EMPTY                                                                                              \
+    { 0 }
+
+/* One row. A text is borrowed. */
+typedef struct row_value {
+    uint8_t kind; /* as of a builder */
+    int64_t number;
+    const uint8_t *bytes;
+    size_t len;
+} row_value;
+
+/* Adds a row. 12 where the rows are of another type, or where a text that waited is not UTF-8; 5 for 2^64 rows, 21. */
+int32_t row_builder_add(row_builder *rows, const row_value *value, hv_error *error);
+
+/* Adds all rows of a column of any form; one of null alone goes with rows of every type. Refused as above, and as 13
+ * unless the column is one of signed numbers of 64 bits, texts or bytes. */
+int32_t row_builder_add_column(row_builder *rows, const hv_column *column, hv_error *error);
+
+/* Adds all rows of another builder, which keeps them. */
+int32_t row_builder_append(row_builder *rows, row_builder *others, hv_error *error);
+
+/* A column of all rows, which are kept. Rows of null alone are numbers. */
+int32_t row_builder_column(row_builder *rows, hv_column *out, hv_error *error);
+
+void row_builder_free(row_builder *rows);
+
+#endif
