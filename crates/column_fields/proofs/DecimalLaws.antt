@@ -44,12 +44,12 @@ bytes_same m n p q e =
 below : (z : ℤ) → FitsSigned w128 z → cast_unsigned w128 z < 2 ^ 128
 below z h = omega (arith, ints)
 
-decimal_same : (n m : ℤ) → FitsSigned w128 n → FitsSigned w128 m → decimal_bytes n ≡ decimal_bytes m → n ≡ m
+pub decimal_same : (n m : ℤ) → FitsSigned w128 n → FitsSigned w128 m → decimal_bytes n ≡ decimal_bytes m → n ≡ m
 unfolding decimal_bytes
 decimal_same n m p q e =
     sym (to_z-of_z w128 n p) ∙ ap (cast_signed w128) (bytes_same (cast_unsigned w128 n) (cast_unsigned w128 m) (below n p) (below m q) e) ∙ to_z-of_z w128 m q
 
-length-decimal_bytes : (n : ℤ) → length (decimal_bytes n) ≡ 16
+pub length-decimal_bytes : (n : ℤ) → length (decimal_bytes n) ≡ 16
 unfolding decimal_bytes
 length-decimal_bytes n = refl
 

@@ -9,7 +9,7 @@ pub number_field_parts : (field n : ℕ) (rest : List ℕ) → number_field fiel
 unfolding number_field
 number_field_parts field n rest = append_assoc (varint (field * 8)) (varint n) rest
 
-pub number_field_same : (field m n : ℕ) (a b : List ℕ) → field < 16 → m < 2 ^ 64 → n < 2 ^ 64 → number_field field m ++ a ≡ number_field field n ++ b → (m ≡ n) × (a ≡ b)
+pub number_field_same : (field m n : ℕ) (a b : List ℕ) → field < 32 → m < 2 ^ 64 → n < 2 ^ 64 → number_field field m ++ a ≡ number_field field n ++ b → (m ≡ n) × (a ≡ b)
 number_field_same field m n a b f p q e =
     let parts : varint (field * 8) ++ (varint m ++ a) ≡ varint (field * 8) ++ (varint n ++ b) = sym (number_field_parts field m a) ∙ e ∙ number_field_parts field n b in
     varint_same m n a b p q (append_cancel_left (varint (field * 8)) (varint m ++ a) (varint n ++ b) parts)
@@ -24,7 +24,7 @@ content_same x y a b len e =
     let backs : a ≡ b = sym (drop_at x a (length x) refl) ∙ ap (drop (length x)) e ∙ drop_at y b (length x) (sym len) in
     (xs, backs)
 
-pub bytes_field_same : (field : ℕ) (x y a b : List ℕ) → field < 16 → length x < 2 ^ 64 → length y < 2 ^ 64 → bytes_field field x ++ a ≡ bytes_field field y ++ b → (x ≡ y) × (a ≡ b)
+pub bytes_field_same : (field : ℕ) (x y a b : List ℕ) → field < 32 → length x < 2 ^ 64 → length y < 2 ^ 64 → bytes_field field x ++ a ≡ bytes_field field y ++ b → (x ≡ y) × (a ≡ b)
 bytes_field_same field x y a b f p q e =
     let parts : varint (field * 8 + 2) ++ (varint (length x) ++ (x ++ a)) ≡ varint (field * 8 + 2) ++ (varint (length y) ++ (y ++ b)) = sym (bytes_field_parts field x a) ∙ e ∙ bytes_field_parts field y b in
     let counts = varint_same (length x) (length y) (x ++ a) (y ++ b) p q (append_cancel_left (varint (field * 8 + 2)) _ _ parts) in
@@ -32,39 +32,39 @@ bytes_field_same field x y a b f p q e =
 
 -- ---- the reader of a number
 
-pub no_key : (field : ℕ) (bytes : List ℕ) → field < 16 → BeginsWithNoShortest bytes → HasNoNumberField field bytes
+pub no_key : (field : ℕ) (bytes : List ℕ) → field < 32 → BeginsWithNoShortest bytes → HasNoNumberField field bytes
 no_key field bytes f h = record { none = λ n rest lt e. h.none (field * 8) (varint n ++ rest) (omega arith) (e ∙ number_field_parts field n rest) }
 
-key_same : (field key n : ℕ) (bytes rest after : List ℕ) → field < 16 → key < 2 ^ 64 → bytes ≡ varint key ++ rest → bytes ≡ number_field field n ++ after → (key ≡ field * 8) × (rest ≡ varint n ++ after)
+key_same : (field key n : ℕ) (bytes rest after : List ℕ) → field < 32 → key < 2 ^ 64 → bytes ≡ varint key ++ rest → bytes ≡ number_field field n ++ after → (key ≡ field * 8) × (rest ≡ varint n ++ after)
 key_same field key n bytes rest after f k b e = varint_same key (field * 8) rest (varint n ++ after) k (omega arith) (sym b ∙ e ∙ number_field_parts field n after)
 
-pub other_key : (field key : ℕ) (bytes rest : List ℕ) → field < 16 → key < 2 ^ 64 → bytes ≡ varint key ++ rest → (key ≡ field * 8 → ⊥) → HasNoNumberField field bytes
+pub other_key : (field key : ℕ) (bytes rest : List ℕ) → field < 32 → key < 2 ^ 64 → bytes ≡ varint key ++ rest → (key ≡ field * 8 → ⊥) → HasNoNumberField field bytes
 other_key field key bytes rest f k b ne = record { none = λ n after lt e. ne (key_same field key n bytes rest after f k b e).0 }
 
-pub no_number : (field key : ℕ) (bytes rest : List ℕ) → field < 16 → key < 2 ^ 64 → bytes ≡ varint key ++ rest → BeginsWithNoShortest rest → HasNoNumberField field bytes
+pub no_number : (field key : ℕ) (bytes rest : List ℕ) → field < 32 → key < 2 ^ 64 → bytes ≡ varint key ++ rest → BeginsWithNoShortest rest → HasNoNumberField field bytes
 no_number field key bytes rest f k b h = record { none = λ n after lt e. h.none n after lt (key_same field key n bytes rest after f k b e).1 }
 
 pub is_number : (field key n : ℕ) (bytes rest after : List ℕ) → bytes ≡ varint key ++ rest → key ≡ field * 8 → rest ≡ varint n ++ after → bytes ≡ number_field field n ++ after
 is_number field key n bytes rest after b k r = b ∙ ap (λ (t : List ℕ). varint key ++ t) r ∙ ap (λ (x : ℕ). varint x ++ (varint n ++ after)) k ∙ sym (number_field_parts field n after)
 
-pub other_number : (field found number : ℕ) (bytes rest : List ℕ) → field < 16 → found < 2 ^ 64 → number < 2 ^ 64 → bytes ≡ number_field field found ++ rest → (found ≡ number → ⊥) → HasNoConstantField field number bytes
+pub other_number : (field found number : ℕ) (bytes rest : List ℕ) → field < 32 → found < 2 ^ 64 → number < 2 ^ 64 → bytes ≡ number_field field found ++ rest → (found ≡ number → ⊥) → HasNoConstantField field number bytes
 other_number field found number bytes rest f p q b ne = record { none = λ after e. ne (number_field_same field found number rest after f p q (sym b ∙ e)).0 }
 
 -- ---- the reader of bytes
 
-pub no_bytes_key : (field : ℕ) (bytes : List ℕ) → field < 16 → BeginsWithNoShortest bytes → HasNoBytesField field bytes
+pub no_bytes_key : (field : ℕ) (bytes : List ℕ) → field < 32 → BeginsWithNoShortest bytes → HasNoBytesField field bytes
 no_bytes_key field bytes f h = record { none = λ content rest lt e. h.none (field * 8 + 2) (varint (length content) ++ (content ++ rest)) (omega arith) (e ∙ bytes_field_parts field content rest) }
 
-bytes_key_same : (field key : ℕ) (content bytes rest after : List ℕ) → field < 16 → key < 2 ^ 64 → bytes ≡ varint key ++ rest → bytes ≡ bytes_field field content ++ after → (key ≡ field * 8 + 2) × (rest ≡ varint (length content) ++ (content ++ after))
+bytes_key_same : (field key : ℕ) (content bytes rest after : List ℕ) → field < 32 → key < 2 ^ 64 → bytes ≡ varint key ++ rest → bytes ≡ bytes_field field content ++ after → (key ≡ field * 8 + 2) × (rest ≡ varint (length content) ++ (content ++ after))
 bytes_key_same field key content bytes rest after f k b e = varint_same key (field * 8 + 2) rest (varint (length content) ++ (content ++ after)) k (omega arith) (sym b ∙ e ∙ bytes_field_parts field content after)
 
-pub other_bytes_key : (field key : ℕ) (bytes rest : List ℕ) → field < 16 → key < 2 ^ 64 → bytes ≡ varint key ++ rest → (key ≡ field * 8 + 2 → ⊥) → HasNoBytesField field bytes
+pub other_bytes_key : (field key : ℕ) (bytes rest : List ℕ) → field < 32 → key < 2 ^ 64 → bytes ≡ varint key ++ rest → (key ≡ field * 8 + 2 → ⊥) → HasNoBytesField field bytes
 other_bytes_key field key bytes rest f k b ne = record { none = λ content after lt e. ne (bytes_key_same field key content bytes rest after f k b e).0 }
 
-pub no_count : (field key : ℕ) (bytes rest : List ℕ) → field < 16 → key < 2 ^ 64 → bytes ≡ varint key ++ rest → BeginsWithNoShortest rest → HasNoBytesField field bytes
+pub no_count : (field key : ℕ) (bytes rest : List ℕ) → field < 32 → key < 2 ^ 64 → bytes ≡ varint key ++ rest → BeginsWithNoShortest rest → HasNoBytesField field bytes
 no_count field key bytes rest f k b h = record { none = λ content after lt e. h.none (length content) (content ++ after) lt (bytes_key_same field key content bytes rest after f k b e).1 }
 
-pub too_short : (field key count : ℕ) (bytes rest back : List ℕ) → field < 16 → key < 2 ^ 64 → count < 2 ^ 64 → bytes ≡ varint key ++ rest → rest ≡ varint count ++ back → length back < count → HasNoBytesField field bytes
+pub too_short : (field key count : ℕ) (bytes rest back : List ℕ) → field < 32 → key < 2 ^ 64 → count < 2 ^ 64 → bytes ≡ varint key ++ rest → rest ≡ varint count ++ back → length back < count → HasNoBytesField field bytes
 too_short field key count bytes rest back f k c b r lt = record {
   none = λ content after fits e.
       let same = varint_same count (length content) back (content ++ after) c fits (sym r ∙ (bytes_key_same field key content bytes rest after f k b e).1) in

@@ -14,7 +14,7 @@ use Rattle.column_fields.proofs.ValidityLaws.{validity_same}
 pub no_last : (field : ℕ) (bytes : List ℕ) → HasNoBytesField field bytes → IsNoBytesField field bytes
 no_last field bytes h = record { none = λ content lt e. h.none content [] lt (e ∙ sym (append-nil (bytes_field field content))) }
 
-pub more_behind : (field : ℕ) (content bytes rest : List ℕ) → field < 16 → length content < 2 ^ 64 → bytes ≡ bytes_field field content ++ rest → (length rest ≡ 0 → ⊥) → IsNoBytesField field bytes
+pub more_behind : (field : ℕ) (content bytes rest : List ℕ) → field < 32 → length content < 2 ^ 64 → bytes ≡ bytes_field field content ++ rest → (length rest ≡ 0 → ⊥) → IsNoBytesField field bytes
 more_behind field content bytes rest f small b ne = record {
   none = λ other lt e. ne (ap length (bytes_field_same field content other rest [] f small lt (sym b ∙ e ∙ sym (append-nil (bytes_field field other)))).1);
 }
@@ -22,7 +22,7 @@ more_behind field content bytes rest f small b ne = record {
 pub is_last : (field : ℕ) (content bytes rest : List ℕ) → bytes ≡ bytes_field field content ++ rest → length rest ≡ 0 → bytes ≡ bytes_field field content
 is_last field content bytes rest b none = b ∙ ap (λ (t : List ℕ). bytes_field field content ++ t) (nil_from_length rest none) ∙ append-nil (bytes_field field content)
 
-pub last_same : (field : ℕ) (a b : List ℕ) → field < 16 → length a < 2 ^ 64 → length b < 2 ^ 64 → bytes_field field a ≡ bytes_field field b → a ≡ b
+pub last_same : (field : ℕ) (a b : List ℕ) → field < 32 → length a < 2 ^ 64 → length b < 2 ^ 64 → bytes_field field a ≡ bytes_field field b → a ≡ b
 last_same field a b f p q e = (bytes_field_same field a b [] [] f p q (ap (λ (t : List ℕ). t ++ []) e)).0
 
 -- ---- validity and items

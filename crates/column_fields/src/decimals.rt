@@ -24,8 +24,8 @@ pub fn put_decimals<A: Allocator>(out: &mut Vec<u8, A>, numbers: &[i128]) -> Vor
     Ok(())
 }
 
-// Writes the integer of one decimal at the end.
-fn put_decimal<A: Allocator>(out: &mut Vec<u8, A>, number: i128) -> VortexResult<()>
+/// Writes the integer of one decimal at the end.
+pub fn put_decimal<A: Allocator>(out: &mut Vec<u8, A>, number: i128) -> VortexResult<()>
     ensures ok { OnOk result (out.new.items ≡ out.old.items ++ decimal_bytes number) }
     ensures fits { FitsSigned w128 number }
     ensures only { IsOkUnless result VortexError.OutOfMemory }
@@ -57,8 +57,8 @@ pub fn load_decimals<A: Allocator>(
     Ok(numbers)
 }
 
-// The integer of the decimal of which these are the bytes.
-fn load_decimal(bytes: &[u8]) -> i128
+/// The integer of the decimal of which these are the bytes.
+pub fn load_decimal(bytes: &[u8]) -> i128
     requires { length bytes.now ≡ 16 }
     ensures shows { decimal_bytes result ≡ bytes.now }
     ensures fits { FitsSigned w128 result }

@@ -19,7 +19,7 @@ pub fn put_varint<A: Allocator>(out: &mut Vec<u8, A>, number: u64) -> VortexResu
 
 /// Writes a field with a number.
 pub fn put_number<A: Allocator>(out: &mut Vec<u8, A>, field: u64, number: u64) -> VortexResult<()>
-    requires { field < 16 }
+    requires { field < 32 }
     ensures ok { OnOk result (out.new.items ≡ out.old.items ++ number_field field number) }
     ensures only { IsOkUnless result VortexError.OutOfMemory }
 {
@@ -34,7 +34,7 @@ pub fn put_bytes_key<A: Allocator>(
     field: u64,
     count: usize,
 ) -> VortexResult<()>
-    requires { field < 16 }
+    requires { field < 32 }
     ensures ok { OnOk result (out.new.items ≡ out.old.items ++ (varint (field * 8 + 2) ++ varint count)) }
     ensures only { IsOkUnless result VortexError.OutOfMemory }
 {
@@ -45,7 +45,7 @@ pub fn put_bytes_key<A: Allocator>(
 
 /// Writes a field with bytes.
 pub fn put_bytes<A: Allocator>(out: &mut Vec<u8, A>, field: u64, content: &[u8]) -> VortexResult<()>
-    requires { field < 16 }
+    requires { field < 32 }
     ensures ok { OnOk result (out.new.items ≡ out.old.items ++ bytes_field field content.now) }
     ensures only { IsOkUnless result VortexError.OutOfMemory }
 {
@@ -56,7 +56,7 @@ pub fn put_bytes<A: Allocator>(out: &mut Vec<u8, A>, field: u64, content: &[u8])
 
 /// The number of the field at the front, if it has that field number, and the bytes after it.
 pub fn read_number(bytes: &[u8], field: u64) -> Option<(u64, &[u8])>
-    requires { field < 16 }
+    requires { field < 32 }
     ensures found { IfSome result (λ r. bytes.now ≡ number_field field r.0 ++ r.1.now) }
     ensures small { IfSome result (λ r. r.0 < 2 ^ 64) }
     ensures none { IfNone result (HasNoNumberField field bytes.now) }
@@ -71,7 +71,7 @@ pub fn read_number(bytes: &[u8], field: u64) -> Option<(u64, &[u8])>
 
 /// The bytes after the field at the front, if it is that field with that number.
 pub fn read_constant(bytes: &[u8], field: u64, number: u64) -> Option<&[u8]>
-    requires { field < 16 }
+    requires { field < 32 }
     ensures found { IfSome result (λ rest. bytes.now ≡ number_field field number ++ rest.now) }
     ensures none { IfNone result (HasNoConstantField field number bytes.now) }
 {
@@ -84,7 +84,7 @@ pub fn read_constant(bytes: &[u8], field: u64, number: u64) -> Option<&[u8]>
 
 /// The bytes in the field at the front, if it has that field number, and the bytes after it.
 pub fn read_bytes(bytes: &[u8], field: u64) -> Option<(&[u8], &[u8])>
-    requires { field < 16 }
+    requires { field < 32 }
     ensures found { IfSome result (λ r. bytes.now ≡ bytes_field field r.0.now ++ r.1.now) }
     ensures small { IfSome result (λ r. length r.0.now < 2 ^ 64) }
     ensures none { IfNone result (HasNoBytesField field bytes.now) }
@@ -103,7 +103,7 @@ pub fn read_bytes(bytes: &[u8], field: u64) -> Option<(&[u8], &[u8])>
 
 /// The bytes in the field that the bytes are, if it has that field number and nothing comes behind it.
 pub fn read_last_bytes(bytes: &[u8], field: u64) -> Option<&[u8]>
-    requires { field < 16 }
+    requires { field < 32 }
     ensures found { IfSome result (λ content. bytes.now ≡ bytes_field field content.now) }
     ensures small { IfSome result (λ content. length content.now < 2 ^ 64) }
     ensures none { IfNone result (IsNoBytesField field bytes.now) }

@@ -18,7 +18,7 @@ mod validity;
 pub use bit_bytes::{bytes_for, load_bits, put_bits};
 pub use column_base::{VortexError, VortexResult};
 pub use decimal_fields::{put_decimal_type, read_decimal_fields};
-pub use decimals::{DECIMAL_SIZE, load_decimals, put_decimals};
+pub use decimals::{DECIMAL_SIZE, load_decimal, load_decimals, put_decimal, put_decimals};
 pub use fields::{
     put_bytes, put_bytes_key, put_number, read_bytes, read_constant, read_last_bytes, read_number,
 };
