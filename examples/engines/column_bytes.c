@@ -2,7 +2,7 @@
 #include "hivevigil_helpers.h"
 #include <stdlib.h>
 
-/* The same of an encoding: it has no run, or one, which is null. */
+/* Is no row of an encoding other than null? Then it has no run, or one. */
 static uint8_t is_null_encoding(const hv_column *runs) {
     hv_error error;
     hv_value value;
@@ -59,14 +59,19 @@ static int32_t written(const hv_column *column, uint8_t **bytes, size_t *size, h
     return answer;
 }
 
-int32_t column_bytes_write(const hv_column *column, uint8_t **bytes, size_t *size, hv_error *error) {
-    hv_column runs = HV_EMPTY, least = HV_EMPTY;
-    int32_t answer = hv_encode_rows(column, &runs, error);
-    if (!answer && is_null_encoding(&runs)) answer = null_numbers(&runs, &least, error);
-    else if (!answer) answer = least_type(&runs, &least, error);
+int32_t encoding_bytes_write(hv_column *runs, uint8_t **bytes, size_t *size, hv_error *error) {
+    hv_column least = HV_EMPTY;
+    int32_t answer = is_null_encoding(runs) ? null_numbers(runs, &least, error) : least_type(runs, &least, error);
     if (!answer) answer = written(&least, bytes, size, error);
-    hv_free(&runs);
     hv_free(&least);
+    return answer;
+}
+
+int32_t column_bytes_write(const hv_column *column, uint8_t **bytes, size_t *size, hv_error *error) {
+    hv_column runs = HV_EMPTY;
+    int32_t answer = hv_encode_rows(column, &runs, error);
+    if (!answer) answer = encoding_bytes_write(&runs, bytes, size, error);
+    hv_free(&runs);
     return answer;
 }
 

@@ -158,17 +158,25 @@ int32_t row_builder_add_column(row_builder *rows, const hv_column *column, hv_er
 
 int32_t row_builder_append(row_builder *rows, row_builder *others, hv_error *error) {
     hv_column column = HV_EMPTY;
-    int32_t answer = row_builder_column(others, &column, error);
+    int32_t answer = row_builder_encoding(others, &column, error);
     if (!answer) answer = row_builder_add_column(rows, &column, error);
     hv_free(&column);
     return answer;
 }
 
-int32_t row_builder_column(row_builder *rows, hv_column *out, hv_error *error) {
+int32_t row_builder_encoding(row_builder *rows, hv_column *out, hv_error *error) {
     const hv_kind numbers = {HV_I64, 1, 0, 0};
-    if (rows->kind == HV_NULL) return hv_constant(&numbers, &null_value, NULL, 0, rows->rows, out, error);
-    const int32_t answer = flush(rows, error);
-    return answer ? answer : hv_encoding(&rows->joined, out, error);
+    hv_column nulls = HV_EMPTY;
+    int32_t answer;
+    if (rows->kind == HV_NULL) {
+        answer = hv_constant(&numbers, &null_value, NULL, 0, rows->rows, &nulls, error);
+        if (!answer) answer = hv_encode_rows(&nulls, out, error);
+    } else {
+        answer = flush(rows, error);
+        if (!answer) answer = hv_encoding(&rows->joined, out, error);
+    }
+    hv_free(&nulls);
+    return answer;
 }
 
 void row_builder_free(row_builder *rows) {

@@ -41,8 +41,8 @@ int32_t row_builder_add_column(row_builder *rows, const hv_column *column, hv_er
 /* Adds all rows of another builder, which keeps them. */
 int32_t row_builder_append(row_builder *rows, row_builder *others, hv_error *error);
 
-/* A column of all rows, which are kept. Rows of null alone are numbers. */
-int32_t row_builder_column(row_builder *rows, hv_column *out, hv_error *error);
+/* The encoding of all rows, which are kept. Rows of null alone are numbers. */
+int32_t row_builder_encoding(row_builder *rows, hv_column *out, hv_error *error);
 
 void row_builder_free(row_builder *rows);
 

@@ -77,11 +77,10 @@ HV_FUNCTION(pg_hv_combine) {
 /* The bytes of all rows. */
 static bytea *bytes_of(row_builder *rows) {
     hv_error error = {0, 0, 0};
-    hv_column column = HV_EMPTY;
-    const int32_t answer =
-        rows->rows > PG_INT64_MAX ? HV_WINDOW_OVERFLOW : row_builder_column(rows, &column, &error);
+    hv_column runs = HV_EMPTY;
+    const int32_t answer = rows->rows > PG_INT64_MAX ? HV_WINDOW_OVERFLOW : row_builder_encoding(rows, &runs, &error);
     hv_raise("hv_column", answer, &error);
-    return hv_bytes_of_column("hv_column", &column);
+    return hv_bytes_of_encoding("hv_column", &runs);
 }
 
 HV_FUNCTION(pg_hv_serial) { PG_RETURN_BYTEA_P(bytes_of((row_builder *)PG_GETARG_POINTER(0))); }

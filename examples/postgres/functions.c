@@ -42,12 +42,21 @@ void hv_column_of(const char *function, bytea *bytes, hv_column *out) {
 
 bytea *hv_bytes_of_column(const char *function, hv_column *column) {
     hv_error error = {0, 0, 0};
+    hv_column runs = HV_EMPTY;
+    const int32_t answer = hv_encode_rows(column, &runs, &error);
+    hv_free(column);
+    hv_raise(function, answer, &error);
+    return hv_bytes_of_encoding(function, &runs);
+}
+
+bytea *hv_bytes_of_encoding(const char *function, hv_column *runs) {
+    hv_error error = {0, 0, 0};
     uint8_t *bytes = NULL;
     size_t size = 0;
     bytea *made = NULL;
-    int32_t answer = column_bytes_write(column, &bytes, &size, &error);
+    const int32_t answer = encoding_bytes_write(runs, &bytes, &size, &error);
     const bool fits = size <= MaxAllocSize - VARHDRSZ;
-    hv_free(column);
+    hv_free(runs);
     if (!answer && fits) made = palloc_extended(size + VARHDRSZ, MCXT_ALLOC_NO_OOM);
     if (made) {
         SET_VARSIZE(made, size + VARHDRSZ);

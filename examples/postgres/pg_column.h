@@ -23,8 +23,9 @@ void hv_raise(const char *function, int32_t answer, const hv_error *error);
 /* The column of an argument, or the error that it is none. */
 void hv_column_of(const char *function, bytea *bytes, hv_column *out);
 
-/* The bytes of a column as PostgreSQL's, or the error; the column is freed. */
+/* The bytes of a column, or of an encoding, as PostgreSQL's, or the error; the column is freed. */
 bytea *hv_bytes_of_column(const char *function, hv_column *column);
+bytea *hv_bytes_of_encoding(const char *function, hv_column *runs);
 
 /* The bytes of a text as PostgreSQL's, or the error that it cannot be one. */
 text *hv_text_of(const char *function, const uint8_t *bytes, size_t len);

@@ -72,13 +72,22 @@ static void refuse(sqlite3_context *context, const char *function, int32_t answe
     fail(context, refusal(function, answer, error));
 }
 
-static void answer_column(sqlite3_context *context, const char *function, hv_column *column) {
+static void answer_encoding(sqlite3_context *context, const char *function, hv_column *runs) {
     hv_error error = {0, 0, 0};
     uint8_t *bytes = NULL;
     size_t size = 0;
-    const int32_t answer = column_bytes_write(column, &bytes, &size, &error);
+    const int32_t answer = encoding_bytes_write(runs, &bytes, &size, &error);
     if (answer) refuse(context, function, answer, &error);
     else sqlite3_result_blob64(context, bytes, size, free);
+}
+
+static void answer_column(sqlite3_context *context, const char *function, const hv_column *column) {
+    hv_error error = {0, 0, 0};
+    hv_column runs = HV_EMPTY;
+    const int32_t answer = hv_encode_rows(column, &runs, &error);
+    if (answer) refuse(context, function, answer, &error);
+    else answer_encoding(context, function, &runs);
+    hv_free(&runs);
 }
 
 /* The SQL value as a row of a column; false for a real number. */
@@ -189,13 +198,13 @@ static void concat_step(sqlite3_context *context, int count, sqlite3_value **val
 static void finish(sqlite3_context *context) {
     row_builder nothing = ROW_BUILDER_EMPTY, *rows = sqlite3_aggregate_context(context, 0);
     hv_error error = {0, 0, 0};
-    hv_column column = HV_EMPTY;
+    hv_column runs = HV_EMPTY;
     if (!rows) rows = &nothing;
-    const int32_t answer = rows->rows > INT64_MAX ? HV_WINDOW_OVERFLOW : row_builder_column(rows, &column, &error);
-    if (answer) refuse_rows(context, sqlite3_user_data(context), answer, &error);
-    else answer_column(context, sqlite3_user_data(context), &column);
-    hv_free(&column);
+    const int32_t answer = rows->rows > INT64_MAX ? HV_WINDOW_OVERFLOW : row_builder_encoding(rows, &runs, &error);
     row_builder_free(rows);
+    if (answer) refuse_rows(context, sqlite3_user_data(context), answer, &error);
+    else answer_encoding(context, sqlite3_user_data(context), &runs);
+    hv_free(&runs);
 }
 
 void answer_value(sqlite3_context *context, const row_value *value) {
