@@ -9,7 +9,7 @@ use Rattle.column_core.specs.Leaf.{OfNumbers, OfTruths, OfDecimals, OfVarBins}
 use Rattle.varints.specs.Varint.{varint}
 use Rattle.column_fields.specs.Field.{number_field, bytes_field}
 use Rattle.column_fields.specs.Header.{header_bytes, HasNoHeader}
-use Rattle.column_fields.specs.Lengths.{lengths_bytes, AreEndsOf}
+use Rattle.column_fields.specs.Lengths.{lengths_bytes, AreEndsOf, HasNoEndsOf}
 use Rattle.column_fields.specs.RunFields.{run_fields, AreNoRunFields}
 use Rattle.column_fields.specs.Types.{type_number}
 use Rattle.column_fields.proofs.EndReading.{lengths_same}
@@ -20,7 +20,7 @@ use Rattle.runend_array.specs.Column.{Column, OfLeaf, OfConstant, OfLists, OfRun
 use Rattle.column_bytes.specs.Bytes.{kind_number, form_number, column_count, column_header, column_body, column_bytes, leaf_fields}
 use Rattle.column_bytes.specs.Packed.{IsPacked}
 use Rattle.column_bytes.specs.Stored.{IsStored}
-use Rattle.column_bytes.specs.Read.{IsMessage, IsNoMessage, IsBody, IsNoBody, HasNoEndsOf, AreRunsOf, AreNoRunsOf}
+use Rattle.column_bytes.specs.Read.{IsMessage, IsNoMessage, IsBody, IsNoBody, AreRunsOf, AreNoRunsOf}
 use Rattle.column_bytes.specs.Values.{value_fields}
 use Rattle.column_bytes.proofs.ConstantReads.{constant_at, constant_body, constant_one}
 use Rattle.column_bytes.proofs.Ends.{ends_rise}

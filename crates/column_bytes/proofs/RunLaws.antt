@@ -1,41 +1,28 @@
 -- Ends that are read, and run columns over values that are read.
-use Rattle.std.proofs.Common.{◌≡◌, ℕ, ◌^◌, ◌<◌, true, List, [], ◌++◌, length, map, ℤ, pos, All, refl, sym, ap, subst, ◌∙◌, arith}
+use Rattle.std.proofs.Common.{◌≡◌, ℕ, ◌^◌, ◌<◌, true, List, [], ◌++◌, length, map, ℤ, refl, sym, ap, subst, ◌∙◌, arith}
 use Rattle.std.specs.Prelude.{unsigned_abs}
 use Rattle.std.proofs.lemmas.List.{length-append}
 use Rattle.column_base.specs.declared.dtype.PType.{PType}
 use Rattle.column_base.specs.ValidityForm.{NeverNull}
-use Rattle.column_base.specs.Types.{HasNumber, IsUnsigned}
 use Rattle.column_core.specs.PrimitiveForm.{PrimitiveForm, primitive_with}
-use Rattle.column_fields.specs.Lengths.{lengths_bytes, Rises, AreEndsOf, HasNoEnds, AreNoEndsOf}
+use Rattle.column_fields.specs.Lengths.{lengths_bytes, Rises, AreEndsOf}
 use Rattle.column_fields.proofs.EndReading.{lengths_same}
 use Rattle.runend_windows.specs.Ends.{ends_of}
-use Rattle.runend_windows.proofs.StoredNumbers.{naturals-of_pos}
 use Rattle.runend_array.specs.Column.{Column, OfRuns, AreRuns, runs_with, column_dtype}
 use Rattle.column_bytes.specs.Bytes.{kind_number}
 use Rattle.column_fields.specs.Header.{header_bytes}
-use Rattle.column_bytes.specs.Read.{IsBody, IsNoBody, IsMessage, IsNoMessage, IsEndsColumn, HasNoEndsOf, AreRunsOf, AreNoRunsOf}
+use Rattle.column_bytes.specs.Read.{IsBody, IsNoBody, IsMessage, IsNoMessage, IsEndsColumn, AreRunsOf, AreNoRunsOf}
 use Rattle.column_bytes.proofs.Messages.{no_body, is_message}
 use Rattle.column_bytes.proofs.Ends.{ends_rise}
 
-pub no_ends_read : (t : PType) (lengths : List ℕ) → HasNoEnds lengths → HasNoEndsOf t lengths
-no_ends_read t lengths absent = record { none = λ ends fit rises e. absent.none ends rises e }
-
-pub no_ends_fit : (t : PType) (lengths ends seen : List ℕ) → seen ≡ ends → lengths ≡ lengths_bytes 0 ends → Rises true 0 ends → AreNoEndsOf t seen → HasNoEndsOf t lengths
-no_ends_fit t lengths ends seen s b rises absent = record {
-  none = λ others fit also e. absent.none (subst (λ (x : List ℕ). AreEndsOf t x) (sym (s ∙ lengths_same true 0 ends others rises also (sym b ∙ e))) fit);
-}
-
-pub are_ends : (form : PrimitiveForm) (t u : PType) (lengths ends seen : List ℕ) (ns : List ℤ) → seen ≡ ends → form ≡ primitive_with u ns NeverNull → u ≡ t → ns ≡ map (λ (n : ℕ). pos n) seen → IsUnsigned t → All (λ n. HasNumber t (pos n)) seen → Rises true 0 ends → lengths ≡ lengths_bytes 0 ends → IsEndsColumn t lengths form
-are_ends form t u lengths ends seen ns s is typed n unsigned fit rises b =
-    let form-is : form ≡ primitive_with t ns NeverNull = is ∙ ap (λ (x : PType). primitive_with x ns NeverNull) typed in
-    let seen-is : seen ≡ map unsigned_abs ns = sym (ap (λ (xs : List ℤ). map unsigned_abs xs) n ∙ naturals-of_pos seen) in
-    let ends-is : ends ≡ map unsigned_abs ns = sym s ∙ seen-is in
-    subst (λ (f : PrimitiveForm). IsEndsColumn t lengths f) (sym form-is) (record {
+pub are_ends : (form : PrimitiveForm) (t u : PType) (lengths : List ℕ) (ns : List ℤ) → form ≡ primitive_with u ns NeverNull → u ≡ t → lengths ≡ lengths_bytes 0 (map unsigned_abs ns) → Rises true 0 (map unsigned_abs ns) → AreEndsOf t (map unsigned_abs ns) → IsEndsColumn t lengths form
+are_ends form t u lengths ns is typed b rises fit =
+    subst (λ (f : PrimitiveForm). IsEndsColumn t lengths f) (sym (is ∙ ap (λ (x : PType). primitive_with x ns NeverNull) typed)) (record {
       typed = refl;
-      plain = unsigned;
-      fit = subst (λ (x : List ℕ). AreEndsOf t x) seen-is (record { unsigned = unsigned; fit = fit });
-      rise = subst (λ (x : List ℕ). Rises true 0 x) ends-is rises;
-      spelt = b ∙ ap (λ (x : List ℕ). lengths_bytes 0 x) ends-is;
+      plain = fit.unsigned;
+      fit = fit;
+      rise = rises;
+      spelt = b;
     })
 
 pub are_runs : (kind rows offset : ℕ) (t : PType) (lengths : List ℕ) (form : PrimitiveForm) (values c : Column) → IsEndsColumn t lengths form → c ≡ OfRuns form.ptype (ends_of form) values offset rows → AreRuns (runs_with form.ptype (ends_of form) values offset rows) → kind_number (column_dtype values) ≡ kind → AreRunsOf kind rows offset t lengths values c

@@ -129,9 +129,6 @@ pub record IsEndsColumn (t : PType) (lengths : List ℕ) (form : PrimitiveForm) 
   pub rise : Rises true 0 (ends_of form)
   pub spelt : lengths ≡ lengths_bytes 0 (ends_of form)
 
-pub record HasNoEndsOf (t : PType) (lengths : List ℕ) : Type 0 where
-  pub none : (ends : List ℕ) → AreEndsOf t ends → Rises true 0 ends → lengths ≡ lengths_bytes 0 ends → ⊥
-
 -- the runs over these values, with these run lengths
 pub record AreRunsOf (kind rows offset : ℕ) (t : PType) (lengths : List ℕ) (values c : Column) : Type 0 where
   pub ends : List ℕ

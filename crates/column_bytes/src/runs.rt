@@ -4,17 +4,15 @@ ghost use Rattle.column_core.specs.PrimitiveForm.{primitive_dtype};
 ghost use Rattle.runend_windows.specs.Ends.{IsEndsType, ends_of};
 ghost use Rattle.runend_array.specs.Array.{column_of, dtype_of};
 ghost use Rattle.runend_array.specs.Column.{OfRuns, AreRuns, column_of_runs, runs_with};
-ghost use Rattle.column_fields.specs.Lengths.{AreEndsOf};
+ghost use Rattle.column_fields.specs.Lengths.{AreEndsOf, HasNoEndsOf};
 ghost use Rattle.column_fields.specs.Refusal.{IsBadOrMemory};
 ghost use Rattle.column_bytes.specs.Bytes.{column_bytes, kind_number};
-ghost use Rattle.column_bytes.specs.Read.{AreRunsOf, AreNoRunsOf, IsEndsColumn, HasNoEndsOf};
+ghost use Rattle.column_bytes.specs.Read.{AreRunsOf, AreNoRunsOf, IsEndsColumn};
 
 use crate::kinds::number_of_kind;
 use column_base::{PType, Validity, VortexError, VortexResult};
 use column_core::PrimitiveArray;
-use column_fields::{
-    Header, RunFields, ends_values, load_ends, put_header, put_lengths_of, put_run_fields,
-};
+use column_fields::{Header, RunFields, load_ends, put_header, put_lengths_of, put_run_fields};
 use runend_array::{
     ArrayRef, RunEnd, RunEndArray, RunEndArrayExt, RunEndArraySlotsExt, validate_parts,
 };
@@ -90,8 +88,7 @@ fn read_ends<A: Allocator + Copy>(
     ensures bad { IsErrOf result VortexError.BadMetadata → HasNoEndsOf ends_type lengths.now }
     ensures only { IfErr result IsBadOrMemory }
 {
-    let ends = load_ends(alloc, lengths)?;
-    match ends_values(alloc, ends_type, &ends) {
+    match load_ends(alloc, ends_type, lengths) {
         Ok(values) => Ok(PrimitiveArray::new_unchecked(values, Validity::NonNullable)),
         Err(error) => Err(error),
     }

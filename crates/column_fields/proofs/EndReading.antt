@@ -1,8 +1,11 @@
 -- Run lengths are read as they are written, and in no other way.
-use Rattle.std.proofs.Common.{◌≡◌, ℕ, ◌+◌, ◌-◌, ◌^◌, ◌<◌, ◌≤◌, Bool, true, false, List, [], ◌∷◌, ◌++◌, length, refl, sym, ap, subst, ◌∙◌, arith, append_assoc}
-use Rattle.std.proofs.lemmas.List.{append-nil, length-append}
+use Rattle.std.proofs.Common.{◌≡◌, ℕ, ◌+◌, ◌-◌, ◌^◌, ◌<◌, ◌≤◌, Bool, true, false, List, [], ◌∷◌, ◌++◌, length, get_or, pos, refl, sym, ap, subst, ◌∙◌, arith, append_assoc}
+use Rattle.std.proofs.lemmas.List.{append-nil, length-append, get_or-append_right}
+use Rattle.std.proofs.lemmas.List.Elements.{All-get_or}
 use Rattle.varints.specs.Varint.{varint, BeginsWithNoShortest}
-use Rattle.column_fields.specs.Lengths.{lengths_bytes, Rises, HasNoEnds}
+use Rattle.column_base.specs.declared.dtype.PType.{PType}
+use Rattle.column_base.specs.Types.{HasNumber}
+use Rattle.column_fields.specs.Lengths.{lengths_bytes, Rises, HasNoEndsOf}
 use Rattle.varints.proofs.Forms.{varint_same, varint_some}
 use Rattle.column_fields.proofs.LengthLaws.{lengths_cons, lengths_none}
 
@@ -70,23 +73,28 @@ no_length_at : (rest tail : List ℕ) (first : Bool) (start : ℕ) → 0 < lengt
 no_length_at rest [] first start some h k e = omega (arith, ap length e, ap length (lengths_none start))
 no_length_at rest (end ∷ others) first start some h k e = let p = rises_parts first start end others k in h.none (end - start) (lengths_bytes end others) (omega (arith, p.small)) (e ∙ lengths_cons start end others)
 
-pub no_length : (bytes rest : List ℕ) (first : Bool) (start : ℕ) (read : List ℕ) → Progress bytes rest first start read → 0 < length rest → BeginsWithNoShortest rest → HasNoEnds bytes
-no_length bytes rest first start read h some absent = record { none = λ ends k e. let o = h.only ends k e in no_length_at rest o.0 first start some absent o.2 o.3 }
+pub no_length : (t : PType) (bytes rest : List ℕ) (first : Bool) (start : ℕ) (read : List ℕ) → Progress bytes rest first start read → 0 < length rest → BeginsWithNoShortest rest → HasNoEndsOf t bytes
+no_length t bytes rest first start read h some absent = record { none = λ ends fit k e. let o = h.only ends k e in no_length_at rest o.0 first start some absent o.2 o.3 }
 
-pub no_row : (bytes rest after : List ℕ) (first : Bool) (start len : ℕ) (read : List ℕ) → Progress bytes rest first start read → len < 2 ^ 64 → rest ≡ varint len ++ after → first ≡ false → len ≡ 0 → HasNoEnds bytes
-no_row bytes rest after first start len read h small r later none = record {
-  none = λ ends k e.
+pub no_row : (t : PType) (bytes rest after : List ℕ) (first : Bool) (start len : ℕ) (read : List ℕ) → Progress bytes rest first start read → len < 2 ^ 64 → rest ≡ varint len ++ after → first ≡ false → len ≡ 0 → HasNoEndsOf t bytes
+no_row t bytes rest after first start len read h small r later none = record {
+  none = λ ends fit k e.
       let o = h.only ends k e in
       let x = next_at first start len rest after o.0 small r o.2 o.3 in
       omega (arith, x.parts.later later, x.end-is);
 }
 
-pub too_far : (bytes rest after : List ℕ) (first : Bool) (start len : ℕ) (read : List ℕ) → Progress bytes rest first start read → len < 2 ^ 64 → rest ≡ varint len ++ after → 2 ^ 64 ≤ start + len → HasNoEnds bytes
-too_far bytes rest after first start len read h small r far = record {
-  none = λ ends k e.
+-- the type has not the end of the next run
+pub no_end : (t : PType) (bytes rest after : List ℕ) (first : Bool) (start len : ℕ) (read : List ℕ) → Progress bytes rest first start read → len < 2 ^ 64 → rest ≡ varint len ++ after → (HasNumber t (pos (start + len)) → ⊥) → HasNoEndsOf t bytes
+no_end t bytes rest after first start len read h small r unfit = record {
+  none = λ ends fit k e.
       let o = h.only ends k e in
       let x = next_at first start len rest after o.0 small r o.2 o.3 in
-      omega (arith, x.parts.small, x.end-is);
+      let all : ends ≡ read ++ x.end ∷ x.others = o.1 ∙ ap (λ (l : List ℕ). read ++ l) x.is in
+      let within : length read < length ends = omega (arith, ap length all, length-append read (x.end ∷ x.others)) in
+      let none : length read - length read ≡ 0 = omega arith in
+      let here : get_or ends (length read) 0 ≡ x.end = ap (λ (l : List ℕ). get_or l (length read) 0) all ∙ get_or-append_right read (x.end ∷ x.others) (length read) (length read) 0 refl (omega arith) ∙ ap (λ (n : ℕ). get_or (x.end ∷ x.others) n 0) none in
+      unfit (subst (λ (n : ℕ). HasNumber t (pos n)) (here ∙ x.end-is) (All-get_or (λ end. HasNumber t (pos end)) ends (length read) 0 within fit.fit));
 }
 
 pub shorter : (len : ℕ) (rest after : List ℕ) → len < 2 ^ 64 → rest ≡ varint len ++ after → length after < length rest

@@ -1,5 +1,5 @@
 -- Run lengths are those of ends.
-use Rattle.std.proofs.Common.{◌≡◌, ℕ, suc, ◌+◌, ◌-◌, ◌*◌, ◌<◌, ◌≤◌, pos, List, [], ◌∷◌, ◌++◌, length, get_or, map, drop, refl, sym, ap, ◌∙◌, append_assoc, add-one}
+use Rattle.std.proofs.Common.{◌≡◌, ℕ, suc, ◌+◌, ◌-◌, ◌*◌, ◌<◌, ◌≤◌, ℤ, pos, List, [], ◌∷◌, ◌++◌, length, get_or, map, drop, refl, sym, ap, ◌∙◌, append_assoc, add-one}
 use Rattle.std.specs.Prelude.{unsigned_abs}
 use Rattle.std.proofs.lemmas.List.{append-nil, drop_all}
 use Rattle.std.proofs.Math.Seq.{drop-cons}
@@ -11,6 +11,14 @@ use Rattle.column_fields.specs.Lengths.{lengths_from, lengths_bytes}
 pub ends_stored : (ns : List ℕ) → map unsigned_abs (map (λ (n : ℕ). pos n) ns) ≡ map (λ n. n) ns
 ends_stored [] = refl
 ends_stored (n ∷ ns) = ap (λ xs. n ∷ xs) (ends_stored ns)
+
+natural_numbers : {X : Type 0} (number : X → ℤ) (natural : X → ℕ) (xs : List X) → ((x : X) → number x ≡ pos (natural x)) → map unsigned_abs (map number xs) ≡ map natural xs
+natural_numbers number natural [] law = refl
+natural_numbers number natural (x ∷ xs) law = ap (λ (z : ℤ). unsigned_abs z ∷ map unsigned_abs (map number xs)) (law x) ∙ ap (λ (t : List ℕ). natural x ∷ t) (natural_numbers number natural xs law)
+
+-- the numbers of ends, as natural ones
+pub ends_natural : {X : Type 0} (number : X → ℤ) (natural : X → ℕ) (xs : List X) (ns : List ℤ) → ((x : X) → number x ≡ pos (natural x)) → ns ≡ map number xs → map unsigned_abs ns ≡ map natural xs
+ends_natural number natural xs ns law shows = ap (map unsigned_abs) shows ∙ natural_numbers number natural xs law
 
 pub lengths_cons : (start end : ℕ) (ends : List ℕ) → lengths_bytes start (end ∷ ends) ≡ varint (end - start) ++ lengths_bytes end ends
 unfolding lengths_bytes lengths_from

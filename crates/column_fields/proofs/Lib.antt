@@ -5,9 +5,11 @@ pub mod NumberSame
 pub mod DecimalLaws
 pub mod BitLaws
 pub mod BitReading
+pub mod BitWords
 pub mod Refusals
 pub mod ValidityLaws
 pub mod LengthLaws
+pub mod LengthBytes
 pub mod EndReading
 pub mod HeaderLaws
 pub mod FlatFieldLaws

@@ -19,14 +19,11 @@ unfoldable pub Rises : Bool → ℕ → List ℕ → Type 0
 Rises first start [] = Unit {0}
 Rises first start (end ∷ ends) = (start ≤ end) × (end < 2 ^ 64) × (first ≡ false → start < end) × Rises false end ends
 
--- the bytes are the lengths of no runs
-pub record HasNoEnds (bytes : List ℕ) : Type 0 where
-  pub none : (ends : List ℕ) → Rises true 0 ends → bytes ≡ lengths_bytes 0 ends → ⊥
-
 -- an unsigned type has each of the ends
 pub record AreEndsOf (t : PType) (ends : List ℕ) : Type 0 where
   pub unsigned : IsUnsigned t
   pub fit : All (λ end. HasNumber t (pos end)) ends
 
-pub record AreNoEndsOf (t : PType) (ends : List ℕ) : Type 0 where
-  pub none : AreEndsOf t ends → ⊥
+-- the bytes are the lengths of no runs with ends of the type
+pub record HasNoEndsOf (t : PType) (bytes : List ℕ) : Type 0 where
+  pub none : (ends : List ℕ) → AreEndsOf t ends → Rises true 0 ends → bytes ≡ lengths_bytes 0 ends → ⊥

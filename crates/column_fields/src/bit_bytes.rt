@@ -1,8 +1,10 @@
 //! Bits as bytes.
-ghost use Rattle.std.specs.Prelude.{◌↔◌, IsTrue, min, ◌≡◌, ◌+◌, ◌-◌, ◌/◌, ◌^◌, ◌<◌, ◌≤◌, ◌++◌, length, take, drop, OnOk, OnErr, IfOk, IsOkUnless, IsErrOf, IfErr, ◌⊎◌, List, Bool};
-ghost use Rattle.column_fields.specs.BitBytes.{bits_number, bit_bytes, bits_of, bits_from, IsPadded, HasNoBits};
+ghost use Rattle.std.specs.Prelude.{◌↔◌, IsTrue, ◌≡◌, ◌+◌, ◌-◌, ◌*◌, ◌/◌, ◌^◌, ◌<◌, ◌≤◌, ◌++◌, length, replicate, OnOk, IfOk, IsOkUnless, IsErrOf, IfErr};
+ghost use Rattle.std.specs.Int.{w64, to_le_bytes};
+ghost use Rattle.column_fields.specs.BitBytes.{bit_bytes, words_bytes, IsPadded, HasNoBits};
 ghost use Rattle.column_fields.specs.Refusal.{IsBadOrMemory};
 
+use crate::decimals::load_word;
 use column_base::{BitBuffer, BitBufferMut, VortexError, VortexResult};
 use std::alloc::Allocator;
 
@@ -17,34 +19,6 @@ pub fn bytes_for(count: usize) -> usize
     }
 }
 
-/// The byte of so many bits, up to the bit before `stop`.
-fn byte_before<A: Allocator>(bits: &BitBuffer<A>, stop: usize, count: usize) -> u8
-    requires few { count ≤ 8 }
-    requires within { count ≤ stop }
-    requires in_bounds { stop ≤ length bits.now }
-    ensures { result ≡ bits_number (take count (drop (stop - count) bits.now)) }
-{
-    let mut byte = 0;
-    for i in 0..count {
-        let bit = bits.value(stop - 1 - i);
-        byte = byte * 2 + u8::from(bit);
-    }
-    byte
-}
-
-/// The byte of the eight bits from `start` on, or of as many as there are.
-#[tactic(auto, using(crate::proofs::BitLaws::last_bits))]
-fn byte_from<A: Allocator>(bits: &BitBuffer<A>, start: usize) -> u8
-    requires { start ≤ length bits.now }
-    ensures { result ≡ bits_number (take 8 (drop start bits.now)) }
-{
-    let len = bits.len();
-    if len - start < 8 {
-        return byte_before(bits, len, len - start);
-    }
-    byte_before(bits, start + 8, 8)
-}
-
 /// Writes the bits at the end.
 pub fn put_bits<A: Allocator, B: Allocator>(
     out: &mut Vec<u8, B>,
@@ -53,45 +27,23 @@ pub fn put_bits<A: Allocator, B: Allocator>(
     ensures ok { OnOk result (out.new.items ≡ out.old.items ++ bit_bytes bits.now) }
     ensures only { IsOkUnless result VortexError.OutOfMemory }
 {
+    let start = out.len();
     let count = bytes_for(bits.len());
-    for index in 0..count {
-        out.push(byte_from(bits, index * 8))?;
-    }
+    put_words(out, bits.words())?;
+    // The last word has bytes above the last bit, all of them 0.
+    out.truncate(start + count);
     Ok(())
 }
 
-/// Puts the lowest bits of a byte behind the last bit.
-fn append_byte<A: Allocator + Copy>(
-    bits: &mut BitBufferMut<A>,
-    byte: u8,
-    count: usize,
-) -> VortexResult<()>
-    requires { count ≤ 8 }
-    ensures ok { OnOk result (bits.new ≡ bits.old ++ bits_of count byte) }
+// Writes words at the end.
+fn put_words<B: Allocator>(out: &mut Vec<u8, B>, words: &[u64]) -> VortexResult<()>
+    ensures ok { OnOk result (out.new.items ≡ out.old.items ++ words_bytes words.now) }
     ensures only { IsOkUnless result VortexError.OutOfMemory }
 {
-    let mut rest = byte;
-    for _place in 0..count {
-        bits.append(rest % 2 == 1)?;
-        rest /= 2;
+    for word in words {
+        out.extend_from_slice(&word.to_le_bytes())?;
     }
     Ok(())
-}
-
-/// How many of so many bits are in the next byte.
-fn bits_in_byte(left: usize) -> usize
-    ensures { result ≡ min 8 left }
-{
-    if left < 8 { left } else { 8 }
-}
-
-/// The first number with more than so many bits.
-#[tactic(auto, using(std::proofs::lemmas::Nat::one_shl))]
-fn limit_of(count: usize) -> u32
-    requires { count ≤ 8 }
-    ensures { result ≡ 2 ^ count }
-{
-    1 << count
 }
 
 /// So many bits, of which these are the bytes. Takes memory for them alone.
@@ -106,15 +58,60 @@ pub fn load_bits<A: Allocator + Copy>(
     ensures bad { IsErrOf result VortexError.BadMetadata → HasNoBits count bytes.now }
     ensures only { IfErr result IsBadOrMemory }
 {
-    let mut bits = BitBufferMut::with_capacity(alloc, count)?;
-    for index in 0..bytes.len() {
-        let byte = bytes[index];
-        let width = bits_in_byte(count - index * 8);
-        let limit = limit_of(width);
-        if u32::from(byte) >= limit {
-            return Err(VortexError::BadMetadata);
-        }
-        append_byte(&mut bits, byte, width)?;
+    if !is_padded(bytes, count) {
+        return Err(VortexError::BadMetadata);
     }
-    Ok(bits.freeze())
+    let words = load_words(alloc, bytes)?;
+    Ok(BitBufferMut::from_words(words, count).freeze())
+}
+
+// Is each bit above the first ones 0? Only the last byte has such bits.
+fn is_padded(bytes: &[u8], count: usize) -> bool
+    requires { length bytes.now ≡ (count + 7) / 8 }
+    ensures { IsTrue result ↔ IsPadded count bytes.now }
+{
+    let used = count % 8;
+    if used == 0 {
+        return true;
+    }
+    let last = bytes[bytes.len() - 1];
+    u32::from(last) < limit_of(used)
+}
+
+// The first number with more than so many bits.
+#[tactic(auto, using(std::proofs::lemmas::Nat::one_shl))]
+fn limit_of(count: usize) -> u32
+    requires { count ≤ 8 }
+    ensures { result ≡ 2 ^ count }
+{
+    1 << count
+}
+
+// The words of which these are the bytes, with 0 above the last byte.
+fn load_words<A: Allocator>(alloc: A, bytes: &[u8]) -> VortexResult<Vec<u64, A>>
+    ensures shows { IfOk result (λ v. words_bytes v.items ≡ bytes.now ++ replicate (length v.items * 8 - length bytes.now) 0) }
+    ensures counted { IfOk result (λ v. length v.items ≡ (length bytes.now + 7) / 8) }
+    ensures only { IsOkUnless result VortexError.OutOfMemory }
+{
+    let mut words = Vec::with_capacity(alloc, bytes.len().div_ceil(8))?;
+    let mut rest = bytes;
+    while rest.len() >= 8 {
+        let (front, back) = rest.split_at(8);
+        words.push_reserved(load_word(front));
+        rest = back;
+    }
+    if !rest.is_empty() {
+        words.push_reserved(last_word(rest));
+    }
+    Ok(words)
+}
+
+// The word of fewer than eight bytes, with 0 above them.
+fn last_word(bytes: &[u8]) -> u64
+    requires { length bytes.now < 8 }
+    ensures { to_le_bytes w64 result ≡ bytes.now ++ replicate (8 - length bytes.now) 0 }
+{
+    let mut word = [0; 8];
+    word[..bytes.len()].copy_from_slice(bytes);
+    load_word(&word)
 }

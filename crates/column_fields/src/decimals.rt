@@ -69,7 +69,7 @@ pub fn load_decimal(bytes: &[u8]) -> i128
 }
 
 // The number of which these are the bytes, the lowest first.
-fn load_word(bytes: &[u8]) -> u64
+pub(crate) fn load_word(bytes: &[u8]) -> u64
     requires { length bytes.now ≡ 8 }
     ensures { to_le_bytes w64 result ≡ bytes.now }
 {

@@ -1,15 +1,15 @@
 //! Run lengths, each as the shortest varint.
-ghost use Rattle.std.specs.Prelude.{◌≡◌, ◌++◌, length, map, pos, unsigned_abs, true, All, vec_capacity, OnOk, IfOk, IfErr, IsErrOf, IsOkUnless};
+ghost use Rattle.std.specs.Prelude.{◌≡◌, ◌++◌, ◌+◌, ◌^◌, ◌<◌, ◌≤◌, length, map, pos, unsigned_abs, true, vec_capacity, OnOk, IfOk, IfErr, IfSome, IfNone, IsErrOf, IsOkUnless};
+ghost use Rattle.column_base.specs.Number.{Narrows};
 ghost use Rattle.column_base.specs.Numbers.{numbers, ptype_of};
 ghost use Rattle.column_base.specs.Types.{IsUnsigned, HasNumber};
 ghost use Rattle.column_fields.specs.Refusal.{IsBadOrMemory};
-ghost use Rattle.column_fields.specs.Lengths.{lengths_bytes, Rises, HasNoEnds, AreEndsOf, AreNoEndsOf};
+ghost use Rattle.column_fields.specs.Lengths.{lengths_bytes, Rises, AreEndsOf, HasNoEndsOf};
+ghost use Rattle.varints.specs.Varint.{varint, BeginsWithNoShortest};
 
 use crate::fields::put_varint;
 use crate::stored::StoredEnd;
-use column_base::{
-    NativePType, PType, PrimitiveValues, VortexError, VortexResult, match_each_unsigned,
-};
+use column_base::{PType, PrimitiveValues, VortexError, VortexResult, match_each_unsigned};
 use std::alloc::Allocator;
 use varints::read_shortest;
 
@@ -45,89 +45,108 @@ fn put_lengths<E: StoredEnd, A: Allocator>(out: &mut Vec<u8, A>, ends: &[E]) -> 
     Ok(())
 }
 
-/// The ends of the runs of which these are the lengths: each run but the first has a row. Takes eight bytes of memory
-/// for each byte.
-pub fn load_ends<A: Allocator>(alloc: A, bytes: &[u8]) -> VortexResult<Vec<u64, A>>
-    ensures found { IfOk result (λ v. bytes.now ≡ lengths_bytes 0 v.items) }
-    ensures rises { IfOk result (λ v. Rises true 0 v.items) }
-    ensures memory { IfOk result (λ v. vec_capacity v ≡ length bytes.now) }
-    ensures bad { IsErrOf result VortexError.BadMetadata → HasNoEnds bytes.now }
+/// The ends of that type of the runs of which these are the lengths: each run but the first has a row. Refused as
+/// `BadMetadata` exactly where no ends of the type have these lengths, as none of a signed type have, else as
+/// `OutOfMemory` alone. Takes memory for as many ends as there are bytes.
+pub fn load_ends<A: Allocator + Copy>(
+    alloc: A,
+    ptype: PType,
+    bytes: &[u8],
+) -> VortexResult<PrimitiveValues<A>>
+    ensures typed { IfOk result (λ v. ptype_of v ≡ ptype) }
+    ensures found { IfOk result (λ v. bytes.now ≡ lengths_bytes 0 (map unsigned_abs (numbers v))) }
+    ensures rises { IfOk result (λ v. Rises true 0 (map unsigned_abs (numbers v))) }
+    ensures fit { IfOk result (λ v. AreEndsOf ptype (map unsigned_abs (numbers v))) }
+    ensures bad { IsErrOf result VortexError.BadMetadata → HasNoEndsOf ptype bytes.now }
+    ensures only { IfErr result IsBadOrMemory }
+{
+    match ptype {
+        PType::U8 => load_as::<u8, A>(alloc, bytes),
+        PType::U16 => load_as::<u16, A>(alloc, bytes),
+        PType::U32 => load_as::<u32, A>(alloc, bytes),
+        PType::U64 => load_as::<u64, A>(alloc, bytes),
+        _ => Err(VortexError::BadMetadata),
+    }
+}
+
+fn load_as<E: StoredEnd, A: Allocator + Copy>(
+    alloc: A,
+    bytes: &[u8],
+) -> VortexResult<PrimitiveValues<A>>
+    ensures typed { IfOk result (λ v. ptype_of v ≡ E.PTYPE) }
+    ensures found { IfOk result (λ v. bytes.now ≡ lengths_bytes 0 (map unsigned_abs (numbers v))) }
+    ensures rises { IfOk result (λ v. Rises true 0 (map unsigned_abs (numbers v))) }
+    ensures fit { IfOk result (λ v. AreEndsOf E.PTYPE (map unsigned_abs (numbers v))) }
+    ensures bad { IsErrOf result VortexError.BadMetadata → HasNoEndsOf E.PTYPE bytes.now }
+    ensures only { IfErr result IsBadOrMemory }
+{
+    match load_all::<E, A>(alloc, bytes) {
+        Ok(ends) => Ok(E::wrap(ends)),
+        Err(error) => Err(error),
+    }
+}
+
+// The ends of the runs of which these are the lengths.
+fn load_all<E: StoredEnd, A: Allocator>(alloc: A, bytes: &[u8]) -> VortexResult<Vec<E, A>>
+    ensures found { IfOk result (λ v. bytes.now ≡ lengths_bytes 0 (map E.natural v.items)) }
+    ensures rises { IfOk result (λ v. Rises true 0 (map E.natural v.items)) }
+    ensures fit { IfOk result (λ v. AreEndsOf E.PTYPE (map E.natural v.items)) }
+    ensures memory { IfOk result (λ v. vec_capacity v ≤ length bytes.now) }
+    ensures bad { IsErrOf result VortexError.BadMetadata → HasNoEndsOf E.PTYPE bytes.now }
     ensures only { IfErr result IsBadOrMemory }
 {
     let mut ends = Vec::with_capacity(alloc, bytes.len())?;
     let mut rest = bytes;
-    let mut start = 0u64;
+    let mut start = 0;
     let mut first = true;
     while !rest.is_empty() {
-        let Some((length, after)) = read_shortest(rest) else {
+        let Some((length, after)) = read_length(rest) else {
             return Err(VortexError::BadMetadata);
         };
         if !first && length == 0 {
             return Err(VortexError::BadMetadata);
         }
-        let Some(end) = start.checked_add(length) else {
+        let Some(item) = end_behind::<E>(start, length) else {
             return Err(VortexError::BadMetadata);
         };
-        ends.push_reserved(end);
+        let end = item.end();
+        ends.push_reserved(item);
         rest = after;
         start = end;
         first = false;
     }
+    // Lengths of more than one byte left room.
+    ends.shrink_to_fit();
     Ok(ends)
 }
 
-/// Ends as numbers of an unsigned type. Refused as `BadMetadata` exactly where the type is signed or has not all of
-/// them, else as `OutOfMemory` alone.
-pub fn ends_values<A: Allocator + Copy>(
-    alloc: A,
-    ptype: PType,
-    ends: &[u64],
-) -> VortexResult<PrimitiveValues<A>>
-    ensures typed { IfOk result (λ v. ptype_of v ≡ ptype) }
-    ensures unsigned { IfOk result (λ v. IsUnsigned ptype) }
-    ensures shows { IfOk result (λ v. numbers v ≡ map (λ n. pos n) ends.now) }
-    ensures fits { IfOk result (λ v. All (λ n. HasNumber ptype (pos n)) ends.now) }
-    ensures bad { IsErrOf result VortexError.BadMetadata → AreNoEndsOf ptype ends.now }
-    ensures only { IfErr result IsBadOrMemory }
+// The end of a run of that length, where its type has it.
+fn end_behind<E: StoredEnd>(start: u64, length: u64) -> Option<E>
+    ensures { Narrows E.number (HasNumber E.PTYPE) (pos (start + length)) result }
 {
-    match ptype {
-        PType::U8 => narrow_as::<u8, A>(alloc, ends),
-        PType::U16 => narrow_as::<u16, A>(alloc, ends),
-        PType::U32 => narrow_as::<u32, A>(alloc, ends),
-        PType::U64 => narrow_as::<u64, A>(alloc, ends),
-        _ => Err(VortexError::BadMetadata),
-    }
+    E::of_end(start.checked_add(length)?)
 }
 
-fn narrow_as<T: NativePType, A: Allocator + Copy>(
-    alloc: A,
-    ends: &[u64],
-) -> VortexResult<PrimitiveValues<A>>
-    ensures typed { IfOk result (λ v. ptype_of v ≡ T.PTYPE) }
-    ensures shows { IfOk result (λ v. numbers v ≡ map (λ n. pos n) ends.now) }
-    ensures fits { IfOk result (λ v. All (λ n. HasNumber T.PTYPE (pos n)) ends.now) }
-    ensures bad { IsErrOf result VortexError.BadMetadata → AreNoEndsOf T.PTYPE ends.now }
-    ensures only { IfErr result IsBadOrMemory }
+// The shortest varint at the front, and the bytes after it. One byte or two are most.
+fn read_length(bytes: &[u8]) -> Option<(u64, &[u8])>
+    ensures found { IfSome result (λ r. bytes.now ≡ varint r.0 ++ r.1.now) }
+    ensures small { IfSome result (λ r. r.0 < 2 ^ 64) }
+    ensures none { IfNone result (BeginsWithNoShortest bytes.now) }
 {
-    match narrow_all::<T, A>(alloc, ends) {
-        Ok(items) => Ok(T::wrap(items)),
-        Err(error) => Err(error),
+    let Some((first, after_first)) = bytes.split_first() else {
+        return read_shortest(bytes);
+    };
+    if *first < 128 {
+        return Some((u64::from(*first), after_first));
     }
-}
-
-// Ends as items of a type.
-fn narrow_all<T: NativePType, A: Allocator>(alloc: A, ends: &[u64]) -> VortexResult<Vec<T, A>>
-    ensures shows { IfOk result (λ v. map T.number v.items ≡ map (λ n. pos n) ends.now) }
-    ensures fits { IfOk result (λ v. All (λ n. HasNumber T.PTYPE (pos n)) ends.now) }
-    ensures bad { IsErrOf result VortexError.BadMetadata → AreNoEndsOf T.PTYPE ends.now }
-    ensures only { IfErr result IsBadOrMemory }
-{
-    let mut items = Vec::with_capacity(alloc, ends.len())?;
-    for end in ends {
-        let Some(item) = T::narrow(i128::from(*end)) else {
-            return Err(VortexError::BadMetadata);
-        };
-        items.push_reserved(item);
+    let Some((second, after_second)) = after_first.split_first() else {
+        return read_shortest(bytes);
+    };
+    if *second == 0 || *second >= 128 {
+        return read_shortest(bytes);
     }
-    Ok(items)
+    Some((
+        u64::from(*first) - 128 + u64::from(*second) * 128,
+        after_second,
+    ))
 }

@@ -24,7 +24,7 @@ pub use fields::{
 };
 pub use flat_fields::read_flat_fields;
 pub use header::{Header, put_header, read_header};
-pub use lengths::{ends_values, load_ends, put_lengths_of};
+pub use lengths::{load_ends, put_lengths_of};
 pub use numbers::{load_value, load_values, put_value, put_values, size_of_type};
 pub use run_fields::{RunFields, put_run_fields, read_run_fields};
 pub use types::{number_of_type, type_of_number};

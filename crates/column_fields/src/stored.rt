@@ -1,6 +1,7 @@
 //! Native numbers as bytes, the lowest first.
 ghost use Rattle.std.specs.Prelude.{◌≡◌, ◌++◌, length, pos, OnOk, IsOkUnless};
 ghost use Rattle.column_fields.specs.NumberBytes.{number_bytes, size_of};
+ghost use Rattle.column_base.specs.Number.{Narrows};
 ghost use Rattle.column_base.specs.Types.{HasNumber};
 
 use column_base::{NativePType, UnsignedPType, VortexError, VortexResult};
@@ -31,11 +32,19 @@ pub(crate) trait StoredEnd: UnsignedPType {
     fn end(self) -> u64
         ensures value { result ≡ Self.natural self }
         ensures fits { HasNumber Self.PTYPE (pos (Self.natural self)) };
+
+    /// The end of that number, or `None` exactly where the type does not have it.
+    fn of_end(end: u64) -> Option<Self>
+        ensures { Narrows Self.number (HasNumber Self.PTYPE) (pos end) result };
 }
 
 impl StoredEnd for u8 {
     fn end(self) -> u64 {
         u64::from(self)
+    }
+
+    fn of_end(end: u64) -> Option<u8> {
+        u8::try_from(end).ok()
     }
 }
 
@@ -43,17 +52,29 @@ impl StoredEnd for u16 {
     fn end(self) -> u64 {
         u64::from(self)
     }
+
+    fn of_end(end: u64) -> Option<u16> {
+        u16::try_from(end).ok()
+    }
 }
 
 impl StoredEnd for u32 {
     fn end(self) -> u64 {
         u64::from(self)
     }
+
+    fn of_end(end: u64) -> Option<u32> {
+        u32::try_from(end).ok()
+    }
 }
 
 impl StoredEnd for u64 {
     fn end(self) -> u64 {
         self
+    }
+
+    fn of_end(end: u64) -> Option<u64> {
+        Some(end)
     }
 }
 

@@ -1,17 +1,15 @@
-use Rattle.std.proofs.Common.{arith, refl}
-use Rattle.column_fields.proofs.BitReading.{one_more, not_padded, all_read}
+use Rattle.std.proofs.Common.{◌∙◌, ap, length}
+use Rattle.column_fields.specs.BitBytes.{bit_bytes}
+use Rattle.column_fields.proofs.BitWords.{not_padded, read_bits}
 use Rattle.column_fields.proofs.bit_bytes.load_bits.Goals as goal
 
-pub returns-then-from-limit-clause-bad : goal.returns-then-from-limit-clause-bad
-returns-then-from-limit-clause-bad g c =
-    λ _. not_padded c.args.count c.args.bytes.now c.loop-index.index _ c.bits_in_byte-width.result c.loop-index.bits c.loop-index.invariant c.loop-index-test.true refl c.bits_in_byte-width.ensures (omega (arith, c.limit_of-limit.ensures, c.from.ensures))
-
-pub loop-index-preserved : goal.loop-index-preserved
-loop-index-preserved g c =
-    one_more c.args.count c.args.bytes.now c.loop-index.index _ c.bits_in_byte-width.result c.loop-index.bits _ c.loop-index.invariant c.loop-index-test.true refl c.bits_in_byte-width.ensures (omega (arith, c.limit_of-limit.ensures)) c.in_ok-append_byte.ensures.ok
+pub returns-then-not-is_padded-clause-bad : goal.returns-then-not-is_padded-clause-bad
+returns-then-not-is_padded-clause-bad g c = λ _. not_padded c.args.count c.args.bytes.now (λ h. absurd (cc (c.is_padded.ensures.1 h, c.if-not-is_padded.true)))
 
 pub returns-clause-shows : goal.returns-clause-shows
-returns-clause-shows g c = rw c.freeze.ensures (all_read c.args.count c.args.bytes.now c.loop-index.index c.loop-index.bits c.loop-index.invariant (omega arith) c.requires).0
+returns-clause-shows g c =
+    ap bit_bytes (c.freeze.ensures ∙ c.from_words.ensures) ∙ (read_bits c.args.count c.in_ok-words.words.items c.args.bytes.now _ c.requires (c.is_padded.ensures.0 c.if-not-is_padded.false) c.in_ok-words.ensures.shows).0
 
 pub returns-clause-counted : goal.returns-clause-counted
-returns-clause-counted g c = rw c.freeze.ensures (all_read c.args.count c.args.bytes.now c.loop-index.index c.loop-index.bits c.loop-index.invariant (omega arith) c.requires).1
+returns-clause-counted g c =
+    ap length (c.freeze.ensures ∙ c.from_words.ensures) ∙ (read_bits c.args.count c.in_ok-words.words.items c.args.bytes.now _ c.requires (c.is_padded.ensures.0 c.if-not-is_padded.false) c.in_ok-words.ensures.shows).1
