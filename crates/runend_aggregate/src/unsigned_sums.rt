@@ -119,7 +119,8 @@ fn sum_items<E: UnsignedPType, T: UnsignedPType, A: Allocator + Copy>(
     }
 }
 
-// The sum of the rows, of values that are these numbers.
+// The sum of the rows, of values that are these numbers. A call, so that each loop has the registers to itself.
+#[inline(never)]
 fn sum_numbers<E: UnsignedPType, N: UnsignedNumbers, A: Allocator + Copy>(
     array: &RunEndArray<A>,
     ends: &[E],
