@@ -1,10 +1,15 @@
 -- Rows of flat columns that are compared.
-use Rattle.std.proofs.Common.{◌≡◌, ◌≢◌, ◌∙◌, ℕ, zero, suc, List, [], ◌∷◌, Bool, true, false, Option, Some, None, map, refl, sym, ap}
+use Rattle.std.proofs.Common.{◌≡◌, ◌≢◌, ◌∙◌, ◌<◌, ℕ, zero, suc, List, [], ◌∷◌, Bool, true, false, Option, Some, None, get_or, length, map, refl, sym, ap}
 use Rattle.std.specs.Prelude.{◌↔◌, IsTrue, option_map, slice_get, slice_index_or}
 use Rattle.std.specs.declared.cmp.Ordering.{Ordering}
 use Rattle.std.specs.declared.cmp.Ordering.TheVariants.{Less, Equal, Greater}
 use Rattle.std.specs.Ordering.{is_eq, ordering_reverse}
+use Rattle.column_base.specs.ValidityForm.{ValidityForm, HasLength, flag_at, flags}
+use Rattle.std.proofs.lemmas.Option.{slice_get-get_or, slice_get-map}
+use Rattle.column_core.specs.Optionals.{optionals}
+use Rattle.column_core.specs.VarBinForm.{VarBinForm, varbin_rows, varbin_value, view_bytes, zero_view}
 use Rattle.column_core.specs.Value.{FlatValue, Single, Value}
+use Rattle.column_core.proofs.OptionalRows.{null-row_of, valid-row_of}
 use Rattle.column_order.specs.Order.{row_cmp}
 use Rattle.column_order.proofs.OrderLaws.{row_equal, row_total}
 
@@ -62,3 +67,75 @@ differ-from_test result s t a b left right tells told = λ same.
     let one : a ≡ b = single-one a b (left ∙ same ∙ sym right) in
     let wrong = (tells a b left right).1 one in
     cc
+
+-- rows that are told apart by what they are seen as
+pub same-by_views : (rows : List (Option FlatValue)) (left right : ℕ) (s t : Option Value) (result : Bool)
+    → slice_get (map (option_map (λ (v : FlatValue). Single v)) rows) left ≡ Some s → slice_get (map (option_map (λ (v : FlatValue). Single v)) rows) right ≡ Some t → TellsSame result s t
+    → (IsTrue result ↔ (slice_get (map (option_map (λ (v : FlatValue). Single v)) rows) left ≡ slice_get (map (option_map (λ (v : FlatValue). Single v)) rows) right))
+same-by_views rows left right s t result here there tells =
+    let a = row-of_flat rows left s here in
+    let b = row-of_flat rows right t there in
+    let tell = tells a.0 b.0 a.1 b.1 in (
+      (λ told. here ∙ ap (λ (v : Option Value). Some v) (sym a.1 ∙ ap (option_map Single) (tell.0 told) ∙ b.1) ∙ sym there),
+      (λ same.
+          let both : Some s ≡ Some t = sym here ∙ same ∙ there in
+          let one : s ≡ t = cc in
+          tell.1 (single-one a.0 b.0 (a.1 ∙ one ∙ sym b.1))),
+    )
+
+-- rows of items that are told apart by their flags and their items
+pub same-by_items : {B : Type 0} (value : B → FlatValue) (xs : List B) (form : ValidityForm) (n left right : ℕ) (x y : B) (v w equal result : Bool)
+    → ((a b : B) → value a ≡ value b → a ≡ b) → HasLength form n → length xs ≡ n → left < n → right < n → slice_get xs left ≡ Some x → slice_get xs right ≡ Some y
+    → v ≡ flag_at form left → w ≡ flag_at form right → (IsTrue equal ↔ (slice_get xs left ≡ slice_get xs right))
+    → (v ≡ true → w ≡ true → result ≡ equal) → (v ≡ false → w ≡ false → result ≡ true) → (v ≢ w → result ≡ false)
+    → (IsTrue result ↔ (slice_get (map (option_map (λ (v : FlatValue). Single v)) (map (option_map value) (optionals xs (flags form n)))) left
+    ≡ slice_get (map (option_map (λ (v : FlatValue). Single v)) (map (option_map value) (optionals xs (flags form n)))) right))
+same-by_items value xs form n left right x y true true equal result injective fits counted l r here there lv rv equals both null differ =
+    let shown_left = valid-row_of value xs form n left x (Some (Single (value x))) fits l (sym lv) here refl in
+    let shown_right = valid-row_of value xs form n right y (Some (Single (value y))) fits r (sym rv) there refl in
+    let is : result ≡ equal = both refl refl in (
+      (λ told.
+          let items : Some x ≡ Some y = sym here ∙ equals.0 (sym is ∙ told) ∙ there in
+          let same : x ≡ y = cc in
+          shown_left ∙ ap (λ z. Some (Some (Single (value z)))) same ∙ sym shown_right),
+      (λ same.
+          let seen : Some (Some (Single (value x))) ≡ Some (Some (Single (value y))) = sym shown_left ∙ same ∙ shown_right in
+          let values : value x ≡ value y = cc in
+          is ∙ equals.1 (here ∙ ap (λ z. Some z) (injective x y values) ∙ sym there)),
+    )
+same-by_items value xs form n left right x y true false equal result injective fits counted l r here there lv rv equals both null differ =
+    let shown_left = valid-row_of value xs form n left x (Some (Single (value x))) fits l (sym lv) here refl in
+    let shown_right = null-row_of value xs form n right fits counted r (sym rv) in
+    let is : result ≡ false = differ (λ e. cc) in (
+      (λ told. let wrong : true ≡ false = sym told ∙ is in cc),
+      (λ same. let seen : Some (Some (Single (value x))) ≡ Some None = sym shown_left ∙ same ∙ shown_right in cc),
+    )
+same-by_items value xs form n left right x y false true equal result injective fits counted l r here there lv rv equals both null differ =
+    let shown_left = null-row_of value xs form n left fits counted l (sym lv) in
+    let shown_right = valid-row_of value xs form n right y (Some (Single (value y))) fits r (sym rv) there refl in
+    let is : result ≡ false = differ (λ e. cc) in (
+      (λ told. let wrong : true ≡ false = sym told ∙ is in cc),
+      (λ same. let seen : Some None ≡ Some (Some (Single (value y))) = sym shown_left ∙ same ∙ shown_right in cc),
+    )
+same-by_items value xs form n left right x y false false equal result injective fits counted l r here there lv rv equals both null differ =
+    let shown_left = null-row_of value xs form n left fits counted l (sym lv) in
+    let shown_right = null-row_of value xs form n right fits counted r (sym rv) in (
+      (λ told. shown_left ∙ sym shown_right),
+      (λ same. null refl refl),
+    )
+
+-- valid rows of the same view show the same bytes
+pub same-by_view : (f : VarBinForm) (left right : ℕ) (v w : Bool) → HasLength f.validity (length f.views) → left < length f.views → right < length f.views
+    → v ≡ flag_at f.validity left → w ≡ flag_at f.validity right → v ≡ true → w ≡ true → slice_get f.views left ≡ slice_get f.views right
+    → slice_get (map (option_map (λ (v : FlatValue). Single v)) (varbin_rows f)) left ≡ slice_get (map (option_map (λ (v : FlatValue). Single v)) (varbin_rows f)) right
+same-by_view f left right v w fits l r lv rv left_valid right_valid same =
+    let value = varbin_value f.kind in
+    let xs = map (view_bytes f.buffers) f.views in
+    let n = length f.views in
+    let view = get_or f.views left zero_view in
+    let here : slice_get f.views left ≡ Some view = slice_get-get_or f.views left zero_view l in
+    let there : slice_get f.views right ≡ Some view = sym same ∙ here in
+    let bytes_here : slice_get xs left ≡ Some (view_bytes f.buffers view) = slice_get-map (view_bytes f.buffers) f.views left ∙ ap (option_map (view_bytes f.buffers)) here in
+    let bytes_there : slice_get xs right ≡ Some (view_bytes f.buffers view) = slice_get-map (view_bytes f.buffers) f.views right ∙ ap (option_map (view_bytes f.buffers)) there in
+    valid-row_of value xs f.validity n left (view_bytes f.buffers view) (Some (Single (value (view_bytes f.buffers view)))) fits l (sym lv ∙ left_valid) bytes_here refl
+    ∙ sym (valid-row_of value xs f.validity n right (view_bytes f.buffers view) (Some (Single (value (view_bytes f.buffers view)))) fits r (sym rv ∙ right_valid) bytes_there refl)

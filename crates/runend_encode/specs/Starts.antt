@@ -1,5 +1,5 @@
 -- Where runs start, and what stands there.
-use Rattle.std.specs.Prelude.{ℕ, List, [], ◌∷◌, Option, None, map, slice_index_or}
+use Rattle.std.specs.Prelude.{◌≡◌, ◌↔◌, ◌<◌, ◌-◌, ℕ, List, [], ◌∷◌, Bool, false, Option, None, length, map, slice_get, slice_index_or}
 use Rattle.column_core.specs.Value.{Value}
 use Rattle.runend_windows.specs.Cover.{IsTightCover}
 
@@ -15,3 +15,12 @@ rows_at rows places = map (λ place. slice_index_or rows place None) places
 -- runs with these ends, each of the value of its first row, are the tight exact cover of the rows
 abbrev pub AreRunEnds : List (Option Value) → List ℕ → Type 0
 AreRunEnds rows ends = IsTightCover rows ends (rows_at rows (starts_from 0 ends))
+
+-- a row is equal to the row before; the first row has none before it
+abbrev pub GoesOn : List (Option Value) → ℕ → Type 0
+GoesOn rows row = slice_get rows (row - 1) ≡ slice_get rows row
+
+-- a bit for each row: whether it differs from the row before
+pub record AreChanges (rows : List (Option Value)) (bits : List Bool) : Type 0 where
+  pub counted : length bits ≡ length rows
+  pub each : (row : ℕ) → row < length rows → ((slice_index_or bits row false ≡ false) ↔ GoesOn rows row)

@@ -1,6 +1,7 @@
 //! The run-end encoding of columns of any kind: of flat columns, and of runs over them.
 #![tactic(auto)]
 
+mod changes;
 mod encode;
 mod least;
 mod row_ends;

@@ -1,0 +1,28 @@
+use Rattle.std.proofs.Common.{◌≡◌, ◌+◌, ◌++◌, ◌∷◌, [], ◌∙◌, ◌≤◌, ℕ, List, count_by, ap, sym, length, length-append, vec_capacity, vec_len, arith}
+use Rattle.std.proofs.lemmas.List.{append_assoc, append-nil}
+use Rattle.column_ops.proofs.SelectedRows.{length-places}
+use Rattle.runend_encode.proofs.run_ends.places_and_len.Goals as goal
+
+pub push_reserved-requires : goal.push_reserved-requires
+push_reserved-requires g c =
+    let inv = c.loop-place.invariant in
+    let all = ap length inv.left ∙ length-places c.args.bits.now in
+    let parts = length-append c.loop-place.places.items c.loop-place.place-iterator in
+    let rest = ap length c.in-Some.ensures.steps in
+    omega (arith, inv.room, all, parts, rest)
+
+pub loop-place-preserved : goal.loop-place-preserved
+loop-place-preserved g c =
+    let inv = c.loop-place.invariant in
+    record {
+      left = rw c.push_reserved.ensures.items (append_assoc c.loop-place.places.items (c.in-Some.place ∷ []) c.next.new.self
+          ∙ ap (λ xs. c.loop-place.places.items ++ xs) (sym c.in-Some.ensures.steps) ∙ inv.left);
+      room = rw c.push_reserved.ensures.capacity inv.room;
+    }
+
+pub push_reserved-requires-2 : goal.push_reserved-requires-2
+push_reserved-requires-2 g c =
+    let inv = c.loop-place.invariant in
+    let all = ap length inv.left ∙ length-places c.args.bits.now in
+    let parts = length-append c.loop-place.places.items c.loop-place.place-iterator in
+    omega (arith, inv.room, all, parts)
