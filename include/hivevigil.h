@@ -391,8 +391,7 @@ HV_CALL void hv_builder_free(hv_builder *builder);
 
 /* A column as bytes, in any form, to keep or to send: a message of the Protocol Buffers encoding (docs/column.proto),
  * in the form that the column has, with its window; of flat texts and bytes the rows, which are read into one buffer.
- * Equal forms have equal bytes. 13 for lists, constants of decimals, runs over these, and more than 16 levels of runs.
- */
+ * Equal forms have equal bytes. 13 for lists, constants of lists, runs over these, and more than 16 levels of runs. */
 /* How many bytes they are. */
 HV_ANSWER hv_write_size(const hv_column *column, size_t *size, hv_error *error);
 /* They go to the front of `bytes`, and *size says how many they are; 11 (needed, bytes_len) where they have no room

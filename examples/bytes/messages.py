@@ -91,9 +91,11 @@ def flat(chance: random.Random, rows: int):
 
 def constant(chance: random.Random, rows: int):
     """One value in each of so many rows, or null."""
-    kind = chance.choice([*(SIZES.keys() - {DECIMAL}), BOOL, UTF8, BINARY])
+    kind = chance.choice([*SIZES, BOOL, UTF8, BINARY])
     message = begun(kind, CONSTANT, rows)
     message.validity = chance.choice([NEVER_NULL, NONE_NULL, ALL_NULL])
+    if kind == DECIMAL:
+        message.precision, message.scale = chance.randrange(256), chance.randrange(-128, 128)
     if message.validity == ALL_NULL:
         message.items = b""
     elif kind == BOOL:
@@ -205,16 +207,21 @@ def are_texts(message) -> bool:
     return message.type == BINARY or all(map(is_text, texts_of(message)))
 
 
+def has_fields(message, wanted: set[str]) -> bool:
+    """These fields, and of decimals precision and scale of native types; and no run lengths."""
+    if message.type == DECIMAL:
+        wanted = wanted | {"precision", "scale"}
+        if message.precision > 255 or message.scale not in range(-128, 128):
+            return False
+    return fields_of(message) == wanted and not message.run_lengths
+
+
 def is_flat(message) -> bool:
     is_of_texts = message.type in (UTF8, BINARY)
     wanted = {"version", "type", "form", "rows", "validity", "text_bytes" if is_of_texts else "items"}
     if message.validity == BY_BITS:
         wanted.add("validity_bits")
-    if message.type == DECIMAL:
-        wanted |= {"precision", "scale"}
-        if message.precision > 255 or message.scale not in range(-128, 128):
-            return False
-    if fields_of(message) != wanted or message.run_lengths or message.validity not in range(1, 5):
+    if not has_fields(message, wanted) or message.validity not in range(1, 5):
         return False
     if message.text_lengths and not is_of_texts:
         return False
@@ -228,19 +235,17 @@ def is_flat(message) -> bool:
 
 
 def is_constant(message) -> bool:
-    if fields_of(message) != {"version", "type", "form", "rows", "validity", "items"}:
-        return False
-    if message.run_lengths or message.text_lengths:
+    if not has_fields(message, {"version", "type", "form", "rows", "validity", "items"}) or message.text_lengths:
         return False
     if message.validity == ALL_NULL:
-        return message.type in {*SIZES, BOOL, UTF8, BINARY} - {DECIMAL} and not message.items
+        return message.type in {*SIZES, BOOL, UTF8, BINARY} and not message.items
     if message.validity not in (NEVER_NULL, NONE_NULL):
         return False
     if message.type == UTF8:
         return is_text(message.items)
     if message.type in (BOOL, BINARY):
         return message.type == BINARY or message.items in (b"\0", b"\1")
-    return message.type in SIZES.keys() - {DECIMAL} and len(message.items) == SIZES[message.type]
+    return message.type in SIZES and len(message.items) == SIZES[message.type]
 
 
 def ends_of(message) -> list[int]:

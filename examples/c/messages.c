@@ -27,6 +27,10 @@ static const uint8_t texts_message[] = {0x08, 1, 0x10, 11, 0x18, 1, 0x20, 4, 0x2
                                         0x62, 4, 2, 0, 0, 1, 0x6a, 3, 'a', 'b', 'c'};
 static const uint8_t number_message[] = {0x08, 1, 0x10, 2, 0x18, 3, 0x20, 3, 0x28, 2, 0x3a, 2, 2, 1};
 static const uint8_t null_message[] = {0x08, 1, 0x10, 12, 0x18, 3, 0x20, 2, 0x28, 3, 0x3a, 0};
+/* the decimal 0.50 of precision 5 and scale 2 in two rows, of a type without null; null of these in three */
+static const uint8_t half_message[] = {0x08, 1, 0x10, 10, 0x18, 3, 0x20, 2, 0x28, 1, 0x3a, 16,
+                                       50, ZEROS_5, ZEROS_5, ZEROS_5, 0x70, 5, 0x78, 4};
+static const uint8_t no_decimal_message[] = {0x08, 1, 0x10, 10, 0x18, 3, 0x20, 3, 0x28, 3, 0x3a, 0, 0x70, 5, 0x78, 4};
 
 static hv_column flat = HV_EMPTY, runs = HV_EMPTY, window = HV_EMPTY, decimals = HV_EMPTY;
 
@@ -88,10 +92,10 @@ static void check_damaged(const uint8_t *message, size_t len) {
     hv_free(&out);
 }
 
-/* Constants: what is written of them, and what is read; those of decimals have no message. */
+/* Constants: what is written of them, and what is read. */
 static void check_constants(void) {
     const hv_kind text = {HV_UTF8, 0, 0, 0}, number = {HV_U16, 1, 0, 0};
-    const hv_kind bytes = {HV_BINARY, 1, 0, 0}, decimal = {HV_DECIMAL, 0, 5, 2};
+    const hv_kind bytes = {HV_BINARY, 1, 0, 0}, decimal = {HV_DECIMAL, 0, 5, 2}, no_decimal = {HV_DECIMAL, 1, 5, 2};
     const hv_value ab = {.kind = HV_TEXT, .as_unsigned = 2}, large = {.kind = HV_UNSIGNED, .as_unsigned = 258};
     const hv_value null = {.kind = HV_NULL}, half = {.kind = HV_DECIMAL_VALUE, .as_unsigned = 50};
     hv_column column = HV_EMPTY, read = HV_EMPTY;
@@ -108,7 +112,9 @@ static void check_constants(void) {
     CHECK(!hv_constant(&bytes, &null, NO_TEXT, 2, &column, &error));
     check_message(&column, null_message, sizeof null_message, "null null");
     CHECK(!hv_constant(&decimal, &half, NO_TEXT, 2, &column, &error));
-    CHECK_REFUSED(hv_write_size(&column, &size, &error), 13, 0, 0, 0);
+    check_message(&column, half_message, sizeof half_message, "0:50 0:50");
+    CHECK(!hv_constant(&no_decimal, &null, NO_TEXT, 3, &column, &error));
+    check_message(&column, no_decimal_message, sizeof no_decimal_message, "null null null");
     hv_free(&column), hv_free(&read);
 }
 
@@ -149,6 +155,8 @@ int main(void) {
     check_damaged(window_message, sizeof window_message);
     check_damaged(decimals_message, sizeof decimals_message);
     check_damaged(text_message, sizeof text_message);
+    check_damaged(half_message, sizeof half_message);
+    check_damaged(no_decimal_message, sizeof no_decimal_message);
     check_damaged(texts_message, sizeof texts_message);
     check_none();
     hv_free(&flat), hv_free(&runs), hv_free(&window), hv_free(&decimals);

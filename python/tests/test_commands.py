@@ -177,10 +177,6 @@ def test_records(sample):
 @given(samples())
 def test_bytes(sample):
     column = sample.column
-    if column.form == "constant" and "decimal" in column.type:
-        with pytest.raises(errors.Unsupported):
-            column.to_bytes()
-        return
     message = column.to_bytes()
     again = Column.from_bytes(message)
     assert again.to_list() == sample.rows

@@ -1,4 +1,4 @@
--- Constants are read as they are written, and in no other way.
+-- Constants of integers, booleans, texts and bytes are read as they are written, and in no other way.
 use Rattle.std.proofs.Common.{◌≡◌, ℕ, ◌^◌, ◌<◌, Bool, true, false, Option, Some, None, List, [], ◌∷◌, length, refl, sym, ap, subst, ◌∙◌, arith}
 use Rattle.std.proofs.lemmas.List.{nil_from_length}
 use Rattle.column_base.specs.declared.dtype.Nullability.{Nullability}
@@ -14,11 +14,9 @@ use Rattle.column_fields.specs.FlatFields.{flat_fields, AreNoFlatFields}
 use Rattle.column_fields.proofs.FlatFieldLaws.{flat_same}
 use Rattle.column_fields.proofs.NumberSame.{number_same}
 use Rattle.column_fields.proofs.TypeLaws.{type_same}
-use Rattle.runend_array.specs.Column.{Column, Constant, OfLeaf, OfConstant, OfLists, OfRuns}
-use Rattle.column_bytes.specs.Bytes.{kind_number, column_body}
+use Rattle.column_bytes.specs.Bytes.{kind_number}
 use Rattle.column_bytes.specs.Values.{IsPlainType, IsStoredValue, some_validity, value_validity, some_bytes, value_bytes, value_fields}
-use Rattle.column_bytes.specs.Stored.{IsStoredConstant}
-use Rattle.column_bytes.specs.Read.{IsBody, IsNoBody, IsValueIn, HasNoValueIn, IsNullOf, HasNoNullOf, IsSomeOf, HasNoSomeOf, HasNoValueOf, HasNoPlainType}
+use Rattle.column_bytes.specs.Read.{IsValueIn, HasNoValueIn, IsNullOf, HasNoNullOf, IsSomeOf, HasNoSomeOf, HasNoValueOf, HasNoPlainType}
 use Rattle.column_bytes.proofs.Leaves.{type_at_most, items_small}
 
 -- ---- types
@@ -104,30 +102,30 @@ some_same (column.List d n) v w p q e = absurd p.plain
 
 -- ---- how null is told
 
-may_be_null : (n : Nullability) → MayBeNull n → n ≡ Nullable
+pub may_be_null : (n : Nullability) → MayBeNull n → n ≡ Nullable
 may_be_null NonNullable h = absurd h
 may_be_null Nullable h = refl
 
-told_same : (n m : Nullability) → some_validity n ≡ some_validity m → n ≡ m
+pub told_same : (n m : Nullability) → some_validity n ≡ some_validity m → n ≡ m
 told_same NonNullable NonNullable e = refl
 told_same NonNullable Nullable e = absurd cc
 told_same Nullable NonNullable e = absurd cc
 told_same Nullable Nullable e = refl
 
-told_some : (n : Nullability) → some_validity n ≡ AllNull → ⊥
+pub told_some : (n : Nullability) → some_validity n ≡ AllNull → ⊥
 told_some NonNullable e = absurd cc
 told_some Nullable e = absurd cc
 
-told_length : (n : Nullability) (v : Option FlatValue) → HasLength (value_validity n v) 0
+pub told_length : (n : Nullability) (v : Option FlatValue) → HasLength (value_validity n v) 0
 told_length n None = tt
 told_length NonNullable (Some v) = tt
 told_length Nullable (Some v) = tt
 
-some_length : (n : Nullability) → HasLength (some_validity n) 0
+pub some_length : (n : Nullability) → HasLength (some_validity n) 0
 some_length NonNullable = tt
 some_length Nullable = tt
 
-no_bits_told : (bits : List Bool) (n : Nullability) (v : Option FlatValue) → ByBits bits ≡ value_validity n v → ⊥
+pub no_bits_told : (bits : List Bool) (n : Nullability) (v : Option FlatValue) → ByBits bits ≡ value_validity n v → ⊥
 no_bits_told bits n None e = absurd cc
 no_bits_told bits NonNullable (Some v) e = absurd cc
 no_bits_told bits Nullable (Some v) e = absurd cc
@@ -232,47 +230,3 @@ no_some_value kind n bytes t plain k m absent = record {
 pub some_of : (kind : ℕ) (n : Nullability) (bytes : List ℕ) (t : DType) (v : FlatValue) (s : ScalarForm) → kind_number t ≡ kind → nullability_of t ≡ n → IsStoredValue t (Some v) → some_bytes t v ≡ bytes → s ≡ record { dtype = t; value = Some v } → IsSomeOf kind n bytes s
 some_of kind n bytes t v s k m h spelt is =
     subst (λ (x : ScalarForm). IsSomeOf kind n bytes x) (sym is) (record { value = v; is = refl; kind_is = k; nullability = m; stored = h; spelt = spelt })
-
--- ---- the constant
-
-pub constant_body : (constant : Constant) → column_body (OfConstant constant) ≡ value_fields constant.dtype constant.value
-unfolding column_body
-constant_body constant = refl
-
-pub record ConstantAt (kind rows : ℕ) (bytes : List ℕ) (c : Column) : Type 0 where
-  pub constant : Constant
-  pub is : c ≡ OfConstant constant
-  pub count : constant.count ≡ rows
-  pub value : IsValueIn kind bytes (record { dtype = constant.dtype; value = constant.value })
-
-pub constant_at : (c : Column) (levels kind rows : ℕ) (bytes : List ℕ) → IsBody levels kind 3 rows bytes c → ConstantAt kind rows bytes c
-constant_at (OfLeaf leaf) levels kind rows bytes h = absurd (omega (arith, h.form_is))
-constant_at (OfConstant constant) levels kind rows bytes h = record {
-  constant = constant;
-  is = refl;
-  count = h.rows_is;
-  value = record { kind_is = h.kind_is; stored = h.writable.stored.value; spelt = h.spelt ∙ constant_body constant };
-}
-constant_at (OfLists lists) levels kind rows bytes h = absurd h.writable.stored
-constant_at (OfRuns ends_type ends values offset count) levels kind rows bytes h = absurd (omega (arith, h.form_is))
-
-pub no_constant_body : (kind rows : ℕ) (bytes : List ℕ) → HasNoValueIn kind bytes → (levels : ℕ) → IsNoBody levels kind 3 rows bytes
-no_constant_body kind rows bytes absent levels = record { none = λ c h. let at = constant_at c levels kind rows bytes h in absent.none (record { dtype = at.constant.dtype; value = at.constant.value }) at.value }
-
-pub is_constant_body : (kind rows : ℕ) (bytes : List ℕ) (s : ScalarForm) (constant : Constant) → rows < 2 ^ 64 → constant ≡ record { dtype = s.dtype; value = s.value; count = rows } → IsValueIn kind bytes s → IsBody 0 kind 3 rows bytes (OfConstant constant)
-is_constant_body kind rows bytes s constant small is h =
-    let own : Constant = record { dtype = s.dtype; value = s.value; count = rows } in
-    subst (λ (x : Constant). IsBody 0 kind 3 rows bytes (OfConstant x)) (sym is) (record {
-      writable = record { stored = record { value = h.stored; small = small }; shallow = omega arith };
-      packed = tt;
-      kind_is = h.kind_is;
-      form_is = refl;
-      rows_is = refl;
-      spelt = h.spelt ∙ sym (constant_body own);
-    })
-
-pub constant_one : (c d : Constant) → IsStoredConstant c → length (value_fields c.dtype c.value) < 2 ^ 64 → d.count ≡ c.count → IsValueIn (kind_number c.dtype) (value_fields c.dtype c.value) (record { dtype = d.dtype; value = d.value }) → c ≡ d
-constant_one c d p lt count h =
-    let own : IsValueIn (kind_number c.dtype) (value_fields c.dtype c.value) (record { dtype = c.dtype; value = c.value }) = record { kind_is = refl; stored = p.value; spelt = refl } in
-    let same = value_one (kind_number c.dtype) (value_fields c.dtype c.value) (record { dtype = c.dtype; value = c.value }) (record { dtype = d.dtype; value = d.value }) lt own h in
-    λ i. record { dtype = (same i).dtype; value = (same i).value; count = sym count i }

@@ -9,26 +9,30 @@ use Rattle.column_base.specs.declared.dtype.DType.TheVariants as column
 use Rattle.column_base.specs.Types.{HasNumber, nullability_of}
 use Rattle.column_base.specs.ValidityForm.{ValidityForm, AllNull}
 use Rattle.column_core.specs.ScalarForm.{ScalarForm}
-use Rattle.column_core.specs.Value.{Number}
+use Rattle.column_core.specs.Value.{Number, IsLists}
 use Rattle.varints.specs.Varint.{varint}
+use Rattle.column_fields.specs.DecimalBytes.{decimal_bytes}
 use Rattle.column_fields.specs.Field.{number_field, bytes_field}
 use Rattle.column_fields.specs.FlatFields.{flat_fields}
 use Rattle.column_fields.specs.Header.{header_bytes}
 use Rattle.column_fields.specs.NumberBytes.{number_bytes, size_of}
 use Rattle.column_fields.specs.Validity.{validity_field}
+use Rattle.column_fields.proofs.DecimalLaws.{length-decimal_bytes}
 use Rattle.column_fields.proofs.FlatFieldLaws.{puts_flat}
 use Rattle.runend_array.specs.Column.{Constant, OfConstant}
 use Rattle.column_bytes.specs.Bytes.{kind_number, column_bytes}
-use Rattle.column_bytes.specs.Values.{IsNumberIn, some_validity, some_bytes, value_fields}
-use Rattle.column_bytes.proofs.ConstantReads.{constant_body}
+use Rattle.column_bytes.specs.Values.{IsNumberIn, IsStoredType, some_validity, some_bytes, value_fields, type_fields, constant_fields}
+use Rattle.column_bytes.proofs.Scalars.{constant_body}
 
-pub puts_constant : (constant : Constant) (s : ScalarForm) (kind rows : ℕ) (old a new : List ℕ) → s ≡ record { dtype = constant.dtype; value = constant.value } → kind ≡ kind_number constant.dtype → rows ≡ constant.count → a ≡ old ++ header_bytes kind 3 rows → new ≡ a ++ value_fields s.dtype s.value → new ≡ old ++ column_bytes (OfConstant constant)
-puts_constant constant s kind rows old a new is k r p q =
+pub puts_constant : (constant : Constant) (s : ScalarForm) (t : DType) (kind rows : ℕ) (old a b new : List ℕ) → s ≡ record { dtype = constant.dtype; value = constant.value } → t ≡ constant.dtype → kind ≡ kind_number constant.dtype → rows ≡ constant.count → a ≡ old ++ header_bytes kind 3 rows → b ≡ a ++ value_fields s.dtype s.value → new ≡ b ++ type_fields t → new ≡ old ++ column_bytes (OfConstant constant)
+puts_constant constant s t kind rows old a b new is t-is k r p q w =
     let header : List ℕ = header_bytes (kind_number constant.dtype) 3 constant.count in
-    let fields : List ℕ = value_fields constant.dtype constant.value in
+    let values : List ℕ = value_fields constant.dtype constant.value in
+    let fields : List ℕ = constant_fields constant.dtype constant.value in
     let p' : a ≡ old ++ header = p ∙ ap (λ (n : ℕ). old ++ header_bytes n 3 rows) k ∙ ap (λ (n : ℕ). old ++ header_bytes (kind_number constant.dtype) 3 n) r in
-    let q' : new ≡ a ++ fields = q ∙ ap (λ (x : ScalarForm). a ++ value_fields x.dtype x.value) is in
-    q' ∙ ap (λ (x : List ℕ). x ++ fields) p' ∙ append_assoc old header fields ∙ ap (λ (x : List ℕ). old ++ (header ++ x)) (sym (constant_body constant))
+    let q' : b ≡ a ++ values = q ∙ ap (λ (x : ScalarForm). a ++ value_fields x.dtype x.value) is in
+    let w' : new ≡ a ++ fields = w ∙ ap (λ (x : DType). b ++ type_fields x) t-is ∙ ap (λ (x : List ℕ). x ++ type_fields constant.dtype) q' ∙ append_assoc a values (type_fields constant.dtype) in
+    w' ∙ ap (λ (x : List ℕ). x ++ fields) p' ∙ append_assoc old header fields ∙ ap (λ (x : List ℕ). old ++ (header ++ x)) (sym (constant_body constant))
 
 -- ---- the value
 
@@ -56,3 +60,15 @@ puts_whole t p n z size old a b new t-is s q r e =
 
 pub number_in : (t : DType) (p : PType) (n : Nullability) (z : ℤ) → t ≡ column.Primitive p n → IsNumberIn t z → HasNumber p z
 number_in t p n z t-is h = subst (λ (x : DType). IsNumberIn x z) t-is h
+
+pub puts_decimal : (n : Nullability) (z : ℤ) (size : ℕ) (old a b new : List ℕ) → size ≡ 16 → a ≡ old ++ validity_field (some_validity n) → b ≡ a ++ (varint (7 * 8 + 2) ++ varint size) → new ≡ b ++ decimal_bytes z → new ≡ old ++ flat_fields (some_validity n) (decimal_bytes z)
+puts_decimal n z size old a b new s p q r = puts_flat (some_validity n) (decimal_bytes z) size old a b new (s ∙ sym (length-decimal_bytes z)) p q r
+
+-- a type of lists is none whose constants are written
+pub no_lists : (t : DType) → IsStoredType t → IsLists t → ⊥
+no_lists (column.Primitive t n) s l = l
+no_lists (column.Bool n) s l = l
+no_lists (column.Decimal d n) s l = l
+no_lists (column.Utf8 n) s l = l
+no_lists (column.Binary n) s l = l
+no_lists (column.List e n) s l = s

@@ -116,7 +116,7 @@ decimals_long v d items = omega (
   length-append (varint (length items)) items,
 )
 
-decimals_small : (v : ValidityForm) (d : DecimalDType) (items bytes : List ℕ) → length bytes < 2 ^ 64 → bytes ≡ decimal_fields v d items → length items < 2 ^ 64
+pub decimals_small : (v : ValidityForm) (d : DecimalDType) (items bytes : List ℕ) → length bytes < 2 ^ 64 → bytes ≡ decimal_fields v d items → length items < 2 ^ 64
 decimals_small v d items bytes lt e = omega (arith, decimals_long v d items, ap length e)
 
 pub no_decimals_fields : (rows : ℕ) (bytes : List ℕ) → length bytes < 2 ^ 64 → AreNoDecimalFields rows bytes → AreNoDecimalsOf rows bytes

@@ -21,8 +21,8 @@ use Rattle.column_bytes.specs.Bytes.{kind_number, form_number, column_count, col
 use Rattle.column_bytes.specs.Packed.{IsPacked}
 use Rattle.column_bytes.specs.Stored.{IsStored}
 use Rattle.column_bytes.specs.Read.{IsMessage, IsNoMessage, IsBody, IsNoBody, AreRunsOf, AreNoRunsOf}
-use Rattle.column_bytes.specs.Values.{value_fields}
-use Rattle.column_bytes.proofs.ConstantReads.{constant_at, constant_body, constant_one}
+use Rattle.column_bytes.specs.Values.{constant_fields}
+use Rattle.column_bytes.proofs.Scalars.{constant_at, constant_body, constant_one}
 use Rattle.column_bytes.proofs.Ends.{ends_rise}
 use Rattle.column_bytes.proofs.Leaves.{leaf_body, number_of_varbin, numbers_at, truths_at, decimals_at, texts_at, numbers_one, truths_one, decimals_one}
 use Rattle.text_fields.specs.TextReading.{AreTextsOf}
@@ -193,7 +193,7 @@ column_one levels (OfLeaf (OfVarBins form)) d s k lt m =
     let own : AreTextsOf form.kind (length form.views) fields form = record { kind_is = refl; counted = refl; stored = s; packed_is = k; spelt = refl } in
     ap (λ f. OfLeaf (OfVarBins f)) (texts_one form.kind (length form.views) fields form at.form s.rows_small (omega (arith, fields_long (OfLeaf (OfVarBins form)), ap length (leaf_body (OfVarBins form)))) own at.are) ∙ sym at.is
 column_one levels (OfConstant constant) d s k lt m =
-    let fields : List ℕ = value_fields constant.dtype constant.value in
+    let fields : List ℕ = constant_fields constant.dtype constant.value in
     let at = constant_at d levels (kind_number constant.dtype) constant.count fields (subst (λ (x : List ℕ). IsBody levels (kind_number constant.dtype) 3 constant.count x d) (constant_body constant) (own_body levels (OfConstant constant) d s m)) in
     ap OfConstant (constant_one constant at.constant s (omega (arith, fields_long (OfConstant constant), ap length (constant_body constant))) at.count at.value) ∙ sym at.is
 column_one levels (OfLists lists) d s k lt m = absurd s

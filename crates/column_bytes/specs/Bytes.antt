@@ -18,7 +18,7 @@ use Rattle.column_fields.specs.Types.{type_number}
 use Rattle.runend_array.specs.Column.{Column, OfLeaf, OfConstant, OfLists, OfRuns, column_dtype}
 use Rattle.runend_array.specs.Lists.{list_count}
 use Rattle.text_fields.specs.Texts.{text_bytes, text_fields, text_sizes}
-use Rattle.column_bytes.specs.Values.{value_fields}
+use Rattle.column_bytes.specs.Values.{constant_fields}
 
 -- the number of a type: 1 to 8 the native types, then booleans, decimals, texts, bytes and lists
 abbrev pub kind_number : DType → ℕ
@@ -62,7 +62,7 @@ column_header c = header_bytes (kind_number (column_dtype c)) (form_number c) (c
 -- what a message says behind its header; of runs the values are a message of their own
 unfoldable pub column_body : Column → List ℕ
 column_body (OfLeaf leaf) = leaf_fields leaf
-column_body (OfConstant constant) = value_fields constant.dtype constant.value
+column_body (OfConstant constant) = constant_fields constant.dtype constant.value
 column_body (OfLists lists) = []
 column_body (OfRuns ends_type ends values offset count) = run_fields offset ends_type (lengths_bytes 0 ends) (column_header values ++ column_body values)
 

@@ -1,24 +1,29 @@
 -- What bytes are as messages, with at most so many levels of runs.
-use Rattle.std.specs.Prelude.{◌≡◌, ◌⊎◌, ℕ, ℤ, ◌≤◌, true, Some, None, List, [], length}
+use Rattle.std.specs.Prelude.{◌≡◌, ◌⊎◌, ℕ, ℤ, ◌≤◌, true, Some, None, List, [], length, FitsSigned}
+use Rattle.std.specs.Int.{w128}
 use Rattle.column_base.specs.declared.dtype.Nullability.{Nullability}
+use Rattle.column_base.specs.declared.dtype.Nullability.TheVariants.{Nullable}
+use Rattle.column_base.specs.declared.dtype.DecimalDType.{DecimalDType}
 use Rattle.column_base.specs.declared.dtype.DType.{DType}
+use Rattle.column_base.specs.declared.dtype.DType.TheVariants as column
 use Rattle.column_base.specs.declared.dtype.PType.{PType}
 use Rattle.column_base.specs.declared.error.VortexError.{VortexError}
 use Rattle.column_base.specs.declared.error.VortexError.TheVariants.{Unsupported, OutOfMemory}
 use Rattle.column_base.specs.Types.{HasNumber, nullability_of}
-use Rattle.column_core.specs.Value.{FlatValue, Number}
+use Rattle.column_core.specs.Value.{FlatValue, Number, DecimalNumber}
 use Rattle.column_core.specs.ScalarForm.{ScalarForm}
 use Rattle.column_core.specs.Leaf.{OfNumbers, OfTruths, OfDecimals}
 use Rattle.column_core.specs.PrimitiveForm.{PrimitiveForm, primitive_dtype}
 use Rattle.column_core.specs.BoolForm.{BoolForm}
 use Rattle.column_core.specs.DecimalForm.{DecimalForm}
 use Rattle.column_fields.specs.NumberBytes.{number_bytes}
+use Rattle.column_fields.specs.DecimalBytes.{decimal_bytes}
 use Rattle.column_fields.specs.Lengths.{lengths_bytes, Rises, AreEndsOf}
 use Rattle.runend_windows.specs.Ends.{IsEndsType, ends_of}
 use Rattle.runend_array.specs.Column.{Column, OfRuns, AreRuns, runs_with, column_dtype, depth}
 use Rattle.column_bytes.specs.Packed.{IsPacked}
 use Rattle.column_bytes.specs.Bytes.{kind_number, form_number, column_count, leaf_fields, column_body, column_bytes}
-use Rattle.column_bytes.specs.Values.{IsPlainType, IsStoredValue, some_bytes, value_fields}
+use Rattle.column_bytes.specs.Values.{IsPlainType, IsStoredValue, IsStoredScalar, some_bytes, value_fields, constant_fields}
 use Rattle.column_bytes.specs.Stored.{IsStored, AreNumbers, AreTruths, AreDecimals}
 
 -- the column has bytes, and no more levels of runs than so many
@@ -76,6 +81,27 @@ pub record AreNoDecimalsOf (rows : ℕ) (bytes : List ℕ) : Type 0 where
   pub none : (form : DecimalForm) → AreDecimalsOf rows bytes form → ⊥
 
 -- the bytes are what the message of a constant of this value says behind its header
+pub record IsScalarIn (kind : ℕ) (bytes : List ℕ) (scalar : ScalarForm) : Type 0 where
+  pub kind_is : kind_number scalar.dtype ≡ kind
+  pub stored : IsStoredScalar scalar.dtype scalar.value
+  pub spelt : bytes ≡ constant_fields scalar.dtype scalar.value
+
+pub record HasNoScalarIn (kind : ℕ) (bytes : List ℕ) : Type 0 where
+  pub none : (scalar : ScalarForm) → IsScalarIn kind bytes scalar → ⊥
+
+-- the scalar is a value of that type of decimals, with these bytes
+pub record IsDecimalOf (decimal : DecimalDType) (n : Nullability) (bytes : List ℕ) (scalar : ScalarForm) : Type 0 where
+  pub number : ℤ
+  pub is : scalar ≡ record { dtype = column.Decimal decimal n; value = Some (DecimalNumber number) }
+  pub fits : FitsSigned w128 number
+  pub spelt : decimal_bytes number ≡ bytes
+
+-- the scalar is null, of that type of decimals with null, and has no bytes
+pub record IsNullDecimal (decimal : DecimalDType) (bytes : List ℕ) (scalar : ScalarForm) : Type 0 where
+  pub is : scalar ≡ record { dtype = column.Decimal decimal Nullable; value = None }
+  pub spelt : bytes ≡ []
+
+-- the same of a type of integers, booleans, texts or bytes
 pub record IsValueIn (kind : ℕ) (bytes : List ℕ) (scalar : ScalarForm) : Type 0 where
   pub kind_is : kind_number scalar.dtype ≡ kind
   pub stored : IsStoredValue scalar.dtype scalar.value

@@ -9,7 +9,7 @@ use Rattle.column_core.specs.BoolForm.{BoolForm}
 use Rattle.column_core.specs.DecimalForm.{DecimalForm}
 use Rattle.column_fields.specs.DecimalFields.{IsDecimalType}
 use Rattle.column_fields.specs.Lengths.{AreEndsOf}
-use Rattle.column_bytes.specs.Values.{IsStoredValue}
+use Rattle.column_bytes.specs.Values.{IsStoredScalar}
 use Rattle.text_fields.specs.Texts.{AreTexts}
 use Rattle.runend_array.specs.Column.{Column, Constant, OfLeaf, OfConstant, OfLists, OfRuns, AreRuns, runs_with}
 
@@ -39,7 +39,7 @@ IsStoredLeaf (OfVarBins form) = AreTexts form
 
 -- the value is one of its type, or null where that has null
 pub record IsStoredConstant (constant : Constant) : Type 0 where
-  pub value : IsStoredValue constant.dtype constant.value
+  pub value : IsStoredScalar constant.dtype constant.value
   pub small : constant.count < 2 ^ 64
 
 -- flat columns, constants, and runs over columns that have bytes

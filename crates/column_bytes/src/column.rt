@@ -18,8 +18,8 @@ use std::alloc::Allocator;
 pub const MOST_LEVELS: usize = 16;
 
 /// The message of a column, in memory of the allocator `alloc`. Refused as `Unsupported` exactly for a column that
-/// version 1 does not write: one of lists, a constant of decimals, runs over one of these, or more than 16 levels of
-/// runs; else as `OutOfMemory` alone.
+/// version 1 does not write: one of lists, runs over these, or more than 16 levels of runs; else as `OutOfMemory`
+/// alone.
 pub fn write_column<A: Allocator + Copy, B: Allocator + Copy>(
     alloc: B,
     array: &ArrayRef<A>,

@@ -1,35 +1,37 @@
 //! Constants: one value in each row, or null.
-ghost use Rattle.std.specs.Prelude.{◌≡◌, ◌↔◌, ◌++◌, ◌∷◌, [], ℕ, ℤ, Bool, Some, IsTrue, OnOk, IfOk, IfErr, IfSome, IfNone, IsErrOf, IsOkUnless};
+ghost use Rattle.std.specs.Prelude.{◌≡◌, ◌↔◌, ◌++◌, ◌∷◌, [], ℕ, ℤ, Bool, Some, option_map, IsTrue, OnOk, IfOk, IfErr, IfSome, IfNone, IsErrOf, IsOkUnless};
 ghost use Rattle.column_base.specs.declared.dtype.Nullability.{Nullability};
 ghost use Rattle.column_base.specs.declared.dtype.DType.TheVariants.{Primitive};
 ghost use Rattle.column_base.specs.Types.{nullability_of};
 ghost use Rattle.column_base.specs.ValidityForm.{AllNull};
 ghost use Rattle.column_base.specs.Words.{one_if};
 ghost use Rattle.column_core.specs.Scalar.{flat_of, IsOwnedOf};
-ghost use Rattle.column_core.specs.Value.{Number};
+ghost use Rattle.column_core.specs.Value.{Number, Single, IsLists, IsRowOf};
 ghost use Rattle.runend_array.specs.Array.{column_of};
 ghost use Rattle.runend_array.specs.Column.{OfConstant};
+ghost use Rattle.column_fields.specs.DecimalBytes.{decimal_bytes};
 ghost use Rattle.column_fields.specs.FlatFields.{flat_fields};
 ghost use Rattle.column_fields.specs.NumberBytes.{number_bytes};
 ghost use Rattle.column_fields.specs.Validity.{validity_field};
 ghost use Rattle.column_fields.specs.Refusal.{IsBadOrMemory};
 ghost use Rattle.column_bytes.specs.Bytes.{column_bytes};
-ghost use Rattle.column_bytes.specs.Values.{IsPlainType, IsStoredValue, IsNumberIn, some_validity, some_bytes, value_fields};
+ghost use Rattle.column_bytes.specs.Values.{IsPlainType, IsStoredType, IsStoredValue, IsNumberIn, some_validity, some_bytes, value_fields, type_fields};
 ghost use Rattle.column_bytes.specs.Stored.{IsStoredConstant};
-ghost use Rattle.column_bytes.specs.Read.{IsBody, IsNoBody, IsValueIn, HasNoValueIn, IsNullOf, HasNoNullOf, IsSomeOf, HasNoSomeOf, IsWholeOf, HasNoValueOf, IsUnsupportedOrMemory};
+ghost use Rattle.column_bytes.specs.Read.{IsBody, IsNoBody, IsScalarIn, HasNoScalarIn, IsValueIn, HasNoValueIn, IsNullOf, HasNoNullOf, IsSomeOf, HasNoSomeOf, IsWholeOf, HasNoValueOf, IsUnsupportedOrMemory};
 
+use crate::decimal_constants::read_decimal;
+use crate::flat::DECIMALS;
 use crate::kinds::{kind_of_number, number_of_kind};
 use column_base::{DType, Nullability, PType, Validity, VortexError, VortexResult};
 use column_core::{Scalar, ScalarValue, ScalarView};
 use column_fields::{
-    Header, load_value, put_bytes, put_bytes_key, put_header, put_number, put_value,
-    read_flat_fields, size_of_type,
+    DECIMAL_SIZE, Header, load_value, put_bytes, put_bytes_key, put_decimal, put_decimal_type,
+    put_header, put_number, put_value, read_flat_fields, size_of_type,
 };
 use runend_array::{ArrayRef, ConstantArray};
 use std::alloc::Allocator;
 
-/// Writes a constant at the end. Refused as `Unsupported` exactly where it is of decimals or of lists, else as
-/// `OutOfMemory` alone.
+/// Writes a constant at the end. Refused as `Unsupported` exactly where it is of lists, else as `OutOfMemory` alone.
 pub(crate) fn put_constant<A: Allocator, B: Allocator>(
     out: &mut Vec<u8, B>,
     array: &ConstantArray<A>,
@@ -40,7 +42,7 @@ pub(crate) fn put_constant<A: Allocator, B: Allocator>(
     ensures only { IfErr result IsUnsupportedOrMemory }
 {
     let dtype = array.dtype();
-    if !is_plain(dtype) {
+    if is_lists(dtype) {
         return Err(VortexError::Unsupported);
     }
     put_header(
@@ -52,16 +54,30 @@ pub(crate) fn put_constant<A: Allocator, B: Allocator>(
         },
     )?;
     put_scalar(out, array.scalar())?;
+    put_type(out, dtype)?;
     Ok(())
 }
 
-// Has version 1 bytes for a constant of the type?
-fn is_plain(dtype: DType) -> bool
-    ensures { IsTrue result ↔ IsPlainType dtype }
+// Is it a type of lists, of whose constants version 1 has no bytes?
+fn is_lists(dtype: DType) -> bool
+    ensures { IsTrue result ↔ IsLists dtype }
 {
     match dtype {
-        DType::Primitive(_, _) | DType::Bool(_) | DType::Utf8(_) | DType::Binary(_) => true,
-        DType::Decimal(_, _) | DType::List(_, _) => false,
+        DType::List(_, _) => true,
+        _ => false,
+    }
+}
+
+// Writes what its number does not tell of a type.
+fn put_type<B: Allocator>(out: &mut Vec<u8, B>, dtype: DType) -> VortexResult<()>
+    requires { ¬ IsLists dtype }
+    ensures ok { OnOk result (out.new.items ≡ out.old.items ++ type_fields dtype) }
+    ensures stored { OnOk result (IsStoredType dtype) }
+    ensures only { IsOkUnless result VortexError.OutOfMemory }
+{
+    match dtype {
+        DType::Decimal(decimal, _) => put_decimal_type(out, decimal),
+        _ => Ok(()),
     }
 }
 
@@ -70,9 +86,9 @@ fn put_scalar<A: Allocator, B: Allocator>(
     out: &mut Vec<u8, B>,
     scalar: &Scalar<A>,
 ) -> VortexResult<()>
-    requires { IsPlainType scalar.now.dtype }
+    requires { ¬ IsLists scalar.now.dtype }
     ensures ok { OnOk result (out.new.items ≡ out.old.items ++ value_fields scalar.now.dtype scalar.now.value) }
-    ensures stored { IsStoredValue scalar.now.dtype scalar.now.value }
+    ensures typed { IsRowOf scalar.now.dtype (option_map Single scalar.now.value) }
     ensures only { IsOkUnless result VortexError.OutOfMemory }
 {
     let dtype = scalar.dtype();
@@ -83,7 +99,8 @@ fn put_scalar<A: Allocator, B: Allocator>(
         ScalarView::Signed(number) => put_whole(out, dtype, i128::from(number)),
         ScalarView::Utf8(text) => put_some(out, dtype.nullability(), text.as_bytes()),
         ScalarView::Binary(bytes) => put_some(out, dtype.nullability(), bytes),
-        ScalarView::Decimal(_) | ScalarView::List { .. } => unreachable!(),
+        ScalarView::Decimal(number) => put_number_of(out, dtype.nullability(), number),
+        ScalarView::List { .. } => unreachable!(),
     }
 }
 
@@ -123,6 +140,22 @@ fn put_truth<B: Allocator>(
 {
     put_told(out, nullability)?;
     put_bytes(out, 7, &[u8::from(truth)])?;
+    Ok(())
+}
+
+// The same of a decimal.
+fn put_number_of<B: Allocator>(
+    out: &mut Vec<u8, B>,
+    nullability: Nullability,
+    number: i128,
+) -> VortexResult<()>
+    ensures ok { OnOk result (out.new.items ≡ out.old.items ++
+        flat_fields (some_validity nullability) (decimal_bytes number)) }
+    ensures only { IsOkUnless result VortexError.OutOfMemory }
+{
+    put_told(out, nullability)?;
+    put_bytes_key(out, 7, DECIMAL_SIZE)?;
+    put_decimal(out, number)?;
     Ok(())
 }
 
@@ -176,6 +209,18 @@ pub(crate) fn read_constant<A: Allocator + Copy>(
 
 // What the bytes say of the value, whose type has this number.
 fn read_scalar<A: Allocator + Copy>(alloc: A, kind: u64, bytes: &[u8]) -> VortexResult<Scalar<A>>
+    ensures found { IfOk result (λ scalar. IsScalarIn kind bytes.now scalar) }
+    ensures bad { IsErrOf result VortexError.BadMetadata → HasNoScalarIn kind bytes.now }
+    ensures only { IfErr result IsBadOrMemory }
+{
+    if kind == DECIMALS {
+        return read_decimal(alloc, bytes);
+    }
+    read_plain(alloc, kind, bytes)
+}
+
+// The same of a type of integers, booleans, texts or bytes.
+fn read_plain<A: Allocator + Copy>(alloc: A, kind: u64, bytes: &[u8]) -> VortexResult<Scalar<A>>
     ensures found { IfOk result (λ scalar. IsValueIn kind bytes.now scalar) }
     ensures bad { IsErrOf result VortexError.BadMetadata → HasNoValueIn kind bytes.now }
     ensures only { IfErr result IsBadOrMemory }

@@ -23,7 +23,7 @@ use std::alloc::Allocator;
 const TRUTHS: u64 = 9;
 
 /// The number of the type of decimals.
-const DECIMALS: u64 = 10;
+pub(crate) const DECIMALS: u64 = 10;
 
 /// The number of the type of texts.
 const TEXTS: u64 = 11;

@@ -3,6 +3,7 @@
 
 mod column;
 mod constants;
+mod decimal_constants;
 mod flat;
 mod kinds;
 pub mod laws;

@@ -1,6 +1,6 @@
 use Rattle.std.proofs.Common.{arith}
 use Rattle.column_fields.proofs.Refusals.{same_error}
-use Rattle.column_bytes.proofs.ConstantReads.{is_constant_body, no_constant_body}
+use Rattle.column_bytes.proofs.Scalars.{is_constant_body, no_constant_body}
 use Rattle.column_bytes.proofs.constants.read_constant.Goals as goal
 
 pub returns-in-Ok-clause-found : goal.returns-in-Ok-clause-found
