@@ -89,7 +89,8 @@ fn limit_of(count: usize) -> u32
 
 // The words of which these are the bytes, with 0 above the last byte.
 fn load_words<A: Allocator>(alloc: A, bytes: &[u8]) -> VortexResult<Vec<u64, A>>
-    ensures shows { IfOk result (λ v. words_bytes v.items ≡ bytes.now ++ replicate (length v.items * 8 - length bytes.now) 0) }
+    ensures shows { IfOk result
+        (λ v. words_bytes v.items ≡ bytes.now ++ replicate (length v.items * 8 - length bytes.now) 0) }
     ensures counted { IfOk result (λ v. length v.items ≡ (length bytes.now + 7) / 8) }
     ensures only { IsOkUnless result VortexError.OutOfMemory }
 {

@@ -142,7 +142,7 @@ fn runs_between<A: Allocator + Copy>(
     ArrayRef::of_runs(alloc, part)
 }
 
-// The values from `start` to `stop - 1`, flat. Those of integers, which are cut most often, are moved no more than once.
+// The values from `start` to `stop - 1`, flat. Those of integers, which are cut most often, are moved once.
 fn values_between<A: Allocator + Copy>(
     alloc: A,
     values: &ArrayRef<A>,
