@@ -1,19 +1,19 @@
 -- Ends and the windows over them.
-use Rattle.std.proofs.Common.{◌≡◌, ℕ, ◌+◌, ◌-◌, ◌^◌, ◌<◌, ◌≤◌, Bool, true, false, List, [], ◌∷◌, length, pos, sym, arith}
-use Rattle.std.specs.Prelude.{slice_index}
+use Rattle.std.proofs.Common.{◌≡◌, ℕ, ℤ, zero, suc, ◌+◌, ◌^◌, ◌<◌, ◌≤◌, ◌∙◌, Bool, true, false, Some, List, [], ◌∷◌, length, map, pos, refl, ap, subst, slice_get, arith}
+use Rattle.std.specs.Prelude.{slice_index, unsigned_abs}
 use Rattle.std.specs.List.{AllByRecursion}
 use Rattle.std.specs.List.Sorted.{IsStrictlyIncreasing}
 use Rattle.std.proofs.lemmas.Int.{ints}
+use Rattle.std.proofs.lemmas.List.{get_or-map, length-map}
+use Rattle.std.proofs.lemmas.Option.{get_or_from_slice_get}
 use Rattle.std.proofs.lemmas.List.Elements.{recursion_from_All}
 use Rattle.column_base.specs.declared.dtype.PType.{PType}
 use Rattle.column_base.specs.declared.dtype.PType.TheVariants.{U8, U16, U32, U64, I8, I16, I32, I64}
-use Rattle.column_base.specs.declared.error.VortexError.{VortexError}
-use Rattle.column_base.specs.declared.error.VortexError.TheVariants.{EndsNotUnsigned, LengthsDiffer, NoRunsWindow, EndsNotStrict, WindowOverflow, FirstEndBelowOffset, LastEndBelowWindow, OutOfBounds, BadRange, MaskLength, ColumnLength, TypeMismatch, Unsupported, CastOutOfRange, NullNotAllowed, NullFill, BadMetadata, EndsTypeNumber, RunCount, OnlyPrimitive, OutOfMemory}
 use Rattle.column_base.specs.Types.{HasNumber, IsUnsigned}
 use Rattle.column_fields.specs.Lengths.{Rises, AreEndsOf}
 use Rattle.runend_windows.proofs.RunAt.{IsStrictlyIncreasing-tail}
-use Rattle.runend_array.specs.Column.{Column, AreRuns, AreParts, runs_with}
-use Rattle.runend_array.specs.Fault.{PartsFault}
+use Rattle.runend_windows.specs.Window.{IsWindow, last_end}
+use Rattle.runend_array.specs.Column.{Column, AreRuns, runs_with}
 
 rises_none : (first : Bool) (start : ℕ) → Rises first start []
 unfolding Rises
@@ -48,32 +48,32 @@ pub ends_rise : (t : PType) (ends : List ℕ) (values : Column) (offset count : 
 ends_rise t ends values offset count fit runs =
     rises_at true 0 ends (λ some. omega arith) (λ e. absurd cc) runs.window.increasing (ends_small t ends fit.unsigned (recursion_from_All (λ end. HasNumber t (pos end)) ends fit.fit))
 
--- parts with a fault make no run column
-pub parts_fault : (ends values : Column) (offset count : ℕ) (error : VortexError) → PartsFault ends values offset count error → AreParts ends values offset count → ⊥
-parts_fault ends values offset count EndsNotUnsigned h p = h p.plain
-parts_fault ends values offset count (LengthsDiffer e v) h p = h.1.2 (sym p.runs.paired)
-parts_fault ends values offset count (NoRunsWindow o n) h p = let none = p.runs.window.none h.1.1 in omega (arith, none.0, none.1, h.1.4)
-parts_fault ends values offset count (EndsNotStrict run) h p =
-    let later : 0 < run = h.1.1.later in
-    let within = h.1.1.within in
-    let falls = h.1.1.falls in
-    let next : (run - 1) + 1 ≡ run = omega (arith, later) in
-    let rises = p.runs.window.increasing (run - 1) (omega (arith, within, later)) in
-    omega (arith, falls, rw next at rises)
-parts_fault ends values offset count WindowOverflow h p = omega (arith, h.1.1, p.runs.window.small)
-parts_fault ends values offset count (FirstEndBelowOffset e o) h p = omega (arith, h.1.2, h.1.4, h.1.5, p.runs.window.first h.1.4)
-parts_fault ends values offset count (LastEndBelowWindow e r) h p = omega (arith, h.1.3, h.1.4, h.1.5, h.1.6, p.runs.window.last h.1.5)
-parts_fault ends values offset count (OutOfBounds index length) h p = h.1
-parts_fault ends values offset count (BadRange start stop length) h p = h.1
-parts_fault ends values offset count (MaskLength mask length) h p = h.1
-parts_fault ends values offset count (ColumnLength left right) h p = h.1
-parts_fault ends values offset count TypeMismatch h p = h.1
-parts_fault ends values offset count Unsupported h p = h.1
-parts_fault ends values offset count CastOutOfRange h p = h.1
-parts_fault ends values offset count NullNotAllowed h p = h.1
-parts_fault ends values offset count NullFill h p = h.1
-parts_fault ends values offset count BadMetadata h p = h.1
-parts_fault ends values offset count (EndsTypeNumber number) h p = h.1
-parts_fault ends values offset count (RunCount stated found) h p = h.1
-parts_fault ends values offset count OnlyPrimitive h p = h.1
-parts_fault ends values offset count OutOfMemory h p = h.1
+rises_next : (first : Bool) (start end next : ℕ) (ends : List ℕ) → Rises first start (end ∷ next ∷ ends) → (end < next) × Rises false end (next ∷ ends)
+unfolding Rises
+rises_next first start end next ends h = (h.3.2 refl, h.3)
+
+-- ends that rise increase strictly
+rises_increasing : (first : Bool) (start : ℕ) (ends : List ℕ) → Rises first start ends → IsStrictlyIncreasing ends
+rises_increasing first start [] h k lt = absurd (omega arith)
+rises_increasing first start (end ∷ []) h k lt = absurd (omega arith)
+rises_increasing first start (end ∷ next ∷ ends) h zero lt = (rises_next first start end next ends h).0
+rises_increasing first start (end ∷ next ∷ ends) h (suc k) lt =
+    let place : suc (k + 1) ≡ suc k + 1 = omega arith in
+    subst (λ (j : ℕ). slice_index (next ∷ ends) k < slice_index (end ∷ next ∷ ends) j) place (rises_increasing false end (next ∷ ends) (rises_next first start end next ends h).1 k (omega arith))
+
+-- a window over ends that rise
+pub rising_window : (ends : List ℕ) (offset count : ℕ) → Rises true 0 ends → (length ends ≡ 0 → (offset ≡ 0) × (count ≡ 0)) → (0 < count → offset ≤ slice_index ends 0) → (0 < count → offset + count ≤ last_end ends) → offset + count < 2 ^ 64 → IsWindow ends offset count
+rising_window ends offset count rises none first last small = record {
+  increasing = rises_increasing true 0 ends rises;
+  none = none;
+  first = first;
+  last = last;
+  small = small;
+}
+
+-- as many values as there are ends
+pub paired : (ns : List ℤ) (len values : ℕ) → len ≡ length ns → len ≡ values → values ≡ length (map unsigned_abs ns)
+paired ns len values l v = omega (arith, length-map ns unsigned_abs)
+
+pub first_number : (ns : List ℤ) (n : ℤ) → 0 < length ns → slice_get ns 0 ≡ Some n → slice_index (map unsigned_abs ns) 0 ≡ unsigned_abs n
+first_number ns n some e = get_or-map unsigned_abs ns 0 n 0 some ∙ ap unsigned_abs (get_or_from_slice_get ns 0 n n e)

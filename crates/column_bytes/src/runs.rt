@@ -1,10 +1,11 @@
 //! Run columns over values that are read and written by themselves.
-ghost use Rattle.std.specs.Prelude.{◌≡◌, ◌++◌, OnOk, IfOk, IfErr, IsErrOf, IsOkUnless};
+ghost use Rattle.std.specs.Prelude.{◌≡◌, ◌<◌, ◌++◌, ◌↔◌, IsTrue, length, true, slice_index, OnOk, IfOk, IfErr, IsErrOf, IsOkUnless};
 ghost use Rattle.column_core.specs.PrimitiveForm.{primitive_dtype};
 ghost use Rattle.runend_windows.specs.Ends.{IsEndsType, ends_of};
 ghost use Rattle.runend_array.specs.Array.{column_of, dtype_of};
 ghost use Rattle.runend_array.specs.Column.{OfRuns, AreRuns, column_of_runs, runs_with};
-ghost use Rattle.column_fields.specs.Lengths.{AreEndsOf, HasNoEndsOf};
+ghost use Rattle.runend_windows.specs.Window.{IsWindow};
+ghost use Rattle.column_fields.specs.Lengths.{AreEndsOf, HasNoEndsOf, Rises};
 ghost use Rattle.column_fields.specs.Refusal.{IsBadOrMemory};
 ghost use Rattle.column_bytes.specs.Bytes.{column_bytes, kind_number};
 ghost use Rattle.column_bytes.specs.Read.{AreRunsOf, AreNoRunsOf, IsEndsColumn};
@@ -13,9 +14,8 @@ use crate::kinds::number_of_kind;
 use column_base::{PType, Validity, VortexError, VortexResult};
 use column_core::PrimitiveArray;
 use column_fields::{Header, RunFields, load_ends, put_header, put_lengths_of, put_run_fields};
-use runend_array::{
-    ArrayRef, RunEnd, RunEndArray, RunEndArrayExt, RunEndArraySlotsExt, validate_parts,
-};
+use runend_array::{ArrayRef, RunEnd, RunEndArray, RunEndArrayExt, RunEndArraySlotsExt};
+use runend_windows::last_end_of;
 use std::alloc::Allocator;
 
 /// Writes a run column at the end, where these are the bytes of its values. Refused as `OutOfMemory` alone.
@@ -103,7 +103,8 @@ fn join_runs<A: Allocator + Copy>(
     offset: usize,
     rows: usize,
 ) -> VortexResult<ArrayRef<A>>
-    requires { IsEndsType (primitive_dtype ends) }
+    requires plain { IsEndsType (primitive_dtype ends) }
+    requires rising { Rises true 0 (ends_of ends) }
     ensures form { IfOk result
         (λ array. column_of array ≡ OfRuns ends.ptype (ends_of ends) (column_of values) offset rows) }
     ensures runs { OnOk result (AreRuns (runs_with ends.ptype (ends_of ends) (column_of values) offset rows)) }
@@ -117,16 +118,49 @@ fn join_runs<A: Allocator + Copy>(
         drop(ends);
         return Err(VortexError::BadMetadata);
     }
-    let ends = ArrayRef::Primitive(ends);
-    match validate_parts(&ends, &values, offset, rows) {
-        Ok(()) => {
-            let runs = RunEnd::new_unchecked(ends, values, offset, rows);
-            ArrayRef::of_runs(alloc, runs)
-        }
-        Err(_) => {
-            drop(values);
-            drop(ends);
-            Err(VortexError::BadMetadata)
-        }
+    if !are_runs(&ends, values.len(), offset, rows) {
+        drop(values);
+        drop(ends);
+        return Err(VortexError::BadMetadata);
     }
+    let runs = RunEnd::new_unchecked(ArrayRef::Primitive(ends), values, offset, rows);
+    ArrayRef::of_runs(alloc, runs)
+}
+
+// Do ends that rise and so many values make runs that show so many rows from an offset on? Takes a look at the first
+// and the last end alone.
+fn are_runs<A: Allocator>(
+    ends: &PrimitiveArray<A>,
+    values: usize,
+    offset: usize,
+    rows: usize,
+) -> bool
+    requires plain { IsEndsType (primitive_dtype ends.now) }
+    requires rising { Rises true 0 (ends_of ends.now) }
+    ensures { IsTrue result ↔ (IsWindow (ends_of ends.now) offset rows × (values ≡ length (ends_of ends.now))) }
+{
+    if ends.len() != values {
+        return false;
+    }
+    if values == 0 {
+        return offset == 0 && rows == 0;
+    }
+    let Some(stop) = offset.checked_add(rows) else {
+        return false;
+    };
+    if rows == 0 {
+        return true;
+    }
+    if first_end(ends) < offset as u128 {
+        return false;
+    }
+    stop <= last_end_of(ends)
+}
+
+// The end of the first run.
+fn first_end<A: Allocator>(ends: &PrimitiveArray<A>) -> u128
+    requires { 0 < length ends.now.numbers }
+    ensures { result ≡ slice_index (ends_of ends.now) 0 }
+{
+    ends.values().get(0).unsigned_abs()
 }
