@@ -180,6 +180,24 @@ SELECT same('SELECT hv_sum(c), hv_rows(c) FROM (SELECT hv_column(v) AS c FROM pa
             'SELECT sum(v), count(*) FROM big')
 \g /dev/null
 
+-- ---- More rows, and more bytes of texts, than wait for the library's builder at a time ----
+SELECT same($$SELECT u.* FROM (SELECT hv_column(n * 7919::bigint % 5003 ORDER BY n) AS c FROM big WHERE n < 5000) x,
+              hv_runs(c) u$$,
+            $$SELECT n, n + 1, n * 7919::bigint % 5003 FROM big WHERE n < 5000 ORDER BY n$$),
+    same($$SELECT u.* FROM (SELECT hv_column('text ' || n ORDER BY n) AS c FROM big WHERE n < 5000) x,
+           hv_text_runs(c) u$$,
+         $$SELECT n, n + 1, 'text ' || n FROM big WHERE n < 5000 ORDER BY n$$),
+    same($$SELECT start, md5(value) FROM (SELECT hv_column(repeat('x', 30000) || (n % 7) ORDER BY n) AS c FROM big
+           WHERE n < 20) x, hv_text_runs(c)$$,
+         $$SELECT n, md5(repeat('x', 30000) || (n % 7)) FROM big WHERE n < 20 ORDER BY n$$),
+    same($$SELECT hv_rows(c), hv_count(c), hv_at_text(c, 2999), hv_at_text(c, 3000) FROM (SELECT
+           hv_column(CASE WHEN n >= 3000 THEN 'text ' || n END ORDER BY n) AS c FROM big WHERE n < 5000) x$$,
+         $$SELECT 5000, 2000, NULL, 'text 3000'$$),
+    same($$SELECT md5(hv_concat(c ORDER BY part)::text) FROM (SELECT n / 700 AS part,
+           hv_column('text ' || n ORDER BY n) AS c FROM big WHERE n < 5000 GROUP BY 1) x$$,
+         $$SELECT md5(hv_column('text ' || n ORDER BY n)::text) FROM big WHERE n < 5000$$)
+\g /dev/null
+
 -- ---- A statement that is cancelled, and memory after calls that fail ----
 SET statement_timeout = 100;
 SELECT refused('SELECT hv_column(i) FROM generate_series(1, 1000000000::bigint) i',
