@@ -1,5 +1,5 @@
 //! What a call is given: copies of the columns that a line names, and what its words say.
-use crate::calls::{Call, Maker, Task};
+use crate::calls::{Call, Maker, Part, Task};
 use bytes::Bytes;
 use column_words::parse_count;
 use runend_commands::Command;
@@ -7,9 +7,10 @@ use std::alloc::Allocator;
 use std::rc::Rc;
 use vector_columns::{Columns, bits_of_word, flat_column, flat_of, row_validity, scalar_of};
 use vector_words::request::{self, Lists, NEXT, Record, Runs, Views};
+use vector_words::types::read_type;
 use vector_words::values::{Value, bytes_of, bytes_of_words, paired, read_value};
 use vector_words::{LineError, LineResult, read_command};
-use vortex_runend::{ArrayRef, ExecutionCtx, FlatColumn, Mask, RowValidity, Validity, View};
+use vortex_runend::{ArrayRef, DType, ExecutionCtx, FlatColumn, Mask, RowValidity, Validity, View};
 
 /// The call on copies of the columns that it names. Bad where one does not stand, or a word is none that
 /// the call can be given.
@@ -188,6 +189,9 @@ fn prepared_maker<A: Allocator + Copy>(
         request::Call::Copy(name) => Ok(Maker::Copy(clone_named(name, columns, ctx)?)),
         request::Call::Encode(name) => Ok(Maker::Encode(clone_named(name, columns, ctx)?)),
         request::Call::EncodeRows(name) => Ok(Maker::EncodeRows(clone_named(name, columns, ctx)?)),
+        request::Call::Built(dtype, words) => {
+            Ok(Maker::Built(dtype, prepared_parts(words, columns, ctx)?))
+        }
         request::Call::Runs(runs) => {
             let (ends, values) = prepared_runs(runs, columns, ctx)?;
             Ok(Maker::Runs(ends, values, runs.offset, runs.length))
@@ -204,6 +208,43 @@ fn prepared_maker<A: Allocator + Copy>(
         }
         _ => Err(LineError::Bad),
     }
+}
+
+// What a builder is given by the words: nothing where there are none.
+fn prepared_parts<A: Allocator + Copy>(
+    words: &[&str],
+    columns: &Columns<A>,
+    ctx: &mut ExecutionCtx<A>,
+) -> LineResult<Vec<Part<A>, A>> {
+    let mut prepared = Vec::new(*ctx.allocator());
+    if words.is_empty() {
+        return Ok(prepared);
+    }
+    let parts = parts_of(*ctx.allocator(), words)?;
+    for part in parts.iter() {
+        prepared.push(prepared_part(part, columns, ctx)?)?;
+    }
+    Ok(prepared)
+}
+
+// A copy of the column of a name, or a type, a value and how many rows it has.
+fn prepared_part<A: Allocator + Copy>(
+    words: &[&str],
+    columns: &Columns<A>,
+    ctx: &mut ExecutionCtx<A>,
+) -> LineResult<Part<A>> {
+    match words {
+        [name] => Ok(Part::Rows(clone_named(name, columns, ctx)?)),
+        [dtype, value, count] => {
+            let (dtype, value, count) = typed_value(dtype, value, count).ok_or(LineError::Bad)?;
+            Ok(Part::Value(scalar_of(*ctx.allocator(), dtype, value)?, count))
+        }
+        _ => Err(LineError::Bad),
+    }
+}
+
+fn typed_value<'a>(dtype: &str, value: &'a str, count: &str) -> Option<(DType, Value<'a>, usize)> {
+    Some((read_type(dtype)?, read_value(value)?, parse_count(count)?))
 }
 
 // Copies of the columns of two names.

@@ -2,6 +2,7 @@
 use bytes::Bytes;
 use column_base::VortexResult;
 use column_bytes::{read_column, write_column};
+use runend_builder::RunBuilder;
 use runend_commands::{Answer, Command, execute};
 use runend_encode_rows::encode_rows;
 use std::alloc::Allocator;
@@ -14,7 +15,7 @@ use vector_columns::boxed_lists;
 use vector_words::request::NEXT;
 use vortex_runend::{
     ArrayRef, DType, ExecutionCtx, FlatColumn, ListViewArray, RowValidity, RunEnd, RunEndArray,
-    RunEndMetadata, RunEndProbe, ScalarView, Validity, VarBinKind, VarBinViewArray, View,
+    RunEndMetadata, RunEndProbe, Scalar, ScalarView, Validity, VarBinKind, VarBinViewArray, View,
     VortexError, deserialize, serialize, validity,
 };
 
@@ -35,6 +36,8 @@ pub enum Maker<A: Allocator> {
     Copy(ArrayRef<A>),
     Encode(ArrayRef<A>),
     EncodeRows(ArrayRef<A>),
+    /// Of a type, and of what a builder is given.
+    Built(DType, Vec<Part<A>, A>),
     /// Of ends and values, with offset and length.
     Runs(ArrayRef<A>, ArrayRef<A>, usize, usize),
     /// Of ends and values.
@@ -46,6 +49,14 @@ pub enum Maker<A: Allocator> {
     Deserialize(DType, usize, Vec<u8, A>, ArrayRef<A>, ArrayRef<A>),
     /// Of the bytes of a message.
     FromBytes(Vec<u8, A>),
+}
+
+/// What a builder is given.
+#[derive(Drop)]
+pub enum Part<A: Allocator> {
+    Rows(ArrayRef<A>),
+    /// So many rows of a value.
+    Value(Scalar<A>, usize),
 }
 
 /// What is done to a column.
@@ -154,6 +165,7 @@ impl<A: Allocator + Copy> Maker<A> {
                 drop(array);
                 boxed_runs(runs, ample)
             }
+            Maker::Built(dtype, parts) => boxed_runs(encoding_of(dtype, parts, ctx), ample),
             Maker::Runs(ends, values, offset, length) => {
                 let runs = RunEnd::try_new_offset_length(ends, values, offset, length, ctx);
                 boxed_runs(runs, ample)
@@ -179,6 +191,47 @@ fn boxed_runs<A: Allocator + Copy>(
     ample: A,
 ) -> VortexResult<ArrayRef<A>> {
     ArrayRef::of_runs(ample, runs?)
+}
+
+// The encoding of all rows of the parts.
+fn encoding_of<A: Allocator + Copy>(
+    dtype: DType,
+    parts: Vec<Part<A>, A>,
+    ctx: &mut ExecutionCtx<A>,
+) -> VortexResult<RunEndArray<A>> {
+    let runs = encoding_of_parts(dtype, parts.as_slice(), ctx);
+    drop(parts);
+    runs
+}
+
+// The same, where a builder of this type is given the parts in turn.
+fn encoding_of_parts<A: Allocator + Copy>(
+    dtype: DType,
+    parts: &[Part<A>],
+    ctx: &mut ExecutionCtx<A>,
+) -> VortexResult<RunEndArray<A>> {
+    let mut builder = RunBuilder::new(*ctx.allocator(), dtype)?;
+    match append_all(&mut builder, parts, ctx) {
+        Ok(()) => builder.finish(ctx),
+        Err(error) => {
+            drop(builder);
+            Err(error)
+        }
+    }
+}
+
+fn append_all<A: Allocator + Copy>(
+    builder: &mut RunBuilder<A>,
+    parts: &[Part<A>],
+    ctx: &mut ExecutionCtx<A>,
+) -> VortexResult<()> {
+    for part in parts {
+        match part {
+            Part::Rows(rows) => builder.append_rows(rows, ctx)?,
+            Part::Value(value, count) => builder.append_value(value, *count)?,
+        }
+    }
+    Ok(())
 }
 
 impl<A: Allocator + Copy> Task<A> {

@@ -67,6 +67,7 @@ fn read_constant<'a>(words: &'a [&'a str]) -> Option<Plain<'a>> {
 
 fn read_made<'a>(maker: &str, words: &'a [&'a str]) -> Option<Call<'a>> {
     match maker {
+        "built" => read_built(words),
         "runs" => read_window(words),
         "whole" => read_whole(words),
         "lists" => read_lists(words),
@@ -86,6 +87,12 @@ fn read_of_column<'a>(maker: &str, words: &'a [&'a str]) -> Option<Call<'a>> {
         "encode_rows" => Some(Call::EncodeRows(name)),
         _ => None,
     }
+}
+
+// The type of the rows of a builder, and the words of its parts.
+fn read_built<'a>(words: &'a [&'a str]) -> Option<Call<'a>> {
+    let (dtype, parts) = words.split_first()?;
+    Some(Call::Built(read_type(dtype)?, parts))
 }
 
 // The column of a message, whose bytes stand behind the word `bytes`.

@@ -3,7 +3,7 @@ use crate::values::Value;
 use column_order::CompareOperator;
 use runend_array::{DType, Thresholds, VarBinKind};
 
-/// The word between a command of a list and the next.
+/// The word between a command of a list and the next, and between the parts that a builder is given.
 pub const NEXT: &str = ";";
 
 /// What a line asks.
@@ -45,6 +45,8 @@ pub enum Call<'a> {
     Encode(&'a str),
     /// As `Encode`, of a column of any form and of any kind.
     EncodeRows(&'a str),
+    /// The rows of this type that a builder is given: the words of parts, parted by `NEXT`.
+    Built(DType, &'a [&'a str]),
     Runs(Runs<'a>),
     /// As `Runs`, without its window.
     Whole(Runs<'a>),
@@ -72,7 +74,7 @@ impl<'a> Call<'a> {
     pub fn makes(self) -> bool {
         match self {
             Call::Copy(_) | Call::Encode(_) | Call::EncodeRows(_) => true,
-            Call::Runs(_) | Call::Whole(_) => true,
+            Call::Built(_, _) | Call::Runs(_) | Call::Whole(_) => true,
             Call::Lists(_) | Call::Views(_) => true,
             Call::Deserialize(_) | Call::FromBytes(_) => true,
             Call::Command(_) | Call::Run(_) | Call::Row(_) | Call::Probe(_) => false,
