@@ -189,7 +189,7 @@ numbers_at (OfLeaf (OfTruths form)) t levels kind rows bytes k h = absurd (omega
 numbers_at (OfLeaf (OfDecimals form)) t levels kind rows bytes k h = absurd (omega (arith, type_at_most t, k, h.kind_is))
 numbers_at (OfLeaf (OfVarBins form)) t levels kind rows bytes k h = absurd (omega (arith, type_at_most t, text_kind form, k, h.kind_is))
 numbers_at (OfConstant constant) t levels kind rows bytes k h = absurd (omega (arith, h.form_is))
-numbers_at (OfLists lists) t levels kind rows bytes k h = absurd h.writable.stored
+numbers_at (OfLists lists) t levels kind rows bytes k h = absurd (omega (arith, h.form_is))
 numbers_at (OfRuns ends_type ends values offset count) t levels kind rows bytes k h = absurd (omega (arith, h.form_is))
 
 pub record TruthsAt (rows : ℕ) (bytes : List ℕ) (c : Column) : Type 0 where
@@ -207,7 +207,7 @@ truths_at (OfLeaf (OfTruths form)) levels kind rows bytes k h = record {
 truths_at (OfLeaf (OfDecimals form)) levels kind rows bytes k h = absurd (omega (arith, k, h.kind_is))
 truths_at (OfLeaf (OfVarBins form)) levels kind rows bytes k h = absurd (omega (arith, text_kind form, k, h.kind_is))
 truths_at (OfConstant constant) levels kind rows bytes k h = absurd (omega (arith, h.form_is))
-truths_at (OfLists lists) levels kind rows bytes k h = absurd h.writable.stored
+truths_at (OfLists lists) levels kind rows bytes k h = absurd (omega (arith, h.form_is))
 truths_at (OfRuns ends_type ends values offset count) levels kind rows bytes k h = absurd (omega (arith, h.form_is))
 
 pub record DecimalsAt (rows : ℕ) (bytes : List ℕ) (c : Column) : Type 0 where
@@ -225,7 +225,7 @@ decimals_at (OfLeaf (OfDecimals form)) levels kind rows bytes k h = record {
 }
 decimals_at (OfLeaf (OfVarBins form)) levels kind rows bytes k h = absurd (omega (arith, text_kind form, k, h.kind_is))
 decimals_at (OfConstant constant) levels kind rows bytes k h = absurd (omega (arith, h.form_is))
-decimals_at (OfLists lists) levels kind rows bytes k h = absurd h.writable.stored
+decimals_at (OfLists lists) levels kind rows bytes k h = absurd (omega (arith, h.form_is))
 decimals_at (OfRuns ends_type ends values offset count) levels kind rows bytes k h = absurd (omega (arith, h.form_is))
 
 pub record TextsAt (kind : VarBinKind) (rows : ℕ) (bytes : List ℕ) (c : Column) : Type 0 where
@@ -243,7 +243,7 @@ texts_at (OfLeaf (OfVarBins form)) kind levels number rows bytes k h = record {
   are = record { kind_is = varbin_same form.kind kind (sym (number_of_varbin form.kind (nullability_in form.validity)) ∙ h.kind_is ∙ k); counted = h.rows_is; stored = h.writable.stored; packed_is = h.packed; spelt = h.spelt ∙ leaf_body (OfVarBins form) };
 }
 texts_at (OfConstant constant) kind levels number rows bytes k h = absurd (omega (arith, h.form_is))
-texts_at (OfLists lists) kind levels number rows bytes k h = absurd h.writable.stored
+texts_at (OfLists lists) kind levels number rows bytes k h = absurd (omega (arith, h.form_is))
 texts_at (OfRuns ends_type ends values offset count) kind levels number rows bytes k h = absurd (omega (arith, h.form_is))
 
 -- a number that is none of a flat column's type
@@ -264,7 +264,7 @@ no_type_at (OfLeaf (OfTruths form)) levels kind rows bytes other h = other.truth
 no_type_at (OfLeaf (OfDecimals form)) levels kind rows bytes other h = other.decimals (sym h.kind_is)
 no_type_at (OfLeaf (OfVarBins form)) levels kind rows bytes other h = no_varbin_at form.kind kind other (sym (number_of_varbin form.kind (nullability_in form.validity)) ∙ h.kind_is)
 no_type_at (OfConstant constant) levels kind rows bytes other h = absurd (omega (arith, h.form_is))
-no_type_at (OfLists lists) levels kind rows bytes other h = h.writable.stored
+no_type_at (OfLists lists) levels kind rows bytes other h = absurd (omega (arith, h.form_is))
 no_type_at (OfRuns ends_type ends values offset count) levels kind rows bytes other h = absurd (omega (arith, h.form_is))
 
 pub no_type_body : (kind rows : ℕ) (bytes : List ℕ) → IsOther kind → (levels : ℕ) → IsNoBody levels kind 1 rows bytes

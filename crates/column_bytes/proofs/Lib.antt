@@ -6,6 +6,9 @@ pub mod Shown
 pub mod ConstantWrites
 pub mod Ends
 pub mod Messages
+pub mod ListColumns
 pub mod Writes
 pub mod Packing
 pub mod RunLaws
+pub mod FlatReads
+pub mod ListReads

@@ -35,6 +35,9 @@ are_runs kind rows offset t lengths form values c e is runs k = record {
   spelt = e.spelt;
 }
 
+pub same_runs : (kind rows offset : ℕ) (t : PType) (lengths : List ℕ) (values c d : Column) → d ≡ c → AreRunsOf kind rows offset t lengths values c → AreRunsOf kind rows offset t lengths values d
+same_runs kind rows offset t lengths values c d is h = subst (λ (x : Column). AreRunsOf kind rows offset t lengths values x) (sym is) h
+
 pub no_runs_of : (kind rows offset : ℕ) (t : PType) (lengths : List ℕ) (form : PrimitiveForm) (values : Column) → IsEndsColumn t lengths form → (kind_number (column_dtype values) ≡ kind → ¬ AreRuns (runs_with form.ptype (ends_of form) values offset rows)) → AreNoRunsOf kind rows offset t lengths values
 no_runs_of kind rows offset t lengths form values e absent = record {
   none = λ c r.

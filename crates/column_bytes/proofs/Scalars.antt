@@ -102,7 +102,7 @@ constant_at (OfConstant constant) levels kind rows bytes h = record {
   count = h.rows_is;
   value = record { kind_is = h.kind_is; stored = h.writable.stored.value; spelt = h.spelt ∙ constant_body constant };
 }
-constant_at (OfLists lists) levels kind rows bytes h = absurd h.writable.stored
+constant_at (OfLists lists) levels kind rows bytes h = absurd (omega (arith, h.form_is))
 constant_at (OfRuns ends_type ends values offset count) levels kind rows bytes h = absurd (omega (arith, h.form_is))
 
 pub no_constant_body : (kind rows : ℕ) (bytes : List ℕ) → HasNoScalarIn kind bytes → (levels : ℕ) → IsNoBody levels kind 3 rows bytes

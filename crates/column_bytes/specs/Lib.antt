@@ -3,4 +3,5 @@ pub mod Packed
 pub mod Bytes
 pub mod Stored
 pub mod Read
+pub mod ListRead
 pub mod Laws

@@ -2,6 +2,7 @@
 use Rattle.std.specs.Prelude.{◌≡◌}
 use Rattle.column_core.specs.Leaf.{Leaf, OfNumbers, OfTruths, OfDecimals, OfVarBins}
 use Rattle.runend_array.specs.Column.{Column, OfLeaf, OfConstant, OfLists, OfRuns}
+use Rattle.runend_array.specs.Lists.{lists_with}
 use Rattle.text_fields.specs.Texts.{packed}
 
 abbrev pub packed_leaf : Leaf → Leaf
@@ -14,7 +15,7 @@ packed_leaf (OfVarBins form) = OfVarBins (packed form)
 abbrev pub packed_column : Column → Column
 packed_column (OfLeaf leaf) = OfLeaf (packed_leaf leaf)
 packed_column (OfConstant constant) = OfConstant constant
-packed_column (OfLists lists) = OfLists lists
+packed_column (OfLists lists) = OfLists (lists_with (packed_leaf lists.elements) lists.offsets lists.sizes lists.validity)
 packed_column (OfRuns ends_type ends values offset count) = OfRuns ends_type ends (packed_column values) offset count
 
 abbrev pub IsPackedLeaf : Leaf → Type 0
@@ -27,5 +28,5 @@ IsPackedLeaf (OfVarBins form) = packed form ≡ form
 abbrev pub IsPacked : Column → Type 0
 IsPacked (OfLeaf leaf) = IsPackedLeaf leaf
 IsPacked (OfConstant constant) = Unit {0}
-IsPacked (OfLists lists) = Unit {0}
+IsPacked (OfLists lists) = IsPackedLeaf lists.elements
 IsPacked (OfRuns ends_type ends values offset count) = IsPacked values

@@ -7,6 +7,8 @@ ghost use Rattle.column_fields.specs.Refusal.{IsBadOrMemory};
 
 use crate::constants::{put_constant, read_constant};
 use crate::flat::{put_decimal_rows, put_numbers, put_truths, read_leaf};
+use crate::list_reading::read_lists;
+use crate::lists::put_lists;
 use crate::runs::{put_runs, read_runs};
 use crate::texts::put_texts;
 use column_base::{VortexError, VortexResult};
@@ -14,12 +16,12 @@ use column_fields::{read_header, read_run_fields};
 use runend_array::{ArrayRef, RunEndArraySlotsExt};
 use std::alloc::Allocator;
 
-/// How many levels of runs a message has at most.
+/// How many levels of runs a message has at most. Lists whose offsets, sizes or validity are in runs count as two.
 pub const MOST_LEVELS: usize = 16;
 
 /// The message of a column, in memory of the allocator `alloc`. Refused as `Unsupported` exactly for a column that
-/// version 1 does not write: one of lists, runs over these, or more than 16 levels of runs; else as `OutOfMemory`
-/// alone.
+/// version 1 does not write: a constant of a type of lists, runs over one, or more than 16 levels of runs; else as
+/// `OutOfMemory` alone.
 pub fn write_column<A: Allocator + Copy, B: Allocator + Copy>(
     alloc: B,
     array: &ArrayRef<A>,
@@ -70,7 +72,7 @@ fn put_column<A: Allocator + Copy, B: Allocator + Copy>(
             put_column(alloc, &mut values, runs.values(), levels - 1)?;
             put_runs(alloc, out, runs, &values)
         }
-        _ => Err(VortexError::Unsupported),
+        ArrayRef::ListView(lists) => put_lists(alloc, out, lists, levels),
     }
 }
 
@@ -92,6 +94,9 @@ fn read_message<A: Allocator + Copy>(
     }
     if header.form == 3 {
         return read_constant(alloc, header, body);
+    }
+    if header.form == 4 {
+        return read_lists(alloc, header, body, levels);
     }
     if header.form != 2 {
         return Err(VortexError::BadMetadata);

@@ -5,8 +5,12 @@ mod column;
 mod constants;
 mod decimal_constants;
 mod flat;
+mod flat_messages;
 mod kinds;
 pub mod laws;
+mod list_parts;
+mod list_reading;
+mod lists;
 mod runs;
 mod texts;
 

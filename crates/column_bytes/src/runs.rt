@@ -63,11 +63,28 @@ pub(crate) fn read_runs<A: Allocator + Copy>(
         fields.entry.ends_type fields.entry.lengths.now (column_of values) }
     ensures only { IfErr result IsBadOrMemory }
 {
+    let runs = read_run_array(alloc, header, fields, values)?;
+    ArrayRef::of_runs(alloc, runs)
+}
+
+/// The same, as a run column.
+pub(crate) fn read_run_array<A: Allocator + Copy>(
+    alloc: A,
+    header: Header,
+    fields: RunFields<'_>,
+    values: ArrayRef<A>,
+) -> VortexResult<RunEndArray<A>>
+    ensures found { IfOk result (λ runs. AreRunsOf header.kind header.rows fields.entry.offset
+        fields.entry.ends_type fields.entry.lengths.now (column_of values) (column_of_runs runs)) }
+    ensures bad { IsErrOf result VortexError.BadMetadata → AreNoRunsOf header.kind header.rows fields.entry.offset
+        fields.entry.ends_type fields.entry.lengths.now (column_of values) }
+    ensures only { IfErr result IsBadOrMemory }
+{
     match read_ends(alloc, fields.ends_type, fields.lengths) {
         Ok(ends) => {
             let (offset, rows) = (fields.offset as usize, header.rows as usize);
-            match join_runs(alloc, header.kind, ends, values, offset, rows) {
-                Ok(array) => Ok(array),
+            match join_runs(header.kind, ends, values, offset, rows) {
+                Ok(runs) => Ok(runs),
                 Err(error) => Err(error),
             }
         }
@@ -96,22 +113,21 @@ fn read_ends<A: Allocator + Copy>(
 
 // The run column of these parts, if the values are of the kind that is stated.
 fn join_runs<A: Allocator + Copy>(
-    alloc: A,
     kind: u64,
     ends: PrimitiveArray<A>,
     values: ArrayRef<A>,
     offset: usize,
     rows: usize,
-) -> VortexResult<ArrayRef<A>>
+) -> VortexResult<RunEndArray<A>>
     requires plain { IsEndsType (primitive_dtype ends) }
     requires rising { Rises true 0 (ends_of ends) }
     ensures form { IfOk result
-        (λ array. column_of array ≡ OfRuns ends.ptype (ends_of ends) (column_of values) offset rows) }
+        (λ runs. column_of_runs runs ≡ OfRuns ends.ptype (ends_of ends) (column_of values) offset rows) }
     ensures runs { OnOk result (AreRuns (runs_with ends.ptype (ends_of ends) (column_of values) offset rows)) }
     ensures kind { OnOk result (kind_number (dtype_of values) ≡ kind) }
     ensures bad { IsErrOf result VortexError.BadMetadata → kind_number (dtype_of values) ≡ kind
         → ¬ AreRuns (runs_with ends.ptype (ends_of ends) (column_of values) offset rows) }
-    ensures only { IfErr result IsBadOrMemory }
+    ensures only { IsOkUnless result VortexError.BadMetadata }
 {
     if number_of_kind(values.dtype()) != kind {
         drop(values);
@@ -123,8 +139,7 @@ fn join_runs<A: Allocator + Copy>(
         drop(ends);
         return Err(VortexError::BadMetadata);
     }
-    let runs = RunEnd::new_unchecked(ArrayRef::Primitive(ends), values, offset, rows);
-    ArrayRef::of_runs(alloc, runs)
+    Ok(RunEnd::new_unchecked(ArrayRef::Primitive(ends), values, offset, rows))
 }
 
 // Do ends that rise and so many values make runs that show so many rows from an offset on? Takes a look at the first

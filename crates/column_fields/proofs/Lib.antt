@@ -14,4 +14,5 @@ pub mod EndReading
 pub mod HeaderLaws
 pub mod FlatFieldLaws
 pub mod RunFieldLaws
+pub mod ListFieldLaws
 pub mod DecimalFieldLaws

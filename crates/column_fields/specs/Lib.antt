@@ -10,3 +10,4 @@ pub mod Header
 pub mod FlatFields
 pub mod DecimalFields
 pub mod RunFields
+pub mod ListFields

@@ -128,25 +128,40 @@ fn end_behind<E: StoredEnd>(start: u64, length: u64) -> Option<E>
 }
 
 // The shortest varint at the front, and the bytes after it. One byte or two are most.
+#[inline(always)]
 fn read_length(bytes: &[u8]) -> Option<(u64, &[u8])>
     ensures found { IfSome result (λ r. bytes.now ≡ varint r.0 ++ r.1.now) }
     ensures small { IfSome result (λ r. r.0 < 2 ^ 64) }
     ensures none { IfNone result (BeginsWithNoShortest bytes.now) }
 {
     let Some((first, after_first)) = bytes.split_first() else {
-        return read_shortest(bytes);
+        return read_long(bytes);
     };
     if *first < 128 {
         return Some((u64::from(*first), after_first));
     }
     let Some((second, after_second)) = after_first.split_first() else {
-        return read_shortest(bytes);
+        return read_long(bytes);
     };
     if *second == 0 || *second >= 128 {
-        return read_shortest(bytes);
+        return read_long(bytes);
     }
     Some((
         u64::from(*first) - 128 + u64::from(*second) * 128,
         after_second,
     ))
+}
+
+// The same, however many bytes it has. What `read_shortest` answers lies in memory: it is taken apart here, so that the
+// lengths of one byte or two stay in registers.
+#[inline(always)]
+fn read_long(bytes: &[u8]) -> Option<(u64, &[u8])>
+    ensures found { IfSome result (λ r. bytes.now ≡ varint r.0 ++ r.1.now) }
+    ensures small { IfSome result (λ r. r.0 < 2 ^ 64) }
+    ensures none { IfNone result (BeginsWithNoShortest bytes.now) }
+{
+    match read_shortest(bytes) {
+        Some((length, after)) => Some((length, after)),
+        None => None,
+    }
 }

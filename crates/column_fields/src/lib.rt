@@ -9,6 +9,7 @@ mod fields;
 mod flat_fields;
 mod header;
 mod lengths;
+mod list_fields;
 mod numbers;
 mod run_fields;
 mod stored;
@@ -25,7 +26,8 @@ pub use fields::{
 pub use flat_fields::read_flat_fields;
 pub use header::{Header, put_header, read_header};
 pub use lengths::{load_ends, put_lengths_of};
+pub use list_fields::{ListFields, put_list_fields, read_list_fields};
 pub use numbers::{load_value, load_values, put_value, put_values, size_of_type};
 pub use run_fields::{RunFields, put_run_fields, read_run_fields};
 pub use types::{number_of_type, type_of_number};
-pub use validity::{put_validity, read_validity};
+pub use validity::{put_bit_validity, put_validity, read_validity};

@@ -27,8 +27,8 @@ pub fn put_validity<A: Allocator, B: Allocator>(
     }
 }
 
-/// Writes that validity is told by bits, and the bits.
-fn put_bit_validity<A: Allocator, B: Allocator>(
+/// Writes that validity is told by bits, and the bits. Refused as `OutOfMemory` alone.
+pub fn put_bit_validity<A: Allocator, B: Allocator>(
     out: &mut Vec<u8, B>,
     bits: &BitBuffer<A>,
 ) -> VortexResult<()>

@@ -14,9 +14,17 @@ pub returns-then-header-eq3-clause-bad : goal.returns-then-header-eq3-clause-bad
 returns-then-header-eq3-clause-bad g t c =
     λ e. no_body_of c.args.levels _ _ 3 _ c.args.bytes.now c.in-Some.body.now c.in-Some.ensures.small.0 c.in-Some.ensures.small.1 c.in-Some.ensures.small.2 (omega arith) c.in-Some.ensures.found (c.read_constant.ensures.bad e c.args.levels)
 
+pub returns-then-header-eq4-clause-found : goal.returns-then-header-eq4-clause-found
+returns-then-header-eq4-clause-found g t c =
+    IfOk-weaker c.read_lists.result _ _ (λ array h. body_message c.args.levels _ _ 4 _ c.args.bytes.now c.in-Some.body.now (column_of array) (omega arith) c.in-Some.ensures.found h) c.read_lists.ensures.found
+
+pub returns-then-header-eq4-clause-bad : goal.returns-then-header-eq4-clause-bad
+returns-then-header-eq4-clause-bad g t c =
+    λ e. no_body_of c.args.levels _ _ 4 _ c.args.bytes.now c.in-Some.body.now c.in-Some.ensures.small.0 c.in-Some.ensures.small.1 c.in-Some.ensures.small.2 (omega arith) c.in-Some.ensures.found (c.read_lists.ensures.bad e)
+
 pub returns-then-header-ne2-clause-bad : goal.returns-then-header-ne2-clause-bad
 returns-then-header-ne2-clause-bad g t c =
-    λ _. no_body c.args.levels _ _ _ c.args.bytes.now c.in-Some.body.now c.in-Some.ensures.small.0 c.in-Some.ensures.small.1 c.in-Some.ensures.small.2 c.in-Some.ensures.found (other_form c.args.levels _ _ _ c.in-Some.body.now (λ e. c.if-header-eq1.false (omega arith)) (λ e. c.if-header-ne2.true (omega arith)) (λ e. c.if-header-eq3.false (omega arith)))
+    λ _. no_body c.args.levels _ _ _ c.args.bytes.now c.in-Some.body.now c.in-Some.ensures.small.0 c.in-Some.ensures.small.1 c.in-Some.ensures.small.2 c.in-Some.ensures.found (other_form c.args.levels _ _ _ c.in-Some.body.now (λ e. c.if-header-eq1.false (omega arith)) (λ e. c.if-header-ne2.true (omega arith)) (λ e. c.if-header-eq3.false (omega arith)) (λ e. c.if-header-eq4.false (omega arith)))
 
 pub returns-then-levels-eq0-clause-bad : goal.returns-then-levels-eq0-clause-bad
 returns-then-levels-eq0-clause-bad g t c =

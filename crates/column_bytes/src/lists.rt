@@ -1,0 +1,193 @@
+//! Columns of lists, written.
+ghost use Rattle.std.specs.Prelude.{◌≡◌, ◌⊎◌, ◌++◌, IsTrue, OnOk, IfErr, IsErrOf, IsOkUnless};
+ghost use Rattle.column_core.specs.FlatColumn.{leaf_of};
+ghost use Rattle.column_fields.specs.ListFields.{list_fields};
+ghost use Rattle.runend_array.specs.Array.{column_of, validity_of, IsRowValidity};
+ghost use Rattle.runend_array.specs.Column.{OfLeaf, OfLists, IsIndex, IsPlainIndex, IsPlainTruths, index_of, column_of_runs, runs_validity};
+ghost use Rattle.runend_array.specs.Lists.{index_depth, lists_depth};
+ghost use Rattle.column_bytes.specs.Bytes.{column_bytes, leaf_message, index_message, row_validity_field};
+ghost use Rattle.column_bytes.specs.Read.{IsWritable, IsUnsupportedOrMemory};
+ghost use Rattle.column_bytes.specs.Stored.{IsStored, IsStoredLeaf, IsStoredIndex, IsStoredValidity};
+
+use crate::flat::{put_decimal_rows, put_numbers, put_truths};
+use crate::runs::put_runs;
+use crate::texts::put_texts;
+use column_base::{VortexError, VortexResult};
+use column_core::FlatColumn;
+use column_fields::{Header, put_bit_validity, put_bytes, put_header, put_list_fields, put_number};
+use runend_array::{ArrayRef, ListViewArray, RowValidity, RunEndArray, RunEndArraySlotsExt};
+use std::alloc::Allocator;
+
+/// The number of the type of lists.
+pub(crate) const LISTS: u64 = 13;
+
+/// Writes a column of lists at the end. Refused as `Unsupported` exactly where its offsets, its sizes or its validity
+/// are in runs and fewer than two levels are left, else as `OutOfMemory` alone.
+pub(crate) fn put_lists<A: Allocator + Copy, B: Allocator + Copy>(
+    alloc: B,
+    out: &mut Vec<u8, B>,
+    lists: &ListViewArray<A>,
+    levels: usize,
+) -> VortexResult<()>
+    ensures ok { OnOk result (out.new.items ≡ out.old.items ++ column_bytes (OfLists lists.now)) }
+    ensures writable { OnOk result (IsWritable levels (OfLists lists.now)) }
+    ensures refused { IsErrOf result VortexError.Unsupported → ¬ IsWritable levels (OfLists lists.now) }
+    ensures only { IfErr result IsUnsupportedOrMemory }
+{
+    if levels_of(lists) > levels {
+        return Err(VortexError::Unsupported);
+    }
+    put_header(
+        out,
+        Header {
+            kind: LISTS,
+            form: 4,
+            rows: lists.len() as u64,
+        },
+    )?;
+    put_row_validity(alloc, out, lists.validity())?;
+    put_parts(alloc, out, lists)?;
+    Ok(())
+}
+
+/// A bound of the levels of runs: 2 where offsets, sizes or validity are in runs.
+pub(crate) fn levels_of<A: Allocator + Copy>(lists: &ListViewArray<A>) -> usize
+    ensures { result ≡ lists_depth lists.now }
+{
+    if is_in_runs(lists.offsets()) || is_in_runs(lists.sizes()) {
+        return 2;
+    }
+    match lists.validity() {
+        RowValidity::Runs(_) => 2,
+        _ => 0,
+    }
+}
+
+fn is_in_runs<A: Allocator>(array: &ArrayRef<A>) -> bool
+    requires { IsIndex (column_of array.now) }
+    ensures runs { IsTrue result → index_depth (index_of (column_of array.now)) ≡ 2 }
+    ensures flat { ¬ IsTrue result → index_depth (index_of (column_of array.now)) ≡ 0 }
+{
+    match array {
+        ArrayRef::RunEnd(_) => true,
+        _ => false,
+    }
+}
+
+// Writes the fields that tell which lists are valid.
+#[tactic(auto, unfolding(column_fields::specs::Validity::validity_field))]
+fn put_row_validity<A: Allocator + Copy, B: Allocator + Copy>(
+    alloc: B,
+    out: &mut Vec<u8, B>,
+    validity: &RowValidity<A>,
+) -> VortexResult<()>
+    requires { IsRowValidity validity.now }
+    ensures ok { OnOk result (out.new.items ≡ out.old.items ++ row_validity_field (validity_of validity.now)) }
+    ensures stored { OnOk result (IsStoredValidity (validity_of validity.now)) }
+    ensures only { IsOkUnless result VortexError.OutOfMemory }
+{
+    match validity {
+        RowValidity::NonNullable => put_number(out, 5, 1),
+        RowValidity::AllValid => put_number(out, 5, 2),
+        RowValidity::AllInvalid => put_number(out, 5, 3),
+        RowValidity::Bits(bits) => put_bit_validity(out, bits),
+        RowValidity::Runs(runs) => put_run_validity(alloc, out, runs),
+    }
+}
+
+// Writes that runs of booleans tell the validity, and their message.
+fn put_run_validity<A: Allocator + Copy, B: Allocator + Copy>(
+    alloc: B,
+    out: &mut Vec<u8, B>,
+    runs: &RunEndArray<A>,
+) -> VortexResult<()>
+    requires { IsPlainTruths runs.now.values }
+    ensures ok { OnOk result (out.new.items ≡ out.old.items ++ row_validity_field (runs_validity runs.now)) }
+    ensures stored { OnOk result (IsStoredValidity (runs_validity runs.now)) }
+    ensures only { IsOkUnless result VortexError.OutOfMemory }
+{
+    let mut flags = Vec::new(alloc);
+    put_flat_runs(alloc, &mut flags, runs)?;
+    put_number(out, 5, 5)?;
+    put_bytes(out, 16, &flags)?;
+    Ok(())
+}
+
+// Writes elements, offsets and sizes, each as a message of its own.
+fn put_parts<A: Allocator + Copy, B: Allocator + Copy>(
+    alloc: B,
+    out: &mut Vec<u8, B>,
+    lists: &ListViewArray<A>,
+) -> VortexResult<()>
+    ensures ok { OnOk result (out.new.items ≡ out.old.items ++ list_fields (leaf_message lists.now.elements)
+        (index_message lists.now.offsets) (index_message lists.now.sizes)) }
+    ensures elements { OnOk result (IsStoredLeaf lists.now.elements) }
+    ensures offsets { OnOk result (IsStoredIndex lists.now.offsets) }
+    ensures sizes { OnOk result (IsStoredIndex lists.now.sizes) }
+    ensures only { IsOkUnless result VortexError.OutOfMemory }
+{
+    let mut elements = Vec::new(alloc);
+    put_elements(alloc, &mut elements, lists.elements())?;
+    let mut offsets = Vec::new(alloc);
+    put_index(alloc, &mut offsets, lists.offsets())?;
+    let mut sizes = Vec::new(alloc);
+    put_index(alloc, &mut sizes, lists.sizes())?;
+    put_list_fields(out, &elements, &offsets, &sizes)?;
+    Ok(())
+}
+
+// Writes the message of the elements at the end.
+fn put_elements<A: Allocator, B: Allocator + Copy>(
+    alloc: B,
+    out: &mut Vec<u8, B>,
+    column: &FlatColumn<A>,
+) -> VortexResult<()>
+    ensures ok { OnOk result (out.new.items ≡ out.old.items ++ column_bytes (OfLeaf (leaf_of column.now))) }
+    ensures stored { OnOk result (IsStoredLeaf (leaf_of column.now)) }
+    ensures only { IsOkUnless result VortexError.OutOfMemory }
+{
+    match column {
+        FlatColumn::Primitive(numbers) => put_numbers(out, numbers),
+        FlatColumn::Bool(truths) => put_truths(out, truths),
+        FlatColumn::Decimal(decimals) => put_decimal_rows(out, decimals),
+        FlatColumn::VarBinView(texts) => put_texts(alloc, out, texts),
+    }
+}
+
+// Writes the message of offsets or of sizes at the end.
+fn put_index<A: Allocator + Copy, B: Allocator + Copy>(
+    alloc: B,
+    out: &mut Vec<u8, B>,
+    index: &ArrayRef<A>,
+) -> VortexResult<()>
+    requires { IsIndex (column_of index.now) }
+    ensures ok { OnOk result (out.new.items ≡ out.old.items ++ column_bytes (column_of index.now)) }
+    ensures stored { OnOk result (IsStored (column_of index.now)) }
+    ensures only { IsOkUnless result VortexError.OutOfMemory }
+{
+    match index {
+        ArrayRef::Primitive(numbers) => put_numbers(out, numbers),
+        ArrayRef::RunEnd(runs) => put_flat_runs(alloc, out, runs),
+        _ => unreachable!(),
+    }
+}
+
+// Writes the message of runs over flat integers or booleans at the end.
+fn put_flat_runs<A: Allocator + Copy, B: Allocator + Copy>(
+    alloc: B,
+    out: &mut Vec<u8, B>,
+    runs: &RunEndArray<A>,
+) -> VortexResult<()>
+    requires { IsPlainIndex runs.now.values ⊎ IsPlainTruths runs.now.values }
+    ensures ok { OnOk result (out.new.items ≡ out.old.items ++ column_bytes (column_of_runs runs.now)) }
+    ensures stored { OnOk result (IsStored (column_of_runs runs.now)) }
+    ensures only { IsOkUnless result VortexError.OutOfMemory }
+{
+    let mut values = Vec::new(alloc);
+    match runs.values() {
+        ArrayRef::Primitive(numbers) => put_numbers(&mut values, numbers)?,
+        ArrayRef::Bool(truths) => put_truths(&mut values, truths)?,
+        _ => unreachable!(),
+    }
+    put_runs(alloc, out, runs, &values)
+}
