@@ -6,52 +6,21 @@ reader.c, a program over the library, has to answer to each.
     /usr/bin/python3 messages.py answers < LINES         the answer that is due to each line
     /usr/bin/python3 messages.py try PROGRAM COUNT SEED  runs the program on so many, and compares
 
-Every other message is one with a byte or two changed, put in or left out. Needs protoc and Debian's python3-protobuf.
+Of three messages the second is the first with a byte or two changed, put in or left out, and the third the first with a
+field of it, or of a message in it, changed, put in or left out. Needs what model.py needs.
 """
 
-import importlib
 import random
 import subprocess
 import sys
-import tempfile
 import warnings
-from itertools import accumulate, pairwise
-from pathlib import Path
 
-SCHEMA = Path(__file__).resolve().parents[2] / "docs"
-FLAT, RUNS, CONSTANT = 1, 2, 3
-NEVER_NULL, NONE_NULL, ALL_NULL, BY_BITS = 1, 2, 3, 4
-BOOL, DECIMAL, UTF8, BINARY = 9, 10, 11, 12
-SIZES = {1: 1, 2: 2, 3: 4, 4: 8, 5: 1, 6: 2, 7: 4, 8: 8, DECIMAL: 16}  # bytes of a number, by its type
-UNSIGNED = {1, 2, 3, 4}
-MOST_LEVELS, SHOWN = 16, 100
+from model import (
+    ALL_NULL, BINARY, BOOL, BY_BITS, BY_RUNS, CONSTANT, DECIMAL, FLAT, LIST, LISTS, NEVER_NULL, NONE_NULL, RUNS, SIZES,
+    U64, UNSIGNED, UTF8, Column, answer, is_valid, written,
+)
+
 TEXTS = ["", "", "a", "two words", "Z\u00fcrich", "\U0001f41d", "x" * 200]
-
-
-def compiled():
-    """The class of messages, as protoc makes it of column.proto."""
-    with tempfile.TemporaryDirectory() as folder:
-        subprocess.run(["protoc", f"-I{SCHEMA}", f"--python_out={folder}", "column.proto"], check=True)
-        sys.path.insert(0, folder)
-        return importlib.import_module("column_pb2").Column
-
-
-Column = compiled()
-
-
-# ---- bits
-
-
-def is_set(data: bytes, place: int) -> bool:
-    return data[place // 8] >> place % 8 & 1 == 1
-
-
-def is_valid(message, index: int) -> bool:
-    by_bits = message.validity == BY_BITS
-    return is_set(message.validity_bits, index) if by_bits else message.validity != ALL_NULL
-
-
-# ---- random columns
 
 
 def bits(flags: list[bool]) -> bytes:
@@ -67,6 +36,9 @@ def begun(kind: int, form: int, rows: int):
     message = Column()
     message.version, message.type, message.form, message.rows = 1, kind, form, rows
     return message
+
+
+# ---- flat columns and constants
 
 
 def flat(chance: random.Random, rows: int):
@@ -85,7 +57,21 @@ def flat(chance: random.Random, rows: int):
     elif kind == BOOL:
         message.items = bits(some_flags(chance, rows))
     else:
-        message.items = b"".join(chance.choice([bytes(SIZES[kind]), chance.randbytes(SIZES[kind])]) for _ in range(rows))
+        size = SIZES[kind]
+        message.items = b"".join(chance.choice([bytes(size), chance.randbytes(size)]) for _ in range(rows))
+    return message
+
+
+def flat_truths(flags: list[bool]):
+    message = begun(BOOL, FLAT, len(flags))
+    message.validity, message.items = NEVER_NULL, bits(flags)
+    return message
+
+
+def flat_numbers(numbers: list[int]):
+    """Of 64 bits, without null."""
+    message = begun(U64, FLAT, len(numbers))
+    message.validity, message.items = NEVER_NULL, b"".join(number.to_bytes(8, "little") for number in numbers)
     return message
 
 
@@ -107,13 +93,15 @@ def constant(chance: random.Random, rows: int):
     return message
 
 
-def runs(chance: random.Random, rows: int, levels: int):
-    """A column of so many rows under at most so many levels of runs."""
-    ends_type = chance.choice([*UNSIGNED])
+# ---- runs and lists
+
+
+def window(chance: random.Random, rows: int) -> tuple[int, int, list[int]] | None:
+    """A type of ends, an offset, and ends that show so many rows from there on; None where they have no room."""
+    ends_type, offset = chance.choice([*UNSIGNED]), chance.choice([0, 0, 1, 3])
     most = 2 ** (8 * SIZES[ends_type]) - 1
-    offset = chance.choice([0, 0, 1, 3])
-    if levels == 0 or chance.random() < 0.2 or offset + rows > most:
-        return constant(chance, rows) if chance.random() < 0.4 else flat(chance, rows)
+    if offset + rows > most:
+        return None
     first = chance.randint(offset, offset + rows)
     later = range(first + 1, offset + rows)
     ends = [first, *sorted(chance.sample(later, min(len(later), chance.randrange(6))))]
@@ -123,12 +111,54 @@ def runs(chance: random.Random, rows: int, levels: int):
         ends.append(min(most, ends[-1] + chance.choice([1, 2, 300])))
     if rows == 0 and offset == 0 and chance.random() < 0.5:
         ends = []
-    values = runs(chance, len(ends), levels - 1)
+    return ends_type, offset, ends
+
+
+def over(values, rows: int, ends_type: int, offset: int, ends: list[int]):
+    """Runs over these values."""
     message = begun(values.type, RUNS, rows)
     message.offset, message.ends_type = offset, ends_type
     message.run_lengths.extend(end - start for start, end in zip([0, *ends], ends))
     message.values.CopyFrom(values)
     return message
+
+
+def numbers(chance: random.Random, rows: int, most: int, may_be_runs: bool):
+    """Numbers of at most so much, flat or in runs."""
+    cut = window(chance, rows) if may_be_runs and chance.random() < 0.5 else None
+    values = flat_numbers([chance.randint(0, most) for _ in range(len(cut[2]) if cut else rows)])
+    return over(values, rows, *cut) if cut else values
+
+
+def lists(chance: random.Random, rows: int, levels: int):
+    """So many lists, which lie anywhere in some elements. Some of them may end behind the last, which is refused unless
+    they are null."""
+    message = begun(LIST, LISTS, rows)
+    count = chance.choice([0, 1, 2, 5, 10])
+    half, has_levels = count // 2, levels >= 2
+    cut = window(chance, rows) if has_levels else None
+    message.validity = chance.choice([NEVER_NULL, NONE_NULL, ALL_NULL, BY_BITS, *[BY_RUNS, BY_RUNS] * bool(cut)])
+    if message.validity == BY_BITS:
+        message.validity_bits = bits(some_flags(chance, rows))
+    if message.validity == BY_RUNS:
+        message.validity_runs.CopyFrom(over(flat_truths(some_flags(chance, len(cut[2]))), rows, *cut))
+    too_many = chance.random() < (0.5 if message.validity == ALL_NULL else 0.05)
+    message.elements.CopyFrom(flat(chance, count))
+    message.offsets.CopyFrom(numbers(chance, rows, half, has_levels))
+    message.sizes.CopyFrom(numbers(chance, rows, 2**64 - 1 if too_many else count - half, has_levels))
+    return message
+
+
+def column(chance: random.Random, rows: int, levels: int):
+    """A column of so many rows under at most so many levels of runs."""
+    cut = window(chance, rows)
+    if levels == 0 or chance.random() < 0.2 or cut is None:
+        form = chance.choice([constant, constant, flat, flat, lists, lists])
+        return lists(chance, rows, levels) if form is lists else form(chance, rows)
+    return over(column(chance, len(cut[2]), levels - 1), rows, *cut)
+
+
+# ---- messages, and what the program answers
 
 
 def changed(chance: random.Random, data: bytes) -> bytes:
@@ -148,172 +178,57 @@ def changed(chance: random.Random, data: bytes) -> bytes:
     return bytes(found)
 
 
+def parts_of(message) -> list:
+    """The message, and all that are in it."""
+    inner = [found for field, found in message.ListFields() if field.message_type]
+    return [message, *(part for found in inner for part in parts_of(found))]
+
+
+def other_bytes(chance: random.Random, data: bytes) -> bytes:
+    """One bit changed, or a byte more or fewer, or none."""
+    flipped = int.from_bytes(data, "little") ^ 1 << chance.randrange(8 * len(data) or 1)
+    return chance.choice([flipped.to_bytes(len(data) or 1, "little"), data + b"\0", data[:-1], b""])
+
+
+def set_other(chance: random.Random, message, field) -> None:
+    """Another message, number, bytes or list of numbers in this field."""
+    found = getattr(message, field.name)
+    if field.message_type:
+        found.CopyFrom(flat(chance, chance.choice([0, 1, 3])))
+    elif field.label == field.LABEL_REPEATED:
+        place = chance.randrange(len(found) + 1)
+        found[place : place + chance.randrange(2)] = chance.choice([[], [0], [1], [chance.randrange(300)]])
+    elif field.cpp_type == field.CPPTYPE_STRING:
+        setattr(message, field.name, other_bytes(chance, found))
+    else:
+        most = 2**64 - 1 if field.cpp_type == field.CPPTYPE_UINT64 else 2**31 - 1
+        other = chance.choice([0, 1, 2, found + 1, found + 1, found - 1, found - 1, chance.randrange(14), 2**60])
+        setattr(message, field.name, max(0, min(other, most)))
+
+
+def altered(chance: random.Random, message):
+    """The message with one field, or one of a message in it, changed, left out or put in."""
+    whole = Column()
+    whole.CopyFrom(message)
+    part = chance.choice(parts_of(whole))
+    there = [field for field, _ in part.ListFields()]
+    field = chance.choice(there if chance.random() < 0.9 else Column.DESCRIPTOR.fields)
+    if chance.random() < 0.1:
+        part.ClearField(field.name)
+    else:
+        set_other(chance, part, field)
+    return whole
+
+
 def messages(count: int, seed: int) -> list[bytes]:
     chance = random.Random(seed)
     made = []
     while len(made) < count:
         rows = chance.choice([0, 1, 2, 3, 5, 8, 9, 17, 64, 100, 300])
-        data = written(runs(chance, rows, chance.choice([0, 1, 1, 2, 3, 5])))
-        made += [data, changed(chance, data)]
+        message = column(chance, rows, chance.choice([0, 1, 1, 2, 2, 3, 5, 8]))
+        data = written(message)
+        made += [data, changed(chance, data), written(altered(chance, message))]
     return made[:count]
-
-
-# ---- what is written, and which bytes are messages
-
-
-def varint(number: int) -> bytes:
-    low = number & 127
-    return bytes([low]) if number < 128 else bytes([low | 128]) + varint(number >> 7)
-
-
-def written(message) -> bytes:
-    """Protocol Buffers leave a list without numbers out; here it is a field of no bytes."""
-    last = "values" if message.form == RUNS else "text_bytes"
-    if not message.HasField(last):
-        return message.SerializeToString()
-    front = Column()
-    front.CopyFrom(message)
-    front.ClearField(last)
-    lengths, empty, key = (
-        (message.run_lengths, b"\x52\0", b"\x5a") if last == "values" else (message.text_lengths, b"\x62\0", b"\x6a")
-    )
-    content = written(message.values) if last == "values" else message.text_bytes
-    return front.SerializeToString() + (b"" if lengths else empty) + key + varint(len(content)) + content
-
-
-def fields_of(message) -> set[str]:
-    return {field.name for field, _ in message.ListFields() if field.name not in ("run_lengths", "text_lengths")}
-
-
-def are_bits(data: bytes, count: int) -> bool:
-    return len(data) == (count + 7) // 8 and int.from_bytes(data, "little") < 1 << count
-
-
-def is_text(data: bytes) -> bool:
-    return data.decode(errors="ignore").encode() == data
-
-
-def texts_of(message) -> list[bytes]:
-    ends = [0, *accumulate(message.text_lengths)]
-    return [message.text_bytes[start:end] for start, end in pairwise(ends)]
-
-
-def are_texts(message) -> bool:
-    lengths, count = message.text_lengths, message.rows
-    if len(lengths) != count or sum(lengths) != len(message.text_bytes):
-        return False
-    if any(length and not is_valid(message, index) for index, length in enumerate(lengths)):
-        return False
-    return message.type == BINARY or all(map(is_text, texts_of(message)))
-
-
-def has_fields(message, wanted: set[str]) -> bool:
-    """These fields, and of decimals precision and scale of native types; and no run lengths."""
-    if message.type == DECIMAL:
-        wanted = wanted | {"precision", "scale"}
-        if message.precision > 255 or message.scale not in range(-128, 128):
-            return False
-    return fields_of(message) == wanted and not message.run_lengths
-
-
-def is_flat(message) -> bool:
-    is_of_texts = message.type in (UTF8, BINARY)
-    wanted = {"version", "type", "form", "rows", "validity", "text_bytes" if is_of_texts else "items"}
-    if message.validity == BY_BITS:
-        wanted.add("validity_bits")
-    if not has_fields(message, wanted) or message.validity not in range(1, 5):
-        return False
-    if message.text_lengths and not is_of_texts:
-        return False
-    if message.validity == BY_BITS and not are_bits(message.validity_bits, message.rows):
-        return False
-    if is_of_texts:
-        return are_texts(message)
-    if message.type == BOOL:
-        return are_bits(message.items, message.rows)
-    return message.type in SIZES and len(message.items) == message.rows * SIZES[message.type]
-
-
-def is_constant(message) -> bool:
-    if not has_fields(message, {"version", "type", "form", "rows", "validity", "items"}) or message.text_lengths:
-        return False
-    if message.validity == ALL_NULL:
-        return message.type in {*SIZES, BOOL, UTF8, BINARY} and not message.items
-    if message.validity not in (NEVER_NULL, NONE_NULL):
-        return False
-    if message.type == UTF8:
-        return is_text(message.items)
-    if message.type in (BOOL, BINARY):
-        return message.type == BINARY or message.items in (b"\0", b"\1")
-    return message.type in SIZES and len(message.items) == SIZES[message.type]
-
-
-def ends_of(message) -> list[int]:
-    return [sum(message.run_lengths[: run + 1]) for run in range(len(message.run_lengths))]
-
-
-def is_window(ends: list[int], offset: int, rows: int) -> bool:
-    if not ends:
-        return offset == rows == 0
-    return offset + rows < 2**64 and (rows == 0 or ends[0] >= offset and ends[-1] >= offset + rows)
-
-
-def are_runs(message, levels: int) -> bool:
-    if fields_of(message) != {"version", "type", "form", "rows", "offset", "ends_type", "values"}:
-        return False
-    if levels == 0 or message.ends_type not in UNSIGNED or 0 in message.run_lengths[1:] or message.text_lengths:
-        return False
-    ends, values = ends_of(message), message.values
-    if ends and ends[-1] >= 2 ** (8 * SIZES[message.ends_type]):
-        return False
-    return (
-        is_column(values, levels - 1)
-        and (values.type, values.rows) == (message.type, len(ends))
-        and is_window(ends, message.offset, message.rows)
-    )
-
-
-def is_column(message, levels: int = MOST_LEVELS) -> bool:
-    if message.version != 1:
-        return False
-    forms = {FLAT: is_flat, RUNS: lambda runs: are_runs(runs, levels), CONSTANT: is_constant}
-    return message.form in forms and forms[message.form](message)
-
-
-# ---- the rows, and the answer that is due
-
-
-def row(message, index: int) -> str:
-    if message.form == RUNS:
-        position = message.offset + index
-        return row(message.values, next(run for run, end in enumerate(ends_of(message)) if end > position))
-    if not is_valid(message, index):
-        return "null"
-    if message.form == CONSTANT:
-        index = 0
-    if message.type in (UTF8, BINARY):
-        text = message.items if message.form == CONSTANT else texts_of(message)[index]
-        return f"'{text.hex()}"
-    if message.type == BOOL:
-        return str(is_set(message.items, index)).lower()
-    size = SIZES[message.type]
-    item = message.items[index * size : (index + 1) * size]
-    if message.type == DECIMAL:
-        return item[::-1].hex()
-    return str(int.from_bytes(item, "little", signed=message.type not in UNSIGNED))
-
-
-def answer(data: bytes) -> str:
-    message = Column()
-    try:
-        message.ParseFromString(data)
-    except Exception:  # the two ways in which Protocol Buffers refuses bytes have no class in common
-        return "refused"
-    message.DiscardUnknownFields()  # Protocol Buffers keep them, and would write them again
-    if not is_column(message) or written(message) != data:
-        return "refused"
-    rows = [row(message, index) for index in range(min(message.rows, SHOWN))]
-    return " ".join([f"{message.rows} rows:", *rows, "=", data.hex()])
 
 
 def main() -> None:

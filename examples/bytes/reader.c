@@ -1,10 +1,11 @@
 /* Reads columns as bytes, a line of hexadecimal digits each, and answers a line each: "refused", or the rows, at most a
  * hundred of them, and the bytes that the column is written as again. Decimals are the digits of their 16 bytes, the
- * highest first, texts and bytes those of their bytes behind a quote.
+ * highest first, texts and bytes those of their bytes behind a quote, lists their items in brackets.
  *
  *     cc reader.c $(pkg-config --cflags --libs hivevigil) -o reader */
 #include "hivevigil.h"
 #include <inttypes.h>
+#include <stdbool.h>
 #include <stdio.h>
 #include <stdlib.h>
 #include <string.h>
@@ -27,26 +28,81 @@ static void print_digits(const uint8_t *bytes, size_t len) {
     for (size_t at = 0; at < len; at++) printf("%02x", bytes[at]);
 }
 
-static void print_row(hv_column *column, size_t row) {
+static void print_row(const hv_column *column, size_t row) {
     hv_value value;
     hv_error error;
     static uint8_t text[LINE / 2];
     expect(hv_at(column, row, &value, text, sizeof text, &error), 0, "hv_at");
     switch (value.kind) {
-    case HV_UNSIGNED: printf(" %" PRIu64, value.as_unsigned); break;
-    case HV_SIGNED: printf(" %" PRId64, value.as_signed); break;
-    case HV_TRUTH: printf(" %s", value.truth ? "true" : "false"); break;
-    case HV_DECIMAL_VALUE: printf(" %016" PRIx64 "%016" PRIx64, (uint64_t)value.as_signed, value.as_unsigned); break;
+    case HV_UNSIGNED: printf("%" PRIu64, value.as_unsigned); break;
+    case HV_SIGNED: printf("%" PRId64, value.as_signed); break;
+    case HV_TRUTH: printf("%s", value.truth ? "true" : "false"); break;
+    case HV_DECIMAL_VALUE: printf("%016" PRIx64 "%016" PRIx64, (uint64_t)value.as_signed, value.as_unsigned); break;
     case HV_TEXT:
     case HV_BYTES:
-        printf(" '");
+        putchar('\'');
         print_digits(text, (size_t)value.as_unsigned);
         break;
-    default: printf(" null");
+    default: printf("null");
     }
 }
 
-static void print_written(hv_column *column) {
+static uint64_t number_at(const hv_column *numbers, size_t row) {
+    hv_value value;
+    hv_error error;
+    expect(hv_at(numbers, row, &value, NULL, 0, &error), 0, "hv_at of a number");
+    return value.as_unsigned;
+}
+
+static bool is_valid_at(const hv_column *flags, size_t row) {
+    hv_value value;
+    hv_error error;
+    expect(hv_at(flags, row, &value, NULL, 0, &error), 0, "hv_at of a flag");
+    return value.truth;
+}
+
+static void print_list(const hv_column *elements, size_t start, size_t size) {
+    putchar('[');
+    for (size_t item = start; item < start + size; item++) {
+        if (item > start) putchar(' ');
+        print_row(elements, item);
+    }
+    putchar(']');
+}
+
+/* The first rows of a column of lists, of which runs are written out. */
+static void print_lists(const hv_column *column, size_t rows) {
+    hv_column first = HV_EMPTY, lists = HV_EMPTY;
+    hv_column elements = HV_EMPTY, offsets = HV_EMPTY, sizes = HV_EMPTY, flags = HV_EMPTY;
+    hv_session session;
+    hv_error error;
+    hv_session_initial(&session);
+    expect(hv_slice(&session, column, 0, rows, &first, &error), 0, "hv_slice");
+    expect(hv_decode(&session, &first, &lists, &error), 0, "hv_decode");
+    expect(hv_list_elements(&lists, &elements, &error), 0, "hv_list_elements");
+    expect(hv_list_offsets(&lists, &offsets, &error), 0, "hv_list_offsets");
+    expect(hv_list_sizes(&lists, &sizes, &error), 0, "hv_list_sizes");
+    expect(hv_list_validity(&lists, &flags, &error), 0, "hv_list_validity");
+    for (size_t row = 0; row < rows; row++) {
+        putchar(' ');
+        if (is_valid_at(&flags, row)) print_list(&elements, number_at(&offsets, row), number_at(&sizes, row));
+        else printf("null");
+    }
+    hv_free(&first), hv_free(&lists), hv_free(&elements), hv_free(&offsets), hv_free(&sizes), hv_free(&flags);
+}
+
+static void print_rows(const hv_column *column, size_t rows) {
+    if (hv_kind_of(column).number == HV_LIST) {
+        print_lists(column, rows);
+        return;
+    }
+    for (size_t row = 0; row < rows; row++) {
+        putchar(' ');
+        print_row(column, row);
+    }
+}
+
+static void print_written(const hv_column *column) {
     hv_error error;
     size_t size, written;
     expect(hv_write_size(column, &size, &error), 0, "hv_write_size");
@@ -69,7 +125,7 @@ static void answer(const uint8_t *bytes, size_t len) {
     }
     size_t rows = hv_length(&column);
     printf("%zu rows:", rows);
-    for (size_t row = 0; row < rows && row < SHOWN; row++) print_row(&column, row);
+    print_rows(&column, rows < SHOWN ? rows : SHOWN);
     print_written(&column);
     putchar('\n');
     hv_free(&column);

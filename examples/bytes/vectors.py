@@ -5,15 +5,17 @@
 
 A line `NAME = from bytes HH ..` has to be refused exactly where the bytes are no column's, and the answer to
 `NAME bytes` has to be a column's: the one that was read, where NAME has just been made of bytes. A line `NAME form`
-right behind one of these has to tell the form of that message. Needs what messages.py needs.
+right behind one of these has to tell the form of that message. Needs what model.py needs.
 """
 
 import re
 import sys
 import warnings
 
-import messages
-from messages import ALL_NULL, BINARY, BOOL, BY_BITS, CONSTANT, DECIMAL, NEVER_NULL, RUNS, UTF8, Column
+import model
+from model import (
+    ALL_NULL, BINARY, BOOL, BY_BITS, BY_RUNS, CONSTANT, DECIMAL, LISTS, NEVER_NULL, RUNS, UTF8, column, is_set,
+)
 
 READ = re.compile(r"(?:refuse )?([a-z]\w*) = from bytes ((?:[0-9A-Fa-f]{2} )*[0-9A-Fa-f]{2}|-)(?: => (.*))?")
 WRITTEN = re.compile(r"(?:refuse )?([a-z]\w*) bytes => ([0-9A-F]{2}(?: [0-9A-F]{2})*)(?: memory| none)?")
@@ -24,17 +26,16 @@ ESCAPES = str.maketrans({" ": "\\s", "\n": "\\n", '"': '\\"', "\\": "\\\\"})
 VALIDITIES = {1: "nonnull", 2: "valid", ALL_NULL: "invalid", BY_BITS: "bits"}
 
 
-def column(data: bytes):
-    """The message, or None where the bytes are no column's."""
-    if messages.answer(data) == "refused":
-        return None
-    message = Column()
-    message.ParseFromString(data)
-    return message
+def list_validity(message) -> str:
+    if message.validity == BY_RUNS:
+        return f"{{ {form(message.validity_runs)} }}"
+    if message.validity != BY_BITS:
+        return VALIDITIES[message.validity]
+    return f"bits {''.join(str(int(is_set(message.validity_bits, place))) for place in range(message.rows)) or '-'}"
 
 
 def row(message, index: int) -> str:
-    shown = messages.row(message, index)
+    shown = model.row(message, index)
     if message.type not in (DECIMAL, UTF8, BINARY) or shown == "null":
         return shown
     data = bytes.fromhex(shown.removeprefix("'"))
@@ -46,8 +47,11 @@ def row(message, index: int) -> str:
 def form(message) -> str:
     """The form of a column in the words of docs/VECTORS.md."""
     if message.form == RUNS:
-        window = [TYPES[message.ends_type], message.offset, message.rows, *messages.ends_of(message)]
+        window = [TYPES[message.ends_type], message.offset, message.rows, *model.ends_of(message)]
         return " ".join(["runs", *map(str, window), "{", form(message.values), "}"])
+    if message.form == LISTS:
+        parts = [f"{{ {form(part)} }}" for part in (message.elements, message.offsets, message.sizes)]
+        return " ".join(["lists", *parts, list_validity(message)])
     decimal = f"decimal({message.precision},{message.scale})"
     name = decimal if message.type == DECIMAL else TYPES[message.type]
     null = "" if message.validity == NEVER_NULL else "?"
