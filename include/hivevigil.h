@@ -379,7 +379,7 @@ HV_ANSWER hv_builder_new(const hv_kind *kind, hv_builder *builder, hv_error *err
  * belongs to a type), then 5 for 2^64 rows or more in all. */
 HV_ANSWER hv_append(hv_builder *builder, const hv_column *column, hv_error *error);
 /* `count` rows of one value of the builder's type: 15 for null in a type without null, 12 for a value that is none of
- * the type, or a text that is not UTF-8; 5 as above. */
+ * the type, or a text that is not UTF-8, also for a count of 0; then 5 as above. */
 HV_ANSWER hv_append_value(hv_builder *builder, const hv_value *value, const uint8_t *text, size_t text_len,
                           size_t count, hv_error *error);
 /* The encoding of all rows so far, which the builder keeps. */
@@ -391,7 +391,8 @@ HV_CALL void hv_builder_free(hv_builder *builder);
 
 /* A column as bytes, in any form, to keep or to send: a message of the Protocol Buffers encoding (docs/column.proto),
  * in the form that the column has, with its window; of flat texts and bytes the rows, which are read into one buffer.
- * Equal forms have equal bytes. 13 for lists, constants of lists, runs over these, and more than 16 levels of runs. */
+ * Equal forms have equal bytes. 13 for constants of lists, runs over these, and more than 16 levels of runs, where
+ * lists that runs were decoded to, whose offsets, sizes or validity are in runs, count as two. */
 /* How many bytes they are. */
 HV_ANSWER hv_write_size(const hv_column *column, size_t *size, hv_error *error);
 /* They go to the front of `bytes`, and *size says how many they are; 11 (needed, bytes_len) where they have no room

@@ -29,4 +29,14 @@ static inline int32_t row_at(hv_column *from, size_t at, row *found, hv_error *e
     }
     return HV_OK;
 }
+
+/* The column that is read of the column's own bytes. */
+static inline int32_t read_again(const hv_column *from, hv_column *out, hv_error *error) {
+    size_t size;
+    int32_t answer = hv_write_size(from, &size, error);
+    if (answer) return answer;
+    uint8_t *bytes = (uint8_t *)kept(size);
+    answer = hv_write(from, bytes, size, &size, error);
+    return answer ? answer : hv_read_column(bytes, size, out, error);
+}
 #endif

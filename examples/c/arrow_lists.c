@@ -1,6 +1,6 @@
-/* Random legal arrays of lists ("+l", "+L"), flat and as values of runs, come in, go out and come in again, and every
- * item of every row is compared: with the rows that were laid out, by a reader of the two structs alone where they went
- * out. Then what is refused. arrow_lists [COUNT [SEED]]
+/* Random legal arrays of lists ("+l", "+L"), flat and as values of runs, come in, go out and come in again, and are
+ * written as bytes and read, as they lie and decoded; every item of every row is compared: with the rows that were laid
+ * out, by a reader of the two structs alone where they went out. Then what is refused. arrow_lists [COUNT [SEED]]
  */
 #include "arrow_columns.h"
 #include "arrow_list_layouts.h"
@@ -110,6 +110,16 @@ static void check_out_and_in(hv_column *from, const lists *values, const size_t 
     hv_arrow_release(&schema, &array);
 }
 
+static void check_bytes(hv_column *from, const lists *values, const size_t *due, size_t count) {
+    hv_column decoded = HV_EMPTY;
+    if (read_again(from, &again, &error)) stop("has no bytes", 0);
+    if (hv_form(from) != hv_form(&again)) stop("the form that was read", 0);
+    check_lists(&again, values, due, count, "a row that was read");
+    if (hv_decode(&session, from, &decoded, &error) || read_again(&decoded, &again, &error)) stop("has no bytes", 0);
+    check_lists(&again, values, due, count, "a row that was decoded and read");
+    hv_free(&decoded);
+}
+
 static void check_one(void) {
     struct ArrowSchema schema;
     struct ArrowArray array;
@@ -124,6 +134,7 @@ static void check_one(void) {
     const int32_t answer = hv_arrow_import(&session, &schema, &array, &came, &error);
     if (answer) fprintf(stderr, "%s: refused as %" PRId32 "\n", of->format, answer), stop("a legal array", 0);
     check_out_and_in(&came, &values, runs ? due : NULL, count);
+    check_bytes(&came, &values, runs ? due : NULL, count);
     hv_free(&came);
 }
 
@@ -175,6 +186,6 @@ int main(int arguments, char **given) {
     }
     check_refusals();
     hv_free(&column), hv_free(&again);
-    printf("%" PRIu64 " random arrays of lists came in, went out and came in again with every item\n", count);
+    printf("%" PRIu64 " random arrays of lists came in, went out and came in again, and as bytes\n", count);
     return 0;
 }

@@ -1,6 +1,6 @@
 /* Random legal Arrow arrays (arrow_layouts.h) come in, go out and come in again, and every row is compared: what came
  * in with the rows that were laid out, what went out by a reader of its own (arrow_reader.h), what came in again with
- * both. arrow_random [COUNT [SEED]]
+ * both, and what is read of the bytes that each column is written as. arrow_random [COUNT [SEED]]
  */
 #include "arrow_columns.h"
 #include "arrow_layouts.h"
@@ -76,6 +76,8 @@ static void check_out_and_in(const struct ArrowSchema *from, rows due) {
     check_array(&schema, &array, due);
     if (hv_arrow_import(&session, &schema, &array, &again, &error)) stop("does not come in again", 0);
     check_column(&again, due, "a row that came in again");
+    if (read_again(&column, &again, &error)) stop("has no bytes", 0);
+    check_column(&again, due, "a row that was read");
     hv_arrow_release(&schema, &array);
 }
 
@@ -122,6 +124,6 @@ int main(int arguments, char **given) {
     }
     hv_free(&column);
     hv_free(&again);
-    printf("%" PRIu64 " random legal arrays and batches came in, went out and came in again with every row\n", count);
+    printf("%" PRIu64 " random legal arrays and batches came in, went out and came in again, and as bytes\n", count);
     return 0;
 }

@@ -143,6 +143,9 @@ static void refusals(void) {
     put_value(&builder, five, SIZE_MAX - 1);
     CHECK(hv_builder_rows(&builder) == SIZE_MAX && hv_builder_runs(&builder) == 1);
     CHECK_REFUSED(hv_append_value(&builder, &six, NO_TEXT, 1, &error), HV_WINDOW_OVERFLOW, 0, 0, 0);
+    /* the value is looked at first, and for no row too */
+    CHECK_REFUSED(hv_append_value(&builder, &wide, NO_TEXT, 1, &error), HV_TYPE_MISMATCH, 0, 0, 0);
+    CHECK_REFUSED(hv_append_value(&builder, &wide, NO_TEXT, 0, &error), HV_TYPE_MISMATCH, 0, 0, 0);
     CHECK(!hv_i32(rows, 2, NOT_NULLABLE, &column, &error));
     CHECK_REFUSED(hv_append(&builder, &column, &error), HV_WINDOW_OVERFLOW, 0, 0, 0);
     CHECK(hv_builder_rows(&builder) == SIZE_MAX && hv_builder_runs(&builder) == 1);

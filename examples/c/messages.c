@@ -31,6 +31,14 @@ static const uint8_t null_message[] = {0x08, 1, 0x10, 12, 0x18, 3, 0x20, 2, 0x28
 static const uint8_t half_message[] = {0x08, 1, 0x10, 10, 0x18, 3, 0x20, 2, 0x28, 1, 0x3a, 16,
                                        50, ZEROS_5, ZEROS_5, ZEROS_5, 0x70, 5, 0x78, 4};
 static const uint8_t no_decimal_message[] = {0x08, 1, 0x10, 10, 0x18, 3, 0x20, 3, 0x28, 3, 0x3a, 0, 0x70, 5, 0x78, 4};
+/* [1 2], null from item 9 on, [2], over the items 1 and 2 of i8, with a bit for each list */
+#define WORD(number) number, 0, 0, 0, 0, 0, 0, 0
+#define THREE_WORDS(a, b, c) \
+    0x08, 1, 0x10, 4, 0x18, 1, 0x20, 3, 0x28, 1, 0x3a, 24, WORD(a), WORD(b), WORD(c)
+static const uint8_t lists_message[] = {0x08, 1, 0x10, 13, 0x18, 4, 0x20, 3, 0x28, 4, 0x32, 1, 5,
+                                        0x8a, 1, 14, 0x08, 1, 0x10, 5, 0x18, 1, 0x20, 2, 0x28, 1, 0x3a, 2, 1, 2,
+                                        0x92, 1, 36, THREE_WORDS(0, 9, 1), 0x9a, 1, 36, THREE_WORDS(2, 3, 1)};
+enum { LONGEST = 128 }; /* bytes */
 
 static hv_column flat = HV_EMPTY, runs = HV_EMPTY, window = HV_EMPTY, decimals = HV_EMPTY;
 
@@ -47,7 +55,7 @@ static void make_columns(void) {
 
 /* The message of a column is these bytes; with room for one less there is none; what is read of it has these rows. */
 static void check_message(hv_column *column, const uint8_t *message, size_t len, const char *rows) {
-    uint8_t written[64];
+    uint8_t written[LONGEST];
     size_t size;
     FILL(size);
     CHECK(!hv_write_size(column, &size, &error) && size == len);
@@ -67,7 +75,7 @@ static void check_message(hv_column *column, const uint8_t *message, size_t len,
 
 /* What is cut short or goes on is none, and leaves what the handle holds; each changed byte has an answer. */
 static void check_damaged(const uint8_t *message, size_t len) {
-    uint8_t damaged[64];
+    uint8_t damaged[LONGEST];
     hv_column out = HV_EMPTY;
     CHECK(!hv_clone(&flat, &out, &error));
     for (size_t kept = 0; kept < len; kept++) {
@@ -85,7 +93,7 @@ static void check_damaged(const uint8_t *message, size_t len) {
             CHECK(answer == 0 || answer == 17);
             if (answer) continue;
             /* what was read has these bytes, and no others */
-            uint8_t again[64];
+            uint8_t again[LONGEST];
             size_t size;
             CHECK(!hv_write(&out, again, sizeof again, &size, &error) && size == len && !memcmp(again, damaged, len));
         }
@@ -128,17 +136,59 @@ static void check_texts(void) {
     hv_free(&texts);
 }
 
-/* Lists have no message, and an empty handle no column. */
+/* Lists, of which a null one may lie anywhere: their parts are those that were written. */
+static void check_lists(void) {
+    const int8_t items[2] = {1, 2};
+    const uint64_t offsets[3] = {0, 9, 1}, sizes[3] = {2, 3, 1};
+    const uint8_t valid[1] = {5};
+    hv_column elements = HV_EMPTY, lists = HV_EMPTY, read = HV_EMPTY, part = HV_EMPTY;
+    CHECK(!hv_i8(items, 2, NOT_NULLABLE, &elements, &error));
+    CHECK(!hv_lists(&elements, offsets, 3, sizes, 3, NULLS_BY(valid, 0), &lists, &error));
+    const char *const no_value = "refused:13 refused:13 refused:13"; /* hv_at has no lists */
+    check_message(&lists, lists_message, sizeof lists_message, no_value);
+    CHECK(!hv_read_column(lists_message, sizeof lists_message, &read, &error));
+    CHECK(hv_form(&read) == HV_FORM_LISTS && hv_length(&read) == 3 && hv_kind_of(&read).nullable == 1);
+    CHECK(!hv_list_elements(&read, &part, &error) && hv_kind_of(&part).number == HV_I8);
+    CHECK_ROWS(&part, "1 2");
+    CHECK(!hv_list_offsets(&read, &part, &error));
+    CHECK_ROWS(&part, "0 9 1");
+    CHECK(!hv_list_sizes(&read, &part, &error));
+    CHECK_ROWS(&part, "2 3 1");
+    CHECK(!hv_list_validity(&read, &part, &error));
+    CHECK_ROWS(&part, "true false true");
+    hv_free(&elements), hv_free(&lists), hv_free(&read), hv_free(&part);
+}
+
+/* What `levels` more levels of runs over the column are written as: read again, or refused. */
+static void check_levels(hv_column *column, int levels, int32_t answer) {
+    const uint8_t last[1] = {1};
+    uint8_t room[1024];
+    size_t size;
+    hv_column ends = HV_EMPTY, over = HV_EMPTY, next = HV_EMPTY, read = HV_EMPTY;
+    CHECK(!hv_u8(last, 1, NOT_NULLABLE, &ends, &error) && !hv_clone(column, &over, &error));
+    for (int level = 0; level < levels; level++)
+        CHECK(!hv_runs(&ends, &over, 0, 1, &next, &error) && !hv_clone(&next, &over, &error));
+    CHECK(hv_write_size(&over, &size, &error) == answer);
+    CHECK(hv_write(&over, room, sizeof room, &size, &error) == answer);
+    if (!answer) CHECK(!hv_read_column(room, size, &read, &error) && hv_length(&read) == 1);
+    hv_free(&ends), hv_free(&over), hv_free(&next), hv_free(&read);
+}
+
+/* A seventeenth level of runs has no message; lists that runs are decoded to have two levels. An empty handle has no
+ * column. */
 static void check_none(void) {
     const uint64_t offsets[1] = {0}, sizes[1] = {2};
-    hv_column lists = HV_EMPTY, none = HV_EMPTY;
+    const uint8_t last[1] = {1};
+    hv_column lists = HV_EMPTY, ends = HV_EMPTY, runs_of_lists = HV_EMPTY, decoded = HV_EMPTY, none = HV_EMPTY;
     uint8_t room[64];
     size_t size;
     CHECK(!hv_lists(&flat, offsets, 1, sizes, 1, NOT_NULLABLE, &lists, &error));
-    CHECK_REFUSED(hv_write_size(&lists, &size, &error), 13, 0, 0, 0);
-    CHECK_REFUSED(hv_write(&lists, room, sizeof room, &size, &error), 13, 0, 0, 0);
+    CHECK(!hv_u8(last, 1, NOT_NULLABLE, &ends, &error) && !hv_runs(&ends, &lists, 0, 1, &runs_of_lists, &error));
+    CHECK(!hv_decode(&session, &runs_of_lists, &decoded, &error) && hv_form(&decoded) == HV_FORM_LISTS);
+    check_levels(&lists, 16, HV_OK), check_levels(&lists, 17, HV_UNSUPPORTED);
+    check_levels(&decoded, 14, HV_OK), check_levels(&decoded, 15, HV_UNSUPPORTED);
     CHECK(hv_write_size(&none, &size, &error) == 22 && hv_write(&none, room, sizeof room, &size, &error) == 22);
-    hv_free(&lists);
+    hv_free(&lists), hv_free(&ends), hv_free(&runs_of_lists), hv_free(&decoded);
 }
 
 int main(void) {
@@ -150,6 +200,7 @@ int main(void) {
     check_message(&decimals, decimals_message, sizeof decimals_message, "-1:18446744073709551466 0:150");
     check_constants();
     check_texts();
+    check_lists();
     check_damaged(flat_message, sizeof flat_message);
     check_damaged(runs_message, sizeof runs_message);
     check_damaged(window_message, sizeof window_message);
@@ -158,6 +209,7 @@ int main(void) {
     check_damaged(half_message, sizeof half_message);
     check_damaged(no_decimal_message, sizeof no_decimal_message);
     check_damaged(texts_message, sizeof texts_message);
+    check_damaged(lists_message, sizeof lists_message);
     check_none();
     hv_free(&flat), hv_free(&runs), hv_free(&window), hv_free(&decimals);
     puts("columns and their bytes agree");

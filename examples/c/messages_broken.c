@@ -3,6 +3,7 @@
  * refused leaves the handle as it was. Reading holds at most 24 bytes for each byte of the message, and 4 KiB.
  * messages_broken [COUNT [SEED]], linked with -Wl,--wrap=malloc,--wrap=calloc,--wrap=realloc,--wrap=free */
 #include "check.h"
+#include "hivevigil_helpers.h"
 #include <malloc.h>
 
 void *__real_malloc(size_t size);
@@ -104,10 +105,44 @@ static void make_flat(size_t rows, hv_column *out) {
     }
 }
 
-/* at most ROWS rows, flat or in runs over another column */
+/* A window of runs over the lists, decoded: their offsets and sizes, and validity where it was by bits, are in runs. */
+static void put_into_runs(hv_column *lists) {
+    uint16_t stops[ROWS];
+    size_t rows = hv_length(lists), reached = 0;
+    hv_column ends = HV_EMPTY, runs = HV_EMPTY, decoded = HV_EMPTY;
+    for (size_t row = 0; row < rows; row++) stops[row] = (uint16_t)(reached += 1 + below(3));
+    size_t offset = rows ? below(stops[0] + 1u) : 0, left = reached - offset;
+    CHECK(!hv_u16(stops, rows, NOT_NULLABLE, &ends, &error));
+    CHECK(!hv_runs(&ends, lists, offset, below((left < ROWS ? left : ROWS - 1) + 1), &runs, &error));
+    CHECK(!hv_decode(&session, &runs, &decoded, &error));
+    hv_put(lists, &decoded);
+    hv_free(&ends), hv_free(&runs);
+}
+
+/* lists anywhere in some elements; a null one may lie outside */
+static void make_lists(size_t rows, hv_column *out) {
+    uint64_t offsets[ROWS], sizes[ROWS], bits = chance();
+    hv_column any = HV_EMPTY, elements = HV_EMPTY;
+    make_flat(below(ROWS), &any);
+    CHECK(!hv_decode(&session, &any, &elements, &error));
+    hv_validity some = hv_valid_bits((const uint8_t *)&bits, sizeof bits, 0);
+    some.nulls = (uint8_t)below(3);
+    size_t count = hv_length(&elements);
+    for (size_t row = 0; row < rows; row++) {
+        bool is_null = some.nulls == 2 && !(bits >> row & 1);
+        offsets[row] = is_null ? chance() : below(count + 1);
+        sizes[row] = is_null ? chance() : below(count - offsets[row] + 1);
+    }
+    CHECK(!hv_lists(&elements, offsets, rows, sizes, rows, some, out, &error));
+    if (below(2)) put_into_runs(out);
+    hv_free(&any), hv_free(&elements);
+}
+
+/* at most ROWS rows, flat, as lists, or in runs over another column */
 static void make_column(size_t levels, hv_column *out) {
     if (levels == 0) {
-        make_flat(below(ROWS), out);
+        if (below(3)) make_flat(below(ROWS), out);
+        else make_lists(below(ROWS), out);
         return;
     }
     hv_column values = HV_EMPTY, wide = HV_EMPTY, ends = HV_EMPTY;
@@ -160,6 +195,33 @@ static size_t edit(uint8_t *bytes, size_t len) {
     }
 }
 
+static void read_rows(hv_column *column) {
+    static uint8_t text[MESSAGE];
+    size_t rows = hv_length(column);
+    for (size_t row = 0; row < rows && row < ROWS; row++) {
+        hv_value value;
+        CHECK(!hv_at(column, row, &value, text, sizeof text, &error));
+    }
+}
+
+/* Of lists the elements, and what the first rows show of them. */
+static void read_lists(hv_column *column) {
+    hv_column first = HV_EMPTY, lists = HV_EMPTY;
+    hv_column elements = HV_EMPTY, offsets = HV_EMPTY, sizes = HV_EMPTY, flags = HV_EMPTY;
+    size_t rows = hv_length(column), count = rows < ROWS ? rows : ROWS;
+    uint64_t starts[ROWS], counts[ROWS], bits[1] = {0};
+    CHECK(!hv_slice(&session, column, 0, count, &first, &error) && !hv_decode(&session, &first, &lists, &error));
+    CHECK(!hv_list_elements(&lists, &elements, &error) && !hv_list_validity(&lists, &flags, &error));
+    CHECK(!hv_list_offsets(&lists, &offsets, &error) && !hv_read_u64(&offsets, 0, starts, count, &error));
+    CHECK(!hv_list_sizes(&lists, &sizes, &error) && !hv_read_u64(&sizes, 0, counts, count, &error));
+    CHECK(!hv_read_bools_from(&flags, 0, count, bits, count > 0, &error));
+    read_rows(&elements);
+    size_t there = hv_length(&elements);
+    for (size_t row = 0; row < count; row++)
+        CHECK(!(bits[0] >> row & 1) || (starts[row] <= there && counts[row] <= there - starts[row]));
+    hv_free(&first), hv_free(&lists), hv_free(&elements), hv_free(&offsets), hv_free(&sizes), hv_free(&flags);
+}
+
 /* whether it was read */
 static bool check_answer(const uint8_t *bytes, size_t len, hv_column *kept) {
     uint8_t *message = __real_malloc(len); /* of just this length, for the sanitizer */
@@ -175,13 +237,10 @@ static bool check_answer(const uint8_t *bytes, size_t len, hv_column *kept) {
         CHECK(held == before);
         CHECK_REFUSED(hv_read_column(message, len, kept, &error), HV_BAD_METADATA, 0, 0, 0);
     } else {
-        static uint8_t again[MESSAGE], text[MESSAGE];
+        static uint8_t again[MESSAGE];
         CHECK(!hv_write(&out, again, sizeof again, &size, &error) && size == len && memcmp(again, message, len) == 0);
-        size_t rows = hv_length(&out);
-        for (size_t row = 0; row < rows && row < ROWS; row++) {
-            hv_value value;
-            CHECK(!hv_at(&out, row, &value, text, sizeof text, &error));
-        }
+        if (hv_kind_of(&out).number == HV_LIST) read_lists(&out);
+        else read_rows(&out);
         hv_free(&out);
     }
     __real_free(message);

@@ -12,10 +12,10 @@ static hv_column flat = HV_EMPTY, runs = HV_EMPTY, part = HV_EMPTY, texts = HV_E
                  decimals = HV_EMPTY;
 static hv_column ends = HV_EMPTY, values = HV_EMPTY, places = HV_EMPTY, constant = HV_EMPTY, large_texts = HV_EMPTY;
 static hv_column truth_runs = HV_EMPTY, place_runs = HV_EMPTY, text_runs = HV_EMPTY;
-static hv_column lists = HV_EMPTY, list_runs = HV_EMPTY;
+static hv_column lists = HV_EMPTY, list_runs = HV_EMPTY, decoded_lists = HV_EMPTY;
 static hv_column *const lent[] = {&flat, &runs,   &part,   &texts,    &truths,     &decimals,
                                   &ends, &values, &places, &constant, &large_texts, &truth_runs, &place_runs, &text_runs,
-                                  &lists, &list_runs};
+                                  &lists, &list_runs, &decoded_lists};
 static char rows_before[COUNT(lent)][8192];
 static hv_column out = HV_EMPTY;
 static struct ArrowSchema schema, texts_schema, codes_schema;
@@ -28,7 +28,8 @@ static int32_t offsets[ROWS + 1];
 static int64_t large_offsets[ROWS + 1];
 static uint8_t letters[BYTES];
 static uint8_t kept_message[1024], decimals_message[64]; /* of `part`, and of `decimals` */
-static size_t message_size, decimals_size;
+static uint8_t lists_message[2048], decoded_message[2048]; /* of `list_runs`, and of `decoded_lists` */
+static size_t message_size, decimals_size, lists_size, decoded_size;
 static const uint16_t some_places[5] = {1, 3, 60, 79, 0};
 static const uint8_t texts_message[] = {8, 1, 16, 12, 24, 1, 32, 2, 40, 2, 98, 2, 1, 3, 106, 4, 'a', 'b', 'c', 'd'};
 static const uint8_t text_message[] = {8, 1, 16, 11, 24, 3, 32, 9, 40, 1, 58, 4, 'a', 'b', 'c', 'd'};
@@ -50,13 +51,17 @@ static void write_items(void) {
     for (uint64_t row = 0; row < ROWS / 2; row++) list_offsets[row] = 2 * row, list_sizes[row] = 2;
 }
 
-/* lists of two numbers, and runs over the first two of them, of five and of four rows */
+/* lists of two numbers, and runs over the first two of them, of five and of four rows; decoded these are lists whose
+ * offsets, sizes and validity are in runs */
 static void make_list_columns(void) {
     const uint8_t place_ends[2] = {5, 9};
     hv_column ends_of_two = HV_EMPTY, two = HV_EMPTY;
     CHECK(!hv_lists(&flat, list_offsets, ROWS / 2, list_sizes, ROWS / 2, NULLS_BY(bits, 0), &lists, &error));
     CHECK(!hv_u8(place_ends, 2, NOT_NULLABLE, &ends_of_two, &error) && !hv_slice(&session, &lists, 4, 6, &two, &error));
     CHECK(!hv_runs(&ends_of_two, &two, 0, 9, &list_runs, &error));
+    CHECK(!hv_decode(&session, &list_runs, &decoded_lists, &error));
+    CHECK(!hv_write(&list_runs, lists_message, sizeof lists_message, &lists_size, &error));
+    CHECK(!hv_write(&decoded_lists, decoded_message, sizeof decoded_message, &decoded_size, &error));
     hv_free(&ends_of_two), hv_free(&two);
 }
 
@@ -102,7 +107,7 @@ static void check_lent(void) {
 
 static hv_total total;
 static hv_value value, greatest;
-static uint8_t text[64], letter_room[8], truth, message[1024];
+static uint8_t text[64], letter_room[8], truth, message[2048];
 static uint64_t words[ROWS + 1];
 static size_t size, stop;
 
@@ -202,6 +207,11 @@ STEP(write_constant, hv_write(&constant, message, sizeof message, &size, &error)
 STEP(write_texts, hv_write(&text_runs, message, sizeof message, &size, &error))
 STEP(texts_of_message, hv_read_column(texts_message, sizeof texts_message, &out, &error))
 STEP(constant_of_message, hv_read_column(text_message, sizeof text_message, &out, &error))
+STEP(size_of_lists, hv_write_size(&lists, &size, &error))
+STEP(write_lists, hv_write(&list_runs, message, sizeof message, &size, &error))
+STEP(lists_of_message, hv_read_column(lists_message, lists_size, &out, &error))
+STEP(write_decoded_lists, hv_write(&decoded_lists, message, sizeof message, &size, &error))
+STEP(decoded_lists_of_message, hv_read_column(decoded_message, decoded_size, &out, &error))
 STEP(export_flat, hv_arrow_export(&session, &flat, "flat", &schema, &array, &error))
 STEP(export_runs, hv_arrow_export(&session, &part, "runs", &schema, &array, &error))
 STEP(export_constant, hv_arrow_export(&session, &constant, "constant", &schema, &array, &error))
@@ -262,7 +272,8 @@ static const step steps[] = {
     NAMED(decode_lists), NAMED(clone_lists), NAMED(read_ends), NAMED(make_constant), NAMED(run_ends), NAMED(run_values),
     NAMED(serialize), NAMED(deserialize), NAMED(size_of_message), NAMED(write_message), NAMED(column_of_message),
     NAMED(write_decimals), NAMED(decimals_of_message), NAMED(write_constant), NAMED(constant_of_message),
-    NAMED(write_texts), NAMED(texts_of_message),
+    NAMED(write_texts), NAMED(texts_of_message), NAMED(size_of_lists), NAMED(write_lists), NAMED(lists_of_message),
+    NAMED(write_decoded_lists), NAMED(decoded_lists_of_message),
     NAMED(export_flat), NAMED(export_runs), NAMED(export_constant),
     NAMED(export_texts), NAMED(export_truths), NAMED(export_dictionary), NAMED(import_texts),
     NAMED(import_dictionary), NAMED(export_and_import),

@@ -85,7 +85,13 @@ static void check_lists() {
     CHECK(lists.list_offsets().numbers<uint64_t>() == (std::vector<uint64_t>{0, 1}));
     CHECK(lists.list_sizes().numbers<uint64_t>() == (std::vector<uint64_t>{2, 2}));
     const std::vector<bool> valid{true, false};
-    CHECK(Column::lists(elements, {0, 9}, {2, 9}, &valid).list_validity().truths() == valid);
+    const Column some = Column::lists(elements, {0, 9}, {2, 9}, &valid);
+    CHECK(some.list_validity().truths() == valid);
+    const hv::Bytes message = some.to_bytes();
+    const Column read = Column::from_bytes(message);
+    CHECK(message.size() == 102 && read.to_bytes() == message && read.form() == hv::Form::lists);
+    CHECK(read.list_validity().truths() == valid && rows_of(read.list_elements()) == rows_of(elements));
+    CHECK(read.list_offsets().numbers<uint64_t>() == (std::vector<uint64_t>{0, 9})); // also of the list that is null
 }
 
 static void check_refusals() {

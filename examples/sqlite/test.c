@@ -94,6 +94,32 @@ static void check_texts(void) {
               "blob|0102||FF00");
 }
 
+/* [7] of integers, and three rows of it in one run: SQLite has no lists, and each function says so. */
+#define SEVEN "080110081801200128013A080700000000000000"
+#define WORD(number) "080110041801200128013A08" number "00000000000000"
+#define ONE_LIST "0801100D180420012801" "8A0114" SEVEN "920114" WORD("00") "9A0114" WORD("01")
+#define LIST_RUNS "0801100D18022003400048015201035A4F" ONE_LIST
+#define NOT_SERVED(function) "error: " function ": the call does not serve columns of this type or form"
+#define NO_LISTS(question, function) \
+    CHECK_SQL("SELECT " question " FROM (SELECT x'" ONE_LIST "' AS c)", NOT_SERVED(function)); \
+    CHECK_SQL("SELECT " question " FROM (SELECT x'" LIST_RUNS "' AS c)", NOT_SERVED(function))
+
+static void check_lists(void) {
+    NO_LISTS("hv_rows(c)", "hv_rows");
+    NO_LISTS("hv_count(c)", "hv_count");
+    NO_LISTS("hv_sum(c)", "hv_sum");
+    NO_LISTS("hv_min(c)", "hv_min");
+    NO_LISTS("hv_max(c)", "hv_max");
+    NO_LISTS("hv_at(c, 0)", "hv_at");
+    NO_LISTS("hv_filter(c, '=', 7)", "hv_filter");
+    NO_LISTS("hv_slice(c, 0, 1)", "hv_slice");
+    NO_LISTS("hv_concat(c)", "hv_concat");
+    CHECK_SQL("SELECT * FROM hv_runs(x'" LIST_RUNS "')", NOT_SERVED("hv_runs"));
+    /* a list of two where there is one element */
+    CHECK_SQL("SELECT hv_rows(x'0801100D1804200128018A0114" SEVEN "920114" WORD("00") "9A0114" WORD("02") "')",
+              "error: hv_rows: the blob is no column");
+}
+
 /* The message of 4 4 4 null null 9 -1 -1, written by hand after column.proto. */
 static void check_bytes(void) {
     CHECK_SQL("SELECT hex(c) FROM p", "0801100818022008400048015204030201025A2F" /* runs of 8 rows, lengths 3 2 1 2 */
@@ -115,11 +141,14 @@ static void check_bytes(void) {
               "25A1408011008180120012801"
               "3A080700000000000000' AS c), hv_runs(c)",
               "0|4|7|28");
-    /* what other programs write: two rows of u8, five of a constant of i16, and a boolean, which SQLite has not */
+    /* what other programs write: two rows of u8, five of a constant of i16; and true and 1.50, which SQLite has not */
     CHECK_SQL("SELECT hv_sum(x'080110011801200228013A020102')", "3");
     CHECK_SQL("SELECT hv_sum(x'080110061803200528013A020700')", "35");
     CHECK_SQL("SELECT hv_rows(x'080110091801200128013A0101')",
               "error: hv_rows: the call does not serve columns of this type or form");
+    CHECK_SQL("SELECT hv_rows(x'0801100A1801200128013A109600000000000000000000000000000070057804')",
+              "error: hv_rows: the call does not serve columns of this type or form");
+    check_lists();
     /* 2^62 rows in one run */
     CHECK_SQL("SELECT hv_rows(c), hv_at(c, 4611686018427387903), hv_max(hv_filter(c, '=', 1)) FROM (SELECT "
               "x'0801100818022080808080808080804040004804520980808080808080804"

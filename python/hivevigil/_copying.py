@@ -1,11 +1,10 @@
 """Columns as NumPy arrays, as Series of pandas, and by pickle."""
 from __future__ import annotations
 
-import array
-from typing import TYPE_CHECKING, Any, Optional
+from typing import TYPE_CHECKING, Any
 
-from . import _making, _reading
-from ._types import LETTERS, TYPES, kind_of
+from ._types import LETTERS, TYPES
+from .errors import Unsupported
 
 if TYPE_CHECKING:
     from .column import Column
@@ -81,42 +80,20 @@ def to_pandas(column: Column) -> Any:
 
 
 def reduced(column: Column) -> Any:
-    """How pickle makes the column again: from the bytes of a flat one, from ends and values of runs. A constant comes
-    back as one run."""
+    """How pickle makes the column again: from its bytes, or, of runs in more levels than bytes have, from ends and
+    values."""
     kind = type(column)
-    if column.form in ("runs", "constant"):
+    try:
+        return _made_of_message, (kind, column.to_bytes())
+    except Unsupported:
+        if column.form != "runs":
+            raise
         return _made_of_runs, (kind, column.ends(), column.values(), column.offset, column._length)
-    bits = column.validity() if column.nullable else None
-    return _made_of_bytes, (kind, column.type, len(column), bits, *_bytes(column))
 
 
-def _bytes(flat: Column) -> tuple[bytes, ...]:
-    """Items, booleans, or offsets and texts."""
-    name, rows = TYPES[flat._kind.number], len(flat)
-    if name in LETTERS:
-        return (flat.to_array().tobytes(),)
-    if name == "bool":
-        return (flat.truths(),)
-    if name == "decimal":
-        return (_reading.decimals(flat, 0, rows),)
-    offsets, data = _reading.texts(flat, 0, rows)
-    return offsets.tobytes(), data
+def _made_of_message(kind: type[Column], message: bytes) -> Column:
+    return kind.from_bytes(message)
 
 
 def _made_of_runs(kind: type[Column], ends: Column, values: Column, offset: int, rows: int) -> Column:
     return kind.from_runs(ends, values, offset, rows)
-
-
-def _made_of_bytes(
-    kind: type[Column], type_text: str, rows: int, bits: Optional[bytes], data: bytes, texts: bytes = b""
-) -> Column:
-    asked = kind_of(type_text)
-    name = TYPES[asked.number]
-    validity = (0, b"\0", 0, 0) if bits is None else (2, bits or b"\0", len(bits), 0)
-    if name in LETTERS:
-        return kind._made(*_making.numbers_of(array.array(LETTERS[name], data), validity))
-    if name == "bool":
-        return kind._made(*_making.truths_of(data or b"\0", rows, validity))
-    if name == "decimal":
-        return kind._made(*_making.decimals_of(data, asked, validity))
-    return kind._made(*_making.texts_at(array.array("q", data), texts, name, validity))

@@ -1,4 +1,7 @@
 """Columns of lists against lists of Python, in each form, through Arrow and refused; bytes worked out by hand."""
+import copy
+import pickle
+
 import pytest
 from hivevigil import Column, errors
 from hypothesis import given
@@ -24,10 +27,39 @@ def test_rows_of_lists(given_spans):
     assert column.to_list() == rows and column.null_count == rows.count(None)
     assert column[::-1].to_list() == rows[::-1] and column[1:].to_list() == rows[1:]
     assert Column.from_arrow(column).to_list() == rows
+    kept_as_bytes(column, rows)
     if rows:
         runs = Column.from_runs([2 * (run + 1) for run in range(len(rows))], column)
-        assert runs.form == "runs" and runs.to_list() == [row for row in rows for _ in range(2)]
-        assert runs[-1] == rows[-1] and Column.from_arrow(runs).to_list() == runs.to_list()
+        twice = [row for row in rows for _ in range(2)]
+        assert runs.form == "runs" and runs.to_list() == twice
+        assert runs[-1] == rows[-1] and Column.from_arrow(runs).to_list() == twice
+        kept_as_bytes(runs, twice)
+        kept_as_bytes(runs.decode(), twice)
+
+
+def kept_as_bytes(column, rows):
+    """By to_bytes, pickle and copy: the same form with the same rows."""
+    message = column.to_bytes()
+    again = Column.from_bytes(message)
+    assert again.to_bytes() == message
+    for one in (again, pickle.loads(pickle.dumps(column)), copy.deepcopy(column)):
+        assert (one.form, one.type, one.to_list()) == (column.form, column.type, rows)
+    for kept in (0, len(message) // 2, len(message) - 1):
+        with pytest.raises(errors.BadMetadata):
+            Column.from_bytes(message[:kept])
+
+
+def test_bytes_of_lists():
+    """The message, byte by byte: [1 2] and null from item 9 on, over items of i8, with a bit for each list."""
+    column = Column.from_lists(Column.of([1, 2], "i8"), [0, 9], [2, 5], [True, False])
+    elements = bytes([8, 1, 16, 5, 24, 1, 32, 2, 40, 1, 58, 2, 1, 2])
+    numbers = bytes([8, 1, 16, 4, 24, 1, 32, 2, 40, 1, 58, 16])
+    offsets, sizes = (numbers + b"".join(number.to_bytes(8, "little") for number in two) for two in ((0, 9), (2, 5)))
+    parts = b"\x8a\1\x0e" + elements + b"\x92\1\x1c" + offsets + b"\x9a\1\x1c" + sizes
+    assert column.to_bytes() == bytes([8, 1, 16, 13, 24, 4, 32, 2, 40, 4, 50, 1, 1]) + parts
+    # the same elements where no list may be null: the second leaves them
+    with pytest.raises(errors.BadMetadata):
+        Column.from_bytes(bytes([8, 1, 16, 13, 24, 4, 32, 2, 40, 1]) + parts)
 
 
 def test_each_row_is_a_list_of_its_own():

@@ -4,7 +4,7 @@ import pickle
 
 import numpy
 import pytest
-from hivevigil import Column
+from hivevigil import Column, errors
 from hypothesis import given
 from hypothesis import strategies as st
 from rows import TYPES, runs_of, samples
@@ -78,10 +78,22 @@ def test_blocks(sample, size):
 def test_copies_are_columns_of_their_own(sample):
     copies = [copy.copy(sample.column), copy.deepcopy(sample.column), sample.column.copy(), sample.column.compact()]
     copies += [pickle.loads(pickle.dumps(sample.column, protocol)) for protocol in (2, 4, 5)]
-    facts = [(one.type, one.form if one.form != "constant" else "runs") for one in copies]
-    assert set(facts) == {(sample.column.type, sample.column.form.replace("constant", "runs"))}
+    assert {(one.type, one.form) for one in copies} == {(sample.column.type, sample.column.form)}
     sample.column.free()
     assert all(one.to_list() == sample.rows for one in copies)
+
+
+def test_more_levels_of_runs_than_bytes_have_are_pickled():
+    column = Column.of(["a", None])
+    for _ in range(40):
+        column = Column.from_runs([1, 2], column)
+    with pytest.raises(errors.Unsupported):
+        column.to_bytes()
+    again, levels = pickle.loads(pickle.dumps(column)), 0
+    assert again.to_list() == ["a", None]
+    while again.form == "runs":
+        again, levels = again.values(), levels + 1
+    assert levels == 40
 
 
 @given(samples(types=tuple(TYPES[:9])))

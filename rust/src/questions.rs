@@ -231,7 +231,7 @@ impl Column {
     }
 
     /// The column as bytes, in the form that it has, to keep or to send: a message of the Protocol Buffers encoding.
-    /// `Unsupported` where the version writes none of it.
+    /// `Unsupported` for constants of lists, runs over these, and more than 16 levels of runs.
     pub fn to_bytes(&self) -> Result<Vec<u8>, Error> {
         let mut size = 0;
         ask(|fields| unsafe { raw::hv_write_size(self.handle.get(), &mut size, fields) })?;

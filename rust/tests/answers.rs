@@ -156,6 +156,34 @@ fn columns_as_bytes() -> Result<(), Error> {
     Ok(())
 }
 
+/// Two numbers of u64 without null, as a message.
+fn two_numbers(numbers: [u64; 2]) -> Vec<u8> {
+    let mut message = vec![8, 1, 16, 4, 24, 1, 32, 2, 40, 1, 58, 16];
+    message.extend(numbers.iter().flat_map(|number| number.to_le_bytes()));
+    message
+}
+
+#[test]
+fn lists_as_bytes() -> Result<(), Error> {
+    // version 1, lists, form lists, two rows, of which bits say that the first is valid
+    let mut message = vec![8, 1, 16, 13, 24, 4, 32, 2, 40, 4, 50, 1, 1];
+    // elements 1 and 2 of u8; offsets 0 and 9, sizes 2 and 5
+    message.extend([138, 1, 14, 8, 1, 16, 1, 24, 1, 32, 2, 40, 1, 58, 2, 1, 2]);
+    message.extend([146, 1, 28].iter().chain(&two_numbers([0, 9])));
+    message.extend([154, 1, 28].iter().chain(&two_numbers([2, 5])));
+    let lists = Column::from_bytes(&message)?;
+    assert!(lists.kind().is_list() && lists.kind().is_nullable());
+    assert_eq!((lists.form(), lists.len()), (Form::Lists, 2));
+    assert_eq!(lists.to_bytes()?, message);
+    let cut = message.len() - 1;
+    let refusal = refused(17, 0, 0, 0);
+    assert_eq!(Column::from_bytes(&message[..cut]).err(), Some(refusal));
+    // a valid list from 9 on leaves the elements
+    message[12] = 3;
+    assert_eq!(Column::from_bytes(&message).err(), Some(refusal));
+    Ok(())
+}
+
 #[test]
 fn other_types() -> Result<(), Error> {
     let long = "a text that is longer than the room that it is given at first, so that it is asked for again";
