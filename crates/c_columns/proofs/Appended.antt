@@ -5,8 +5,7 @@ use Rattle.column_base.specs.declared.error.VortexError.{VortexError}
 use Rattle.column_core.specs.Refusal.{IsRefusedBy}
 use Rattle.column_core.specs.ScalarForm.{ScalarForm}
 use Rattle.column_core.specs.Value.{Value}
-use Rattle.runend_builder.specs.Builder.{Built, append_fault}
-use Rattle.scalar_columns.specs.Scalars.{scalar_row}
+use Rattle.runend_builder.specs.Builder.{Built, append_fault, scalar_row}
 use Rattle.c_columns.specs.Builders.{PassedAppendFault, passed_row, with_rows}
 use Rattle.c_columns.specs.Ending.{IsShortOr}
 use Rattle.c_columns.specs.Makers.{ConstantFault}

@@ -68,6 +68,22 @@ const BAD_LINES: &[&str] = &[
     "take +1",
     "take 0 Null",
     "take 1,0",
+    "append 256",
+    "append -1",
+    "append 1 +1",
+    "append Null",
+    "append 1,0",
+    "append 0x1",
+    "repeat",
+    "repeat 7",
+    "repeat 7 1 1",
+    "repeat 7 -1",
+    "repeat 7 +1",
+    "repeat 7 null",
+    "repeat 7 18446744073709551616",
+    "repeat 256 1",
+    "repeat -1 1",
+    "repeat Null 1",
     "cast",
     "cast u128",
     "cast u8 u8",
@@ -122,6 +138,9 @@ fn lines_that_want_a_column(rt: HostRuntime) -> Result<(), Fail> {
         "slice 0 0",
         "filter",
         "take",
+        "append",
+        "append 0",
+        "repeat 0 1",
         "cast u8",
         "fill 0",
         "sum",
@@ -154,6 +173,11 @@ fn served_inputs(rt: HostRuntime) -> Result<(), Fail> {
         (b" \n\n".as_slice(), 0, ""),
         (b"col u8 1\nrows".as_slice(), 0, "ok\nrows 1\n"),
         (b"col u8\njump\n".as_slice(), 2, "ok\nline 2: bad command\n"),
+        (
+            b"col u8\nappend 1\nappend 2 null\n".as_slice(),
+            2,
+            "ok\nok\nline 3: bad command\n",
+        ),
         (ENDED, 2, ENDED_ANSWERS),
         (b"col u8\n\xff".as_slice(), 2, "not UTF-8\n"),
     ] {
@@ -219,13 +243,15 @@ const SERVED: &[u8] =
     b"col u8? 7 7 null\nencode\nshow\nrows\nat 3\nfilter 011\ncast i16?\nfill 9\ndecode\nsum\nthresholds zero\n\
     runs i8 u8 0 5 1 2 5 / 4 5 6\nfilter 01111\ntake 1 0 3 0\nkernels none\nencode\nsum\nminmax\nconstant\nsorted\n\
     strict\ncast i16\nencode\ntake 0 null\nfill 0\nkernels all\nthresholds crate\nencode\nslice 0 1\nshow\nmeta\n\
-    read 08 01\nruns i8 u8 1 3 2 4 / 4 5\nmeta\nsum\nminmax\nconstant\nsorted\nstrict\n";
+    read 08 01\nruns i8 u8 1 3 2 4 / 4 5\nmeta\nsum\nminmax\nconstant\nsorted\nstrict\n\
+    append 5\nrepeat 6 2\nshow\n";
 
 const SERVED_ANSWERS: &[u8] =
     b"ok\nok\nruns u8? u8 offset 0 length 3 ends 2 3 values 7 null\nrows 7 7 null\nrefused 8 3 3\nok\nok\nok\nok\n\
     sum 16\nok\nok\nok\nok\nok\nok\nsum 22\nminmax 5 6\nconstant false\nsorted false\nstrict false\n\
     ok\nok\nok\nok\nok\nok\nok\nok\nconst i16 6 length 1\nnot runs\nread u16 runs 0 offset 0\n\
-    ok\nmeta 10 02 18 01\nsum 14\nminmax 4 5\nconstant false\nsorted true\nstrict false\n";
+    ok\nmeta 10 02 18 01\nsum 14\nminmax 4 5\nconstant false\nsorted true\nstrict false\n\
+    ok\nok\nruns i8 u8 offset 0 length 6 ends 1 4 6 values 4 5 6\n";
 
 // What is served where this request is refused, alone or with all later ones. Was it refused?
 fn assert_served(rt: &impl Abort, alloc: Global, request: u64, is_alone: bool) -> bool {

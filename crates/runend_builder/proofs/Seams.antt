@@ -1,9 +1,8 @@
 -- Runs of two parts, joined at the seam.
-use Rattle.std.proofs.Common.{◌≡◌, ◌≢◌, ◌∙◌, ◌-◌, ℕ, List, ◌++◌, Bool, true, false, Option, Some, None, cond, length, take, refl, sym, ap, subst}
-use Rattle.std.specs.Prelude.{◌↔◌, All, IsTrue, Result, Ok, Err, OnOk, option_map, slice_get}
-use Rattle.std.proofs.lemmas.List.{length-map, map-append, take-map}
-use Rattle.std.proofs.lemmas.List.Elements.{All-append, All-take}
-use Rattle.std.proofs.lemmas.Option.{get_or_from_slice_get, slice_get-map, slice_get_within}
+use Rattle.std.proofs.Common.{◌≡◌, ◌≢◌, ◌∙◌, ◌+◌, ◌-◌, ◌<◌, ◌≤◌, ℕ, List, [], ◌∷◌, ◌++◌, Bool, true, false, Option, Some, None, cond, drop, length, take, refl, sym, ap, subst, arith, append_assoc, get_or}
+use Rattle.std.specs.Prelude.{◌↔◌, IfOk, IsTrue, Result, Ok, Err, option_map, slice_get}
+use Rattle.std.proofs.lemmas.List.{drop_more, take_all, take_more}
+use Rattle.std.proofs.lemmas.Option.{get_or_from_slice_get, slice_get_within}
 use Rattle.chunk_laws.specs.Encodings.{AtSeam, behind, without_last}
 use Rattle.chunk_laws.proofs.JoinedRuns.{encoding_of_joined}
 use Rattle.column_base.specs.declared.dtype.DType.{DType}
@@ -11,34 +10,7 @@ use Rattle.column_core.specs.ScalarForm.{ScalarForm}
 use Rattle.column_core.specs.Value.{FlatValue, Single, Value}
 use Rattle.runend_windows.specs.Cover.{IsTightCover}
 use Rattle.runend_windows.specs.Window.{last_end}
-use Rattle.runend_builder.specs.Builder.{AreJoined}
-use Rattle.scalar_columns.specs.Scalars.{AreOfType, scalar_row, scalar_rows}
-
--- the rows of all scalars but the last are all rows but the last
-without_last-rows : (scalars : List ScalarForm) → scalar_rows (without_last scalars) ≡ without_last (scalar_rows scalars)
-without_last-rows scalars =
-    sym (take-map scalar_row (length scalars - 1) scalars) ∙ ap (λ (n : ℕ). take (n - 1) (scalar_rows scalars)) (sym (length-map scalars scalar_row))
-
--- the two values at the seam are equal
-abbrev pub IsOne : List ScalarForm → List ScalarForm → Type 0
-IsOne values others = (value : Option Value) × AtSeam (scalar_rows values) (scalar_rows others) value value
-
--- or they differ, if there are two
-abbrev pub AreTwo : List ScalarForm → List ScalarForm → Type 0
-AreTwo values others = (value next : Option Value) → AtSeam (scalar_rows values) (scalar_rows others) value next → value ≢ next
-
--- the scalars at the seam
-at_seam : (values others : List ScalarForm) (last next : ScalarForm) → slice_get values (length values - 1) ≡ Some last → slice_get others 0 ≡ Some next
-    → AtSeam (scalar_rows values) (scalar_rows others) (scalar_row last) (scalar_row next)
-at_seam values others last next here there = record {
-  last = ap (λ (n : ℕ). slice_get (scalar_rows values) (n - 1)) (length-map values scalar_row) ∙ slice_get-map scalar_row values (length values - 1) ∙ ap (option_map scalar_row) here;
-  first = slice_get-map scalar_row others 0 ∙ ap (option_map scalar_row) there;
-}
-
--- a scalar among some of a type is of it
-type_at : (dtype : DType) (scalars : List ScalarForm) (k : ℕ) (scalar : ScalarForm) → AreOfType dtype scalars → slice_get scalars k ≡ Some scalar → scalar.dtype ≡ dtype
-type_at dtype scalars k scalar typed here =
-    subst (λ (s : ScalarForm). s.dtype ≡ dtype) (get_or_from_slice_get scalars k scalar scalar here) (typed k scalar (slice_get_within scalars k scalar here))
+use Rattle.runend_builder.specs.Builder.{AreJoined, IsLastOf, IsSeam, scalar_row}
 
 -- equal rows of scalars are of equal values
 one_value : (a b : Option FlatValue) → ◌≡◌ {A = Option Value} (option_map Single a) (option_map Single b) → a ≡ b
@@ -47,56 +19,61 @@ one_value None (Some b) e = cc
 one_value (Some a) None e = cc
 one_value (Some a) (Some b) e = cc
 
-pub one_run : (values others : List ScalarForm) (last next : ScalarForm) (same : Bool) → slice_get values (length values - 1) ≡ Some last → slice_get others 0 ≡ Some next
-    → (IsTrue same ↔ (last ≡ next)) → same ≡ true → IsOne values others
-one_run values others last next same here there exact told =
-    let one : last ≡ next = exact.0 told in
-    (scalar_row last, subst (λ (s : ScalarForm). AtSeam (scalar_rows values) (scalar_rows others) (scalar_row last) (scalar_row s)) (sym one) (at_seam values others last next here there))
+-- a row that is looked at, as a scalar
+pub row_seen : {E : Type 0} (rows : List (Option Value)) (k : ℕ) (seen : Option Value) (result : Result ScalarForm E) → slice_get rows k ≡ Some seen
+    → IfOk result (λ scalar. option_map Single scalar.value ≡ seen) → IfOk result (λ scalar. slice_get rows k ≡ Some (scalar_row scalar))
+row_seen rows k seen (Ok scalar) here shows = here ∙ ap Some (sym shows)
+row_seen rows k seen (Err error) here shows = tt
 
-pub two_runs : (dtype : DType) (values others : List ScalarForm) (last next : ScalarForm) (same : Bool) → AreOfType dtype values → AreOfType dtype others
-    → slice_get values (length values - 1) ≡ Some last → slice_get others 0 ≡ Some next → (IsTrue same ↔ (last ≡ next)) → same ≡ false → AreTwo values others
-two_runs dtype values others last next same typed others_typed here there exact told = λ value value' seam equal.
-    let own = at_seam values others last next here there in
-    let left : scalar_row last ≡ value = (let a = own.last in let b = seam.last in cc) in
-    let right : scalar_row next ≡ value' = (let a = own.first in let b = seam.first in cc) in
-    let values_are : last.value ≡ next.value = one_value last.value next.value (left ∙ equal ∙ sym right) in
-    let types_are : last.dtype ≡ next.dtype = type_at dtype values (length values - 1) last typed here ∙ sym (type_at dtype others 0 next others_typed there) in
-    let one : last ≡ next = (λ i. record { dtype = types_are i; value = values_are i }) in
-    let wrong : same ≡ true = exact.1 one in
-    cc
+-- no more rows than there are are left out
+pub skipped_within : (one : Bool) (count : ℕ) → 0 < count → cond one 1 0 ≤ count
+skipped_within true count some = omega arith
+skipped_within false count some = omega arith
+
+-- the scalar is the last value, and the other one the first of the part
+pub seam_of : (dtype : DType) (own part : List (Option Value)) (last : Option ScalarForm) (first : ScalarForm) (one : Bool) → IsLastOf dtype own last → first.dtype ≡ dtype
+    → slice_get part 0 ≡ Some (scalar_row first) → (IsTrue one ↔ (last ≡ Some first)) → IsSeam own part one
+seam_of dtype own part None first one none typed here exact = record {
+  one = λ told. let same = exact.0 told in cc;
+  two = λ told value next seam equal. let within = slice_get_within own (length own - 1) value seam.last in absurd (omega arith);
+}
+seam_of dtype own part (Some last) first one ended typed here exact = record {
+  one = λ told.
+      let same : ◌≡◌ {A = Option ScalarForm} (Some last) (Some first) = exact.0 told in
+      let equal : last ≡ first = cc in
+      (scalar_row last, record { last = ended.1; first = here ∙ ap (λ (s : ScalarForm). Some (scalar_row s)) (sym equal) });
+  two = λ told value next seam equal.
+      let left : scalar_row last ≡ value = (let a = ended.1 in let b = seam.last in cc) in
+      let right : scalar_row first ≡ next = (let b = seam.first in cc) in
+      let values_are : last.value ≡ first.value = one_value last.value first.value (left ∙ equal ∙ sym right) in
+      let types_are : last.dtype ≡ first.dtype = ended.0 ∙ sym typed in
+      let same : last ≡ first = (λ i. record { dtype = types_are i; value = values_are i }) in
+      let wrong : one ≡ true = exact.1 (ap Some same) in
+      cc;
+}
+
+-- where the values at a seam are equal, the second of them may go in the place of the first
+pub value_moves : (values part : List (Option Value)) (value : Option Value) → AtSeam values part value value → without_last values ++ part ≡ values ++ drop 1 part
+value_moves values part value seam =
+    let within = slice_get_within values (length values - 1) value seam.last in
+    let some = slice_get_within part 0 value seam.first in
+    let first : part ≡ value ∷ drop 1 part = drop_more part 0 value some ∙ ap (λ (v : Option Value). v ∷ drop 1 part) (get_or_from_slice_get part 0 value value seam.first) in
+    let whole : values ≡ without_last values ++ value ∷ [] =
+    sym (take_all (length values - 1 + 1) values (omega arith)) ∙ take_more values (length values - 1) value within
+    ∙ ap (λ (v : Option Value). without_last values ++ v ∷ []) (get_or_from_slice_get values (length values - 1) value value seam.last) in
+    ap (λ (rows : List (Option Value)). without_last values ++ rows) first ∙ sym (append_assoc (without_last values) (value ∷ []) (drop 1 part))
+    ∙ ap (λ (rows : List (Option Value)). rows ++ drop 1 part) (sym whole)
 
 -- runs joined by the law of joined encodings
-pub joined_runs : (ends : List ℕ) (values : List ScalarForm) (part_ends : List ℕ) (part_values : List ScalarForm) (all_ends : List ℕ) (all_values : List ScalarForm) (count : ℕ) (one : Bool)
-    → (one ≡ true → IsOne values part_values) → (one ≡ false → AreTwo values part_values) → count ≡ last_end ends
-    → all_ends ≡ cond one (without_last ends) ends ++ behind count part_ends → all_values ≡ cond one (without_last values) values ++ part_values
+pub joined_runs : (ends : List ℕ) (values : List (Option Value)) (part_ends : List ℕ) (part_values : List (Option Value)) (all_ends : List ℕ) (all_values : List (Option Value)) (one : Bool)
+    → IsSeam values part_values one → all_ends ≡ cond one (without_last ends) ends ++ behind (last_end ends) part_ends → all_values ≡ values ++ drop (cond one 1 0) part_values
     → AreJoined ends values part_ends part_values all_ends all_values
-joined_runs ends values part_ends part_values all_ends all_values count true is_one are_two counted ends_are values_are = λ rows part small cover part_cover.
-    let law = encoding_of_joined rows part ends part_ends (scalar_rows values) (scalar_rows part_values) small cover part_cover in
-    let seam = is_one refl in
-    let long : count ≡ length rows = counted ∙ cover.exact.stop in
-    let shown : scalar_rows all_values ≡ without_last (scalar_rows values) ++ scalar_rows part_values =
-    ap scalar_rows values_are ∙ map-append scalar_row (without_last values) part_values
-    ∙ ap (λ (front : List (Option Value)). front ++ scalar_rows part_values) (without_last-rows values) in
-    subst (λ (es : List ℕ). IsTightCover (rows ++ part) es (scalar_rows all_values)) (sym (ends_are ∙ ap (λ (n : ℕ). without_last ends ++ behind n part_ends) long))
-    (subst (λ (vs : List (Option Value)). IsTightCover (rows ++ part) (without_last ends ++ behind (length rows) part_ends) vs) (sym shown) (law.1 seam.0 seam.1))
-joined_runs ends values part_ends part_values all_ends all_values count false is_one are_two counted ends_are values_are = λ rows part small cover part_cover.
-    let law = encoding_of_joined rows part ends part_ends (scalar_rows values) (scalar_rows part_values) small cover part_cover in
-    let long : count ≡ length rows = counted ∙ cover.exact.stop in
-    let shown : scalar_rows all_values ≡ scalar_rows values ++ scalar_rows part_values = ap scalar_rows values_are ∙ map-append scalar_row values part_values in
-    subst (λ (es : List ℕ). IsTightCover (rows ++ part) es (scalar_rows all_values)) (sym (ends_are ∙ ap (λ (n : ℕ). ends ++ behind n part_ends) long))
-    (subst (λ (vs : List (Option Value)). IsTightCover (rows ++ part) (ends ++ behind (length rows) part_ends) vs) (sym shown) (law.0 (are_two refl)))
-
--- and all of their values are of one type
-pub joined_types : (dtype : DType) (values part_values all_values : List ScalarForm) (one : Bool) → AreOfType dtype values → AreOfType dtype part_values
-    → all_values ≡ cond one (without_last values) values ++ part_values → AreOfType dtype all_values
-joined_types dtype values part_values all_values true typed part_typed values_are =
-    let P : ScalarForm → Type 0 = λ scalar. scalar.dtype ≡ dtype in
-    subst (All P) (sym values_are) (All-append P (without_last values) part_values (All-take P (length values - 1) values typed) part_typed)
-joined_types dtype values part_values all_values false typed part_typed values_are =
-    let P : ScalarForm → Type 0 = λ scalar. scalar.dtype ≡ dtype in
-    subst (All P) (sym values_are) (All-append P values part_values typed part_typed)
-
--- what holds of runs that were pushed
-pub on_pushed : {T E : Type 0} (P Q R : Type 0) (result : Result T E) → OnOk result P → OnOk result Q → (P → Q → R) → OnOk result R
-on_pushed P Q R (Ok value) p q since = since p q
-on_pushed P Q R (Err error) p q since = tt
+joined_runs ends values part_ends part_values all_ends all_values true seam ends_are values_are = λ rows part small cover part_cover.
+    let law = encoding_of_joined rows part ends part_ends values part_values small cover part_cover in
+    let here = seam.one refl in
+    subst (λ (es : List ℕ). IsTightCover (rows ++ part) es all_values) (sym (ends_are ∙ ap (λ (n : ℕ). without_last ends ++ behind n part_ends) cover.exact.stop))
+    (subst (λ (vs : List (Option Value)). IsTightCover (rows ++ part) (without_last ends ++ behind (length rows) part_ends) vs) (sym (values_are ∙ sym (value_moves values part_values here.0 here.1))) (law.1 here.0 here.1))
+joined_runs ends values part_ends part_values all_ends all_values false seam ends_are values_are = λ rows part small cover part_cover.
+    let law = encoding_of_joined rows part ends part_ends values part_values small cover part_cover in
+    subst (λ (es : List ℕ). IsTightCover (rows ++ part) es all_values) (sym (ends_are ∙ ap (λ (n : ℕ). ends ++ behind n part_ends) cover.exact.stop))
+    (subst (λ (vs : List (Option Value)). IsTightCover (rows ++ part) (ends ++ behind (length rows) part_ends) vs) (sym values_are) (law.0 (seam.two refl)))

@@ -1,24 +1,26 @@
 //! A run-end encoding that grows by batches.
-ghost use Rattle.std.specs.Prelude.{◌≡◌, ◌↔◌, ◌+◌, ◌^◌, ◌<◌, ◌++◌, None, Some, true, [], length, replicate, IfErr, IfOk, IsErrOf, IsOkUnless, IsTrue, OnErr, OnOk};
+ghost use Rattle.std.specs.Prelude.{◌≡◌, ◌↔◌, ◌+◌, ◌^◌, ◌<◌, ◌++◌, None, Some, [], length, replicate, IfErr, IfOk, IsErrOf, IsOkUnless, IsTrue, OnErr, OnOk};
+ghost use Rattle.column_core.specs.FlatColumn.{leaf_of};
 ghost use Rattle.column_core.specs.Kinds.{list_fault};
+ghost use Rattle.column_core.specs.Leaf.{leaf_rows};
 ghost use Rattle.column_core.specs.Refusal.{IsRefusedBy};
 ghost use Rattle.column_core.specs.Value.{IsLists};
 ghost use Rattle.runend_array.specs.Array.{dtype_of, rows};
-ghost use Rattle.runend_array.specs.Column.{column_of_runs, column_rows};
+ghost use Rattle.runend_encode.specs.Encoding.{IsRowEncoding};
 ghost use Rattle.runend_encode_rows.specs.Encoded.{IsEncodedRows};
-ghost use Rattle.runend_builder.specs.Builder.{HasRuns, append_fault, built_with};
-ghost use Rattle.scalar_columns.specs.Scalars.{scalar_row};
+ghost use Rattle.runend_builder.specs.Builder.{HasRuns, append_fault, built_with, part_rows, scalar_row};
 
-use crate::ends::wide_ends;
-use crate::seam::{last_of, push_runs};
+use crate::seam::{goes_on, last_of, push_runs, row_scalar};
 use column_core::{
-    DType, NativePType, PrimitiveArray, Scalar, Validity, VortexError, VortexResult, fault_of_lists,
+    DType, FlatColumn, PrimitiveArray, Scalar, VortexError, VortexResult, fault_of_lists,
 };
-use runend_array::{ArrayRef, ExecutionCtx, RunEnd, RunEndArray, RunEndArraySlotsExt, array_of};
-use runend_encode_rows::encode_rows;
-use scalar_columns::{flat_of_scalars, scalars_of};
+use flat_builder::FlatBuilder;
+use runend_array::{ArrayRef, ConstantArray, ExecutionCtx, RunEnd, RunEndArray, array_of};
+use runend_encode::least_ends;
+use runend_encode_rows::row_runs;
 use std::alloc::Allocator;
 use std::marker::Model;
+use std::mem::replace;
 
 /// The encoding of rows that come batch by batch, of any type but lists. It holds runs and not rows: an end and a value
 /// for each run of the encoding of all rows so far.
@@ -28,7 +30,9 @@ pub struct RunBuilder<A: Allocator> {
     /// Where each run ends, in rows.
     ends: Vec<u64, A>,
     /// What each run shows.
-    values: Vec<Scalar<A>, A>,
+    values: FlatBuilder<A>,
+    /// What the last run shows, if there is one.
+    last: Option<Scalar<A>>,
 }
 
 impl<A: Allocator> Model for RunBuilder<A> {
@@ -36,9 +40,9 @@ impl<A: Allocator> Model for RunBuilder<A> {
 
     ghost Value = { Built };
 
-    ghost view = { λ b. record { dtype = b.dtype; rows = shown_rows b.ends.items b.values.items } };
+    ghost view = { λ b. record { dtype = b.dtype; rows = shown_rows b.ends.items b.values.rows } };
 
-    ghost invariant = { λ b. IsBuilt b.dtype b.ends.items b.values.items };
+    ghost invariant = { λ b. IsBuilt b.dtype b.ends.items b.values b.last };
 }
 
 impl<A: Allocator + Copy> RunBuilder<A> {
@@ -102,8 +106,7 @@ impl<A: Allocator + Copy> RunBuilder<A> {
         if let Some(error) = self.fault_of(batch.dtype(), batch.len()) {
             return Err(error);
         }
-        let part = RunBuilder::of_batch(self.dtype, batch, ctx)?;
-        self.join(part)
+        self.append_part(*ctx.allocator(), batch)
     }
 
     /// Puts so many rows of one value, or of null, behind the rows. Refused as `append_rows` refuses that many rows of
@@ -120,11 +123,12 @@ impl<A: Allocator + Copy> RunBuilder<A> {
         if let Some(error) = self.fault_of(value.dtype(), count) {
             return Err(error);
         }
-        if count == 0 {
-            return Ok(());
-        }
-        let part = RunBuilder::of_value(*self.ends.allocator(), value, count)?;
-        self.join(part)
+        let alloc = *self.ends.allocator();
+        let copy = value.try_clone(alloc)?;
+        let constant = ArrayRef::Constant(ConstantArray::new(copy, count));
+        let appended = self.append_part(alloc, &constant);
+        drop(constant);
+        appended
     }
 
     /// The encoding of all rows so far, which the builder keeps: what `encode_rows` answers for a column of them.
@@ -134,10 +138,8 @@ impl<A: Allocator + Copy> RunBuilder<A> {
         ensures encoded { IfOk result (λ runs. IsEncodedRows self.now.rows self.now.dtype runs) }
         ensures session { ctx.new ≡ ctx.old }
     {
-        let array = self.as_array(*ctx.allocator())?;
-        let runs = encode_rows(&array, ctx);
-        drop(array);
-        runs
+        let (ends, values) = self.parts(*ctx.allocator())?;
+        Ok(RunEnd::new_unchecked(ArrayRef::Primitive(ends), array_of(values), 0, self.len()))
     }
 
     /// The encoding of all rows. Refused as `OutOfMemory` alone, and then the rows are gone: where they are wanted
@@ -162,66 +164,15 @@ impl<A: Allocator + Copy> RunBuilder<A> {
         RunBuilder {
             dtype,
             ends: Vec::new(alloc),
-            values: Vec::new(alloc),
+            values: FlatBuilder::new(alloc, dtype),
+            last: None,
         }
-    }
-
-    // The builder of the rows of a batch of this type. Refused as `OutOfMemory` alone.
-    fn of_batch(dtype: DType, batch: &ArrayRef<A>, ctx: &mut ExecutionCtx<A>) -> VortexResult<Self>
-        requires single { ¬ IsLists dtype }
-        requires typed { dtype_of batch.now ≡ dtype }
-        ensures only { IsOkUnless result VortexError.OutOfMemory }
-        ensures whole { IfOk result (λ part. part ≡ built_with dtype (rows batch.now)) }
-        ensures session { ctx.new ≡ ctx.old }
-    {
-        let runs = encode_rows(batch, ctx)?;
-        let part = RunBuilder::of_runs(*ctx.allocator(), dtype, &runs);
-        drop(runs);
-        part
-    }
-
-    // The builder of the rows of an encoding. Refused as `OutOfMemory` alone.
-    fn of_runs(alloc: A, dtype: DType, runs: &RunEndArray<A>) -> VortexResult<Self>
-        requires single { ¬ IsLists dtype }
-        requires encoded { IsEncodedRows (column_rows (column_of_runs runs.now)) dtype runs.now }
-        ensures only { IsOkUnless result VortexError.OutOfMemory }
-        ensures whole { IfOk result (λ part. part ≡ built_with dtype (column_rows (column_of_runs runs.now))) }
-    {
-        let Some(shown) = runs.values().flat_view() else {
-            unreachable!()
-        };
-        let ends = wide_ends(alloc, runs.ends())?;
-        let values = scalars_of(alloc, shown)?;
-        Ok(RunBuilder {
-            dtype,
-            ends,
-            values,
-        })
-    }
-
-    // The builder of so many rows of one value. Refused as `OutOfMemory` alone.
-    fn of_value(alloc: A, value: &Scalar<A>, count: usize) -> VortexResult<Self>
-        requires single { ¬ IsLists value.now.dtype }
-        requires some { 0 < count }
-        ensures only { IsOkUnless result VortexError.OutOfMemory }
-        ensures whole { IfOk result (λ part. part ≡ built_with value.now.dtype
-            (replicate count (scalar_row value.now))) }
-    {
-        let mut ends = Vec::with_capacity(alloc, 1)?;
-        let mut values = Vec::with_capacity(alloc, 1)?;
-        let copy = value.try_clone(alloc)?;
-        ends.push_reserved(count as u64);
-        values.push_reserved(copy);
-        Ok(RunBuilder {
-            dtype: value.dtype(),
-            ends,
-            values,
-        })
     }
 
     // Why so many rows of a type are refused, if they are.
     fn fault_of(&self, dtype: DType, count: usize) -> Option<VortexError>
-        ensures { result ≡ append_fault self.now.dtype dtype (length self.now.rows) count }
+        ensures fault { result ≡ append_fault self.now.dtype dtype (length self.now.rows) count }
+        ensures single { ¬ IsLists self.now.dtype }
     {
         if dtype != self.dtype {
             return Some(VortexError::TypeMismatch);
@@ -232,44 +183,72 @@ impl<A: Allocator + Copy> RunBuilder<A> {
         None
     }
 
-    // Puts the rows of another builder of the same type behind the rows. Refused as `OutOfMemory` alone, and then the
-    // rows stay.
-    fn join(&mut self, part: RunBuilder<A>) -> VortexResult<()>
-        requires typed { part.dtype ≡ self.old.dtype }
-        requires small { length self.old.rows + length part.rows < 2 ^ 64 }
+    // Puts the rows of an array of the same type behind the rows. Refused as `OutOfMemory` alone, and then the rows
+    // stay.
+    fn append_part(&mut self, alloc: A, array: &ArrayRef<A>) -> VortexResult<()>
+        requires single { ¬ IsLists (dtype_of array.now) }
+        requires typed { dtype_of array.now ≡ self.old.dtype }
+        requires small { length self.old.rows + length (rows array.now) < 2 ^ 64 }
         ensures only { IsOkUnless result VortexError.OutOfMemory }
-        ensures rows { OnOk result (self.new.rows ≡ self.old.rows ++ part.rows) }
+        ensures rows { OnOk result (self.new.rows ≡ self.old.rows ++ rows array.now) }
         ensures kept { OnErr result (self.new.rows ≡ self.old.rows) }
         ensures dtype { self.new.dtype ≡ self.old.dtype }
     {
-        let part_ends = part.ends;
-        let mut part_values = part.values;
-        push_runs(
-            &mut self.ends,
-            &mut self.values,
-            &part_ends,
-            &mut part_values,
-            self.dtype,
-        )
+        if array.len() == 0 {
+            return Ok(());
+        }
+        let (ends, values) = row_runs(alloc, array)?;
+        let appended = self.append_runs(alloc, &ends, &values);
+        drop(ends);
+        drop(values);
+        appended
     }
 
-    // The rows as a run column, which is no encoding yet: its ends are as wide as can be. Refused as `OutOfMemory`
-    // alone.
-    fn as_array(&self, alloc: A) -> VortexResult<ArrayRef<A>>
+    // The same of the ends and the values of their encoding, of which there are some.
+    fn append_runs(
+        &mut self,
+        alloc: A,
+        ends: &PrimitiveArray<A>,
+        values: &FlatColumn<A>,
+    ) -> VortexResult<()>
+        requires encoded { IsRowEncoding (part_rows ends.now (leaf_of values.now)) self.old.dtype
+            ends.now (leaf_of values.now) }
+        requires some { 0 < length (leaf_rows (leaf_of values.now)) }
+        requires small { length self.old.rows + length (part_rows ends.now (leaf_of values.now)) < 2 ^ 64 }
         ensures only { IsOkUnless result VortexError.OutOfMemory }
-        ensures rows { IfOk result (λ array. rows array ≡ self.now.rows) }
-        ensures dtype { IfOk result (λ array. dtype_of array ≡ self.now.dtype) }
-        ensures single { ¬ IsLists self.now.dtype }
+        ensures rows { OnOk result (self.new.rows ≡ self.old.rows ++ part_rows ends.now (leaf_of values.now)) }
+        ensures kept { OnErr result (self.new.rows ≡ self.old.rows) }
+        ensures dtype { self.new.dtype ≡ self.old.dtype }
+    {
+        let view = values.view();
+        let one = goes_on(alloc, &self.last, view)?;
+        let last = row_scalar(alloc, view, view.len() - 1)?;
+        match push_runs(&mut self.ends, &mut self.values, ends, view, one) {
+            Ok(()) => {
+                drop(replace(&mut self.last, Some(last)));
+                Ok(())
+            }
+            Err(error) => {
+                drop(last);
+                Err(error)
+            }
+        }
+    }
+
+    // The ends and the values of the encoding. Refused as `OutOfMemory` alone.
+    fn parts(&self, alloc: A) -> VortexResult<(PrimitiveArray<A>, FlatColumn<A>)>
+        ensures only { IsOkUnless result VortexError.OutOfMemory }
+        ensures encoding { IfOk result (λ parts.
+            IsRowEncoding self.now.rows self.now.dtype parts.0 (leaf_of parts.1)) }
     {
         let ends = Vec::from_slice(alloc, &self.ends)?;
-        let values = flat_of_scalars(alloc, self.dtype, &self.values)?;
-        let ends = PrimitiveArray::new_unchecked(u64::wrap(ends), Validity::NonNullable);
-        let runs = RunEnd::new_unchecked(
-            ArrayRef::Primitive(ends),
-            array_of(values),
-            0,
-            self.len(),
-        );
-        ArrayRef::of_runs(alloc, runs)
+        let ends = least_ends(alloc, ends)?;
+        match self.values.to_column(alloc) {
+            Ok(values) => Ok((ends, values)),
+            Err(error) => {
+                drop(ends);
+                Err(error)
+            }
+        }
     }
 }

@@ -1,47 +1,30 @@
-//! The ends of an encoding, taken out.
-ghost use Rattle.std.specs.Prelude.{◌≡◌, IfOk, IsOkUnless, map};
+//! The ends of a part, put behind others.
+ghost use Rattle.std.specs.Prelude.{◌≡◌, ◌+◌, ◌^◌, ◌<◌, ◌≤◌, ◌++◌, All, length, map, vec_capacity, vec_len};
+ghost use Rattle.chunk_laws.specs.Encodings.{behind};
 ghost use Rattle.column_core.specs.PrimitiveForm.{primitive_dtype};
 ghost use Rattle.runend_windows.specs.Ends.{IsEndsType, ends_of};
-ghost use Rattle.runend_array.specs.Array.{column_of};
-ghost use Rattle.runend_array.specs.Column.{IsPlainEnds, end_numbers};
 
 use column_base::match_each_unsigned;
-use column_core::{PrimitiveArray, PrimitiveValues, UnsignedPType, VortexError, VortexResult};
-use runend_array::ArrayRef;
+use column_core::{PrimitiveArray, PrimitiveValues, UnsignedPType};
 use std::alloc::Allocator;
 
-/// The ends as numbers of 64 bits. Refused as `OutOfMemory` alone.
-pub(crate) fn wide_ends<A: Allocator + Copy>(
-    alloc: A,
-    ends: &ArrayRef<A>,
-) -> VortexResult<Vec<u64, A>>
-    requires { IsPlainEnds (column_of ends.now) }
-    ensures only { IsOkUnless result VortexError.OutOfMemory }
-    ensures ends { IfOk result (λ wide. wide.items ≡ end_numbers (column_of ends.now)) }
+/// Puts the ends of a part behind the ends, so many rows later.
+pub(crate) fn push_ends<A: Allocator>(ends: &mut Vec<u64, A>, part: &PrimitiveArray<A>, count: u64)
+    requires plain { IsEndsType (primitive_dtype part.now) }
+    requires room { vec_len ends.old + length (ends_of part.now) ≤ vec_capacity ends.old }
+    requires small { All (λ end. count + end < 2 ^ 64) (ends_of part.now) }
+    ensures { ends.new.items ≡ ends.old.items ++ behind count (ends_of part.now) }
 {
-    match ends {
-        ArrayRef::Primitive(plain) => plain_ends(alloc, plain),
-        _ => unreachable!(),
-    }
-}
-
-// The same of a flat column of ends.
-fn plain_ends<A: Allocator + Copy>(alloc: A, ends: &PrimitiveArray<A>) -> VortexResult<Vec<u64, A>>
-    requires { IsEndsType (primitive_dtype ends.now) }
-    ensures only { IsOkUnless result VortexError.OutOfMemory }
-    ensures ends { IfOk result (λ wide. wide.items ≡ ends_of ends.now) }
-{
-    match_each_unsigned!(ends.values(), items => widened(alloc, items.as_slice()), _ => unreachable!())
+    match_each_unsigned!(part.values(), items => push_stored(ends, items.as_slice(), count), _ => unreachable!())
 }
 
 // The same of ends as they are stored.
-fn widened<E: UnsignedPType, A: Allocator>(alloc: A, ends: &[E]) -> VortexResult<Vec<u64, A>>
-    ensures only { IsOkUnless result VortexError.OutOfMemory }
-    ensures ends { IfOk result (λ wide. wide.items ≡ map E.natural ends.now) }
+fn push_stored<E: UnsignedPType, A: Allocator>(ends: &mut Vec<u64, A>, part: &[E], count: u64)
+    requires room { vec_len ends.old + length part.now ≤ vec_capacity ends.old }
+    requires small { All (λ end. count + end < 2 ^ 64) (map E.natural part.now) }
+    ensures { ends.new.items ≡ ends.old.items ++ behind count (map E.natural part.now) }
 {
-    let mut wide = Vec::with_capacity(alloc, ends.len())?;
-    for end in ends {
-        wide.push_reserved(end.to_u64());
+    for end in part {
+        ends.push_reserved(count + end.to_u64());
     }
-    Ok(wide)
 }

@@ -12,7 +12,7 @@ use column_ops::ColumnOps;
 use std::alloc::Allocator;
 
 /// The ends as a column of the least unsigned type that has the last of them. Refused as `OutOfMemory` alone.
-pub(crate) fn least_ends<A: Allocator + Copy>(
+pub fn least_ends<A: Allocator + Copy>(
     alloc: A,
     ends: Vec<u64, A>,
 ) -> VortexResult<PrimitiveArray<A>>

@@ -9,3 +9,4 @@ mod rows;
 mod run_ends;
 
 pub use encode::{encode_flat, encode_runs};
+pub use least::least_ends;

@@ -37,8 +37,8 @@ pub fn encode_rows<A: Allocator + Copy>(
     Ok(RunEnd::new_unchecked(ArrayRef::Primitive(ends), array_of(values), 0, count))
 }
 
-/// The ends and the values of that encoding.
-pub(crate) fn row_runs<A: Allocator + Copy>(
+/// The ends and the values of that encoding. Refused as `encode_rows` refuses.
+pub fn row_runs<A: Allocator + Copy>(
     alloc: A,
     array: &ArrayRef<A>,
 ) -> VortexResult<(PrimitiveArray<A>, FlatColumn<A>)>

@@ -3,4 +3,4 @@
 
 mod encode;
 
-pub use encode::encode_rows;
+pub use encode::{encode_rows, row_runs};

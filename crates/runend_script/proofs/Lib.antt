@@ -1,2 +1,4 @@
 pub mod Sessions
 pub mod Replies
+pub mod Outcomes
+pub mod RowsBehind

@@ -2,3 +2,5 @@ pub mod Listed
 pub mod Session
 pub mod Replies
 pub mod Messages
+pub mod Lengthened
+pub mod Outcomes

@@ -54,6 +54,10 @@ pub enum ScriptCommand<'a> {
     Filter(&'a str),
     /// The rows at the listed indices replace the column. The words are yet to be read.
     Take(Words<'a>),
+    /// The listed rows are put behind the rows, and the column is written as runs. The words are yet to be read.
+    Append(Words<'a>),
+    /// So many rows of a value are put behind the rows, and the column is written as runs. The word is yet to be read.
+    Repeat(&'a str, usize),
     /// The rows are cast to this type.
     Cast(PType, Nullability),
     /// Each null is filled. The word is yet to be read, since the column's type says what it may be.
@@ -97,8 +101,8 @@ pub struct RunsLine<'a> {
 }
 
 /// What the line says. The words behind the type of a `col` line are not looked at, nor are the ends
-/// and values of a `runs` line, the bits of a `filter` line, the indices of a `take` line, the value of a
-/// `fill` line and the bytes of a `read` line.
+/// and values of a `runs` line, the bits of a `filter` line, the indices of a `take` line, the rows of an
+/// `append` line, the value of a `fill` or `repeat` line and the bytes of a `read` line.
 pub fn read_line(line: &str) -> Line<'_> {
     let mut words = Words::new(line);
     let Some(name) = words.next() else {
@@ -145,6 +149,8 @@ fn read_longer<'a>(name: &str, words: Words<'a>) -> Option<ScriptCommand<'a>> {
         "slice" => read_slice(words),
         "filter" => read_filter(words),
         "take" => Some(ScriptCommand::Take(words)),
+        "append" => Some(ScriptCommand::Append(words)),
+        "repeat" => read_repeat(words),
         "cast" => read_cast(words),
         "fill" => read_fill(words),
         "kernels" | "thresholds" => read_setting(name, words),
@@ -181,6 +187,13 @@ fn read_cast(mut words: Words<'_>) -> Option<ScriptCommand<'_>> {
 fn read_fill(mut words: Words<'_>) -> Option<ScriptCommand<'_>> {
     let value = words.next()?;
     ended(words, ScriptCommand::Fill(value))
+}
+
+// The command of a `repeat` line: the word of a value, and how many rows of it there are.
+fn read_repeat(mut words: Words<'_>) -> Option<ScriptCommand<'_>> {
+    let value = words.next()?;
+    let count = parse_count(words.next()?)?;
+    ended(words, ScriptCommand::Repeat(value, count))
 }
 
 // The command of a `slice` line: where the rows start, and where they stop.

@@ -2,6 +2,7 @@
 #![tactic(auto)]
 
 mod command;
+mod lengthened;
 mod message;
 mod record;
 mod scripts;

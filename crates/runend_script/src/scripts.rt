@@ -1,17 +1,21 @@
 //! Runs a script of commands on one column.
-ghost use Rattle.std.specs.Prelude.{◌≡◌, ◌≢◌, ◌⊎◌, ◌↔◌, IfOk, IfSome, IsOkUnless, IsTrue, MatchResult, OnErr};
-ghost use Rattle.std.specs.Iterator.{IsFinite};
-ghost use Rattle.runend_array.specs.Array.{column_of};
+ghost use Rattle.std.specs.Prelude.{◌≡◌, ◌≢◌, ◌⊎◌, ◌↔◌, ℕ, List, IfOk, IfSome, IsOkUnless, IsTrue, MatchResult, OnErr};
+ghost use Rattle.std.specs.Iterator.{AlwaysYields, IsFinite};
+ghost use Rattle.runend_array.specs.Array.{column_of, dtype_of};
 ghost use Rattle.runend_array.specs.Column.{AreParts, column_of_runs, runs_of};
 ghost use Rattle.runend_array.specs.Fault.{PartsFault};
 ghost use Rattle.runend_commands.specs.declared.command.Answer.TheVariants.{Done};
 ghost use Rattle.runend_script.specs.declared.command.ScriptCommand.TheVariants as line;
+ghost use Rattle.runend_script.specs.Lengthened.{IsAppended, IsRepeated, ListsArray};
 ghost use Rattle.runend_script.specs.Listed.{AreRunsOf, IsFlatOf};
 ghost use Rattle.runend_script.specs.Messages.{IsMessageReply};
+ghost use Rattle.runend_script.specs.Outcomes.{IsOutcome};
 ghost use Rattle.runend_script.specs.Replies.{IsKeptOrStep, IsReplyOf, IsReplyTo, Tells};
 ghost use Rattle.runend_script.specs.Session.{IsSessionAfter};
+ghost use Rattle.script_text.specs.Words.{words_of};
 
 use crate::command::{Line, RunsLine, SLASH, ScriptCommand, Setting, read_line};
+use crate::lengthened::{with_batch, with_value};
 use crate::message::message_line;
 use crate::record::{meta_line, read_record};
 use crate::session::set_session;
@@ -19,7 +23,7 @@ use crate::shown::{form_line, rows_line};
 use column_base::{DType, Nullability, PType, VortexError, VortexResult};
 use runend_commands::{Answer, Command as ColumnCommand, execute_one};
 use script_answers::{answer_line, has_answer_line, refusal_line};
-use script_text::{read_indices, read_mask, read_scalar, read_values};
+use script_text::{Words, read_indices, read_mask, read_scalar, read_values};
 use std::alloc::{AllocError, Allocator};
 use std::mem::replace;
 use vortex_runend::{ArrayRef, ExecutionCtx, PrimitiveArray, RunEnd};
@@ -194,7 +198,7 @@ fn set_beside<A: Allocator + Copy>(
     Reply::Done
 }
 
-// The flat column of the rows that the words stand for, or `None` where a word stands for none.
+// The flat column of the rows that the words stand for, or `None` exactly where a word stands for none.
 fn plain_of<'a, I: Iterator<Item = &'a str> + Drop, A: Allocator + Copy>(
     alloc: A,
     ptype: PType,
@@ -205,6 +209,9 @@ fn plain_of<'a, I: Iterator<Item = &'a str> + Drop, A: Allocator + Copy>(
     requires finite { IsFinite (I.remaining words) }
     ensures only { IsOkUnless result VortexError.OutOfMemory }
     ensures flat { IfOk result (λ made. IfSome made (λ array. IsFlatOf ptype (column_of array))) }
+    ensures typed { IfOk result (λ made. IfSome made (λ array. dtype_of array ≡ DType.Primitive ptype nullability)) }
+    ensures rows { (taken : List (List ℕ)) → AlwaysYields I.next_gives (λ word. word.now) words taken →
+        IfOk result (ListsArray (DType.Primitive ptype nullability) taken) }
 {
     let Some(listed) = read_values(alloc, ptype, nullability, words)? else {
         return Ok(None);
@@ -265,8 +272,72 @@ fn runs_of_parts<A: Allocator + Copy>(
 }
 
 // Does the command on the column that stands.
-#[tactic(auto, using(crate::proofs::Replies::step_of_reply))]
+#[tactic(auto, using(crate::proofs::Outcomes::of_others))]
 fn perform_on<A: Allocator + Copy>(
+    command: ScriptCommand<'_>,
+    column: &mut ArrayRef<A>,
+    ctx: &mut ExecutionCtx<A>,
+) -> VortexResult<Reply<A>>
+    ensures outcome { IsOutcome command.entry column.old result column.new }
+    ensures kept { OnErr result (column.new ≡ column.old) }
+    ensures session { ctx.new ≡ ctx.old }
+    ensures message { command.entry ≡ line.Bytes → IsMessageReply (column_of column.old) result }
+{
+    match command {
+        ScriptCommand::Append(words) => append_reply(words, column, ctx),
+        ScriptCommand::Repeat(word, count) => repeat_reply(word, count, column, ctx),
+        _ => perform_step(command, column, ctx),
+    }
+}
+
+// Puts the rows that the words stand for behind the column's. It is bad where a word stands for none of its type.
+#[tactic(auto, using(crate::proofs::RowsBehind::lists_none, crate::proofs::RowsBehind::appended_done, crate::proofs::RowsBehind::appended_refused))]
+fn append_reply<A: Allocator + Copy>(
+    words: Words<'_>,
+    column: &mut ArrayRef<A>,
+    ctx: &mut ExecutionCtx<A>,
+) -> VortexResult<Reply<A>>
+    ensures appended { IsAppended column.old (words_of words.entry.rest.now) result column.new }
+    ensures kept { OnErr result (column.new ≡ column.old) }
+    ensures session { ctx.new ≡ ctx.old }
+{
+    let DType::Primitive(ptype, nullability) = column.dtype() else {
+        return Ok(Reply::Bad);
+    };
+    let Some(batch) = plain_of(*ctx.allocator(), ptype, nullability, words)? else {
+        return Ok(Reply::Bad);
+    };
+    let whole = with_batch(column, &batch, ctx);
+    drop(batch);
+    drop(replace(column, whole?));
+    Ok(Reply::Done)
+}
+
+// Puts so many rows of the value that the word stands for behind the column's. It is bad where the word stands for none
+// of its type, null aside.
+#[tactic(auto, using(crate::proofs::RowsBehind::repeated_done, crate::proofs::RowsBehind::repeated_refused))]
+fn repeat_reply<A: Allocator + Copy>(
+    word: &str,
+    count: usize,
+    column: &mut ArrayRef<A>,
+    ctx: &mut ExecutionCtx<A>,
+) -> VortexResult<Reply<A>>
+    ensures repeated { IsRepeated column.old word.now count result column.new }
+    ensures kept { OnErr result (column.new ≡ column.old) }
+    ensures session { ctx.new ≡ ctx.old }
+{
+    let Some(value) = read_scalar(column.dtype(), word) else {
+        return Ok(Reply::Bad);
+    };
+    let whole = with_value(column, &value, count, ctx);
+    drop(value);
+    drop(replace(column, whole?));
+    Ok(Reply::Done)
+}
+
+// Does a command that puts no rows behind the column's.
+#[tactic(auto, using(crate::proofs::Replies::step_of_reply))]
+fn perform_step<A: Allocator + Copy>(
     command: ScriptCommand<'_>,
     column: &mut ArrayRef<A>,
     ctx: &mut ExecutionCtx<A>,

@@ -1,2 +1,3 @@
 pub mod KnownInput
 pub mod WordSplits
+pub mod ListedRows

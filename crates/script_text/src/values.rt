@@ -1,12 +1,13 @@
 //! The values that a line of the script lists.
-ghost use Rattle.std.specs.Prelude.{◌≡◌, ◌↔◌, length, IfOk, IfSome, IsOkUnless, IsSome};
-ghost use Rattle.std.specs.Iterator.{IsFinite};
+ghost use Rattle.std.specs.Prelude.{◌≡◌, ◌↔◌, List, ℕ, length, map, option_map, IfOk, IfSome, IsOkUnless, IsSome};
+ghost use Rattle.std.specs.Iterator.{AlwaysYields, IsFinite};
 ghost use Rattle.column_base.specs.Numbers.{numbers, ptype_of};
-ghost use Rattle.column_base.specs.ValidityForm.{HasLength};
+ghost use Rattle.column_base.specs.ValidityForm.{HasLength, nullability_in};
 ghost use Rattle.column_base.specs.Validity.{form_of};
 ghost use Rattle.column_base.specs.Mask.{mask_bits, IsNormalMask};
+ghost use Rattle.column_core.specs.Optionals.{optionals};
 ghost use Rattle.column_words.specs.Bits.{IsBitWord, bit_word};
-ghost use Rattle.script_text.specs.Rows.{ReadsNumber, ReadsValue};
+ghost use Rattle.script_text.specs.Rows.{PushesRows, ReadsNumber, ReadsRows, ReadsValue, parsed_rows};
 ghost use Rattle.script_text.specs.Scalars.{ReadsOwned, ReadsScalar};
 
 use crate::words::Words;
@@ -25,7 +26,7 @@ pub struct ParsedRows<A: Allocator> {
     pub validity: Validity<A>,
 }
 
-/// The rows that the words stand for, or `None` where one of them stands for no row of the type.
+/// The rows that the words stand for, in order, or `None` exactly where one of them stands for no row of the type.
 /// Under null the number 0 is stored. Refused as `OutOfMemory` alone.
 pub fn read_values<'a, I: Iterator<Item = &'a str> + Drop, A: Allocator + Copy>(
     alloc: A,
@@ -37,8 +38,12 @@ pub fn read_values<'a, I: Iterator<Item = &'a str> + Drop, A: Allocator + Copy>(
     requires finite { IsFinite (I.remaining words) }
     ensures only { IsOkUnless result VortexError.OutOfMemory }
     ensures typed { IfOk result (λ read. IfSome read (λ listed. ptype_of listed.numbers ≡ ptype)) }
+    ensures nullable { IfOk result (λ read. IfSome read
+        (λ listed. nullability_in (form_of listed.validity) ≡ nullability)) }
     ensures counted { IfOk result (λ read. IfSome read (λ listed.
         HasLength (form_of listed.validity) (length (numbers listed.numbers)))) }
+    ensures rows { (taken : List (List ℕ)) → AlwaysYields I.next_gives (λ word. word.now) words taken →
+        IfOk result (λ read. ReadsRows ptype nullability taken (option_map parsed_rows read)) }
 {
     match ptype {
         PType::U8 => read_natives::<u8, I, A>(alloc, nullability, words),
@@ -124,8 +129,12 @@ fn read_natives<'a, T: NativePType, I: Iterator<Item = &'a str> + Drop, A: Alloc
     requires finite { IsFinite (I.remaining words) }
     ensures only { IsOkUnless result VortexError.OutOfMemory }
     ensures typed { IfOk result (λ read. IfSome read (λ listed. ptype_of listed.numbers ≡ T.PTYPE)) }
+    ensures nullable { IfOk result (λ read. IfSome read
+        (λ listed. nullability_in (form_of listed.validity) ≡ nullability)) }
     ensures counted { IfOk result (λ read. IfSome read (λ listed.
         HasLength (form_of listed.validity) (length (numbers listed.numbers)))) }
+    ensures rows { (taken : List (List ℕ)) → AlwaysYields I.next_gives (λ word. word.now) words taken →
+        IfOk result (λ read. ReadsRows T.PTYPE nullability taken (option_map parsed_rows read)) }
 {
     let mut items = Vec::new(alloc);
     let mut valid = BitBufferMut::with_capacity(alloc, 0)?;
@@ -157,6 +166,9 @@ fn push_rows<'a, T: NativePType, I: Iterator<Item = &'a str> + Drop, A: Allocato
     requires counted { length items.old.items ≡ length valid.old }
     ensures only { IsOkUnless result VortexError.OutOfMemory }
     ensures counted { IfOk result (λ found. length items.new.items ≡ length valid.new) }
+    ensures rows { (taken : List (List ℕ)) → AlwaysYields I.next_gives (λ word. word.now) words taken →
+        IfOk result (λ found. PushesRows T.PTYPE nullability taken (optionals (map T.number items.old.items) valid.old)
+        found (optionals (map T.number items.new.items) valid.new)) }
 {
     for word in words {
         let Some(row) = parse_row::<T>(word, nullability) else {

@@ -1,0 +1,4 @@
+pub mod Lists
+pub mod Cuts
+pub mod Rows
+pub mod Grown

@@ -1,0 +1,83 @@
+//! Bits that grow, a byte for each, and are packed at last.
+ghost use Rattle.std.specs.Prelude.{◌≡◌, ◌+◌, ◌-◌, ◌≤◌, ◌++◌, IfOk, IsOkUnless, OnErr, OnOk, drop, length, vec_capacity, vec_len};
+ghost use Rattle.column_base.specs.Validity.{form_of};
+ghost use Rattle.column_base.specs.ValidityForm.{HasLength, flags as flags_in};
+
+use column_core::{BitBuffer, BitBufferMut, Validity, VortexError, VortexResult};
+use std::alloc::Allocator;
+
+/// Puts behind the flags, for each of `count` rows from row `start` on, whether it is no null. Refused as `OutOfMemory`
+/// alone, and then the flags stay.
+pub(crate) fn append_flags<A: Allocator>(
+    flags: &mut Vec<bool, A>,
+    validity: &Validity<A>,
+    start: usize,
+    count: usize,
+) -> VortexResult<()>
+    requires within { start ≤ count }
+    requires counted { HasLength (form_of validity.now) count }
+    ensures only { IsOkUnless result VortexError.OutOfMemory }
+    ensures flags { OnOk result (flags.new.items ≡
+        flags.old.items ++ drop start (flags_in (form_of validity.now) count)) }
+    ensures kept { OnErr result (flags.new.items ≡ flags.old.items) }
+{
+    flags.reserve(count - start)?;
+    push_flags(flags, validity, start, count);
+    Ok(())
+}
+
+/// Puts the bits from bit `start` on behind the others. Refused as `OutOfMemory` alone, and then the others stay.
+pub(crate) fn append_bits<A: Allocator>(
+    grown: &mut Vec<bool, A>,
+    bits: &BitBuffer<A>,
+    start: usize,
+) -> VortexResult<()>
+    requires { start ≤ length bits.now }
+    ensures only { IsOkUnless result VortexError.OutOfMemory }
+    ensures bits { OnOk result (grown.new.items ≡ grown.old.items ++ drop start bits.now) }
+    ensures kept { OnErr result (grown.new.items ≡ grown.old.items) }
+{
+    grown.reserve(bits.len() - start)?;
+    push_bits(grown, bits, start);
+    Ok(())
+}
+
+/// The bits, 64 to a word. Refused as `OutOfMemory` alone.
+pub(crate) fn packed<A: Allocator + Copy>(alloc: A, bits: &[bool]) -> VortexResult<BitBuffer<A>>
+    ensures only { IsOkUnless result VortexError.OutOfMemory }
+    ensures bits { IfOk result (λ buffer. buffer ≡ bits.now) }
+{
+    let mut buffer = BitBufferMut::with_capacity(alloc, bits.len())?;
+    for bit in bits {
+        buffer.append(*bit)?;
+    }
+    Ok(buffer.freeze())
+}
+
+// The same where there is room.
+fn push_flags<A: Allocator>(
+    flags: &mut Vec<bool, A>,
+    validity: &Validity<A>,
+    start: usize,
+    count: usize,
+)
+    requires within { start ≤ count }
+    requires counted { HasLength (form_of validity.now) count }
+    requires room { vec_len flags.old + (count - start) ≤ vec_capacity flags.old }
+    ensures { flags.new.items ≡ flags.old.items ++ drop start (flags_in (form_of validity.now) count) }
+{
+    for row in start..count {
+        flags.push_reserved(validity.is_valid(row));
+    }
+}
+
+// The same where there is room.
+fn push_bits<A: Allocator>(grown: &mut Vec<bool, A>, bits: &BitBuffer<A>, start: usize)
+    requires within { start ≤ length bits.now }
+    requires room { vec_len grown.old + (length bits.now - start) ≤ vec_capacity grown.old }
+    ensures { grown.new.items ≡ grown.old.items ++ drop start bits.now }
+{
+    for row in start..bits.len() {
+        grown.push_reserved(bits.value(row));
+    }
+}

@@ -1,0 +1,83 @@
+//! A flat column that grows at its end.
+ghost use Rattle.std.specs.Prelude.{◌≡◌, ◌≤◌, ◌++◌, [], IfOk, IsOkUnless, OnErr, OnOk, drop, length};
+ghost use Rattle.column_core.specs.Computed.{IsComputedLeaf};
+ghost use Rattle.column_core.specs.FlatColumn.{leaf_of};
+ghost use Rattle.column_core.specs.FlatView.{leaf_in};
+ghost use Rattle.column_core.specs.Leaf.{leaf_dtype, leaf_rows, single_rows};
+ghost use Rattle.column_core.specs.Value.{IsLists};
+
+use crate::bits::append_flags;
+use crate::columns::column_of;
+use crate::items::{Items, append_items, no_items};
+use column_core::{DType, FlatColumn, FlatView, Nullability, VortexError, VortexResult};
+use std::alloc::Allocator;
+use std::marker::Model;
+
+/// The rows of a flat column of any type but lists, which grows at its end. Items are held as a column stores them,
+/// texts and bytes one behind the other in one buffer, and a flag of a byte for each row.
+#[derive(Drop)]
+pub struct FlatBuilder<A: Allocator> {
+    nullability: Nullability,
+    items: Items<A>,
+    /// Which rows are no null.
+    flags: Vec<bool, A>,
+}
+
+impl<A: Allocator> Model for FlatBuilder<A> {
+    ghost use Rattle.column_core.specs.Value.{PlainColumn};
+    ghost use Rattle.flat_builder.specs.Items.{IsGrown, grown_column, stored_in};
+
+    ghost Value = { PlainColumn };
+
+    ghost view = { λ b. grown_column (stored_in b.items) b.flags.items b.nullability };
+
+    ghost invariant = { λ b. IsGrown (stored_in b.items) b.flags.items b.nullability };
+}
+
+impl<A: Allocator + Copy> FlatBuilder<A> {
+    /// A column of this type, which is none of lists, without rows. Takes no memory.
+    pub fn new(alloc: A, dtype: DType) -> Self
+        requires { ¬ IsLists dtype }
+        ensures dtype { result.dtype ≡ dtype }
+        ensures rows { result.rows ≡ [] }
+    {
+        FlatBuilder {
+            nullability: dtype.nullability(),
+            items: no_items(alloc, dtype),
+            flags: Vec::new(alloc),
+        }
+    }
+
+    /// Puts the rows of a column of the same type from row `start` on behind the rows, in memory of their own. The
+    /// column stores 0, false or the view of nothing under null. Refused as `OutOfMemory` alone, and then the rows
+    /// stay.
+    pub fn append(&mut self, column: FlatView<'_, A>, start: usize) -> VortexResult<()>
+        requires typed { leaf_dtype (leaf_in column) ≡ self.old.dtype }
+        requires computed { IsComputedLeaf (leaf_in column) }
+        requires within { start ≤ length (leaf_rows (leaf_in column)) }
+        ensures only { IsOkUnless result VortexError.OutOfMemory }
+        ensures rows { OnOk result (self.new.rows ≡
+            self.old.rows ++ drop start (single_rows (leaf_in column.entry))) }
+        ensures kept { OnErr result (self.new.rows ≡ self.old.rows) }
+        ensures dtype { self.new.dtype ≡ self.old.dtype }
+    {
+        let count = self.flags.len();
+        append_flags(&mut self.flags, column.validity(), start, column.len())?;
+        let appended = append_items(&mut self.items, column, start);
+        if appended.is_err() {
+            self.flags.truncate(count);
+        }
+        appended
+    }
+
+    /// The rows as a flat column with memory of its own, as a call computes it: 0, false or the view of nothing is
+    /// stored under null, and texts and bytes stand in one buffer. Refused as `OutOfMemory` alone.
+    pub fn to_column(&self, alloc: A) -> VortexResult<FlatColumn<A>>
+        ensures only { IsOkUnless result VortexError.OutOfMemory }
+        ensures rows { IfOk result (λ column. single_rows (leaf_of column) ≡ self.now.rows) }
+        ensures dtype { IfOk result (λ column. leaf_dtype (leaf_of column) ≡ self.now.dtype) }
+        ensures computed { IfOk result (λ column. IsComputedLeaf (leaf_of column)) }
+    {
+        column_of(alloc, &self.items, &self.flags, self.nullability)
+    }
+}

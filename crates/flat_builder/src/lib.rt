@@ -1,0 +1,11 @@
+//! Flat columns that grow at their end.
+#![tactic(auto)]
+
+mod bits;
+mod builder;
+mod columns;
+mod items;
+mod numbers;
+mod texts;
+
+pub use builder::FlatBuilder;

@@ -1,3 +1,0 @@
-pub mod StoredItems
-pub mod RowScalars
-pub mod Cuts
