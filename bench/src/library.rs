@@ -1,6 +1,6 @@
 //! The library's columns, by its calls for C and with nothing between.
 use crate::bits::Bits;
-use crate::data::{Flat, Runs, Truths};
+use crate::data::{Flat, Lists, Runs, Truths};
 use crate::raw::{self, BuilderHandle, Handle, Pair, RawTotal, RawValue};
 use hivevigil::{Fields, Form, Kind, Session};
 use std::cell::UnsafeCell;
@@ -112,6 +112,22 @@ extern "C" {
         len: usize,
         error: *mut Fields,
     ) -> i32;
+    fn hv_lists(
+        elements: *mut Handle,
+        offsets: *const u64,
+        offsets_len: usize,
+        sizes: *const u64,
+        sizes_len: usize,
+        nulls: u8,
+        bits: *const u8,
+        bits_len: usize,
+        first: usize,
+        out: *mut Handle,
+        error: *mut Fields,
+    ) -> i32;
+    fn hv_list_elements(column: *mut Handle, out: *mut Handle, error: *mut Fields) -> i32;
+    fn hv_list_offsets(column: *mut Handle, out: *mut Handle, error: *mut Fields) -> i32;
+    fn hv_list_sizes(column: *mut Handle, out: *mut Handle, error: *mut Fields) -> i32;
 }
 
 impl Item for i128 {
@@ -179,6 +195,40 @@ impl Column {
 
     pub fn of_runs<T: Item>(runs: &Runs<T>) -> Column {
         Column::runs(&runs.ends, &T::column(&runs.values))
+    }
+}
+
+impl Column {
+    pub fn of_lists<T: Item>(lists: &Lists<T>) -> Column {
+        let elements = T::column(&lists.elements);
+        let (number, bits, len) = nulls(&None);
+        made(|out, fields| unsafe {
+            let (offsets, sizes) = (&lists.offsets.items, &lists.sizes.items);
+            hv_lists(
+                elements.0.get(),
+                offsets.as_ptr(),
+                offsets.len(),
+                sizes.as_ptr(),
+                sizes.len(),
+                number,
+                bits,
+                len,
+                0,
+                out,
+                fields,
+            )
+        })
+    }
+
+    pub fn read_lists<T: Item>(&self) -> Lists<T> {
+        let part = |call: unsafe extern "C" fn(_, _, _) -> i32| {
+            made(|out, fields| unsafe { call(self.0.get(), out, fields) })
+        };
+        Lists {
+            elements: part(hv_list_elements).read_flat(),
+            offsets: part(hv_list_offsets).read_flat(),
+            sizes: part(hv_list_sizes).read_flat(),
+        }
     }
 }
 

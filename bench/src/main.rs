@@ -16,11 +16,12 @@ mod raw;
 mod report;
 
 pub(crate) use hivevigil::{Fields, Kind, Session};
+use kernels::black_box;
 use line::Bench;
 use std::process::ExitCode;
 
 const USAGE: &str =
-    "bench [--rows N] [--turns N] [--rounds N] [--only NAME,NAME] [--cold] [--growth] [--smoke]";
+    "bench [--rows N] [--turns N] [--rounds N] [--only NAME,NAME] [--cold] [--growth] [--sizes] [--smoke]";
 
 /// What is asked for on the command line.
 struct Asked {
@@ -28,6 +29,7 @@ struct Asked {
     rounds: usize,
     cold: bool,
     growth: bool,
+    sizes: bool,
     smoke: bool,
 }
 
@@ -44,6 +46,7 @@ fn asked() -> Option<Asked> {
         rounds: 1,
         cold: false,
         growth: false,
+        sizes: false,
         smoke: false,
     };
     let mut words = std::env::args().skip(1);
@@ -57,6 +60,7 @@ fn asked() -> Option<Asked> {
             "--only" => asked.bench.only = words.next()?.split(',').map(String::from).collect(),
             "--cold" => asked.cold = true,
             "--growth" => asked.growth = true,
+            "--sizes" => asked.sizes = true,
             "--smoke" => asked.smoke = true,
             _ => return None,
         }
@@ -82,6 +86,10 @@ fn main() -> ExitCode {
         eprintln!("{USAGE}");
         return ExitCode::from(2);
     };
+    if asked.sizes {
+        print!("{}", lines::sizes(asked.bench.rows));
+        return ExitCode::SUCCESS;
+    }
     if asked.cold {
         clock::map_anew();
     } else {
@@ -91,6 +99,7 @@ fn main() -> ExitCode {
     if asked.smoke {
         (bench.rows, bench.turns) = (5_000, 1);
         lines::all(bench);
+        black_box(lines::sizes(bench.rows));
     } else if asked.growth {
         print!("{}", lines::growth(bench));
     } else {

@@ -1,10 +1,13 @@
-//! Runs of integers as a message of `docs/column.proto`, and back: a pass over lengths of runs, and copies.
+//! Runs and lists of integers as messages of `docs/column.proto`, and back: a pass over lengths of runs, or over lists,
+//! and copies.
 use crate::bits::Bits;
-use crate::data::{Flat, Runs};
+use crate::data::{Flat, Lists, Runs};
 use std::ptr;
 
-/// The number of u32 in the schema, in which ends are stored here.
+/// Types by their numbers in the schema; ends are stored as u32 here.
 const U32: u64 = 3;
+const U64: u64 = 4;
+const LIST: u64 = 13;
 /// Ahead of a field of a number that has this number, and of bytes.
 const fn of_number(field: u8) -> u8 {
     field << 3
@@ -12,6 +15,8 @@ const fn of_number(field: u8) -> u8 {
 const fn of_bytes(field: u8) -> u8 {
     field << 3 | 2
 }
+/// Ahead of the elements, offsets and sizes of lists, which are fields 17 to 19.
+const PARTS: [[u8; 2]; 3] = [[138, 1], [146, 1], [154, 1]];
 
 fn varint_len(number: u64) -> usize {
     (70 - (number | 1).leading_zeros() as usize) / 7
@@ -97,6 +102,32 @@ pub fn write<T>(runs: &Runs<T>, number: u64) -> Vec<u8> {
     message
 }
 
+fn push_part<T>(message: &mut Vec<u8>, key: [u8; 2], part: &Flat<T>, number: u64) {
+    message.extend_from_slice(&key);
+    push_varint(message, flat_len(part) as u64);
+    push_flat(message, part, number);
+}
+
+/// The message of lists whose elements are of a type that has this number in the schema.
+pub fn write_lists<T>(lists: &Lists<T>, number: u64) -> Vec<u8> {
+    let rows = lists.offsets.items.len() as u64;
+    let parts = [
+        flat_len(&lists.elements),
+        flat_len(&lists.offsets),
+        flat_len(&lists.sizes),
+    ];
+    let inner: usize = parts.into_iter().map(|part| 1 + field_len(part)).sum();
+    let mut message = Vec::with_capacity(32 + inner);
+    push_numbers(
+        &mut message,
+        &[(1, 1), (2, LIST), (3, 4), (4, rows), (5, 1)],
+    );
+    push_part(&mut message, PARTS[0], &lists.elements, number);
+    push_part(&mut message, PARTS[1], &lists.offsets, U64);
+    push_part(&mut message, PARTS[2], &lists.sizes, U64);
+    message
+}
+
 /// What is left of a message.
 struct Reader<'a>(&'a [u8]);
 
@@ -123,9 +154,13 @@ impl<'a> Reader<'a> {
     }
 
     fn bytes(&mut self, field: u8) -> Option<&'a [u8]> {
-        let (first, rest) = self.0.split_first()?;
-        self.0 = rest;
-        let len = (*first == of_bytes(field)).then(|| self.varint())??;
+        self.behind(&[of_bytes(field)])
+    }
+
+    /// The bytes that stand behind this key and their number.
+    fn behind(&mut self, key: &[u8]) -> Option<&'a [u8]> {
+        self.0 = self.0.strip_prefix(key)?;
+        let len = self.varint()?;
         let (bytes, rest) = self.0.split_at_checked(usize::try_from(len).ok()?)?;
         self.0 = rest;
         Some(bytes)
@@ -133,8 +168,8 @@ impl<'a> Reader<'a> {
 }
 
 fn copied<T: Copy + Default>(bytes: &[u8], len: usize) -> Option<Vec<T>> {
-    let mut items = Vec::with_capacity(len);
     (bytes.len() == len.checked_mul(size_of::<T>())?).then_some(())?;
+    let mut items = Vec::with_capacity(len);
     unsafe {
         ptr::copy_nonoverlapping(bytes.as_ptr(), items.as_mut_ptr() as *mut u8, bytes.len());
         items.set_len(len);
@@ -152,11 +187,12 @@ fn read_bits(bytes: &[u8], len: usize) -> Option<Bits> {
     (bits.words == stored).then_some(bits)
 }
 
-fn read_flat<T: Copy + Default>(message: &[u8], number: u64, rows: usize) -> Option<Flat<T>> {
+fn read_flat<T: Copy + Default>(message: &[u8], number: u64) -> Option<Flat<T>> {
     let mut reader = Reader(message);
-    for (field, told) in [(1, 1), (2, number), (3, 1), (4, rows as u64)] {
+    for (field, told) in [(1, 1), (2, number), (3, 1)] {
         (reader.number(field)? == told).then_some(())?;
     }
+    let rows = usize::try_from(reader.number(4)?).ok()?;
     let flags = match reader.number(5)? {
         1 => None,
         4 => Some(read_bits(reader.bytes(6)?, rows)?),
@@ -183,6 +219,29 @@ pub fn read<T: Copy + Default>(message: &[u8], number: u64) -> Option<Runs<T>> {
         ends.push(u32::try_from(end).ok()?);
     }
     (end == rows).then_some(())?;
-    let values = read_flat(reader.bytes(11)?, number, ends.len())?;
-    reader.0.is_empty().then_some(Runs { ends, values })
+    let values = read_flat::<T>(reader.bytes(11)?, number)?;
+    (reader.0.is_empty() && values.items.len() == ends.len()).then_some(Runs { ends, values })
+}
+
+/// The lists of a message, none of which is null: each lies within the elements.
+pub fn read_lists<T: Copy + Default>(message: &[u8], number: u64) -> Option<Lists<T>> {
+    let mut reader = Reader(message);
+    for (field, told) in [(1, 1), (2, LIST), (3, 4)] {
+        (reader.number(field)? == told).then_some(())?;
+    }
+    let rows = usize::try_from(reader.number(4)?).ok()?;
+    (reader.number(5)? == 1).then_some(())?;
+    let elements = read_flat::<T>(reader.behind(&PARTS[0])?, number)?;
+    let offsets = read_flat::<u64>(reader.behind(&PARTS[1])?, U64)?;
+    let sizes = read_flat::<u64>(reader.behind(&PARTS[2])?, U64)?;
+    (reader.0.is_empty() && offsets.items.len() == rows && sizes.items.len() == rows)
+        .then_some(())?;
+    let count = elements.items.len() as u64;
+    let lies_within = |(start, size): (&u64, &u64)| *start <= count && *size <= count - *start;
+    let all_lie_within = offsets.items.iter().zip(&sizes.items).all(lies_within);
+    all_lie_within.then_some(Lists {
+        elements,
+        offsets,
+        sizes,
+    })
 }

@@ -15,7 +15,7 @@ mod take;
 
 pub use aggregate::{is_constant, is_sorted, least, least_and_greatest, sum, sum_short, Addend};
 pub use arrays::{ArrayColumn, NumberType, RunArray};
-pub use bytes::{read, write};
+pub use bytes::{read, read_lists, write, write_lists};
 pub use compare::{less_by_ones, less_by_runs, less_by_turns};
 pub use decode::{decode, decode_truths, decode_truths_by_ones, decode_truths_by_turns};
 pub use encode::{encode, encode_by_words, encode_texts, encode_truths};

@@ -1,7 +1,8 @@
 //! Columns to bytes, and back.
 use super::{same_runs, shape, Number};
-use crate::kernels::{read, write};
-use crate::library::Column;
+use crate::data::{Flat, Lists};
+use crate::kernels::{read, read_lists, write, write_lists};
+use crate::library::{Column, Item};
 use crate::line::Bench;
 use crate::load::Load;
 
@@ -32,5 +33,55 @@ pub fn lines<T: Number>(bench: &mut Bench, load: &Load) {
         || Column::of_message(&message),
         || read::<T>(&message, T::MESSAGE).expect("the message is whole"),
         same_runs,
+    );
+}
+
+/// Lists as long as the runs of the load, one behind the other.
+fn lists_of<T: Number>(load: &Load) -> Lists<T> {
+    let stops = || load.ends.iter().map(|end| u64::from(*end));
+    let starts = || std::iter::once(0).chain(stops());
+    let flat = |items| Flat { items, flags: None };
+    Lists {
+        elements: Flat {
+            items: (0..load.rows()).map(|row| T::of(row as u64)).collect(),
+            flags: None,
+        },
+        offsets: flat(starts().take(load.ends.len()).collect()),
+        sizes: flat(
+            stops()
+                .zip(starts())
+                .map(|(stop, start)| stop - start)
+                .collect(),
+        ),
+    }
+}
+
+fn same_lists<T: Item>(column: &Column, lists: &Lists<T>) -> bool {
+    let found = column.read_lists::<T>();
+    found.elements.same_rows(&lists.elements)
+        && found.offsets.same_rows(&lists.offsets)
+        && found.sizes.same_rows(&lists.sizes)
+}
+
+/// Columns of lists to bytes, and back.
+pub fn lists<T: Number>(bench: &mut Bench, load: &Load) {
+    if !bench.wants("bytes") || load.flags.is_some() {
+        return;
+    }
+    let (lists, units) = (lists_of::<T>(load), (load.ends.len(), "list"));
+    let (column, message) = (Column::of_lists(&lists), write_lists(&lists, T::MESSAGE));
+    bench.line(
+        shape(load, "bytes, lists written", T::NAME),
+        units,
+        || column.message(message.len()),
+        || write_lists(&lists, T::MESSAGE),
+        |ours, rust| ours == rust,
+    );
+    bench.line(
+        shape(load, "bytes, lists read", T::NAME),
+        units,
+        || Column::of_message(&message),
+        || read_lists::<T>(&message, T::MESSAGE).expect("the message is whole"),
+        same_lists,
     );
 }

@@ -18,16 +18,52 @@ pub fn lines(bench: &mut Bench, load: &Load) {
     decimals(bench, load);
     truths(bench, load);
     texts(bench, load);
-    batches(bench, load);
+    numbers(bench, load);
+}
+
+/// A flat column that is encoded as it is, and built of a hundred batches; the Rust loop has it as one column.
+fn both<R>(
+    bench: &mut Bench,
+    load: &Load,
+    kind: &'static str,
+    column: &Column,
+    rust: impl Fn() -> R,
+    same: fn(&Column, &R) -> bool,
+) {
+    let units = (load.rows(), "row");
+    if kind != "u64" {
+        let ours = || column.encode_rows();
+        bench.line(shape(load, "encode rows", kind), units, ours, &rust, same);
+    }
+    let parts = batches(column, load.rows());
+    let (shape, ours) = (shape(load, "built of a hundred batches", kind), || {
+        Column::built(&parts)
+    });
+    bench.line(shape, units, ours, &rust, same);
+}
+
+fn batches(column: &Column, rows: usize) -> Vec<Column> {
+    let session = super::session();
+    let cut = |batch: usize| rows * batch / 100;
+    (0..100)
+        .map(|batch| column.slice(&session, cut(batch), cut(batch + 1)))
+        .collect()
+}
+
+fn numbers(bench: &mut Bench, load: &Load) {
+    let flat = decode(&load.runs(|number| number));
+    let column = u64::column(&flat);
+    both(bench, load, "u64", &column, || encode(&flat), same_runs);
 }
 
 fn decimals(bench: &mut Bench, load: &Load) {
     let flat = decode(&load.runs(|number| i128::from(number) << 30));
     let column = i128::column(&flat);
-    bench.line(
-        shape(load, "encode rows", "decimals"),
-        (load.rows(), "row"),
-        || column.encode_rows(),
+    both(
+        bench,
+        load,
+        "decimals",
+        &column,
         || encode(&flat),
         same_runs,
     );
@@ -42,16 +78,19 @@ fn truths(bench: &mut Bench, load: &Load) {
     let values = Truths { bits, flags };
     let rows = decode_truths(&TruthRuns { ends, values });
     let column = Column::truths(&rows);
-    bench.line(
-        shape(load, "encode rows", "booleans"),
-        (load.rows(), "row"),
-        || column.encode_rows(),
+    both(
+        bench,
+        load,
+        "booleans",
+        &column,
         || encode_truths(&rows),
-        |ours, rust| {
-            let values = ours.run_values().read_truths().flat();
-            ours.run_ends() == rust.ends && values.same_rows(&rust.values.flat())
-        },
+        same_truths,
     );
+}
+
+fn same_truths(ours: &Column, rust: &TruthRuns) -> bool {
+    let values = ours.run_values().read_truths().flat();
+    ours.run_ends() == rust.ends && values.same_rows(&rust.values.flat())
 }
 
 fn texts(bench: &mut Bench, load: &Load) {
@@ -61,10 +100,11 @@ fn texts(bench: &mut Bench, load: &Load) {
     let views = decode(&texts.views);
     let bytes = texts.bytes.clone();
     let rows = Texts { views, bytes };
-    bench.line(
-        shape(load, "encode rows", "texts"),
-        (load.rows(), "row"),
-        || column.encode_rows(),
+    both(
+        bench,
+        load,
+        "texts",
+        &column,
         || encode_texts(&rows),
         same_texts,
     );
@@ -81,22 +121,4 @@ fn same_texts(ours: &Column, rust: &Texts<Runs<View>>) -> bool {
         bytes: rust.bytes.clone(),
     };
     ours.run_ends() == rust.views.ends && Flat { items, flags }.same_rows(&values.flat())
-}
-
-/// A hundred batches, which the Rust loop has as one column.
-fn batches(bench: &mut Bench, load: &Load) {
-    let flat = decode(&load.runs(|number| number));
-    let column = u64::column(&flat);
-    let (rows, session) = (load.rows(), super::session());
-    let cut = |batch: usize| rows * batch / 100;
-    let parts: Vec<Column> = (0..100)
-        .map(|batch| column.slice(&session, cut(batch), cut(batch + 1)))
-        .collect();
-    bench.line(
-        shape(load, "built of a hundred batches", "u64"),
-        (rows, "row"),
-        || Column::built(&parts),
-        || encode(&flat),
-        same_runs,
-    );
 }

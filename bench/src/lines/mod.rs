@@ -11,9 +11,11 @@ mod lists;
 mod looks;
 mod maps;
 mod selects;
+mod sizes;
 
 pub use first::first;
 pub use growth::growth;
+pub use sizes::sizes;
 
 use crate::data::Runs;
 use crate::kernels::{black_box, Addend};
@@ -87,6 +89,7 @@ pub fn all(bench: &mut Bench) {
 fn numbers<T: Number>(bench: &mut Bench, load: &Load) {
     codec::lines::<T>(bench, load);
     bytes::lines::<T>(bench, load);
+    bytes::lists::<T>(bench, load);
     aggregates::lines::<T>(bench, load);
     maps::lines::<T>(bench, load);
     selects::lines::<T>(bench, load);
