@@ -1,66 +1,16 @@
--- Rows that differ from the row before: their bits in words, and the ends of runs that they are.
-use Rattle.std.proofs.Common.{◌≡◌, ◌≢◌, ◌∙◌, ◌+◌, ◌-◌, ◌*◌, ◌/◌, ◌%◌, ◌<◌, ◌≤◌, ◌^◌, ◌++◌, ℕ, zero, suc, List, [], ◌∷◌, Bool, true, false, cond, Option, Some, None, length, map, max, bit_or, refl, sym, ap, subst, arith, get_or, ⊎_elim}
-use Rattle.std.specs.Prelude.{◌↔◌, IsTrue, filter, nat_eq, slice_get, slice_index_or}
-use Rattle.std.specs.Int.{bit_at}
+-- Rows that differ from the row before: their bits, and the ends of runs that they are.
+use Rattle.std.proofs.Common.{◌≡◌, ◌≢◌, ◌∙◌, ◌+◌, ◌-◌, ◌<◌, ◌^◌, ◌++◌, ℕ, zero, suc, List, [], ◌∷◌, Bool, true, false, cond, Option, Some, None, length, refl, sym, ap, subst, arith, get_or}
+use Rattle.std.specs.Prelude.{◌↔◌, filter, slice_get, slice_index_or}
 use Rattle.std.specs.List.{range_with_len}
-use Rattle.std.proofs.lemmas.Bool.{cases_eq}
 use Rattle.std.proofs.lemmas.List.{append-nil, map-id}
 use Rattle.std.proofs.lemmas.List.FromFn.{filter_of_map_range_with_len_more}
-use Rattle.std.proofs.lemmas.Nat.Bits.{bit_at_or}
 use Rattle.std.proofs.lemmas.Option.{slice_get-get_or}
 use Rattle.column_base.specs.Bits.{set_indices_of}
 use Rattle.column_base.specs.Words.{digit_at, first_bits, one_if}
 use Rattle.column_base.proofs.WordDigits.{digit_of_bit, length-first_bits}
-use Rattle.column_base.proofs.WordGrowth.{shifted_bit-other, shifted_bit-same}
 use Rattle.column_core.specs.Value.{Value}
 use Rattle.runend_encode.specs.Starts.{AreChanges, AreRunEnds, GoesOn}
 use Rattle.runend_encode.proofs.Starts.{OpenEnds, OpenEnds-done, OpenEnds-first, OpenEnds-next, OpenEnds-same}
-
--- the rows from `start` to `row` - 1 have their bits in a word, from its lowest one up, and all others are 0
-pub record AreLanes (rows : List (Option Value)) (start row word : ℕ) : Type 0 where
-  pub told : (lane : ℕ) → start + lane < row → ((bit_at word lane ≡ 0) ↔ GoesOn rows (start + lane))
-  pub clear : (lane : ℕ) → row ≤ start + lane → bit_at word lane ≡ 0
-
-pub AreLanes-none : (rows : List (Option Value)) (start : ℕ) → AreLanes rows start start 0
-AreLanes-none rows start = record {
-  told = λ lane h. absurd (omega arith);
-  clear = λ lane h. none lane;
-}
-  where
-    none : (lane : ℕ) → bit_at 0 lane ≡ 0
-    none lane = let zero_over : 0 / 2 ^ lane ≡ 0 = omega arith in rw zero_over refl
-
--- a bit that is one if a row is not the row before
-told_one : (rows : List (Option Value)) (row : ℕ) (same differs : Bool) → (IsTrue same ↔ GoesOn rows row) → (same ≡ true → differs ≡ false) → (same ≡ false → differs ≡ true)
-    → ((one_if differs ≡ 0) ↔ GoesOn rows row)
-told_one rows row true differs tells goes_on stops = rw (goes_on refl) ((λ z. tells.0 refl), (λ goes. refl))
-told_one rows row false differs tells goes_on stops = rw (stops refl) ((λ one. absurd (omega arith)), (λ goes. let wrong : false ≡ true = tells.1 goes in cc))
-
--- a row more
-pub AreLanes-next : (rows : List (Option Value)) (start row word : ℕ) (same differs : Bool) → start ≤ row → row - start < 64
-    → (IsTrue same ↔ GoesOn rows row) → (same ≡ true → differs ≡ false) → (same ≡ false → differs ≡ true)
-    → AreLanes rows start row word → AreLanes rows start (row + 1) (bit_or word (one_if differs * 2 ^ (row - start) % 2 ^ 64))
-AreLanes-next rows start row word same differs ordered few tells goes_on stops lanes =
-    let k : ℕ = row - start in
-    let bit : ℕ = one_if differs * 2 ^ k % 2 ^ 64 in
-    record {
-      told = λ lane h. ⊎_elim
-          (λ (here : lane ≡ k).
-          let at : start + lane ≡ row = omega arith in
-          let low : bit_at word lane ≡ 0 = lanes.clear lane (omega arith) in
-          let own : bit_at bit lane ≡ one_if differs = ap (bit_at bit) here ∙ shifted_bit-same differs k few in
-          let is : bit_at (bit_or word bit) lane ≡ one_if differs = omega (arith, bit_at_or word bit lane, low, own) in
-          rw (is, at) (told_one rows row same differs tells goes_on stops))
-          (λ (other : lane ≢ k).
-          let own : bit_at bit lane ≡ 0 = shifted_bit-other differs k lane few other in
-          let is : bit_at (bit_or word bit) lane ≡ bit_at word lane = omega (arith, bit_at_or word bit lane, own) in
-          rw is (lanes.told lane (omega arith)))
-          (cases_eq lane k);
-      clear = λ lane h.
-          let own : bit_at bit lane ≡ 0 = shifted_bit-other differs k lane few (λ same. absurd (omega arith)) in
-          let low : bit_at word lane ≡ 0 = lanes.clear lane (omega arith) in
-          omega (arith, bit_at_or word bit lane, low, own);
-    }
 
 -- the bits of words, as booleans
 zero-false : (b : Bool) → one_if b ≡ 0 → b ≡ false

@@ -1,5 +1,6 @@
 pub mod RowTests
 pub mod Starts
+pub mod ChangedItems
 pub mod ChangedRows
 pub mod LeastEnds
 pub mod Joined

@@ -1,10 +1,11 @@
 -- Rows of flat columns that are compared.
-use Rattle.std.proofs.Common.{◌≡◌, ◌≢◌, ◌∙◌, ◌<◌, ℕ, zero, suc, List, [], ◌∷◌, Bool, true, false, Option, Some, None, get_or, length, map, refl, sym, ap}
-use Rattle.std.specs.Prelude.{◌↔◌, IsTrue, option_map, slice_get, slice_index_or}
+use Rattle.std.proofs.Common.{◌≡◌, ◌≢◌, ◌∙◌, ◌-◌, ◌<◌, ℕ, zero, suc, List, [], ◌∷◌, Bool, true, false, Option, Some, None, get_or, length, map, refl, sym, ap, arith}
+use Rattle.std.specs.Prelude.{◌↔◌, IsTrue, nat_eq, option_map, slice_get, slice_index_or}
 use Rattle.std.specs.declared.cmp.Ordering.{Ordering}
 use Rattle.std.specs.declared.cmp.Ordering.TheVariants.{Less, Equal, Greater}
 use Rattle.std.specs.Ordering.{is_eq, ordering_reverse}
 use Rattle.column_base.specs.ValidityForm.{ValidityForm, HasLength, flag_at, flags}
+use Rattle.std.proofs.lemmas.Bool.{eqb-true}
 use Rattle.std.proofs.lemmas.Option.{slice_get-get_or, slice_get-map}
 use Rattle.column_core.specs.Optionals.{optionals}
 use Rattle.column_core.specs.VarBinForm.{VarBinForm, varbin_rows, varbin_value, view_bytes, zero_view}
@@ -12,6 +13,7 @@ use Rattle.column_core.specs.Value.{FlatValue, Single, Value}
 use Rattle.column_core.proofs.OptionalRows.{null-row_of, valid-row_of}
 use Rattle.column_order.specs.Order.{row_cmp}
 use Rattle.column_order.proofs.OrderLaws.{row_equal, row_total}
+use Rattle.runend_encode.specs.Starts.{GoesOn}
 
 -- what stands as it stands in reverse is level
 level_reversed : (order : Ordering) → order ≡ ordering_reverse order → order ≡ Equal
@@ -122,6 +124,21 @@ same-by_items value xs form n left right x y false false equal result injective 
     let shown_right = null-row_of value xs form n right fits counted r (sym rv) in (
       (λ told. shown_left ∙ sym shown_right),
       (λ same. null refl refl),
+    )
+
+-- rows of items go on where a bit is 0 that is made of their flags and of whether their items go on
+pub go_on-by_items : {B : Type 0} (value : B → FlatValue) (xs : List B) (form : ValidityForm) (n row bit item : ℕ) (x y : B)
+    → ((a b : B) → value a ≡ value b → a ≡ b) → HasLength form n → length xs ≡ n → row < n → slice_get xs (row - 1) ≡ Some x → slice_get xs row ≡ Some y
+    → ((item ≡ 0) ↔ GoesOn xs row) → (flag_at form (row - 1) ≡ true → flag_at form row ≡ true → bit ≡ item)
+    → (flag_at form (row - 1) ≡ false → flag_at form row ≡ false → bit ≡ 0) → (flag_at form (row - 1) ≢ flag_at form row → bit ≡ 1)
+    → ((bit ≡ 0) ↔ GoesOn (map (option_map (λ (v : FlatValue). Single v)) (map (option_map value) (optionals xs (flags form n)))) row)
+go_on-by_items value xs form n row bit item x y injective fits counted within here there items both null differ =
+    let tells = same-by_items value xs form n (row - 1) row x y (flag_at form (row - 1)) (flag_at form row) (nat_eq item 0) (nat_eq bit 0)
+    injective fits counted (omega arith) within here there refl refl
+    ((λ told. items.0 (eqb-true item 0 told)), (λ same. ap (λ (d : ℕ). nat_eq d 0) (items.1 same)))
+    (λ v w. ap (λ (d : ℕ). nat_eq d 0) (both v w)) (λ v w. ap (λ (d : ℕ). nat_eq d 0) (null v w)) (λ other. ap (λ (d : ℕ). nat_eq d 0) (differ other)) in (
+      (λ none. tells.0 (ap (λ (d : ℕ). nat_eq d 0) none)),
+      (λ goes. eqb-true bit 0 (tells.1 goes)),
     )
 
 -- valid rows of the same view show the same bytes

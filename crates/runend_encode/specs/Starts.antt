@@ -1,5 +1,6 @@
 -- Where runs start, and what stands there.
-use Rattle.std.specs.Prelude.{◌≡◌, ◌↔◌, ◌<◌, ◌-◌, ℕ, List, [], ◌∷◌, Bool, false, Option, None, length, map, slice_get, slice_index_or}
+use Rattle.std.specs.Prelude.{◌≡◌, ◌↔◌, ◌+◌, ◌<◌, ◌≤◌, ◌-◌, ℕ, List, [], ◌∷◌, Bool, false, Option, None, length, map, slice_get, slice_index_or}
+use Rattle.std.specs.Int.{bit_at}
 use Rattle.column_core.specs.Value.{Value}
 use Rattle.runend_windows.specs.Cover.{IsTightCover}
 
@@ -17,8 +18,14 @@ abbrev pub AreRunEnds : List (Option Value) → List ℕ → Type 0
 AreRunEnds rows ends = IsTightCover rows ends (rows_at rows (starts_from 0 ends))
 
 -- a row is equal to the row before; the first row has none before it
-abbrev pub GoesOn : List (Option Value) → ℕ → Type 0
+abbrev pub GoesOn : {B : Type 0} → List B → ℕ → Type 0
 GoesOn rows row = slice_get rows (row - 1) ≡ slice_get rows row
+
+-- a bit of the word for each row from `start` to `stop` - 1, the first of them lowest: whether it differs from the row
+-- before; all others are 0
+pub record AreChangeBits {B : Type 0} (rows : List B) (start stop word : ℕ) : Type 0 where
+  pub told : (lane : ℕ) → start + lane < stop → ((bit_at word lane ≡ 0) ↔ GoesOn rows (start + lane))
+  pub clear : (lane : ℕ) → stop ≤ start + lane → bit_at word lane ≡ 0
 
 -- a bit for each row: whether it differs from the row before
 pub record AreChanges (rows : List (Option Value)) (bits : List Bool) : Type 0 where

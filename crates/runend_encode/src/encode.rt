@@ -10,8 +10,8 @@ ghost use Rattle.runend_windows.specs.Window.{IsWindow, run_rows};
 ghost use Rattle.runend_encode.specs.Encoding.{AreRunValues, IsRowEncoding};
 
 use crate::least::least_ends;
+use crate::row_changes::RowChanges;
 use crate::row_ends::row_ends;
-use crate::rows::FlatRows;
 use crate::run_ends::{run_ends, starts_of};
 use column_core::{FlatColumn, FlatView, PrimitiveArray, Validity, VortexError, VortexResult};
 use runend_windows::encode_plain;
@@ -89,7 +89,7 @@ pub fn encode_runs<A: Allocator + Copy>(
 }
 
 // The ends and the values of the runs of a column whose rows are looked up one by one.
-fn runs_of<R: FlatRows<A>, A: Allocator + Copy>(
+fn runs_of<R: RowChanges<A>, A: Allocator + Copy>(
     alloc: A,
     column: &R,
 ) -> VortexResult<(Vec<u64, A>, R)>
@@ -104,7 +104,7 @@ fn runs_of<R: FlatRows<A>, A: Allocator + Copy>(
 }
 
 // The encoding of such a column.
-fn encode_rows<R: FlatRows<A>, A: Allocator + Copy>(
+fn encode_rows<R: RowChanges<A>, A: Allocator + Copy>(
     alloc: A,
     column: &R,
 ) -> VortexResult<(PrimitiveArray<A>, R)>
@@ -119,7 +119,7 @@ fn encode_rows<R: FlatRows<A>, A: Allocator + Copy>(
 
 // The encoding of the rows that runs over such a column show. Where neighbours have equal values, the runs of the
 // values tell which runs are joined.
-fn encode_shown<R: FlatRows<A>, A: Allocator + Copy>(
+fn encode_shown<R: RowChanges<A>, A: Allocator + Copy>(
     alloc: A,
     ends: &PrimitiveArray<A>,
     values: &R,

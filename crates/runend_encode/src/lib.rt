@@ -3,7 +3,9 @@
 
 mod changes;
 mod encode;
+mod item_changes;
 mod least;
+mod row_changes;
 mod row_ends;
 mod rows;
 mod run_ends;

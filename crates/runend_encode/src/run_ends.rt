@@ -5,13 +5,13 @@ ghost use Rattle.column_core.specs.Leaf.{single_rows};
 ghost use Rattle.runend_encode.specs.Starts.{AreRunEnds, starts_from};
 
 use crate::changes::changes_of;
-use crate::rows::FlatRows;
+use crate::row_changes::RowChanges;
 use column_core::{BitBuffer, VortexError, VortexResult};
 use std::alloc::Allocator;
 
 /// The row that each longest stretch of equal rows ends before, null being equal to null: that of each row that differs
 /// from the row before, and the number of rows. Refused as `OutOfMemory` alone.
-pub(crate) fn run_ends<R: FlatRows<A>, A: Allocator + Copy>(
+pub(crate) fn run_ends<R: RowChanges<A>, A: Allocator + Copy>(
     alloc: A,
     column: &R,
 ) -> VortexResult<Vec<u64, A>>

@@ -1,4 +1,4 @@
-use Rattle.std.proofs.Common.{◌≡◌, ◌∙◌, ◌+◌, ◌-◌, ◌*◌, ◌/◌, ◌%◌, ◌≤◌, ◌<◌, ◌++◌, ◌∷◌, [], ℕ, length, subst, sym, ap, arith, ⊎_elim}
+use Rattle.std.proofs.Common.{◌≡◌, ◌∙◌, ◌+◌, ◌-◌, ◌*◌, ◌%◌, ◌≤◌, ◌<◌, ◌∷◌, [], ℕ, length, subst, ap, arith, ⊎_elim}
 use Rattle.std.specs.Prelude.{◌↔◌}
 use Rattle.std.specs.Int.{bit_at}
 use Rattle.std.proofs.lemmas.Bool.{cases_lt}
@@ -27,7 +27,7 @@ loop-index-preserved g c =
           let place : start + lane ≡ row = omega arith in
           let at : row % 64 ≡ lane = omega arith in
           let is : digit_at c.push_reserved.new.self.items row ≡ bit_at word lane = ap (λ ws. digit_at ws row) more ∙ digit_push words word row (omega (arith, inv.long)) ∙ ap (bit_at word) at in
-          let told = c.change_word.ensures lane (omega (arith, c.min.ensures)) in
+          let told = c.change_word.ensures lane (omega arith) (omega arith) in
           rw is (subst (λ (k : ℕ). (bit_at word lane ≡ 0) ↔ GoesOn rows k) place told))
           (cases_lt row start);
       long = ap length more ∙ length_push words word ∙ ap (λ n. n + 1) inv.long;

@@ -1,5 +1,5 @@
-use Rattle.std.proofs.Common.{◌≡◌, ◌∙◌, ◌<◌, ℕ, List, Bool, length, sym, subst, arith}
-use Rattle.column_core.specs.Leaf.{leaf_rows, single_rows}
+use Rattle.std.proofs.Common.{◌∙◌, sym, subst, arith}
+use Rattle.column_core.specs.Leaf.{single_rows}
 use Rattle.runend_encode.specs.Starts.{AreChanges}
 use Rattle.runend_encode.proofs.ChangedRows.{AreChanges-of_words}
 use Rattle.runend_encode.proofs.Starts.{length-single}

@@ -1,5 +1,5 @@
-use Rattle.std.proofs.Common.{◌≡◌, ◌+◌, ◌++◌, ◌∷◌, [], ◌∙◌, ◌≤◌, ℕ, List, count_by, ap, sym, length, length-append, vec_capacity, vec_len, arith}
-use Rattle.std.proofs.lemmas.List.{append_assoc, append-nil}
+use Rattle.std.proofs.Common.{◌++◌, ◌∷◌, [], ◌∙◌, ap, sym, length, length-append, arith}
+use Rattle.std.proofs.lemmas.List.{append_assoc}
 use Rattle.column_ops.proofs.SelectedRows.{length-places}
 use Rattle.runend_encode.proofs.run_ends.places_and_len.Goals as goal
 

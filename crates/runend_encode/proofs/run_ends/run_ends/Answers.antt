@@ -1,10 +1,10 @@
-use Rattle.std.proofs.Common.{◌≡◌, ◌∙◌, ◌<◌, ◌^◌, ◌++◌, ◌∷◌, [], ℕ, List, length, sym, ap, subst, arith}
+use Rattle.std.proofs.Common.{◌≡◌, ◌<◌, ◌^◌, ◌++◌, ◌∷◌, [], length, sym, subst, arith}
 use Rattle.column_base.specs.Bits.{set_indices_of}
-use Rattle.column_core.specs.Leaf.{leaf_rows, single_rows}
+use Rattle.column_core.specs.Leaf.{single_rows}
 use Rattle.column_ops.proofs.Arms.{if_ok}
 use Rattle.runend_encode.specs.Starts.{AreRunEnds}
 use Rattle.runend_encode.proofs.ChangedRows.{AreRunEnds-of_changes}
-use Rattle.runend_encode.proofs.Starts.{AreRunEnds-of_none, length-single}
+use Rattle.runend_encode.proofs.Starts.{length-single}
 use Rattle.runend_encode.proofs.run_ends.run_ends.Goals as goal
 
 pub returns-clause-ends : goal.returns-clause-ends

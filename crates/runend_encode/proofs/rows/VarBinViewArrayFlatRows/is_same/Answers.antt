@@ -1,4 +1,4 @@
-use Rattle.std.proofs.Common.{◌≡◌, ◌∙◌, ◌<◌, length, refl, sym, ap, arith}
+use Rattle.std.proofs.Common.{◌∙◌, length, refl, ap, arith}
 use Rattle.column_base.specs.ValidityForm.{ValidityForm, flag_at}
 use Rattle.column_base.proofs.ValidityRows.{has_row}
 use Rattle.column_core.specs.ScalarView.{sees}

@@ -1,10 +1,10 @@
 use Rattle.std.proofs.Common.{◌≡◌, ◌-◌}
 use Rattle.column_core.specs.Leaf.{single_rows}
-use Rattle.runend_encode.proofs.ChangedRows.{AreLanes}
-use Rattle.runend_encode.proofs.changes.change_word.Given as goal
+use Rattle.runend_encode.specs.Starts.{AreChangeBits}
+use Rattle.runend_encode.proofs.row_changes.tested_rows.Given as goal
 
 abbrev pub invariant-loop-row : goal.invariant-loop-row
 invariant-loop-row g l = record {
   before : l.before ≡ l.row - 1;
-  lanes : AreLanes (single_rows (g.R.ColumnOps.leaf l.column)) l.start l.row l.word;
+  lanes : AreChangeBits (single_rows (g.R.ColumnOps.leaf l.column)) l.start l.row l.word;
 }

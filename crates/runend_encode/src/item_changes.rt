@@ -1,0 +1,120 @@
+//! Which of 64 items differ from the item before: of bits and of flags by words, of numbers one by one.
+ghost use Rattle.std.specs.Prelude.{◌≡◌, ◌≢◌, ◌↔◌, ◌+◌, ◌-◌, ◌*◌, ◌<◌, ◌≤◌, ℕ, true, false, IsTrue, length, slice_get};
+ghost use Rattle.std.specs.Int.{bit_at};
+ghost use Rattle.column_base.specs.ValidityForm.{HasRow, flag_at};
+ghost use Rattle.column_base.specs.Validity.{form_of};
+ghost use Rattle.column_base.specs.Words.{digit_at};
+ghost use Rattle.runend_encode.specs.Starts.{AreChangeBits, GoesOn};
+
+use column_core::Validity;
+use std::alloc::Allocator;
+
+/// A bit for each of the 64 rows from row `index` * 64 on: whether it differs from the row before, given whether its
+/// item does. Null is equal to null, over any items.
+#[inline(always)]
+pub(crate) fn changed_optionals<A: Allocator>(
+    validity: &Validity<A>,
+    index: usize,
+    items: u64,
+) -> u64
+    requires { HasRow (form_of validity.now) (index * 64) }
+    ensures valid { (lane : ℕ) → lane < 64 → flag_at (form_of validity.now) (index * 64 + lane - 1) ≡ true →
+        flag_at (form_of validity.now) (index * 64 + lane) ≡ true → bit_at result lane ≡ bit_at items lane }
+    ensures null { (lane : ℕ) → lane < 64 → flag_at (form_of validity.now) (index * 64 + lane - 1) ≡ false →
+        flag_at (form_of validity.now) (index * 64 + lane) ≡ false → bit_at result lane ≡ 0 }
+    ensures one { (lane : ℕ) → lane < 64 → flag_at (form_of validity.now) (index * 64 + lane - 1) ≢
+        flag_at (form_of validity.now) (index * 64 + lane) → bit_at result lane ≡ 1 }
+{
+    match validity {
+        Validity::NonNullable => items,
+        Validity::AllValid => items,
+        Validity::AllInvalid => 0,
+        Validity::Bits(flags) => {
+            let words = flags.words();
+            changed_bits(words, index) | (words[index] & items)
+        }
+    }
+}
+
+/// A bit for each bit of the word at `index`: whether it differs from the bit before. That of the first bit of all is
+/// false.
+#[inline(always)]
+pub(crate) fn changed_bits(words: &[u64], index: usize) -> u64
+    requires { index < length words.now }
+    ensures same { (lane : ℕ) → lane < 64 → digit_at words.now (index * 64 + lane - 1) ≡
+        digit_at words.now (index * 64 + lane) → bit_at result lane ≡ 0 }
+    ensures differs { (lane : ℕ) → lane < 64 → digit_at words.now (index * 64 + lane - 1) ≢
+        digit_at words.now (index * 64 + lane) → bit_at result lane ≡ 1 }
+{
+    let word = words[index];
+    word ^ ((word << 1) | bit_before(words, index))
+}
+
+// The bit before the word at `index`, and the first bit of all for the first word.
+#[inline(always)]
+fn bit_before(words: &[u64], index: usize) -> u64
+    requires { index < length words.now }
+    ensures { result ≡ digit_at words.now (index * 64 - 1) }
+{
+    if index == 0 {
+        words[0] & 1
+    } else {
+        words[index - 1] >> 63
+    }
+}
+
+/// A bit for each of up to 64 numbers from `start` on: whether it differs from the number before. That of the first
+/// number of all is false.
+#[inline(always)]
+pub(crate) fn changed_numbers(numbers: &[i128], start: usize) -> u64
+    requires { start < length numbers.now }
+    ensures { (lane : ℕ) → lane < 64 → start + lane < length numbers.now →
+        ((bit_at result lane ≡ 0) ↔ GoesOn numbers.now (start + lane)) }
+{
+    let count = numbers.len() - start;
+    if count < 64 {
+        few_numbers(numbers, start, count)
+    } else {
+        many_numbers(numbers, start)
+    }
+}
+
+// The bits of 64 numbers. Eight at a time are compared without a loop, since their number is a constant.
+#[inline(always)]
+fn many_numbers(numbers: &[i128], start: usize) -> u64
+    requires { start + 64 ≤ length numbers.now }
+    ensures { AreChangeBits numbers.now start (start + 64) result }
+{
+    let mut word = 0;
+    for eight in 0..8 {
+        word |= few_numbers(numbers, start + eight * 8, 8) << (eight * 8);
+    }
+    word
+}
+
+// The bits of `count` numbers.
+#[inline(always)]
+fn few_numbers(numbers: &[i128], start: usize, count: usize) -> u64
+    requires few { count ≤ 64 }
+    requires in_bounds { start + count ≤ length numbers.now }
+    ensures { AreChangeBits numbers.now start (start + count) result }
+{
+    let mut word = 0;
+    let mut before = start.saturating_sub(1);
+    for lane in 0..count {
+        let here = start + lane;
+        word |= u64::from(!are_same_numbers(numbers, before, here)) << lane;
+        before = here;
+    }
+    word
+}
+
+// Are the numbers at `left` and at `right` equal?
+#[inline(always)]
+fn are_same_numbers(numbers: &[i128], left: usize, right: usize) -> bool
+    requires left { left < length numbers.now }
+    requires right { right < length numbers.now }
+    ensures { IsTrue result ↔ (slice_get numbers.now left ≡ slice_get numbers.now right) }
+{
+    numbers[left] == numbers[right]
+}
