@@ -122,15 +122,3 @@ pub(crate) fn assert_rows<A: Allocator + Copy>(
         assert_eq!(rt; row, rows[index], "at {index}");
     }
 }
-
-/// Are the rows these, of a signed type?
-pub(crate) fn are_rows<A: Allocator + Copy>(array: &ArrayRef<A>, rows: &[Option<i64>]) -> bool {
-    for index in 0..rows.len() {
-        match array.scalar_at(index) {
-            Ok(ScalarView::Null) if rows[index].is_none() => {}
-            Ok(ScalarView::Signed(number)) if rows[index] == Some(number) => {}
-            _ => return false,
-        }
-    }
-    array.len() == rows.len()
-}

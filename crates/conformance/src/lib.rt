@@ -5,11 +5,7 @@
 #[cfg(test)]
 mod bits;
 #[cfg(test)]
-mod builder;
-#[cfg(test)]
 mod columns;
-#[cfg(test)]
-mod commands;
 #[cfg(test)]
 mod edges;
 #[cfg(test)]

@@ -3,9 +3,9 @@ ghost use Rattle.column_core.specs.PrimitiveForm.{primitive_dtype};
 ghost use Rattle.runend_windows.specs.Ends.{IsEndsType};
 
 use crate::columns::{context, ends_column, required};
-use crate::parts::{bits, texts};
-use crate::shown::{Shown, are_shown, assert_shown};
-use crate::trials::{Calls, Trial, each_refused_in_turn, refused_in_turn};
+use crate::parts::bits;
+use crate::shown::assert_shown;
+use crate::trials::{Trial, refused_in_turn};
 use runend_windows::validate_ends;
 use std::alloc::Allocator;
 use std::process::Abort;
@@ -13,34 +13,13 @@ use std::rc::Rc;
 use std::test::Fail;
 use vortex_runend::compress::runend_decode_listview;
 use vortex_runend::{
-    ArrayRef, BoolArray, ExecutionCtx, FlatColumn, ListViewArray, PrimitiveArray, RowValidity,
-    Validity, VortexResult,
+    ArrayRef, ExecutionCtx, FlatColumn, ListViewArray, PrimitiveArray, RowValidity, VortexResult,
 };
 
 // The numbers from 1 to 6.
 fn six_numbers<A: Allocator + Copy>(alloc: A) -> VortexResult<FlatColumn<A>> {
     let numbers = required(alloc, &[1i64, 2, 3, 4, 5, 6])?;
     Ok(FlatColumn::Primitive(numbers))
-}
-
-// True, false, false, true, true and false.
-fn six_truths<A: Allocator + Copy>(alloc: A) -> VortexResult<FlatColumn<A>> {
-    let flags = bits(alloc, &[true, false, false, true, true, false])?;
-    let truths = BoolArray::try_new(flags, Validity::NonNullable)?;
-    Ok(FlatColumn::Bool(truths))
-}
-
-const LETTERS: [Option<&str>; 6] = [
-    Some("a"),
-    Some("b"),
-    Some("c"),
-    Some("d"),
-    Some("e"),
-    Some("f"),
-];
-
-fn six_letters<A: Allocator + Copy>(alloc: A) -> VortexResult<FlatColumn<A>> {
-    Ok(FlatColumn::VarBinView(texts(alloc, &LETTERS)?))
 }
 
 // The offsets and sizes of three lists.
@@ -141,55 +120,5 @@ impl Trial for RunsOfLists {
 #[test]
 fn decode_of_lists_refused_at_each_request(rt: HostRuntime) -> Result<(), Fail> {
     refused_in_turn::<RunsOfLists>(&rt, rt.alloc());
-    Ok(())
-}
-
-// Three lists of six elements: the first twice, the second three times and the third five times.
-fn repeated<A: Allocator + Copy>(
-    elements: FlatColumn<A>,
-    ctx: &mut ExecutionCtx<A>,
-) -> VortexResult<ArrayRef<A>> {
-    let values = three_lists(elements, RowValidity::NonNullable, ctx)?;
-    match ends_column(*ctx.allocator(), &[2u32, 5, 10]) {
-        Ok(ends) => decoded_lists(ends, values, 10, ctx),
-        Err(error) => {
-            drop(values);
-            Err(error)
-        }
-    }
-}
-
-// Are these three lists repeated so?
-fn are_repeated<S: Shown, A: Allocator + Copy>(
-    rows: VortexResult<ArrayRef<A>>,
-    lists: [&[S]; 3],
-) -> VortexResult<bool> {
-    let [first, second, third] = lists;
-    let (first, second, third) = (Some(first), Some(second), Some(third));
-    let due = [
-        first, first, second, second, second, third, third, third, third, third,
-    ];
-    are_shown(rows, &due)
-}
-
-// Lists of numbers, of booleans and of texts.
-struct ListsOfEachKind {}
-
-impl Calls for ListsOfEachKind {
-    fn are_answered<A: Allocator + Copy>(alloc: A) -> VortexResult<bool> {
-        let mut ctx = context(alloc);
-        let numbers = repeated(six_numbers(alloc)?, &mut ctx);
-        let numbers = are_repeated(numbers, [&[1i64, 2], &[3], &[4, 5, 6]])?;
-        let truths = repeated(six_truths(alloc)?, &mut ctx);
-        let truths = are_repeated(truths, [&[true, false], &[false], &[true, true, false]])?;
-        let letters = repeated(six_letters(alloc)?, &mut ctx);
-        let letters = are_repeated(letters, [&["a", "b"], &["c"], &["d", "e", "f"]])?;
-        Ok(numbers && truths && letters)
-    }
-}
-
-#[test]
-fn lists_of_each_kind_are_decoded(rt: HostRuntime) -> Result<(), Fail> {
-    each_refused_in_turn::<ListsOfEachKind>(&rt, rt.alloc());
     Ok(())
 }

@@ -7,11 +7,11 @@ use std::alloc::Allocator;
 use std::process::Abort;
 use std::test::Fail;
 use vortex_runend::compute::{
-    fill_null, filter_run_end_primitive, map_rows, map_rows_bool, take_indices_unchecked,
+    filter_run_end_primitive, map_rows, map_rows_bool, take_indices_unchecked,
 };
 use vortex_runend::{
     ArrayRef, BitBuffer, BitBufferMut, DType, ExecutionCtx, Mask, NativePType, Nullability, PType,
-    Scalar, ScalarValue, Validity, VortexError, VortexResult,
+    Validity, VortexError, VortexResult,
 };
 
 // Every other of 112 rows, from the first on.
@@ -79,7 +79,8 @@ impl Trial for DoubledRuns {
     }
 
     fn assert_rows<A: Allocator + Copy>(rt: &impl Abort, rows: &ArrayRef<A>) {
-        assert!(rt; matches!(rows, ArrayRef::RunEnd(_)));
+        let dtype = DType::Primitive(PType::I64, Nullability::Nullable);
+        assert!(rt; matches!(rows, ArrayRef::RunEnd(_)) && rows.dtype() == dtype);
         assert_rows(rt, rows, &[Some(14), Some(14), Some(14)]);
     }
 }
@@ -98,43 +99,10 @@ impl Trial for DoubledRows {
     }
 }
 
-// The column with 0 in the place of null, of a type of 64 bits that has no null.
-fn filled<A: Allocator + Copy>(
-    column: &ArrayRef<A>,
-    ctx: &mut ExecutionCtx<A>,
-) -> VortexResult<ArrayRef<A>> {
-    let dtype = DType::Primitive(PType::I64, Nullability::NonNullable);
-    let zero = Scalar::try_new(dtype, Some(ScalarValue::Signed(0)))?;
-    match column {
-        ArrayRef::RunEnd(runs) => fill_null(runs, &zero, ctx),
-        _ => Err(VortexError::Unsupported),
-    }
-}
-
-// Twice each row is of a type with null until it is filled.
-struct FilledDoubles {}
-
-impl Trial for FilledDoubles {
-    fn run<A: Allocator + Copy>(alloc: A) -> VortexResult<ArrayRef<A>> {
-        let mut ctx = full_context(alloc);
-        let column = doubled(&mut ctx)?;
-        let filled = filled(&column, &mut ctx);
-        drop(column);
-        filled
-    }
-
-    fn assert_rows<A: Allocator + Copy>(rt: &impl Abort, rows: &ArrayRef<A>) {
-        let dtype = DType::Primitive(PType::I64, Nullability::NonNullable);
-        assert!(rt; matches!(rows, ArrayRef::RunEnd(_)) && rows.dtype() == dtype);
-        assert_rows(rt, rows, &[Some(14), Some(14), Some(14)]);
-    }
-}
-
 #[test]
 fn functions_are_asked_for_visible_rows(rt: HostRuntime) -> Result<(), Fail> {
     refused_in_turn::<DoubledRuns>(&rt, rt.alloc());
     refused_in_turn::<DoubledRows>(&rt, rt.alloc());
-    refused_in_turn::<FilledDoubles>(&rt, rt.alloc());
     Ok(())
 }
 

@@ -13,24 +13,6 @@ use std::test::Fail;
 use vortex_runend::compress::runend_decode_varbinview;
 use vortex_runend::{ArrayRef, ExecutionCtx, PrimitiveArray, VarBinViewArray, VortexResult};
 
-const LETTERS: [Option<&str>; 3] = [Some("a"), None, Some("c")];
-
-// Are the rows "a" twice, null three times and "c" five times, with the one buffer as it was?
-fn assert_letters<A: Allocator + Copy>(rt: &impl Abort, array: &ArrayRef<A>) {
-    let (a, null, c) = (Some("a"), None, Some("c"));
-    assert_shown(rt, array, &[a, a, null, null, null, c, c, c, c, c]);
-    match array {
-        ArrayRef::VarBinView(flat) => {
-            assert_eq!(rt; flat.buffers().len(), 1);
-            match flat.buffers().first() {
-                Some(buffer) => assert_eq!(rt; buffer.as_slice(), b"ac".as_slice()),
-                None => panic!(rt; "no buffer"),
-            }
-        }
-        _ => panic!(rt; "no flat texts"),
-    }
-}
-
 // What the decoder makes of parts that are valid; else their fault.
 fn decoded_texts<A: Allocator + Copy>(
     ends: PrimitiveArray<A>,
@@ -49,31 +31,6 @@ fn decoded_texts<A: Allocator + Copy>(
             Err(error)
         }
     }
-}
-
-struct RunsOfLetters {}
-
-impl Trial for RunsOfLetters {
-    fn run<A: Allocator + Copy>(alloc: A) -> VortexResult<ArrayRef<A>> {
-        let values = texts(alloc, &LETTERS)?;
-        match ends_column(alloc, &[2u32, 5, 10]) {
-            Ok(ends) => decoded_texts(ends, values, 0, 10, &mut context(alloc)),
-            Err(error) => {
-                drop(values);
-                Err(error)
-            }
-        }
-    }
-
-    fn assert_rows<A: Allocator + Copy>(rt: &impl Abort, rows: &ArrayRef<A>) {
-        assert_letters(rt, rows);
-    }
-}
-
-#[test]
-fn decode_of_texts_refused_at_each_request(rt: HostRuntime) -> Result<(), Fail> {
-    refused_in_turn::<RunsOfLetters>(&rt, rt.alloc());
-    Ok(())
 }
 
 const WORDS: [Option<&str>; 3] = [Some("first"), None, Some("last")];
