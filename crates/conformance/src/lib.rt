@@ -13,8 +13,6 @@ mod encoded;
 #[cfg(test)]
 mod errors;
 #[cfg(test)]
-mod fakes;
-#[cfg(test)]
 mod flat;
 #[cfg(test)]
 mod flat_calls;
@@ -42,8 +40,6 @@ mod records;
 mod refusals;
 #[cfg(test)]
 mod reports;
-#[cfg(test)]
-mod scripts;
 #[cfg(test)]
 mod shared;
 #[cfg(test)]
