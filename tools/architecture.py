@@ -14,7 +14,7 @@ from pathlib import Path
 
 ROOT = Path(__file__).resolve().parent.parent
 PAGE = "docs/ARCHITECTURE.md"
-WITHOUT_ROW = {"conformance", "refusing", "script_tests"}
+WITHOUT_ROW = {"column_tests", "conformance", "refusing", "script_tests"}
 LEFT_OUT = {"lib", "main", "Lib"}
 
 

@@ -14,7 +14,7 @@ from pathlib import Path
 
 ROOT = Path(__file__).resolve().parent.parent
 # Crates of tests alone: a further kernel has tests of its own there.
-TESTS = {"conformance", "refusing", "script_tests"}
+TESTS = {"column_tests", "conformance", "refusing", "script_tests"}
 
 
 def order_of(crates_txt: str) -> list[str]:

@@ -3,21 +3,11 @@
 #![tactic(auto)]
 
 #[cfg(test)]
-mod bits;
-#[cfg(test)]
 mod columns;
 #[cfg(test)]
 mod edges;
 #[cfg(test)]
 mod encoded;
-#[cfg(test)]
-mod errors;
-#[cfg(test)]
-mod flat;
-#[cfg(test)]
-mod flat_calls;
-#[cfg(test)]
-mod growths;
 #[cfg(test)]
 mod indices;
 #[cfg(test)]
@@ -34,12 +24,6 @@ mod memory;
 mod messages;
 #[cfg(test)]
 mod parts;
-#[cfg(test)]
-mod records;
-#[cfg(test)]
-mod refusals;
-#[cfg(test)]
-mod reports;
 #[cfg(test)]
 mod shared;
 #[cfg(test)]

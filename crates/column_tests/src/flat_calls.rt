@@ -1,14 +1,14 @@
-//! What can be done with a flat column, under the names of the library alone, and with each request for memory
-//! refused in turn.
-use crate::columns::{nullable, required};
-use crate::trials::{Calls, each_refused_in_turn};
+//! What can be done with a flat column, with each request for memory refused in turn.
+use crate::parts::{nullable, required};
+use column_core::{
+    BoolArray, DType, FlatColumn, Mask, Nullability, PType, Scalar, ScalarValue, ScalarView,
+    Validity, VortexResult,
+};
+use column_ops::ColumnOps;
+use column_order::{CompareOperator, FlatOrder};
+use refusing::{Calls, are_answered_in_turn};
 use std::alloc::Allocator;
 use std::test::Fail;
-use vortex_runend::compute::CompareOperator;
-use vortex_runend::{
-    BoolArray, ColumnOps, DType, FlatColumn, FlatOrder, Mask, Nullability, PType, Scalar,
-    ScalarValue, ScalarView, SignedSum, UnsignedSum, Validity, VortexResult,
-};
 
 // The rows 4, null and 7.
 fn three_rows<A: Allocator + Copy>(alloc: A) -> VortexResult<FlatColumn<A>> {
@@ -172,18 +172,7 @@ impl Calls for FlatCalls {
 }
 
 #[test]
-fn flat_columns_are_called_by_the_names_of_the_library(rt: HostRuntime) -> Result<(), Fail> {
-    each_refused_in_turn::<FlatCalls>(&rt, rt.alloc());
-    Ok(())
-}
-
-#[test]
-fn runs_are_added_at_once(rt: HostRuntime) -> Result<(), Fail> {
-    let mut signed = SignedSum::new();
-    assert!(rt; signed.add_run(-4, 3) && signed.add_run(5, 1));
-    assert_eq!(rt; signed.value(), -7);
-    let mut unsigned = UnsignedSum::new();
-    assert!(rt; unsigned.add_run(1, usize::MAX) && !unsigned.add_run(1, 1));
-    assert_eq!(rt; unsigned.value(), u64::MAX);
+fn flat_columns_are_selected_changed_and_compared(rt: HostRuntime) -> Result<(), Fail> {
+    assert!(rt; are_answered_in_turn::<FlatCalls>(rt.alloc()));
     Ok(())
 }

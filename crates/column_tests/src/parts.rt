@@ -1,0 +1,57 @@
+//! Bits and columns of numbers, and parts that are joined.
+use column_core::{BitBuffer, BitBufferMut, NativePType, PrimitiveArray, Validity, VortexResult};
+use std::alloc::Allocator;
+
+/// A bit for each flag.
+pub(crate) fn bits<A: Allocator + Copy>(alloc: A, flags: &[bool]) -> VortexResult<BitBuffer<A>> {
+    let mut bits = BitBufferMut::with_capacity(alloc, flags.len())?;
+    for flag in flags {
+        bits.append(*flag)?;
+    }
+    Ok(bits.freeze())
+}
+
+/// A column of a type without null.
+pub(crate) fn required<T: NativePType, A: Allocator + Copy>(
+    alloc: A,
+    items: &[T],
+) -> VortexResult<PrimitiveArray<A>> {
+    let items = Vec::from_slice(alloc, items)?;
+    PrimitiveArray::try_new(T::wrap(items), Validity::NonNullable)
+}
+
+/// A column with a bit for each row, null where the flag is false.
+pub(crate) fn nullable<T: NativePType, A: Allocator + Copy>(
+    alloc: A,
+    items: &[T],
+    flags: &[bool],
+) -> VortexResult<PrimitiveArray<A>> {
+    let flags = bits(alloc, flags)?;
+    match Vec::from_slice(alloc, items) {
+        Ok(items) => PrimitiveArray::try_new(T::wrap(items), Validity::Bits(flags)),
+        Err(error) => {
+            drop(flags);
+            Err(error.into())
+        }
+    }
+}
+
+/// Both, or the first refusal.
+pub(crate) fn both<L: Drop, R: Drop>(
+    left: VortexResult<L>,
+    right: VortexResult<R>,
+) -> VortexResult<(L, R)> {
+    match left {
+        Ok(left) => match right {
+            Ok(right) => Ok((left, right)),
+            Err(error) => {
+                drop(left);
+                Err(error)
+            }
+        },
+        Err(error) => {
+            drop(right);
+            Err(error)
+        }
+    }
+}

@@ -1,0 +1,69 @@
+//! Metadata records that no line of vectors holds: those that a program builds, and long ones.
+use column_base::{PType, VortexError, VortexResult};
+use refusing::{Calls, are_answered_in_turn};
+use runend_metadata::RunEndMetadata;
+use runend_metadata::laws::write_then_read;
+use std::alloc::{Allocator, Global};
+use std::test::Fail;
+
+// How many bytes of fields are skipped: two fields of two bytes each time.
+const SKIPPED: usize = 1 << 20;
+
+// A record of a mebibyte of fields that are skipped, each a number of one byte, and then the ends type u32.
+fn with_skipped_fields(alloc: Global) -> VortexResult<Vec<u8, Global>> {
+    let mut bytes = Vec::new(alloc);
+    for index in 0..SKIPPED {
+        bytes.push(if index % 2 == 0 { 0x20 } else { 0x7F })?;
+    }
+    bytes.extend_from_slice(&[0x08, 0x02])?;
+    Ok(bytes)
+}
+
+// Does the record say this type of ends, and no runs and no offset?
+fn says_ends(bytes: &[u8], ends_ptype: i32) -> VortexResult<bool> {
+    let metadata = RunEndMetadata::decode(bytes)?;
+    Ok((metadata.ends_ptype, metadata.num_runs, metadata.offset) == (ends_ptype, 0, 0))
+}
+
+#[test]
+fn a_mebibyte_of_skipped_fields_is_read(rt: HostRuntime) -> Result<(), Fail> {
+    let bytes = with_skipped_fields(rt.alloc())?;
+    let is_read = says_ends(&bytes, 2);
+    let front = bytes
+        .split_last()
+        .map_or(bytes.as_slice(), |(_, front)| front);
+    let is_cut = says_ends(front, 2);
+    drop(bytes);
+    assert!(rt; is_read == Ok(true) && is_cut == Err(VortexError::BadMetadata));
+    Ok(())
+}
+
+// Are these the bytes that a record was written as?
+fn are_bytes<A: Allocator>(written: VortexResult<Vec<u8, A>>, bytes: &[u8]) -> VortexResult<bool> {
+    let written = written?;
+    let are_due = written.as_slice() == bytes;
+    drop(written);
+    Ok(are_due)
+}
+
+// A record that says nothing has no bytes. One of three runs from row 1 on, with ends of type u32, is read again.
+struct Records {}
+
+impl Calls for Records {
+    fn are_answered<A: Allocator + Copy>(alloc: A) -> VortexResult<bool> {
+        let mut metadata = RunEndMetadata::default();
+        let is_empty = metadata.ends_ptype() == PType::U8
+            && are_bytes(metadata.encode_to_vec(alloc), &[])?;
+        metadata.set_ends_ptype(PType::U32);
+        metadata.num_runs = 3;
+        metadata.offset = 1;
+        let is_spelt = are_bytes(metadata.encode_to_vec(alloc), &[0x08, 2, 0x10, 3, 0x18, 1])?;
+        Ok(is_empty && is_spelt && write_then_read(&metadata, alloc)? == metadata)
+    }
+}
+
+#[test]
+fn a_record_is_built_written_and_read(rt: HostRuntime) -> Result<(), Fail> {
+    assert!(rt; are_answered_in_turn::<Records>(rt.alloc()));
+    Ok(())
+}
