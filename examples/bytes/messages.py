@@ -16,8 +16,8 @@ import sys
 import warnings
 
 from model import (
-    ALL_NULL, BINARY, BOOL, BY_BITS, BY_RUNS, CONSTANT, DECIMAL, FLAT, LIST, LISTS, NEVER_NULL, NONE_NULL, RUNS, SIZES,
-    U64, UNSIGNED, UTF8, Column, answer, is_valid, written,
+    ALL_NULL, BINARY, BOOL, BY_BITS, BY_RUNS, CONSTANT, DECIMAL, FLAT, LIST, LISTS, NEVER_NULL, NON_NULLABLE, NONE_NULL,
+    NULLABLE, PLAIN, RUNS, SIZES, U64, UNSIGNED, UTF8, Column, answer, is_valid, written,
 )
 
 TEXTS = ["", "", "a", "two words", "Z\u00fcrich", "\U0001f41d", "x" * 200]
@@ -43,7 +43,7 @@ def begun(kind: int, form: int, rows: int):
 
 def flat(chance: random.Random, rows: int):
     """A flat column of so many rows, with anything stored under null."""
-    kind = chance.choice([*SIZES, BOOL, UTF8, BINARY])
+    kind = chance.choice([*PLAIN])
     message = begun(kind, FLAT, rows)
     message.validity = chance.choice([NEVER_NULL, NONE_NULL, ALL_NULL, BY_BITS, BY_BITS])
     if message.validity == BY_BITS:
@@ -75,9 +75,22 @@ def flat_numbers(numbers: list[int]):
     return message
 
 
+def null_of_lists(chance: random.Random, rows: int):
+    """Null in each of so many rows, of lists of any type."""
+    message = begun(LIST, CONSTANT, rows)
+    message.validity, message.items = ALL_NULL, b""
+    message.element_type = chance.choice([*PLAIN, DECIMAL])
+    message.element_nullability = chance.choice([NON_NULLABLE, NULLABLE])
+    if message.element_type == DECIMAL:
+        message.precision, message.scale = chance.randrange(256), chance.randrange(-128, 128)
+    return message
+
+
 def constant(chance: random.Random, rows: int):
     """One value in each of so many rows, or null."""
-    kind = chance.choice([*SIZES, BOOL, UTF8, BINARY])
+    kind = chance.choice([*PLAIN, LIST])
+    if kind == LIST:
+        return null_of_lists(chance, rows)
     message = begun(kind, CONSTANT, rows)
     message.validity = chance.choice([NEVER_NULL, NONE_NULL, ALL_NULL])
     if kind == DECIMAL:

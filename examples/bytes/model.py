@@ -17,6 +17,8 @@ NEVER_NULL, NONE_NULL, ALL_NULL, BY_BITS, BY_RUNS = 1, 2, 3, 4, 5
 U64, BOOL, DECIMAL, UTF8, BINARY, LIST = 4, 9, 10, 11, 12, 13
 SIZES = {1: 1, 2: 2, 3: 4, 4: 8, 5: 1, 6: 2, 7: 4, 8: 8, DECIMAL: 16}  # bytes of a number, by its type
 UNSIGNED = {1, 2, 3, 4}
+PLAIN = {*SIZES, BOOL, UTF8, BINARY}
+NON_NULLABLE, NULLABLE = 1, 2
 MOST_LEVELS, SHOWN = 16, 100
 
 
@@ -135,11 +137,23 @@ def is_flat(message) -> bool:
     return message.type in SIZES and len(message.items) == message.rows * SIZES[message.type]
 
 
+def is_null_of_lists(message) -> bool:
+    """A constant of lists: null, and the type of the elements."""
+    decimal = {"precision", "scale"} if message.element_type == DECIMAL else set()
+    wanted = {"validity", "items", "element_type", "element_nullability"} | decimal
+    if not has_fields(message, wanted) or not is_decimal_type(message):
+        return False
+    elements = (message.element_type in PLAIN, message.element_nullability in (NON_NULLABLE, NULLABLE))
+    return message.validity == ALL_NULL and not message.items and all(elements)
+
+
 def is_constant(message) -> bool:
+    if message.type == LIST:
+        return is_null_of_lists(message)
     if not has_fields(message, {"validity", "items"} | decimal_fields(message)) or not is_decimal_type(message):
         return False
     if message.validity == ALL_NULL:
-        return message.type in {*SIZES, BOOL, UTF8, BINARY} and not message.items
+        return message.type in PLAIN and not message.items
     if message.validity not in (NEVER_NULL, NONE_NULL):
         return False
     if message.type == UTF8:

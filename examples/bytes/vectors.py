@@ -14,7 +14,8 @@ import warnings
 
 import model
 from model import (
-    ALL_NULL, BINARY, BOOL, BY_BITS, BY_RUNS, CONSTANT, DECIMAL, LISTS, NEVER_NULL, RUNS, UTF8, column, is_set,
+    ALL_NULL, BINARY, BOOL, BY_BITS, BY_RUNS, CONSTANT, DECIMAL, LIST, LISTS, NEVER_NULL, NULLABLE, RUNS, UTF8, column,
+    is_set,
 )
 
 READ = re.compile(r"(?:refuse )?([a-z]\w*) = from bytes ((?:[0-9A-Fa-f]{2} )*[0-9A-Fa-f]{2}|-)(?: => (.*))?")
@@ -44,6 +45,11 @@ def row(message, index: int) -> str:
     return f"x{data.hex().upper()}" if message.type == BINARY else f'"{data.decode().translate(ESCAPES)}"'
 
 
+def type_name(kind: int, message) -> str:
+    """A type of rows, or of elements, with the precision and scale that the message has for decimals."""
+    return f"decimal({message.precision},{message.scale})" if kind == DECIMAL else TYPES[kind]
+
+
 def form(message) -> str:
     """The form of a column in the words of docs/VECTORS.md."""
     if message.form == RUNS:
@@ -52,9 +58,10 @@ def form(message) -> str:
     if message.form == LISTS:
         parts = [f"{{ {form(part)} }}" for part in (message.elements, message.offsets, message.sizes)]
         return " ".join(["lists", *parts, list_validity(message)])
-    decimal = f"decimal({message.precision},{message.scale})"
-    name = decimal if message.type == DECIMAL else TYPES[message.type]
-    null = "" if message.validity == NEVER_NULL else "?"
+    if message.type == LIST:
+        elements = type_name(message.element_type, message) + "?" * (message.element_nullability == NULLABLE)
+        return f"constant list({elements})? null {message.rows}"
+    name, null = type_name(message.type, message), "" if message.validity == NEVER_NULL else "?"
     if message.form == CONSTANT:
         return f"constant {name}{null} {row(message, 0)} {message.rows}"
     rows = [row(message, index) for index in range(message.rows)]
