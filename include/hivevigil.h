@@ -266,7 +266,7 @@ HV_ANSWER hv_fill(const hv_session *session, const hv_column *column, const hv_v
  * the question's kernel is registered, over runs or a constant, but for hv_extreme and hv_min_max of texts or bytes. */
 /* the sum of the rows that are not null; 13 unless they are integers */
 HV_ANSWER hv_sum(const hv_session *session, const hv_column *column, hv_total *total, hv_error *error);
-/* are any two rows equal, null equal to null? 13 for lists */
+/* are all rows equal, null equal to null? 13 for lists */
 HV_ANSWER hv_is_constant(const hv_session *session, const hv_column *column, uint8_t *truth, hv_error *error);
 /* is no row above the next (strict: is each below it), null below all else? 13 for lists */
 HV_ANSWER hv_is_sorted(const hv_session *session, const hv_column *column, uint8_t strict, uint8_t *truth,

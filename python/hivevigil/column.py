@@ -317,7 +317,7 @@ class Column:
         return (None, int(total.as_unsigned), int(total.as_signed))[total.kind]
 
     def is_constant(self) -> bool:
-        """Whether any two rows are equal, null equal to null."""
+        """Whether all rows are equal, null equal to null."""
         return self._truth(calls.hv_is_constant)
 
     def is_sorted(self, strict: bool = False) -> bool:

@@ -61,7 +61,7 @@ impl Column {
         })
     }
 
-    /// Are any two rows equal, null equal to null?
+    /// Are all rows equal, null equal to null?
     pub fn is_constant(&self) -> Result<bool, Error> {
         let (session, mut truth) = (Session::initial(), 0);
         ask(|fields| unsafe {
