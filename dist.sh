@@ -26,7 +26,7 @@ make_tar() {
     mkdir -p "$work/$name/tools" "$work/$name/rust" "$work/$name/docs"
     cp -R "$top/include" "$top/lib" "$top/LICENSE" "$top/VERSION" "$top/install.sh" "$work/$name/"
     cp -R "$top/tools/packages" "$work/$name/tools/"
-    cp "$top/docs/ABI.md" "$work/$name/docs/"
+    for page in ABI.md BYTES.md ERRORS.md column.proto; do cp "$top/docs/$page" "$work/$name/docs/"; done
     for part in Cargo.toml build.rs src tests examples; do cp -R "$top/rust/$part" "$work/$name/rust/"; done
     tar -C "$work" --owner=0 --group=0 --numeric-owner -czf "$out/$name.tar.gz" "$name"
 }

@@ -1,5 +1,6 @@
 #!/bin/sh
-# Puts the built library in place: headers, archive, shared object, pkg-config and CMake files, licence.
+# Puts the built library in place: headers, archive, shared object, pkg-config and CMake files, licence, and the pages
+# that its users read: the binary interface, errors, columns as bytes and their schema.
 #     sh install.sh --prefix DIR [--libdir lib]     installs below DIR
 #     sh install.sh --prefix DIR --uninstall        takes away what an install put there, and nothing else
 # DESTDIR, if set, stands before DIR, as for other installers. sh examples/build.sh builds the library first.
@@ -82,7 +83,7 @@ printf '%s\n' "$libdir/libhivevigil.so.$interface" "$libdir/libhivevigil.so" >>"
 filled hivevigil.pc "$libdir/pkgconfig/hivevigil.pc"
 for file in HivevigilConfig.cmake HivevigilConfigVersion.cmake; do filled "$file" "$libdir/cmake/Hivevigil/$file"; done
 place 644 "$top/LICENSE" share/doc/hivevigil/LICENSE
-place 644 "$top/docs/ABI.md" share/doc/hivevigil/ABI.md
+for page in ABI.md BYTES.md ERRORS.md column.proto; do place 644 "$top/docs/$page" "share/doc/hivevigil/$page"; done
 if [ -e "$top/lib/UNPROVED" ]; then
     echo "install: this library was built without proof" >&2
     place 644 "$top/lib/UNPROVED" share/doc/hivevigil/UNPROVED

@@ -37,6 +37,9 @@ refused: rows 2 to 12 are not among 9 rows'
     "$cc" -std=c11 program.c $(pkg-config --cflags hivevigil) "$(pkg-config --variable=libdir hivevigil)/libhivevigil.a" \
         -o program
     expect "$said" ./program
+    # the schema by which others read columns as bytes
+    grep -q '^message Column' "$(pkg-config --variable=prefix hivevigil)/share/doc/hivevigil/column.proto" ||
+        fail "no schema of messages is installed"
     echo "Hivevigil $(pkg-config --modversion hivevigil) by pkg-config, shared object and archive"
 }
 
