@@ -62,6 +62,52 @@ fn field_len(bytes: usize) -> usize {
     1 + varint_len(bytes as u64) + bytes
 }
 
+/// The bytes of the run lengths of these ends, each a varint.
+fn packed_len(ends: &[u32]) -> usize {
+    lengths(ends).map(|length| varint_len(length.into())).sum()
+}
+
+/// The same without a branch: a length has a byte more for each of these powers that it reaches.
+fn packed_len_by_powers(ends: &[u32]) -> usize {
+    const POWERS: [u32; 4] = [1 << 7, 1 << 14, 1 << 21, 1 << 28];
+    const BLOCK: usize = 1 << 16;
+    let len = |length: u32| {
+        let longer = POWERS.iter().map(|power| u32::from(length >= *power));
+        1 + longer.sum::<u32>()
+    };
+    let block = |(ends, starts): (&[u32], &[u32])| {
+        let pairs = ends.iter().zip(starts);
+        pairs.map(|(end, start)| len(end - start)).sum::<u32>() as usize
+    };
+    let Some((first, rest)) = ends.split_first() else {
+        return 0;
+    };
+    let blocks = rest.chunks(BLOCK).zip(ends.chunks(BLOCK));
+    len(*first) as usize + blocks.map(block).sum::<usize>()
+}
+
+/// The run lengths of these ends as varints, in room for five bytes each.
+fn packed(ends: &[u32]) -> Vec<u8> {
+    let mut bytes: Vec<u8> = Vec::with_capacity(5 * ends.len());
+    let mut room = bytes.as_mut_ptr();
+    let mut put = |byte: u8| unsafe {
+        room.write(byte);
+        room = room.add(1);
+    };
+    for mut length in lengths(ends) {
+        while length >= 128 {
+            put(length as u8 | 128);
+            length >>= 7;
+        }
+        put(length as u8);
+    }
+    unsafe {
+        let len = room.offset_from(bytes.as_ptr()) as usize;
+        bytes.set_len(len);
+    }
+    bytes
+}
+
 fn flat_len<T>(flat: &Flat<T>) -> usize {
     let head = 6 + 1 + varint_len(flat.items.len() as u64) + 2;
     let bits = bits_len(&flat.flags).map_or(0, field_len);
@@ -81,21 +127,54 @@ fn push_flat<T>(message: &mut Vec<u8>, flat: &Flat<T>, number: u64) {
     push_bytes(message, 7, stored(&flat.items));
 }
 
-/// The message of runs over a type that has this number in the schema.
+/// How many bytes the message of runs has: a pass over their lengths.
+#[inline(never)]
+pub fn message_size<T>(runs: &Runs<T>) -> usize {
+    size_around(runs, packed_len(&runs.ends))
+}
+
+#[inline(never)]
+pub fn message_size_by_powers<T>(runs: &Runs<T>) -> usize {
+    size_around(runs, packed_len_by_powers(&runs.ends))
+}
+
+fn size_around<T>(runs: &Runs<T>, packed: usize) -> usize {
+    let head = 6 + 1 + varint_len(runs.rows() as u64) + 4;
+    head + field_len(packed) + field_len(flat_len(&runs.values))
+}
+
+/// The message of runs over a type that has this number in the schema: a pass over their lengths tells how many bytes
+/// these have, and another writes them.
 pub fn write<T>(runs: &Runs<T>, number: u64) -> Vec<u8> {
+    let push_lengths = |message: &mut Vec<u8>| {
+        for length in lengths(&runs.ends) {
+            push_varint(message, length.into());
+        }
+    };
+    write_around(runs, number, packed_len(&runs.ends), push_lengths)
+}
+
+/// The same message in one pass over the lengths: they are written into room of their own, and copied.
+pub fn write_in_one_pass<T>(runs: &Runs<T>, number: u64) -> Vec<u8> {
+    let packed = packed(&runs.ends);
+    let push_lengths = |message: &mut Vec<u8>| message.extend_from_slice(&packed);
+    write_around(runs, number, packed.len(), push_lengths)
+}
+
+fn write_around<T>(
+    runs: &Runs<T>,
+    number: u64,
+    packed: usize,
+    push_lengths: impl FnOnce(&mut Vec<u8>),
+) -> Vec<u8> {
     let rows = runs.rows() as u64;
-    let packed: usize = lengths(&runs.ends)
-        .map(|length| varint_len(length.into()))
-        .sum();
     let inner = flat_len(&runs.values);
     let mut message = Vec::with_capacity(32 + field_len(packed) + field_len(inner));
     push_numbers(&mut message, &[(1, 1), (2, number), (3, 2), (4, rows)]);
     push_numbers(&mut message, &[(8, 0), (9, U32)]);
     message.push(of_bytes(10));
     push_varint(&mut message, packed as u64);
-    for length in lengths(&runs.ends) {
-        push_varint(&mut message, length.into());
-    }
+    push_lengths(&mut message);
     message.push(of_bytes(11));
     push_varint(&mut message, inner as u64);
     push_flat(&mut message, &runs.values, number);

@@ -15,10 +15,12 @@ mod take;
 
 pub use aggregate::{is_constant, is_sorted, least, least_and_greatest, sum, sum_short, Addend};
 pub use arrays::{ArrayColumn, NumberType, RunArray};
-pub use bytes::{read, read_lists, write, write_lists};
+pub use bytes::{
+    message_size, message_size_by_powers, read, read_lists, write, write_in_one_pass, write_lists,
+};
 pub use compare::{less_by_ones, less_by_runs, less_by_turns};
 pub use decode::{decode, decode_truths, decode_truths_by_ones, decode_truths_by_turns};
-pub use encode::{encode, encode_by_words, encode_texts, encode_truths};
+pub use encode::{encode, encode_by_words, encode_texts, encode_truths, encode_truths_by_words};
 pub use filter::{filter, filter_by_fours, filter_joined, filter_truths, Kept};
 pub use look::{look_up, look_up_by_halves, run_of, slice, window, Slice};
 pub use map::{cast, fill, take_from};

@@ -1,10 +1,14 @@
 //! Columns to bytes, and back.
 use super::{same_runs, shape, Number};
-use crate::data::{Flat, Lists};
-use crate::kernels::{read, read_lists, write, write_lists};
+use crate::data::{Flat, Lists, Runs};
+use crate::kernels::{
+    message_size, message_size_by_powers, read, read_lists, write, write_in_one_pass, write_lists,
+};
 use crate::library::{Column, Item};
 use crate::line::Bench;
 use crate::load::Load;
+
+type Write<T> = fn(&Runs<T>, u64) -> Vec<u8>;
 
 pub fn lines<T: Number>(bench: &mut Bench, load: &Load) {
     if !bench.wants("bytes") {
@@ -13,20 +17,24 @@ pub fn lines<T: Number>(bench: &mut Bench, load: &Load) {
     let (runs, units) = (load.runs(T::of), (load.ends.len(), "run"));
     let column = Column::of_runs(&runs);
     let message = write(&runs, T::MESSAGE);
-    bench.line(
-        shape(load, "bytes, written", T::NAME),
-        units,
-        || column.message(message.len()),
-        || write(&runs, T::MESSAGE),
-        |ours, rust| ours == rust,
-    );
-    bench.line(
-        shape(load, "bytes, size and written", T::NAME),
-        units,
-        || column.message(column.message_size()),
-        || write(&runs, T::MESSAGE),
-        |ours, rust| ours == rust,
-    );
+    let writers: [(&str, Write<T>); 2] = [("", write), (", beside one pass", write_in_one_pass)];
+    for (beside, write) in writers {
+        let shape = |call: &str| shape(load, &format!("bytes, {call}{beside}"), T::NAME);
+        let rust = || write(&runs, T::MESSAGE);
+        let ours = || column.message(message.len());
+        bench.line(shape("written"), units, ours, rust, Vec::eq);
+        let ours = || column.message(column.message_size());
+        bench.line(shape("size and written"), units, ours, rust, Vec::eq);
+    }
+    let sizes: [(&str, fn(&Runs<T>) -> usize); 2] = [
+        ("", message_size),
+        (", beside powers", message_size_by_powers),
+    ];
+    for (beside, size) in sizes {
+        let shape = shape(load, &format!("bytes, size{beside}"), T::NAME);
+        let (ours, rust) = (|| column.message_size(), || size(&runs));
+        bench.line(shape, units, ours, rust, usize::eq);
+    }
     bench.line(
         shape(load, "bytes, read", T::NAME),
         units,

@@ -3,7 +3,10 @@ use super::kinds::written;
 use super::{same_runs, shape};
 use crate::bits::Bits;
 use crate::data::{Flat, Runs, Texts, TruthRuns, Truths, View};
-use crate::kernels::{decode, decode_truths, encode, encode_texts, encode_truths};
+use crate::kernels::{
+    decode, decode_truths, encode, encode_by_words, encode_texts, encode_truths,
+    encode_truths_by_words,
+};
 use crate::library::{Column, Item};
 use crate::line::Bench;
 use crate::load::Load;
@@ -21,25 +24,29 @@ pub fn lines(bench: &mut Bench, load: &Load) {
     numbers(bench, load);
 }
 
-/// A flat column that is encoded as it is, and built of a hundred batches; the Rust loop has it as one column.
+/// A loop of Rust's, and what a line beside it is called behind the name of the call.
+type Kernel<'a, R> = (&'static str, &'a dyn Fn() -> R);
+
+/// A flat column that is encoded as it is, and built of a hundred batches; the Rust loops have it as one column.
 fn both<R>(
     bench: &mut Bench,
     load: &Load,
     kind: &'static str,
     column: &Column,
-    rust: impl Fn() -> R,
+    kernels: &[Kernel<R>],
     same: fn(&Column, &R) -> bool,
 ) {
     let units = (load.rows(), "row");
-    if kind != "u64" {
-        let ours = || column.encode_rows();
-        bench.line(shape(load, "encode rows", kind), units, ours, &rust, same);
-    }
     let parts = batches(column, load.rows());
-    let (shape, ours) = (shape(load, "built of a hundred batches", kind), || {
-        Column::built(&parts)
-    });
-    bench.line(shape, units, ours, &rust, same);
+    for (beside, rust) in kernels {
+        let shape = |call: &str| shape(load, &format!("{call}{beside}"), kind);
+        if kind != "u64" {
+            let ours = || column.encode_rows();
+            bench.line(shape("encode rows"), units, ours, rust, same);
+        }
+        let ours = || Column::built(&parts);
+        bench.line(shape("built of a hundred batches"), units, ours, rust, same);
+    }
 }
 
 fn batches(column: &Column, rows: usize) -> Vec<Column> {
@@ -53,20 +60,21 @@ fn batches(column: &Column, rows: usize) -> Vec<Column> {
 fn numbers(bench: &mut Bench, load: &Load) {
     let flat = decode(&load.runs(|number| number));
     let column = u64::column(&flat);
-    both(bench, load, "u64", &column, || encode(&flat), same_runs);
+    let kernels: [Kernel<Runs<u64>>; 2] = [
+        ("", &|| encode(&flat)),
+        (", beside words", &|| encode_by_words(&flat)),
+    ];
+    both(bench, load, "u64", &column, &kernels, same_runs);
 }
 
 fn decimals(bench: &mut Bench, load: &Load) {
     let flat = decode(&load.runs(|number| i128::from(number) << 30));
     let column = i128::column(&flat);
-    both(
-        bench,
-        load,
-        "decimals",
-        &column,
-        || encode(&flat),
-        same_runs,
-    );
+    let kernels: [Kernel<Runs<i128>>; 2] = [
+        ("", &|| encode(&flat)),
+        (", beside words,", &|| encode_by_words(&flat)),
+    ];
+    both(bench, load, "decimals", &column, &kernels, same_runs);
 }
 
 fn truths(bench: &mut Bench, load: &Load) {
@@ -78,14 +86,11 @@ fn truths(bench: &mut Bench, load: &Load) {
     let values = Truths { bits, flags };
     let rows = decode_truths(&TruthRuns { ends, values });
     let column = Column::truths(&rows);
-    both(
-        bench,
-        load,
-        "booleans",
-        &column,
-        || encode_truths(&rows),
-        same_truths,
-    );
+    let kernels: [Kernel<TruthRuns>; 2] = [
+        ("", &|| encode_truths(&rows)),
+        (", beside words,", &|| encode_truths_by_words(&rows)),
+    ];
+    both(bench, load, "booleans", &column, &kernels, same_truths);
 }
 
 fn same_truths(ours: &Column, rust: &TruthRuns) -> bool {
@@ -100,14 +105,8 @@ fn texts(bench: &mut Bench, load: &Load) {
     let views = decode(&texts.views);
     let bytes = texts.bytes.clone();
     let rows = Texts { views, bytes };
-    both(
-        bench,
-        load,
-        "texts",
-        &column,
-        || encode_texts(&rows),
-        same_texts,
-    );
+    let kernels: [Kernel<Texts<Runs<View>>>; 1] = [("", &|| encode_texts(&rows))];
+    both(bench, load, "texts", &column, &kernels, same_texts);
 }
 
 fn same_texts(ours: &Column, rust: &Texts<Runs<View>>) -> bool {
