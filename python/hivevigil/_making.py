@@ -77,7 +77,8 @@ def _whole_type_of(present: Sequence[int]) -> str:
     for name in ("i64", "u64"):
         if least in range_of(name) and greatest in range_of(name):
             return name
-    raise OverflowError(f"no type of integers has both {least} and {greatest}")
+    alone = [number for number in (least, greatest) if number not in range_of("i64") and number not in range_of("u64")]
+    raise OverflowError(f"no type of integers has {alone[0] if alone else f'both {least} and {greatest}'}")
 
 
 def _places_of(present: Sequence[Any]) -> tuple[int, int]:

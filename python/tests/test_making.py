@@ -70,6 +70,20 @@ def test_rows_that_are_refused(rows, error):
 
 
 @pytest.mark.parametrize(
+    "rows, said",
+    [
+        ([5, 2**64], "no type of integers has 18446744073709551616"),
+        ([5, -(2**63) - 1], "no type of integers has -9223372036854775809"),
+        ([-1, 2**63], "no type of integers has both -1 and 9223372036854775808"),
+    ],
+)
+def test_integers_that_no_type_has(rows, said):
+    with pytest.raises(OverflowError) as refused:
+        Column.of(rows)
+    assert str(refused.value) == said
+
+
+@pytest.mark.parametrize(
     "rows, type, error",
     [
         ([256], "u8", OverflowError),
