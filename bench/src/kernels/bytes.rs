@@ -281,15 +281,9 @@ fn read_flat<T: Copy + Default>(message: &[u8], number: u64) -> Option<Flat<T>> 
     reader.0.is_empty().then_some(Flat { items, flags })
 }
 
-/// The runs of a message, with ends of u32.
-pub fn read<T: Copy + Default>(message: &[u8], number: u64) -> Option<Runs<T>> {
-    let mut reader = Reader(message);
-    for (field, told) in [(1, 1), (2, number), (3, 2)] {
-        (reader.number(field)? == told).then_some(())?;
-    }
-    let rows = reader.number(4)?;
-    (reader.number(8)? == 0 && reader.number(9)? == U32).then_some(())?;
-    let mut packed = Reader(reader.bytes(10)?);
+/// The ends of run lengths.
+fn ends_of(packed: &[u8]) -> Option<Vec<u32>> {
+    let mut packed = Reader(packed);
     let (mut ends, mut end) = (Vec::with_capacity(packed.0.len()), 0u64);
     while !packed.0.is_empty() {
         let length = packed.varint()?;
@@ -297,7 +291,77 @@ pub fn read<T: Copy + Default>(message: &[u8], number: u64) -> Option<Runs<T>> {
         end = end.checked_add(length)?;
         ends.push(u32::try_from(end).ok()?);
     }
-    (end == rows).then_some(())?;
+    Some(ends)
+}
+
+/// The same, eight lengths at once where each has one byte.
+fn ends_by_words(packed: &[u8]) -> Option<Vec<u32>> {
+    let (mut ends, mut end, mut left) = (Vec::with_capacity(packed.len()), 0u64, packed);
+    while !left.is_empty() {
+        left = match left.split_first_chunk::<8>() {
+            Some((lengths, rest)) if are_short(*lengths) => {
+                ends.extend(lengths.iter().map(|length| {
+                    end += u64::from(*length);
+                    end as u32
+                }));
+                rest
+            }
+            _ => {
+                let (length, rest) = first_length(left)?;
+                (length > 0 || ends.is_empty()).then_some(())?;
+                end = end.checked_add(length)?;
+                ends.push(end as u32);
+                rest
+            }
+        };
+        (end <= u64::from(u32::MAX)).then_some(())?;
+    }
+    Some(ends)
+}
+
+/// Is each byte a length by itself, and none of them 0?
+#[inline(always)]
+fn are_short(lengths: [u8; 8]) -> bool {
+    let word = u64::from_le_bytes(lengths);
+    (word | word.wrapping_sub(0x0101_0101_0101_0101)) & 0x8080_8080_8080_8080 == 0
+}
+
+#[inline(always)]
+fn first_length(packed: &[u8]) -> Option<(u64, &[u8])> {
+    match packed {
+        [length @ ..=127, rest @ ..] => Some((u64::from(*length), rest)),
+        [low, high @ 1..=127, rest @ ..] => {
+            Some((u64::from(low & 127) | u64::from(*high) << 7, rest))
+        }
+        _ => {
+            let mut reader = Reader(packed);
+            Some((reader.varint()?, reader.0))
+        }
+    }
+}
+
+/// The runs of a message, with ends of u32.
+pub fn read<T: Copy + Default>(message: &[u8], number: u64) -> Option<Runs<T>> {
+    read_around(message, number, ends_of)
+}
+
+pub fn read_by_words<T: Copy + Default>(message: &[u8], number: u64) -> Option<Runs<T>> {
+    read_around(message, number, ends_by_words)
+}
+
+fn read_around<T: Copy + Default>(
+    message: &[u8],
+    number: u64,
+    ends_of: fn(&[u8]) -> Option<Vec<u32>>,
+) -> Option<Runs<T>> {
+    let mut reader = Reader(message);
+    for (field, told) in [(1, 1), (2, number), (3, 2)] {
+        (reader.number(field)? == told).then_some(())?;
+    }
+    let rows = reader.number(4)?;
+    (reader.number(8)? == 0 && reader.number(9)? == U32).then_some(())?;
+    let ends = ends_of(reader.bytes(10)?)?;
+    (u64::from(*ends.last().unwrap_or(&0)) == rows).then_some(())?;
     let values = read_flat::<T>(reader.bytes(11)?, number)?;
     (reader.0.is_empty() && values.items.len() == ends.len()).then_some(Runs { ends, values })
 }

@@ -16,7 +16,8 @@ mod take;
 pub use aggregate::{is_constant, is_sorted, least, least_and_greatest, sum, sum_short, Addend};
 pub use arrays::{ArrayColumn, NumberType, RunArray};
 pub use bytes::{
-    message_size, message_size_by_powers, read, read_lists, write, write_in_one_pass, write_lists,
+    message_size, message_size_by_powers, read, read_by_words, read_lists, write,
+    write_in_one_pass, write_lists,
 };
 pub use compare::{less_by_ones, less_by_runs, less_by_turns};
 pub use decode::{decode, decode_truths, decode_truths_by_ones, decode_truths_by_turns};

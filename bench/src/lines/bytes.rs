@@ -2,13 +2,15 @@
 use super::{same_runs, shape, Number};
 use crate::data::{Flat, Lists, Runs};
 use crate::kernels::{
-    message_size, message_size_by_powers, read, read_lists, write, write_in_one_pass, write_lists,
+    message_size, message_size_by_powers, read, read_by_words, read_lists, write,
+    write_in_one_pass, write_lists,
 };
 use crate::library::{Column, Item};
 use crate::line::Bench;
 use crate::load::Load;
 
 type Write<T> = fn(&Runs<T>, u64) -> Vec<u8>;
+type Read<T> = fn(&[u8], u64) -> Option<Runs<T>>;
 
 pub fn lines<T: Number>(bench: &mut Bench, load: &Load) {
     if !bench.wants("bytes") {
@@ -35,13 +37,13 @@ pub fn lines<T: Number>(bench: &mut Bench, load: &Load) {
         let (ours, rust) = (|| column.message_size(), || size(&runs));
         bench.line(shape, units, ours, rust, usize::eq);
     }
-    bench.line(
-        shape(load, "bytes, read", T::NAME),
-        units,
-        || Column::of_message(&message),
-        || read::<T>(&message, T::MESSAGE).expect("the message is whole"),
-        same_runs,
-    );
+    let readers: [(&str, Read<T>); 2] = [("", read), (", beside words", read_by_words)];
+    for (beside, read) in readers {
+        let shape = shape(load, &format!("bytes, read{beside}"), T::NAME);
+        let ours = || Column::of_message(&message);
+        let rust = || read(&message, T::MESSAGE).expect("the message is whole");
+        bench.line(shape, units, ours, rust, same_runs);
+    }
 }
 
 /// Lists as long as the runs of the load, one behind the other.
