@@ -3,9 +3,11 @@ use crate::raw::{self, Handle};
 use crate::{ask, Error, Fields, Kind, Native, Value};
 use std::cell::UnsafeCell;
 use std::ptr;
+use std::sync::{Mutex, MutexGuard, PoisonError};
 
-/// A column. It is `Send`: the owners of shared buffers are counted by atomics. It is not `Sync`, since a call that reads
-/// takes the column out of its handle. Commands run in the initial session.
+/// A column. It is `Send`: the owners of shared buffers are counted by atomics, and those of the elements of lists by
+/// calls that wait for one another. It is not `Sync`, since a call that reads takes the column out of its handle.
+/// Commands run in the initial session.
 pub struct Column {
     pub(crate) handle: UnsafeCell<Handle>, // a call that reads takes the column out of the handle and puts it back
 }
@@ -15,8 +17,19 @@ unsafe impl Send for Column {}
 
 impl Drop for Column {
     fn drop(&mut self) {
+        let _turn = turn_of(&[self]);
         unsafe { raw::hv_free(self.handle.get()) }
     }
+}
+
+/// Held while a call counts owners of the elements of lists, which the library counts without atomics: columns of lists
+/// that were made one from the other may be on several threads, and so one call at a time is lent any, makes or frees it.
+static LISTS: Mutex<()> = Mutex::new(());
+
+/// The turn of a call that these columns are lent to, if one of them is of lists.
+pub(crate) fn turn_of(columns: &[&Column]) -> Option<MutexGuard<'static, ()>> {
+    let are_lists = columns.iter().any(|column| column.kind().is_list());
+    are_lists.then(|| LISTS.lock().unwrap_or_else(PoisonError::into_inner))
 }
 
 /// The flags as bits, 8 to a byte, and a byte where there are none.
@@ -62,6 +75,15 @@ impl Column {
         Ok(column)
     }
 
+    /// A call on this column.
+    pub(crate) fn part(
+        &self,
+        call: impl FnOnce(*mut Handle, *mut Handle, *mut Fields) -> i32,
+    ) -> Result<Column, Error> {
+        let _turn = turn_of(&[self]);
+        Column::made(|out, fields| call(self.handle.get(), out, fields))
+    }
+
     /// A call on this column and another: two handles, so that a column beside itself is cloned first.
     pub(crate) fn beside(
         &self,
@@ -70,8 +92,9 @@ impl Column {
     ) -> Result<Column, Error> {
         if ptr::eq(self, other) {
             let copy = other.try_clone()?;
-            return Column::made(|out, fields| call(copy.handle.get(), out, fields));
+            return self.beside(&copy, call);
         }
+        let _turn = turn_of(&[self, other]);
         Column::made(|out, fields| call(other.handle.get(), out, fields))
     }
 
@@ -234,12 +257,12 @@ impl Column {
 
     /// The same column in the same form. What holds 32 items or more is shared and not copied.
     pub fn try_clone(&self) -> Result<Column, Error> {
-        Column::made(|out, fields| unsafe { raw::hv_clone(self.handle.get(), out, fields) })
+        self.part(|column, out, fields| unsafe { raw::hv_clone(column, out, fields) })
     }
 
     /// The same column in the same form, in buffers that no other column shares but for the bytes of texts. A slice of
     /// a few rows keeps the whole buffers that it is a part of; of its compact copy they may be freed.
     pub fn try_compact(&self) -> Result<Column, Error> {
-        Column::made(|out, fields| unsafe { raw::hv_compact(self.handle.get(), out, fields) })
+        self.part(|column, out, fields| unsafe { raw::hv_compact(column, out, fields) })
     }
 }

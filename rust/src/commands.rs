@@ -10,11 +10,10 @@ impl Column {
         call: impl FnOnce(&Session, *mut Handle, *mut Handle, *mut Fields) -> i32,
     ) -> Result<Column, Error> {
         let session = Session::initial();
-        Column::made(|out, fields| call(&session, self.handle.get(), out, fields))
+        self.part(|column, out, fields| call(&session, column, out, fields))
     }
 
     /// As few runs as there can be, with ends of the least type; refused as `OnlyPrimitive` unless the rows are integers.
-    ///
     pub fn encode(&self) -> Result<Column, Error> {
         self.command(|session, column, out, fields| unsafe {
             raw::hv_encode(session, column, out, fields)
@@ -23,7 +22,7 @@ impl Column {
 
     /// The rows of any type but lists as runs, as few as there can be; refused as `Unsupported` for lists.
     pub fn encode_rows(&self) -> Result<Column, Error> {
-        Column::made(|out, fields| unsafe { raw::hv_encode_rows(self.handle.get(), out, fields) })
+        self.part(|column, out, fields| unsafe { raw::hv_encode_rows(column, out, fields) })
     }
 
     /// The rows written out in a flat form.

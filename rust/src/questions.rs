@@ -1,4 +1,5 @@
 //! Questions to columns, and what is read out of them.
+use crate::column::turn_of;
 use crate::raw::{self, RawTotal, RawValue};
 use crate::{ask, Column, Error, ErrorKind, Fields, Form, Kind, Native, Run, Session, Sum, Value};
 
@@ -206,12 +207,12 @@ impl Column {
 
     /// The ends of a run column, copied.
     pub fn ends(&self) -> Result<Column, Error> {
-        Column::made(|out, fields| unsafe { raw::hv_ends(self.handle.get(), out, fields) })
+        self.part(|column, out, fields| unsafe { raw::hv_ends(column, out, fields) })
     }
 
     /// The values of a run column, copied.
     pub fn values(&self) -> Result<Column, Error> {
-        Column::made(|out, fields| unsafe { raw::hv_values(self.handle.get(), out, fields) })
+        self.part(|column, out, fields| unsafe { raw::hv_values(column, out, fields) })
     }
 
     /// The metadata record of a run column.
@@ -233,6 +234,7 @@ impl Column {
     /// The column as bytes, in the form that it has, to keep or to send: a message of the Protocol Buffers encoding.
     /// `Unsupported` for constants of lists, runs over these, and more than 16 levels of runs.
     pub fn to_bytes(&self) -> Result<Vec<u8>, Error> {
+        let _turn = turn_of(&[self]);
         let mut size = 0;
         ask(|fields| unsafe { raw::hv_write_size(self.handle.get(), &mut size, fields) })?;
         let mut message = vec![0u8; size];

@@ -156,6 +156,34 @@ fn columns_as_bytes() -> Result<(), Error> {
     Ok(())
 }
 
+/// The bytes of lists after so many clones and slices, each of which has the same elements.
+fn bytes_after_clones(own: Column) -> Result<Vec<u8>, Error> {
+    for _ in 0..20_000 {
+        let clone = own.try_clone()?;
+        let slice = clone.slice(0..1)?;
+        drop((clone, slice));
+    }
+    own.to_bytes()
+}
+
+#[test]
+fn threads_share_elements_of_lists() -> Result<(), Error> {
+    let message = lists_message();
+    let lists = Column::from_bytes(&message)?;
+    let running = (0..4)
+        .map(|_| {
+            lists
+                .try_clone()
+                .map(|own| std::thread::spawn(move || bytes_after_clones(own)))
+        })
+        .collect::<Result<Vec<_>, Error>>()?;
+    drop(lists);
+    for thread in running {
+        assert_eq!(thread.join().unwrap()?, message);
+    }
+    Ok(())
+}
+
 /// Two numbers of u64 without null, as a message.
 fn two_numbers(numbers: [u64; 2]) -> Vec<u8> {
     let mut message = vec![8, 1, 16, 4, 24, 1, 32, 2, 40, 1, 58, 16];
@@ -163,14 +191,20 @@ fn two_numbers(numbers: [u64; 2]) -> Vec<u8> {
     message
 }
 
-#[test]
-fn lists_as_bytes() -> Result<(), Error> {
+/// [1 2] and null from item 9 on.
+fn lists_message() -> Vec<u8> {
     // version 1, lists, form lists, two rows, of which bits say that the first is valid
     let mut message = vec![8, 1, 16, 13, 24, 4, 32, 2, 40, 4, 50, 1, 1];
     // elements 1 and 2 of u8; offsets 0 and 9, sizes 2 and 5
     message.extend([138, 1, 14, 8, 1, 16, 1, 24, 1, 32, 2, 40, 1, 58, 2, 1, 2]);
     message.extend([146, 1, 28].iter().chain(&two_numbers([0, 9])));
     message.extend([154, 1, 28].iter().chain(&two_numbers([2, 5])));
+    message
+}
+
+#[test]
+fn lists_as_bytes() -> Result<(), Error> {
+    let mut message = lists_message();
     let lists = Column::from_bytes(&message)?;
     assert!(lists.kind().is_list() && lists.kind().is_nullable());
     assert_eq!((lists.form(), lists.len()), (Form::Lists, 2));
