@@ -102,8 +102,8 @@ enum {
     HV_BAD_NUMBER = 23              /* a number that stands for no type, or for no operator; no fields */
 };
 
-/* Types by number. precision and scale are of decimals. Lists are made by hv_lists alone, and the type
- * of their items is that of hv_list_elements. */
+/* Types by number. precision and scale are of decimals. HV_LIST says nothing of the items, whose type is that of
+ * hv_list_elements: lists are made by hv_lists and hv_read_column, and a call that is given this number refuses it. */
 enum { HV_U8, HV_U16, HV_U32, HV_U64, HV_I8, HV_I16, HV_I32, HV_I64, HV_BOOL, HV_DECIMAL, HV_UTF8, HV_BINARY, HV_LIST };
 typedef struct hv_kind { uint8_t number, nullable, precision; int8_t scale; } hv_kind;
 
@@ -355,7 +355,7 @@ HV_ANSWER hv_serialize(const hv_column *column, uint8_t *bytes, size_t bytes_len
 HV_ANSWER hv_deserialize(const hv_kind *kind, size_t count, const uint8_t *bytes, size_t bytes_len,
                          const hv_column *ends, const hv_column *values, hv_column *out, hv_error *error);
 
-/* ---- Lists ---- (13 of other forms: hv_decode writes runs of lists as lists)
+/* ---- Lists ---- (13 of other forms: hv_decode writes runs and constants of lists as lists)
  * Row i is the items of the elements from its offset on, as many as its size; where it is null any offset and size may
  * stand. Offsets and sizes are u64 without null, flat or in runs, and read by hv_read_u64. All are shared. */
 HV_ANSWER hv_list_elements(const hv_column *column, hv_column *out, hv_error *error);  /* of all lists, flat */
@@ -391,8 +391,8 @@ HV_CALL void hv_builder_free(hv_builder *builder);
 
 /* A column as bytes, in any form, to keep or to send: a message of the Protocol Buffers encoding (docs/column.proto),
  * in the form that the column has, with its window; of flat texts and bytes the rows, which are read into one buffer.
- * Equal forms have equal bytes. 13 for constants of lists, runs over these, and more than 16 levels of runs, where
- * lists that runs were decoded to, whose offsets, sizes or validity are in runs, count as two. */
+ * Equal forms have equal bytes. 13 for more than 16 levels of runs, where lists that runs were decoded to, whose
+ * offsets, sizes or validity are in runs, count as two. */
 /* How many bytes they are. */
 HV_ANSWER hv_write_size(const hv_column *column, size_t *size, hv_error *error);
 /* They go to the front of `bytes`, and *size says how many they are; 11 (needed, bytes_len) where they have no room

@@ -38,6 +38,9 @@ static const uint8_t no_decimal_message[] = {0x08, 1, 0x10, 10, 0x18, 3, 0x20, 3
 static const uint8_t lists_message[] = {0x08, 1, 0x10, 13, 0x18, 4, 0x20, 3, 0x28, 4, 0x32, 1, 5,
                                         0x8a, 1, 14, 0x08, 1, 0x10, 5, 0x18, 1, 0x20, 2, 0x28, 1, 0x3a, 2, 1, 2,
                                         0x92, 1, 36, THREE_WORDS(0, 9, 1), 0x9a, 1, 36, THREE_WORDS(2, 3, 1)};
+/* null of lists in each of two rows, whose elements are of i8 without null */
+static const uint8_t null_lists_message[] = {0x08, 1, 0x10, 13, 0x18, 3, 0x20, 2, 0x28, 3, 0x3a, 0,
+                                             0xa0, 1, 5, 0xa8, 1, 1};
 enum { LONGEST = 128 }; /* bytes */
 
 static hv_column flat = HV_EMPTY, runs = HV_EMPTY, window = HV_EMPTY, decimals = HV_EMPTY;
@@ -174,6 +177,32 @@ static void check_levels(hv_column *column, int levels, int32_t answer) {
     hv_free(&ends), hv_free(&over), hv_free(&next), hv_free(&read);
 }
 
+/* Rows of lists that no index names are a constant, null: its bytes tell of which type the elements would be. */
+static void check_null_lists(void) {
+    const int8_t items[2] = {1, 2};
+    const uint64_t offsets[1] = {0}, sizes[1] = {2};
+    const uint8_t last[1] = {1}, indices[2] = {0, 0}, none[1] = {0};
+    hv_column elements = HV_EMPTY, lists = HV_EMPTY, ends = HV_EMPTY, over = HV_EMPTY, places = HV_EMPTY;
+    hv_column taken = HV_EMPTY, read = HV_EMPTY, decoded = HV_EMPTY, part = HV_EMPTY;
+    CHECK(!hv_i8(items, 2, NOT_NULLABLE, &elements, &error));
+    CHECK(!hv_lists(&elements, offsets, 1, sizes, 1, NOT_NULLABLE, &lists, &error));
+    CHECK(!hv_u8(last, 1, NOT_NULLABLE, &ends, &error) && !hv_runs(&ends, &lists, 0, 1, &over, &error));
+    CHECK(!hv_u8(indices, 2, NULLS_BY(none, 0), &places, &error));
+    CHECK(!hv_take(&session, &over, &places, &taken, &error) && hv_form(&taken) == HV_FORM_CONSTANT);
+    check_message(&taken, null_lists_message, sizeof null_lists_message, "refused:13 refused:13");
+    CHECK(!hv_read_column(null_lists_message, sizeof null_lists_message, &read, &error));
+    CHECK(hv_kind_of(&read).number == HV_LIST && hv_kind_of(&read).nullable == 1 && hv_length(&read) == 2);
+    CHECK(!hv_decode(&session, &read, &decoded, &error) && hv_form(&decoded) == HV_FORM_LISTS);
+    CHECK(!hv_list_elements(&decoded, &part, &error) && hv_kind_of(&part).number == HV_I8);
+    CHECK(hv_kind_of(&part).nullable == 0 && hv_length(&part) == 0);
+    CHECK(!hv_list_validity(&decoded, &part, &error));
+    CHECK_ROWS(&part, "false false");
+    CHECK(!hv_slice(&session, &read, 1, 2, &part, &error));
+    check_levels(&part, 16, HV_OK), check_levels(&part, 17, HV_UNSUPPORTED);
+    hv_free(&elements), hv_free(&lists), hv_free(&ends), hv_free(&over), hv_free(&places);
+    hv_free(&taken), hv_free(&read), hv_free(&decoded), hv_free(&part);
+}
+
 /* A seventeenth level of runs has no message; lists that runs are decoded to have two levels. An empty handle has no
  * column. */
 static void check_none(void) {
@@ -201,6 +230,7 @@ int main(void) {
     check_constants();
     check_texts();
     check_lists();
+    check_null_lists();
     check_damaged(flat_message, sizeof flat_message);
     check_damaged(runs_message, sizeof runs_message);
     check_damaged(window_message, sizeof window_message);
@@ -210,6 +240,7 @@ int main(void) {
     check_damaged(no_decimal_message, sizeof no_decimal_message);
     check_damaged(texts_message, sizeof texts_message);
     check_damaged(lists_message, sizeof lists_message);
+    check_damaged(null_lists_message, sizeof null_lists_message);
     check_none();
     hv_free(&flat), hv_free(&runs), hv_free(&window), hv_free(&decimals);
     puts("columns and their bytes agree");

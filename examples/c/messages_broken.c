@@ -119,7 +119,22 @@ static void put_into_runs(hv_column *lists) {
     hv_free(&ends), hv_free(&runs);
 }
 
-/* lists anywhere in some elements; a null one may lie outside */
+/* As many rows of lists of this type that no index names: a constant, which is null. */
+static void put_nulls(hv_column *lists) {
+    const uint8_t zeros[ROWS] = {0};
+    uint16_t stops[ROWS];
+    size_t rows = hv_length(lists);
+    hv_column ends = HV_EMPTY, runs = HV_EMPTY, places = HV_EMPTY, nulls = HV_EMPTY;
+    for (size_t row = 0; row < rows; row++) stops[row] = (uint16_t)(row + 1);
+    CHECK(!hv_u16(stops, rows, NOT_NULLABLE, &ends, &error) && !hv_runs(&ends, lists, 0, rows, &runs, &error));
+    CHECK(!hv_u8(zeros, rows, hv_valid_bits(zeros, sizeof zeros, 0), &places, &error));
+    CHECK(!hv_take(&session, &runs, &places, &nulls, &error));
+    CHECK(rows == 0 || hv_form(&nulls) == HV_FORM_CONSTANT);
+    hv_put(lists, &nulls);
+    hv_free(&ends), hv_free(&runs), hv_free(&places);
+}
+
+/* lists anywhere in some elements, where a null one may lie outside; or null in each row */
 static void make_lists(size_t rows, hv_column *out) {
     uint64_t offsets[ROWS], sizes[ROWS], bits = chance();
     hv_column any = HV_EMPTY, elements = HV_EMPTY;
@@ -134,7 +149,11 @@ static void make_lists(size_t rows, hv_column *out) {
         sizes[row] = is_null ? chance() : below(count - offsets[row] + 1);
     }
     CHECK(!hv_lists(&elements, offsets, rows, sizes, rows, some, out, &error));
-    if (below(2)) put_into_runs(out);
+    switch (below(4)) {
+    case 0: put_nulls(out); break;
+    case 1: break;
+    default: put_into_runs(out);
+    }
     hv_free(&any), hv_free(&elements);
 }
 

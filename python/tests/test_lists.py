@@ -62,6 +62,23 @@ def test_bytes_of_lists():
         Column.from_bytes(bytes([8, 1, 16, 13, 24, 4, 32, 2, 40, 1]) + parts)
 
 
+def test_bytes_of_null_lists():
+    """Rows that no index names are a constant, null: its message, byte by byte, has the type of the elements."""
+    lists = Column.from_lists(Column.of([1, 2], "i8"), [0], [2])
+    nulls = Column.from_runs([1], lists).take([None, None])
+    assert (nulls.form, nulls.type) == ("constant", "list?")
+    assert nulls.to_bytes() == bytes([8, 1, 16, 13, 24, 3, 32, 2, 40, 3, 58, 0, 160, 1, 5, 168, 1, 1])
+    kept_as_bytes(nulls, [None, None])
+    kept_as_bytes(Column.from_runs([3, 5], nulls), [None] * 5)
+    large = [8, 1, 16, 13, 24, 3, 32, *[128] * 8, 16, 40, 3, 58, 0, 160, 1, 6, 168, 1, 2]  # 2^60 rows
+    column = Column.from_bytes(bytes(large))
+    assert len(column) == 2**60 and column[2**59] is None and column[:2].to_list() == [None, None]
+    for wrong in (13, 0):  # lists of lists, and no type
+        large[-4] = wrong
+        with pytest.raises(errors.BadMetadata):
+            Column.from_bytes(bytes(large))
+
+
 def test_each_row_is_a_list_of_its_own():
     rows = Column.from_runs([2], Column.from_lists([1, 2], [0], [2])).to_list()
     rows[0].append(3)
