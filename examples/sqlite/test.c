@@ -94,15 +94,17 @@ static void check_texts(void) {
               "blob|0102||FF00");
 }
 
-/* [7] of integers, and three rows of it in one run: SQLite has no lists, and each function says so. */
+/* [7] of integers, three rows of it in one run, and null: SQLite has no lists, and each function says so. */
 #define SEVEN "080110081801200128013A080700000000000000"
 #define WORD(number) "080110041801200128013A08" number "00000000000000"
 #define ONE_LIST "0801100D180420012801" "8A0114" SEVEN "920114" WORD("00") "9A0114" WORD("01")
 #define LIST_RUNS "0801100D18022003400048015201035A4F" ONE_LIST
+#define NULL_LISTS "0801100D180320032803" "3A00" "A00108" "A80101"
 #define NOT_SERVED(function) "error: " function ": the call does not serve columns of this type or form"
 #define NO_LISTS(question, function) \
     CHECK_SQL("SELECT " question " FROM (SELECT x'" ONE_LIST "' AS c)", NOT_SERVED(function)); \
-    CHECK_SQL("SELECT " question " FROM (SELECT x'" LIST_RUNS "' AS c)", NOT_SERVED(function))
+    CHECK_SQL("SELECT " question " FROM (SELECT x'" LIST_RUNS "' AS c)", NOT_SERVED(function)); \
+    CHECK_SQL("SELECT " question " FROM (SELECT x'" NULL_LISTS "' AS c)", NOT_SERVED(function))
 
 static void check_lists(void) {
     NO_LISTS("hv_rows(c)", "hv_rows");
@@ -115,6 +117,7 @@ static void check_lists(void) {
     NO_LISTS("hv_slice(c, 0, 1)", "hv_slice");
     NO_LISTS("hv_concat(c)", "hv_concat");
     CHECK_SQL("SELECT * FROM hv_runs(x'" LIST_RUNS "')", NOT_SERVED("hv_runs"));
+    CHECK_SQL("SELECT * FROM hv_runs(x'" NULL_LISTS "')", NOT_SERVED("hv_runs"));
     /* a list of two where there is one element */
     CHECK_SQL("SELECT hv_rows(x'0801100D1804200128018A0114" SEVEN "920114" WORD("00") "9A0114" WORD("02") "')",
               "error: hv_rows: the blob is no column");

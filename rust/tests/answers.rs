@@ -219,6 +219,33 @@ fn lists_as_bytes() -> Result<(), Error> {
 }
 
 #[test]
+fn null_lists_as_bytes() -> Result<(), Error> {
+    // version 1, lists, form constant, 2^60 rows, null without bytes; elements of i16, whose type has null
+    let mut message = [
+        &[8, 1, 16, 13, 24, 3, 32][..],
+        &[128; 8],
+        &[16, 40, 3, 58, 0],
+    ]
+    .concat();
+    message.extend([160, 1, 6, 168, 1, 2]);
+    let nulls = Column::from_bytes(&message)?;
+    assert!(nulls.kind().is_list() && nulls.kind().is_nullable());
+    assert_eq!((nulls.form(), nulls.len()), (Form::Constant, 1 << 60));
+    assert_eq!(nulls.to_bytes()?, message);
+    let two = nulls.slice(7..9)?;
+    assert_eq!((two.form(), two.len()), (Form::Constant, 2));
+    assert_eq!(two.decode()?.form(), Form::Lists);
+    // lists of lists
+    let at = message.len() - 4;
+    message[at] = 13;
+    assert_eq!(
+        Column::from_bytes(&message).err(),
+        Some(refused(17, 0, 0, 0))
+    );
+    Ok(())
+}
+
+#[test]
 fn other_types() -> Result<(), Error> {
     let long = "a text that is longer than the room that it is given at first, so that it is asked for again";
     let texts = Column::texts(&["one", "", long], Some(&[true, true, true]))?;
