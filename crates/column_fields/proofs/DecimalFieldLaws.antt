@@ -9,7 +9,7 @@ use Rattle.column_base.specs.ValidityForm.{ValidityForm, HasLength}
 use Rattle.varints.specs.Varint.{varint}
 use Rattle.column_fields.specs.Field.{number_field, bytes_field, HasNoNumberField, HasNoBytesField}
 use Rattle.column_fields.specs.Validity.{validity_field, HasNoValidity}
-use Rattle.column_fields.specs.DecimalFields.{scale_number, HasNoScale, IsDecimalType, decimal_type, decimal_items, AreNoDecimalItems, decimal_fields, AreNoDecimalFields}
+use Rattle.column_fields.specs.DecimalFields.{scale_number, HasNoScale, IsDecimalType, decimal_type, BeginsWithNoDecimalType, decimal_items, AreNoDecimalItems, decimal_fields, AreNoDecimalFields}
 use Rattle.column_fields.proofs.FieldLaws.{number_field_same, bytes_field_same}
 use Rattle.column_fields.proofs.ValidityLaws.{validity_same}
 
@@ -28,65 +28,83 @@ scale_same (negsuc m) (negsuc n) e = let s : m ≡ n = omega arith in ap negsuc 
 type_same : (d e : DecimalDType) → d.precision ≡ e.precision → d.scale ≡ e.scale → d ≡ e
 type_same d e p s = λ i. record { precision = p i; scale = s i }
 
--- ---- items, precision and scale
+-- ---- precision and scale
 
-item_parts : (d : DecimalDType) (items rest : List ℕ) → decimal_items d items ++ rest ≡ bytes_field 7 items ++ (number_field 14 d.precision ++ (number_field 15 (scale_number d.scale) ++ rest))
-unfolding decimal_items decimal_type
-item_parts d items rest = append_assoc (bytes_field 7 items) (number_field 14 d.precision ++ number_field 15 (scale_number d.scale)) rest ∙ ap (λ (x : List ℕ). bytes_field 7 items ++ x) (append_assoc (number_field 14 d.precision) (number_field 15 (scale_number d.scale)) rest)
+pub type_parts : (d : DecimalDType) (rest : List ℕ) → decimal_type d ++ rest ≡ number_field 14 d.precision ++ (number_field 15 (scale_number d.scale) ++ rest)
+unfolding decimal_type
+type_parts d rest = append_assoc (number_field 14 d.precision) (number_field 15 (scale_number d.scale)) rest
 
-all_parts : (d : DecimalDType) (items bytes : List ℕ) → bytes ≡ decimal_items d items → bytes ≡ bytes_field 7 items ++ (number_field 14 d.precision ++ (number_field 15 (scale_number d.scale) ++ []))
-all_parts d items bytes e = e ∙ sym (append-nil (decimal_items d items)) ∙ item_parts d items []
+-- what is read has to do with each type at the front
+module _ (d : DecimalDType) (rest bytes : List ℕ) (typed : IsDecimalType d) (e : bytes ≡ decimal_type d ++ rest) where
+  after_precision : (p : ℕ) (first : List ℕ) → p < 2 ^ 64 → bytes ≡ number_field 14 p ++ first → (p ≡ d.precision) × (first ≡ number_field 15 (scale_number d.scale) ++ rest)
+  after_precision p first lt b = number_field_same 14 p d.precision first _ (omega arith) lt (omega (arith, typed.precision)) (sym b ∙ e ∙ type_parts d rest)
 
--- what is read has to do with all fields that the bytes are
-module _ (d : DecimalDType) (items bytes : List ℕ) (typed : IsDecimalType d) (i-small : length items < 2 ^ 64) (e : bytes ≡ decimal_items d items) where
-  after_items : (a first : List ℕ) → length a < 2 ^ 64 → bytes ≡ bytes_field 7 a ++ first → (a ≡ items) × (first ≡ number_field 14 d.precision ++ (number_field 15 (scale_number d.scale) ++ []))
-  after_items a first lt b = bytes_field_same 7 a items first _ (omega arith) lt i-small (sym b ∙ all_parts d items bytes e)
+  after_scale : (p s : ℕ) (first second : List ℕ) → p < 2 ^ 64 → s < 2 ^ 64 → bytes ≡ number_field 14 p ++ first → first ≡ number_field 15 s ++ second → (s ≡ scale_number d.scale) × (second ≡ rest)
+  after_scale p s first second lt lt' b f = number_field_same 15 s (scale_number d.scale) second rest (omega arith) lt' (omega (arith, scale_small d.scale typed.scale)) (sym f ∙ (after_precision p first lt b).1)
 
-  after_precision : (a first second : List ℕ) (p : ℕ) → length a < 2 ^ 64 → p < 2 ^ 64 → bytes ≡ bytes_field 7 a ++ first → first ≡ number_field 14 p ++ second → (p ≡ d.precision) × (second ≡ number_field 15 (scale_number d.scale) ++ [])
-  after_precision a first second p la lt b f = number_field_same 14 p d.precision second _ (omega arith) lt (omega (arith, typed.precision)) (sym f ∙ (after_items a first la b).1)
+pub no_precision : (bytes : List ℕ) → HasNoNumberField 14 bytes → BeginsWithNoDecimalType bytes
+no_precision bytes h = record { none = λ d rest typed e. h.none d.precision _ (omega (arith, typed.precision)) (e ∙ type_parts d rest) }
 
-  after_scale : (a first second third : List ℕ) (p s : ℕ) → length a < 2 ^ 64 → p < 2 ^ 64 → s < 2 ^ 64 → bytes ≡ bytes_field 7 a ++ first → first ≡ number_field 14 p ++ second → second ≡ number_field 15 s ++ third → (s ≡ scale_number d.scale) × (third ≡ [])
-  after_scale a first second third p s la lt lt' b f g = number_field_same 15 s (scale_number d.scale) third [] (omega arith) lt' (omega (arith, scale_small d.scale typed.scale)) (sym g ∙ (after_precision a first second p la lt b f).1)
+pub too_precise : (bytes first : List ℕ) (p : ℕ) → p < 2 ^ 64 → bytes ≡ number_field 14 p ++ first → 255 < p → BeginsWithNoDecimalType bytes
+too_precise bytes first p lt b more = record { none = λ d rest typed e. omega (arith, typed.precision, (after_precision d rest bytes typed e p first lt b).0) }
 
-pub no_items : (bytes : List ℕ) → HasNoBytesField 7 bytes → AreNoDecimalItems bytes
-no_items bytes h = record { none = λ d items typed small e. h.none items _ small (all_parts d items bytes e) }
+pub no_scale : (bytes first : List ℕ) (p : ℕ) → p < 2 ^ 64 → bytes ≡ number_field 14 p ++ first → HasNoNumberField 15 first → BeginsWithNoDecimalType bytes
+no_scale bytes first p lt b h = record { none = λ d rest typed e. h.none (scale_number d.scale) _ (omega (arith, scale_small d.scale typed.scale)) (after_precision d rest bytes typed e p first lt b).1 }
 
-pub no_precision : (bytes first a : List ℕ) → length a < 2 ^ 64 → bytes ≡ bytes_field 7 a ++ first → HasNoNumberField 14 first → AreNoDecimalItems bytes
-no_precision bytes first a la b h = record { none = λ d items typed small e. h.none d.precision _ (omega (arith, typed.precision)) (after_items d items bytes typed small e a first la b).1 }
+pub other_scale : (bytes first second : List ℕ) (p s : ℕ) → p < 2 ^ 64 → s < 2 ^ 64 → bytes ≡ number_field 14 p ++ first → first ≡ number_field 15 s ++ second → HasNoScale s → BeginsWithNoDecimalType bytes
+other_scale bytes first second p s lt lt' b f h = record { none = λ d rest typed e. h.none d.scale typed.scale (sym (after_scale d rest bytes typed e p s first second lt lt' b f).0) }
 
-pub too_precise : (bytes first second a : List ℕ) (p : ℕ) → length a < 2 ^ 64 → p < 2 ^ 64 → bytes ≡ bytes_field 7 a ++ first → first ≡ number_field 14 p ++ second → 255 < p → AreNoDecimalItems bytes
-too_precise bytes first second a p la lt b f more = record { none = λ d items typed small e. omega (arith, typed.precision, (after_precision d items bytes typed small e a first second p la lt b f).0) }
-
-pub no_scale : (bytes first second a : List ℕ) (p : ℕ) → length a < 2 ^ 64 → p < 2 ^ 64 → bytes ≡ bytes_field 7 a ++ first → first ≡ number_field 14 p ++ second → HasNoNumberField 15 second → AreNoDecimalItems bytes
-no_scale bytes first second a p la lt b f h = record { none = λ d items typed small e. h.none (scale_number d.scale) _ (omega (arith, scale_small d.scale typed.scale)) (after_precision d items bytes typed small e a first second p la lt b f).1 }
-
-pub other_scale : (bytes first second third a : List ℕ) (p s : ℕ) → length a < 2 ^ 64 → p < 2 ^ 64 → s < 2 ^ 64 → bytes ≡ bytes_field 7 a ++ first → first ≡ number_field 14 p ++ second → second ≡ number_field 15 s ++ third → HasNoScale s → AreNoDecimalItems bytes
-other_scale bytes first second third a p s la lt lt' b f g h = record { none = λ d items typed small e. h.none d.scale typed.scale (sym (after_scale d items bytes typed small e a first second third p s la lt lt' b f g).0) }
-
-pub more_behind : (bytes first second third a : List ℕ) (p s : ℕ) → length a < 2 ^ 64 → p < 2 ^ 64 → s < 2 ^ 64 → bytes ≡ bytes_field 7 a ++ first → first ≡ number_field 14 p ++ second → second ≡ number_field 15 s ++ third → (length third ≡ 0 → ⊥) → AreNoDecimalItems bytes
-more_behind bytes first second third a p s la lt lt' b f g ne = record { none = λ d items typed small e. ne (ap length (after_scale d items bytes typed small e a first second third p s la lt lt' b f g).1) }
-
-pub are_items : (d : DecimalDType) (bytes first second third a : List ℕ) (p s : ℕ) → bytes ≡ bytes_field 7 a ++ first → first ≡ number_field 14 p ++ second → d.precision ≡ p → second ≡ number_field 15 s ++ third → scale_number d.scale ≡ s → length third ≡ 0 → bytes ≡ decimal_items d a
-are_items d bytes first second third a p s b f p-is g s-is none =
-    let scale-is : second ≡ number_field 15 (scale_number d.scale) ++ [] = g ∙ ap (λ (n : ℕ). number_field 15 n ++ third) (sym s-is) ∙ ap (λ (x : List ℕ). number_field 15 (scale_number d.scale) ++ x) (nil_from_length third none) in
-    let precision-is : first ≡ number_field 14 d.precision ++ (number_field 15 (scale_number d.scale) ++ []) = f ∙ ap (λ (n : ℕ). number_field 14 n ++ second) (sym p-is) ∙ ap (λ (x : List ℕ). number_field 14 d.precision ++ x) scale-is in
-    b ∙ ap (λ (x : List ℕ). bytes_field 7 a ++ x) precision-is ∙ sym (item_parts d a []) ∙ append-nil (decimal_items d a)
+pub is_type : (d : DecimalDType) (bytes first rest : List ℕ) (p s : ℕ) → bytes ≡ number_field 14 p ++ first → d.precision ≡ p → first ≡ number_field 15 s ++ rest → scale_number d.scale ≡ s → bytes ≡ decimal_type d ++ rest
+is_type d bytes first rest p s b p-is f s-is =
+    let scale-is : first ≡ number_field 15 (scale_number d.scale) ++ rest = f ∙ ap (λ (n : ℕ). number_field 15 n ++ rest) (sym s-is) in
+    b ∙ ap (λ (n : ℕ). number_field 14 n ++ first) (sym p-is) ∙ ap (λ (x : List ℕ). number_field 14 d.precision ++ x) scale-is ∙ sym (type_parts d rest)
 
 pub puts_type : (d : DecimalDType) (p s : ℕ) (old a new : List ℕ) → p ≡ d.precision → s ≡ scale_number d.scale → a ≡ old ++ number_field 14 p → new ≡ a ++ number_field 15 s → new ≡ old ++ decimal_type d
 unfolding decimal_type
 puts_type d p s old a new p-is s-is x y = rw (y, x, p-is, s-is) (simp append_assoc)
 
-items_same : (d e : DecimalDType) (a b : List ℕ) → IsDecimalType d → IsDecimalType e → length a < 2 ^ 64 → length b < 2 ^ 64 → decimal_items d a ≡ decimal_items e b → (d ≡ e) × (a ≡ b)
-items_same d e a b p q la lb h =
-    let second : List ℕ = number_field 15 (scale_number d.scale) ++ [] in
-    let first : List ℕ = number_field 14 d.precision ++ second in
+-- two types at one front are one
+pub decimal_type_same : (d e : DecimalDType) (a b : List ℕ) → IsDecimalType d → IsDecimalType e → decimal_type d ++ a ≡ decimal_type e ++ b → (d ≡ e) × (a ≡ b)
+decimal_type_same d e a b p q h =
+    let first : List ℕ = number_field 15 (scale_number d.scale) ++ a in
     let d-small : d.precision < 2 ^ 64 = omega (arith, p.precision) in
     let s-small : scale_number d.scale < 2 ^ 64 = omega (arith, scale_small d.scale p.scale) in
-    let is = all_parts d a (decimal_items d a) refl in
-    let one = after_items e b (decimal_items d a) q lb h a first la is in
-    let two = after_precision e b (decimal_items d a) q lb h a first second d.precision la d-small is refl in
-    let three = after_scale e b (decimal_items d a) q lb h a first second [] d.precision (scale_number d.scale) la d-small s-small is refl refl in
-    (type_same d e two.0 (scale_same d.scale e.scale three.0), one.0)
+    let one = after_precision e b (decimal_type d ++ a) q h d.precision first d-small (type_parts d a) in
+    let two = after_scale e b (decimal_type d ++ a) q h d.precision (scale_number d.scale) first a d-small s-small (type_parts d a) refl in
+    (type_same d e one.0 (scale_same d.scale e.scale two.0), two.1)
+
+-- ---- items before them
+
+item_parts : (d : DecimalDType) (items : List ℕ) → decimal_items d items ≡ bytes_field 7 items ++ decimal_type d
+unfolding decimal_items
+item_parts d items = refl
+
+-- what is read has to do with all fields that the bytes are
+after_items : (d : DecimalDType) (items bytes a first : List ℕ) → length items < 2 ^ 64 → length a < 2 ^ 64 → bytes ≡ decimal_items d items → bytes ≡ bytes_field 7 a ++ first → (a ≡ items) × (first ≡ decimal_type d)
+after_items d items bytes a first small lt e b = bytes_field_same 7 a items first (decimal_type d) (omega arith) lt small (sym b ∙ e ∙ item_parts d items)
+
+pub no_items : (bytes : List ℕ) → HasNoBytesField 7 bytes → AreNoDecimalItems bytes
+no_items bytes h = record { none = λ d items typed small e. h.none items _ small (e ∙ item_parts d items) }
+
+pub no_type : (bytes first a : List ℕ) → length a < 2 ^ 64 → bytes ≡ bytes_field 7 a ++ first → BeginsWithNoDecimalType first → AreNoDecimalItems bytes
+no_type bytes first a la b h = record { none = λ d items typed small e. h.none d [] typed ((after_items d items bytes a first small la e b).1 ∙ sym (append-nil (decimal_type d))) }
+
+pub more_behind : (d : DecimalDType) (bytes first rest a : List ℕ) → IsDecimalType d → length a < 2 ^ 64 → bytes ≡ bytes_field 7 a ++ first → first ≡ decimal_type d ++ rest → (length rest ≡ 0 → ⊥) → AreNoDecimalItems bytes
+more_behind d bytes first rest a native la b f ne = record {
+  none = λ e items typed small h.
+      let is = (after_items e items bytes a first small la h b).1 in
+      ne (ap length (decimal_type_same d e rest [] native typed (sym f ∙ is ∙ sym (append-nil (decimal_type e)))).1);
+}
+
+pub are_items : (d : DecimalDType) (bytes first rest a : List ℕ) → bytes ≡ bytes_field 7 a ++ first → first ≡ decimal_type d ++ rest → length rest ≡ 0 → bytes ≡ decimal_items d a
+are_items d bytes first rest a b f none =
+    let is : first ≡ decimal_type d = f ∙ ap (λ (x : List ℕ). decimal_type d ++ x) (nil_from_length rest none) ∙ append-nil (decimal_type d) in
+    b ∙ ap (λ (x : List ℕ). bytes_field 7 a ++ x) is ∙ sym (item_parts d a)
+
+items_same : (d e : DecimalDType) (a b : List ℕ) → IsDecimalType d → IsDecimalType e → length a < 2 ^ 64 → length b < 2 ^ 64 → decimal_items d a ≡ decimal_items e b → (d ≡ e) × (a ≡ b)
+items_same d e a b p q la lb h =
+    let s = after_items e b (decimal_items d a) a (decimal_type d) lb la h (item_parts d a) in
+    ((decimal_type_same d e [] [] p q (ap (λ (x : List ℕ). x ++ []) s.1)).0, s.0)
 
 -- ---- with the validity before them
 

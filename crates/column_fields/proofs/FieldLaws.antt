@@ -14,6 +14,12 @@ number_field_same field m n a b f p q e =
     let parts : varint (field * 8) ++ (varint m ++ a) ≡ varint (field * 8) ++ (varint n ++ b) = sym (number_field_parts field m a) ∙ e ∙ number_field_parts field n b in
     varint_same m n a b p q (append_cancel_left (varint (field * 8)) (varint m ++ a) (varint n ++ b) parts)
 
+-- fields of two numbers differ in the first byte
+pub fields_apart : (field other m n : ℕ) (a b : List ℕ) → field < 32 → other < 32 → number_field field m ++ a ≡ number_field other n ++ b → field ≡ other
+fields_apart field other m n a b f g e =
+    let parts : varint (field * 8) ++ (varint m ++ a) ≡ varint (other * 8) ++ (varint n ++ b) = sym (number_field_parts field m a) ∙ e ∙ number_field_parts other n b in
+    omega (arith, (varint_same (field * 8) (other * 8) (varint m ++ a) (varint n ++ b) (omega arith) (omega arith) parts).0)
+
 pub bytes_field_parts : (field : ℕ) (content rest : List ℕ) → bytes_field field content ++ rest ≡ varint (field * 8 + 2) ++ (varint (length content) ++ (content ++ rest))
 unfolding bytes_field
 bytes_field_parts field content rest = append_assoc (varint (field * 8 + 2)) (varint (length content) ++ content) rest ∙ ap (λ (t : List ℕ). varint (field * 8 + 2) ++ t) (append_assoc (varint (length content)) content rest)

@@ -16,3 +16,4 @@ pub mod FlatFieldLaws
 pub mod RunFieldLaws
 pub mod ListFieldLaws
 pub mod DecimalFieldLaws
+pub mod ElementFieldLaws

@@ -15,10 +15,10 @@ type_small I32 = omega arith
 type_small I64 = omega arith
 
 -- the type of a number, if it has one
-type_in : ℕ → PType
+pub type_in : ℕ → PType
 type_in n = cond (eqb n 1) U8 (cond (eqb n 2) U16 (cond (eqb n 3) U32 (cond (eqb n 4) U64 (cond (eqb n 5) I8 (cond (eqb n 6) I16 (cond (eqb n 7) I32 I64))))))
 
-type_back : (t : PType) → type_in (type_number t) ≡ t
+pub type_back : (t : PType) → type_in (type_number t) ≡ t
 unfolding type_in
 type_back U8 = refl
 type_back U16 = refl

@@ -24,6 +24,10 @@ pub record IsDecimalType (decimal : DecimalDType) : Type 0 where
 unfoldable pub decimal_type : DecimalDType → List ℕ
 decimal_type decimal = number_field 14 decimal.precision ++ number_field 15 (scale_number decimal.scale)
 
+-- bytes begin with those fields of no type
+pub record BeginsWithNoDecimalType (bytes : List ℕ) : Type 0 where
+  pub none : (decimal : DecimalDType) (rest : List ℕ) → IsDecimalType decimal → bytes ≡ decimal_type decimal ++ rest → ⊥
+
 -- the items, the precision, and the scale
 unfoldable pub decimal_items : DecimalDType → List ℕ → List ℕ
 decimal_items decimal items = bytes_field 7 items ++ decimal_type decimal

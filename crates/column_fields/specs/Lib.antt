@@ -11,3 +11,4 @@ pub mod FlatFields
 pub mod DecimalFields
 pub mod RunFields
 pub mod ListFields
+pub mod ElementFields

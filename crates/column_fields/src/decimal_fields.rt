@@ -3,7 +3,7 @@ ghost use Rattle.std.specs.Prelude.{◌≡◌, ◌^◌, ◌<◌, ◌*◌, ◌++�
 ghost use Rattle.std.specs.Int.{w8};
 ghost use Rattle.column_base.specs.Validity.{form_of};
 ghost use Rattle.column_base.specs.ValidityForm.{HasLength};
-ghost use Rattle.column_fields.specs.DecimalFields.{decimal_fields, decimal_items, decimal_type, AreNoDecimalFields, AreNoDecimalItems, IsDecimalType, scale_number, HasNoScale};
+ghost use Rattle.column_fields.specs.DecimalFields.{decimal_fields, decimal_items, decimal_type, AreNoDecimalFields, AreNoDecimalItems, BeginsWithNoDecimalType, IsDecimalType, scale_number, HasNoScale};
 ghost use Rattle.column_fields.specs.Refusal.{IsBadOrMemory};
 
 use crate::fields::{put_number, read_bytes, read_number};
@@ -23,6 +23,22 @@ pub fn put_decimal_type<A: Allocator>(
     put_number(out, 14, u64::from(decimal.precision))?;
     put_number(out, 15, number_of_scale(decimal.scale))?;
     Ok(())
+}
+
+/// The precision and the scale at the front, and the bytes after them.
+pub(crate) fn read_decimal_type(bytes: &[u8]) -> Option<(DecimalDType, &[u8])>
+    ensures found { IfSome result (λ r. bytes.now ≡ decimal_type r.0 ++ r.1.now) }
+    ensures typed { IfSome result (λ r. IsDecimalType r.0) }
+    ensures none { IfNone result (BeginsWithNoDecimalType bytes.now) }
+{
+    let (precision, after_precision) = read_number(bytes, 14)?;
+    if precision > 255 {
+        return None;
+    }
+    let (number, rest) = read_number(after_precision, 15)?;
+    let scale = scale_of_number(number)?;
+    let precision = precision as u8;
+    Some((DecimalDType { precision, scale }, rest))
 }
 
 /// The validity of so many rows, the precision and the scale, and the bytes of the items, which the bytes are. Refused
@@ -57,17 +73,11 @@ fn read_decimal_items(bytes: &[u8]) -> Option<(DecimalDType, &[u8])>
     ensures none { IfNone result (AreNoDecimalItems bytes.now) }
 {
     let (items, after_items) = read_bytes(bytes, 7)?;
-    let (precision, after_precision) = read_number(after_items, 14)?;
-    if precision > 255 {
-        return None;
-    }
-    let (number, rest) = read_number(after_precision, 15)?;
-    let scale = scale_of_number(number)?;
+    let (decimal, rest) = read_decimal_type(after_items)?;
     if rest.len() != 0 {
         return None;
     }
-    let precision = precision as u8;
-    Some((DecimalDType { precision, scale }, items))
+    Some((decimal, items))
 }
 
 // The number that tells a scale: those from 0 on are even, those below 0 odd.

@@ -5,6 +5,7 @@
 mod bit_bytes;
 mod decimal_fields;
 mod decimals;
+mod element_fields;
 mod fields;
 mod flat_fields;
 mod header;
@@ -20,6 +21,7 @@ pub use bit_bytes::{bytes_for, load_bits, put_bits};
 pub use column_base::{VortexError, VortexResult};
 pub use decimal_fields::{put_decimal_type, read_decimal_fields};
 pub use decimals::{DECIMAL_SIZE, load_decimal, load_decimals, put_decimal, put_decimals};
+pub use element_fields::{put_element_type, read_element_type};
 pub use fields::{
     put_bytes, put_bytes_key, put_number, read_bytes, read_constant, read_last_bytes, read_number,
 };

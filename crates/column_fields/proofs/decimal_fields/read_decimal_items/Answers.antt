@@ -1,32 +1,18 @@
-use Rattle.std.proofs.Common.{arith, refl}
-use Rattle.std.specs.Int.{w8}
-use Rattle.std.proofs.lemmas.Int.{to_z-of_z}
+use Rattle.std.proofs.Common.{arith}
 use Rattle.varints.proofs.Varints.{if_none}
-use Rattle.column_fields.proofs.DecimalFieldLaws.{no_items, no_precision, too_precise, no_scale, other_scale, more_behind, are_items}
+use Rattle.column_fields.proofs.DecimalFieldLaws.{no_items, no_type, more_behind, are_items}
 use Rattle.column_fields.proofs.decimal_fields.read_decimal_items.Goals as goal
 
 pub returns-in_err-items-clause-none : goal.returns-in_err-items-clause-none
 returns-in_err-items-clause-none c = if_none _ _ (no_items _ c.in_err-items.ensures.none)
 
-pub returns-in_err-precision-clause-none : goal.returns-in_err-precision-clause-none
-returns-in_err-precision-clause-none c = if_none _ _ (no_precision _ c.in_ok-items.after_items.now _ c.in_ok-items.ensures.small c.in_ok-items.ensures.found c.in_err-precision.ensures.none)
-
-pub returns-then-precision-gt255-clause-none : goal.returns-then-precision-gt255-clause-none
-returns-then-precision-gt255-clause-none c =
-    too_precise _ c.in_ok-items.after_items.now c.in_ok-precision.after_precision.now _ _ c.in_ok-items.ensures.small c.in_ok-precision.ensures.small c.in_ok-items.ensures.found c.in_ok-precision.ensures.found (omega arith)
-
-pub returns-in_err-number-clause-none : goal.returns-in_err-number-clause-none
-returns-in_err-number-clause-none c =
-    if_none _ _ (no_scale _ c.in_ok-items.after_items.now c.in_ok-precision.after_precision.now _ _ c.in_ok-items.ensures.small c.in_ok-precision.ensures.small c.in_ok-items.ensures.found c.in_ok-precision.ensures.found c.in_err-number.ensures.none)
-
-pub returns-in_err-scale-clause-none : goal.returns-in_err-scale-clause-none
-returns-in_err-scale-clause-none c =
-    if_none _ _ (other_scale _ c.in_ok-items.after_items.now c.in_ok-precision.after_precision.now c.in_ok-number.rest.now _ _ _ c.in_ok-items.ensures.small c.in_ok-precision.ensures.small c.in_ok-number.ensures.small c.in_ok-items.ensures.found c.in_ok-precision.ensures.found c.in_ok-number.ensures.found c.in_err-scale.ensures.none)
+pub returns-in_err-decimal-clause-none : goal.returns-in_err-decimal-clause-none
+returns-in_err-decimal-clause-none c = if_none _ _ (no_type _ c.in_ok-items.after_items.now _ c.in_ok-items.ensures.small c.in_ok-items.ensures.found c.in_err-decimal.ensures.none)
 
 pub returns-then-rest-ne0-clause-none : goal.returns-then-rest-ne0-clause-none
 returns-then-rest-ne0-clause-none c =
-    more_behind _ c.in_ok-items.after_items.now c.in_ok-precision.after_precision.now c.in_ok-number.rest.now _ _ _ c.in_ok-items.ensures.small c.in_ok-precision.ensures.small c.in_ok-number.ensures.small c.in_ok-items.ensures.found c.in_ok-precision.ensures.found c.in_ok-number.ensures.found (λ e. c.if-rest-ne0.true (omega (arith, e)))
+    more_behind c.in_ok-decimal.decimal _ c.in_ok-items.after_items.now c.in_ok-decimal.rest.now _ c.in_ok-decimal.ensures.typed c.in_ok-items.ensures.small c.in_ok-items.ensures.found c.in_ok-decimal.ensures.found (λ e. c.if-rest-ne0.true (omega (arith, e)))
 
 pub returns-clause-found : goal.returns-clause-found
 returns-clause-found c =
-    rw (to_z-of_z w8 c.in_ok-scale.scale c.in_ok-scale.ensures.fits) (are_items (record { precision = c.in_ok-precision.precision; scale = c.in_ok-scale.scale }) _ c.in_ok-items.after_items.now c.in_ok-precision.after_precision.now c.in_ok-number.rest.now _ c.in_ok-precision.precision _ c.in_ok-items.ensures.found c.in_ok-precision.ensures.found refl c.in_ok-number.ensures.found c.in_ok-scale.ensures.found (omega arith))
+    are_items c.in_ok-decimal.decimal _ c.in_ok-items.after_items.now c.in_ok-decimal.rest.now _ c.in_ok-items.ensures.found c.in_ok-decimal.ensures.found (omega arith)
