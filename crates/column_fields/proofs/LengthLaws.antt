@@ -1,7 +1,7 @@
 -- Run lengths are those of ends.
 use Rattle.std.proofs.Common.{◌≡◌, ℕ, suc, ◌+◌, ◌-◌, ◌*◌, ◌<◌, ◌≤◌, ℤ, pos, List, [], ◌∷◌, ◌++◌, length, get_or, map, drop, refl, sym, ap, ◌∙◌, append_assoc, add-one}
 use Rattle.std.specs.Prelude.{unsigned_abs}
-use Rattle.std.proofs.lemmas.List.{append-nil, drop_all}
+use Rattle.std.proofs.lemmas.List.{append-nil, drop_all, length-append}
 use Rattle.std.proofs.Math.Seq.{drop-cons}
 use Rattle.varints.specs.Varint.{varint}
 use Rattle.column_fields.specs.Field.{bytes_field}
@@ -31,10 +31,19 @@ lengths_none start = refl
 ahead : {X : Type 0} (xs : List X) (i : ℕ) (x : X) → i < length xs → x ≡ get_or xs i x → drop i xs ≡ x ∷ drop (i + 1) xs
 ahead xs i x lt is = drop-cons xs i x lt ∙ ap (λ y. y ∷ drop (suc i) xs) (sym is) ∙ ap (λ (k : ℕ). x ∷ drop k xs) (sym (add-one i))
 
+pub lengths_ahead : {X : Type 0} (f : X → ℕ) (xs : List X) (i start : ℕ) (x : X) → i < length xs → x ≡ get_or xs i x → lengths_bytes start (map f (drop i xs)) ≡ varint (f x - start) ++ lengths_bytes (f x) (map f (drop (i + 1) xs))
+lengths_ahead f xs i start x lt is = ap (λ ys. lengths_bytes start (map f ys)) (ahead xs i x lt is) ∙ lengths_cons start (f x) (map f (drop (i + 1) xs))
+
 pub lengths_step : {X : Type 0} (f : X → ℕ) (xs : List X) (i start : ℕ) (x : X) (out new whole : List ℕ) → i < length xs → x ≡ get_or xs i x → out ++ lengths_bytes start (map f (drop i xs)) ≡ whole → new ≡ out ++ varint (f x - start) → new ++ lengths_bytes (f x) (map f (drop (i + 1) xs)) ≡ whole
 lengths_step f xs i start x out new whole lt is inv n =
-    let one : lengths_bytes start (map f (drop i xs)) ≡ varint (f x - start) ++ lengths_bytes (f x) (map f (drop (i + 1) xs)) = ap (λ ys. lengths_bytes start (map f ys)) (ahead xs i x lt is) ∙ lengths_cons start (f x) (map f (drop (i + 1) xs)) in
-    ap (λ (t : List ℕ). t ++ lengths_bytes (f x) (map f (drop (i + 1) xs))) n ∙ append_assoc out (varint (f x - start)) (lengths_bytes (f x) (map f (drop (i + 1) xs))) ∙ ap (λ (t : List ℕ). out ++ t) (sym one) ∙ inv
+    ap (λ (t : List ℕ). t ++ lengths_bytes (f x) (map f (drop (i + 1) xs))) n ∙ append_assoc out (varint (f x - start)) (lengths_bytes (f x) (map f (drop (i + 1) xs))) ∙ ap (λ (t : List ℕ). out ++ t) (sym (lengths_ahead f xs i start x lt is)) ∙ inv
+
+-- how many bytes are left
+pub lengths_left : {X : Type 0} (f : X → ℕ) (xs : List X) (i start : ℕ) (x : X) → i < length xs → x ≡ get_or xs i x → length (lengths_bytes start (map f (drop i xs))) ≡ length (varint (f x - start)) + length (lengths_bytes (f x) (map f (drop (i + 1) xs)))
+lengths_left f xs i start x lt is = ap length (lengths_ahead f xs i start x lt is) ∙ length-append (varint (f x - start)) (lengths_bytes (f x) (map f (drop (i + 1) xs)))
+
+pub none_left : {X : Type 0} (f : X → ℕ) (xs : List X) (i start : ℕ) → length xs ≤ i → length (lengths_bytes start (map f (drop i xs))) ≡ 0
+none_left f xs i start le = ap length (ap (λ ys. lengths_bytes start (map f ys)) (drop_all i xs le) ∙ lengths_none start)
 
 pub lengths_done : {X : Type 0} (f : X → ℕ) (xs : List X) (i start : ℕ) (out whole : List ℕ) → length xs ≤ i → out ++ lengths_bytes start (map f (drop i xs)) ≡ whole → out ≡ whole
 lengths_done f xs i start out whole le inv =

@@ -1,9 +1,12 @@
 -- The fields of lists are read as they are written, and in no other way.
-use Rattle.std.proofs.Common.{◌≡◌, ℕ, ◌^◌, ◌<◌, List, ◌++◌, length, refl, sym, ap, ◌∙◌, arith, append_assoc}
+use Rattle.std.proofs.Common.{◌≡◌, ℕ, ◌+◌, ◌*◌, ◌^◌, ◌<◌, List, ◌++◌, length, refl, sym, ap, ◌∙◌, arith, append_assoc}
+use Rattle.std.proofs.lemmas.List.{length-append}
+use Rattle.varints.specs.Varint.{varint}
 use Rattle.column_fields.specs.Field.{bytes_field, HasNoBytesField, IsNoBytesField}
 use Rattle.column_fields.specs.ListFields.{list_fields, AreNoListFields}
 use Rattle.column_fields.proofs.FieldLaws.{bytes_field_same}
 use Rattle.column_fields.proofs.FlatFieldLaws.{last_same}
+use Rattle.column_fields.proofs.SizeLaws.{bytes_long}
 
 pub list_parts : (elements offsets sizes : List ℕ) → list_fields elements offsets sizes ≡ bytes_field 17 elements ++ (bytes_field 18 offsets ++ bytes_field 19 sizes)
 unfolding list_fields
@@ -32,6 +35,18 @@ are_lists bytes first second a o s b f g = b ∙ ap (λ (x : List ℕ). bytes_fi
 pub puts_lists : (elements offsets sizes old a b new : List ℕ) → a ≡ old ++ bytes_field 17 elements → b ≡ a ++ bytes_field 18 offsets → new ≡ b ++ bytes_field 19 sizes → new ≡ old ++ list_fields elements offsets sizes
 unfolding list_fields
 puts_lists elements offsets sizes old a b new p q r = rw (r, q, p) (simp append_assoc)
+
+pub list_fields_long : (elements offsets sizes : List ℕ) → length (list_fields elements offsets sizes) ≡ length (bytes_field 17 elements) + length (bytes_field 18 offsets) + length (bytes_field 19 sizes)
+unfolding list_fields
+list_fields_long elements offsets sizes = omega (arith, length-append (bytes_field 17 elements) (bytes_field 18 offsets ++ bytes_field 19 sizes), length-append (bytes_field 18 offsets) (bytes_field 19 sizes))
+
+-- so many bytes have the fields, where the messages have so many
+pub list_fields_sum : (elements offsets sizes : List ℕ) (e o s a b c : ℕ) → length elements ≡ e → length offsets ≡ o → length sizes ≡ s → a ≡ length (varint (17 * 8 + 2) ++ varint e) → b ≡ length (varint (18 * 8 + 2) ++ varint o) → c ≡ length (varint (19 * 8 + 2) ++ varint s) → a + b + c + e + o + s ≡ length (list_fields elements offsets sizes)
+list_fields_sum elements offsets sizes e o s a b c l m n p q r =
+    let p' : a ≡ length (varint (17 * 8 + 2) ++ varint (length elements)) = p ∙ ap (λ (x : ℕ). length (varint (17 * 8 + 2) ++ varint x)) (sym l) in
+    let q' : b ≡ length (varint (18 * 8 + 2) ++ varint (length offsets)) = q ∙ ap (λ (x : ℕ). length (varint (18 * 8 + 2) ++ varint x)) (sym m) in
+    let r' : c ≡ length (varint (19 * 8 + 2) ++ varint (length sizes)) = r ∙ ap (λ (x : ℕ). length (varint (19 * 8 + 2) ++ varint x)) (sym n) in
+    omega (arith, list_fields_long elements offsets sizes, bytes_long 17 elements, bytes_long 18 offsets, bytes_long 19 sizes, p', q', r', l, m, n)
 
 -- fields of lists are those of the same contents
 pub lists_same : (a b o p s t : List ℕ) → length a < 2 ^ 64 → length b < 2 ^ 64 → length o < 2 ^ 64 → length p < 2 ^ 64 → length s < 2 ^ 64 → length t < 2 ^ 64 → list_fields a o s ≡ list_fields b p t → (a ≡ b) × (o ≡ p) × (s ≡ t)

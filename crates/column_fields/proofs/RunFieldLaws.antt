@@ -1,11 +1,14 @@
 -- The fields of runs are read as they are written, and in no other way.
-use Rattle.std.proofs.Common.{◌≡◌, ℕ, ◌^◌, ◌<◌, List, ◌++◌, length, refl, sym, ap, ◌∙◌, arith, append_assoc}
+use Rattle.std.proofs.Common.{◌≡◌, ℕ, ◌+◌, ◌*◌, ◌^◌, ◌<◌, List, ◌++◌, length, refl, sym, ap, ◌∙◌, arith, append_assoc}
+use Rattle.std.proofs.lemmas.List.{length-append}
 use Rattle.column_base.specs.declared.dtype.PType.{PType}
+use Rattle.varints.specs.Varint.{varint}
 use Rattle.column_fields.specs.Field.{number_field, bytes_field, HasNoNumberField, HasNoBytesField, IsNoBytesField}
 use Rattle.column_fields.specs.Types.{type_number, HasNoType}
 use Rattle.column_fields.specs.RunFields.{run_fields, AreNoRunFields}
 use Rattle.column_fields.proofs.FieldLaws.{number_field_same, bytes_field_same}
 use Rattle.column_fields.proofs.FlatFieldLaws.{last_same}
+use Rattle.column_fields.proofs.SizeLaws.{bytes_long}
 use Rattle.column_fields.proofs.TypeLaws.{type_small, type_same}
 
 run_parts : (offset : ℕ) (u : PType) (lengths values : List ℕ) → run_fields offset u lengths values ≡ number_field 8 offset ++ (number_field 9 (type_number u) ++ (bytes_field 10 lengths ++ bytes_field 11 values))
@@ -45,6 +48,18 @@ are_runs u m k bytes first second third a d b f is s t =
 pub puts_runs : (u : PType) (offset n : ℕ) (lengths values old a b c new : List ℕ) → n ≡ type_number u → a ≡ old ++ number_field 8 offset → b ≡ a ++ number_field 9 n → c ≡ b ++ bytes_field 10 lengths → new ≡ c ++ bytes_field 11 values → new ≡ old ++ run_fields offset u lengths values
 unfolding run_fields
 puts_runs u offset n lengths values old a b c new k p q r s = rw (s, r, q, p, k) (simp append_assoc)
+
+pub run_fields_long : (offset : ℕ) (u : PType) (lengths values : List ℕ) → length (run_fields offset u lengths values) ≡ length (number_field 8 offset) + length (number_field 9 (type_number u)) + length (bytes_field 10 lengths) + length (bytes_field 11 values)
+unfolding run_fields
+run_fields_long offset u lengths values = omega (arith, length-append (number_field 8 offset) (number_field 9 (type_number u) ++ (bytes_field 10 lengths ++ bytes_field 11 values)), length-append (number_field 9 (type_number u)) (bytes_field 10 lengths ++ bytes_field 11 values), length-append (bytes_field 10 lengths) (bytes_field 11 values))
+
+-- so many bytes have the fields, where lengths and values have so many
+pub run_fields_sum : (offset n a b c d : ℕ) (u : PType) (lengths values : List ℕ) (count message : ℕ) → n ≡ type_number u → count ≡ length lengths → length values ≡ message → a ≡ length (number_field 8 offset) → b ≡ length (number_field 9 n) → c ≡ length (varint (10 * 8 + 2) ++ varint count) → d ≡ length (varint (11 * 8 + 2) ++ varint message) → a + b + (c + d) + count + message ≡ length (run_fields offset u lengths values)
+run_fields_sum offset n a b c d u lengths values count message k l m p q r s =
+    let b' : b ≡ length (number_field 9 (type_number u)) = q ∙ ap (λ (x : ℕ). length (number_field 9 x)) k in
+    let c' : c ≡ length (varint (10 * 8 + 2) ++ varint (length lengths)) = r ∙ ap (λ (x : ℕ). length (varint (10 * 8 + 2) ++ varint x)) l in
+    let d' : d ≡ length (varint (11 * 8 + 2) ++ varint (length values)) = s ∙ ap (λ (x : ℕ). length (varint (11 * 8 + 2) ++ varint x)) (sym m) in
+    omega (arith, run_fields_long offset u lengths values, bytes_long 10 lengths, bytes_long 11 values, b', c', d', p, l, m)
 
 -- fields of runs are those of one offset, one type, and the same contents
 pub runs_same : (o p : ℕ) (t u : PType) (a b v w : List ℕ) → o < 2 ^ 64 → p < 2 ^ 64 → length a < 2 ^ 64 → length b < 2 ^ 64 → length v < 2 ^ 64 → length w < 2 ^ 64 → run_fields o t a v ≡ run_fields p u b w → (o ≡ p) × (t ≡ u) × (a ≡ b) × (v ≡ w)

@@ -1,4 +1,5 @@
 pub mod Field
+pub mod Sizes
 pub mod Types
 pub mod NumberBytes
 pub mod BitBytes

@@ -81,7 +81,7 @@ fn read_decimal_items(bytes: &[u8]) -> Option<(DecimalDType, &[u8])>
 }
 
 // The number that tells a scale: those from 0 on are even, those below 0 odd.
-fn number_of_scale(scale: i8) -> u64
+pub(crate) fn number_of_scale(scale: i8) -> u64
     ensures number { result ≡ scale_number scale }
     ensures fits { FitsSigned w8 scale }
 {

@@ -3,6 +3,7 @@ ghost use Rattle.std.specs.Prelude.{◌≡◌, ◌≢◌, ◌+◌, ◌*◌, ◌^
 ghost use Rattle.varints.specs.Varint.{varint};
 ghost use Rattle.column_fields.specs.Field.{number_field, bytes_field, HasNoNumberField, HasNoConstantField, HasNoBytesField, IsNoBytesField};
 
+use crate::sizes::varint_size;
 use column_base::{VortexError, VortexResult};
 use std::alloc::Allocator;
 use varints::{push_varint, read_shortest};
@@ -12,7 +13,7 @@ pub fn put_varint<A: Allocator>(out: &mut Vec<u8, A>, number: u64) -> VortexResu
     ensures ok { OnOk result (out.new.items ≡ out.old.items ++ varint number) }
     ensures only { IsOkUnless result VortexError.OutOfMemory }
 {
-    out.reserve(10)?;
+    out.reserve(varint_size(number))?;
     push_varint(out, number);
     Ok(())
 }

@@ -1,48 +1,98 @@
 //! Run lengths, each as the shortest varint.
-ghost use Rattle.std.specs.Prelude.{◌≡◌, ◌++◌, ◌+◌, ◌^◌, ◌<◌, ◌≤◌, length, map, pos, unsigned_abs, true, vec_capacity, OnOk, IfOk, IfErr, IfSome, IfNone, IsErrOf, IsOkUnless};
+ghost use Rattle.std.specs.Prelude.{◌≡◌, ◌++◌, ◌+◌, ◌^◌, ◌<◌, ◌≤◌, length, map, pos, unsigned_abs, true, vec_len, vec_capacity, OnOk, IfOk, IfErr, IfSome, IfNone, IsErrOf, IsOkUnless};
 ghost use Rattle.column_base.specs.Number.{Narrows};
 ghost use Rattle.column_base.specs.Numbers.{numbers, ptype_of};
 ghost use Rattle.column_base.specs.Types.{IsUnsigned, HasNumber};
+ghost use Rattle.column_fields.specs.Field.{bytes_field};
 ghost use Rattle.column_fields.specs.Refusal.{IsBadOrMemory};
+ghost use Rattle.column_fields.specs.Sizes.{IsPast};
 ghost use Rattle.column_fields.specs.Lengths.{lengths_bytes, Rises, AreEndsOf, HasNoEndsOf};
 ghost use Rattle.varints.specs.Varint.{varint, BeginsWithNoShortest};
 
-use crate::fields::put_varint;
+use crate::fields::put_bytes_key;
+use crate::sizes::{size_of_total, varint_size};
 use crate::stored::StoredEnd;
 use column_base::{PType, PrimitiveValues, VortexError, VortexResult, match_each_unsigned};
 use std::alloc::Allocator;
-use varints::read_shortest;
+use varints::{push_varint, read_shortest};
 
+/// How many bytes the lengths of the runs with these ends have, in one pass over the ends. Refused as `OutOfMemory`
+/// exactly where no count tells them.
 #[tactic(auto, using(crate::proofs::LengthLaws::ends_stored))]
-/// Writes the lengths of the runs with these ends at the end.
-pub fn put_lengths_of<A: Allocator, B: Allocator>(
+pub fn lengths_size<A: Allocator>(ends: &PrimitiveValues<A>) -> VortexResult<usize>
+    requires { IsUnsigned (ptype_of ends.now) }
+    ensures size { IfOk result (λ size. size ≡ length (lengths_bytes 0 (map unsigned_abs (numbers ends.now)))) }
+    ensures fit { AreEndsOf (ptype_of ends.now) (map unsigned_abs (numbers ends.now)) }
+    ensures past { IfErr result
+        (λ error. IsPast (length (lengths_bytes 0 (map unsigned_abs (numbers ends.now)))) error) }
+{
+    let total = match_each_unsigned!(ends,
+        items => measure(items.as_slice()),
+        _ => unreachable!()
+    );
+    size_of_total(total)
+}
+
+// How many bytes the lengths of runs with these ends have.
+fn measure<E: StoredEnd>(ends: &[E]) -> u128
+    ensures size { result ≡ length (lengths_bytes 0 (map E.natural ends.now)) }
+    ensures fit { AreEndsOf E.PTYPE (map E.natural ends.now) }
+{
+    let mut total = 0;
+    let mut start = 0;
+    for stop in ends {
+        let end = stop.end();
+        total += varint_size(end.saturating_sub(start)) as u128;
+        start = end;
+    }
+    total
+}
+
+/// Writes the field of the lengths of the runs with these ends at the end.
+pub fn put_lengths_field<A: Allocator, B: Allocator>(
     out: &mut Vec<u8, B>,
+    field: u64,
     ends: &PrimitiveValues<A>,
 ) -> VortexResult<()>
-    requires { IsUnsigned (ptype_of ends.now) }
-    ensures ok { OnOk result (out.new.items ≡ out.old.items ++ lengths_bytes 0 (map unsigned_abs (numbers ends.now))) }
-    ensures fit { OnOk result (AreEndsOf (ptype_of ends.now) (map unsigned_abs (numbers ends.now))) }
+    requires field { field < 32 }
+    requires unsigned { IsUnsigned (ptype_of ends.now) }
+    ensures ok { OnOk result (out.new.items ≡ out.old.items ++
+        bytes_field field (lengths_bytes 0 (map unsigned_abs (numbers ends.now)))) }
+    ensures fit { AreEndsOf (ptype_of ends.now) (map unsigned_abs (numbers ends.now)) }
     ensures only { IsOkUnless result VortexError.OutOfMemory }
 {
+    let count = lengths_size(ends)?;
+    put_bytes_key(out, field, count)?;
+    out.reserve(count)?;
+    push_lengths_of(out, ends);
+    Ok(())
+}
+
+#[tactic(auto, using(crate::proofs::LengthLaws::ends_stored))]
+// Writes the lengths of the runs with these ends at the end, where there is room for them.
+fn push_lengths_of<A: Allocator, B: Allocator>(out: &mut Vec<u8, B>, ends: &PrimitiveValues<A>)
+    requires unsigned { IsUnsigned (ptype_of ends.now) }
+    requires room { vec_len out.old + length (lengths_bytes 0 (map unsigned_abs (numbers ends.now)))
+        ≤ vec_capacity out.old }
+    ensures { out.new.items ≡ out.old.items ++ lengths_bytes 0 (map unsigned_abs (numbers ends.now)) }
+{
     match_each_unsigned!(ends,
-        items => put_lengths(out, items.as_slice()),
+        items => push_lengths(out, items.as_slice()),
         _ => unreachable!()
     )
 }
 
-/// Writes the lengths of runs with these ends at the end.
-fn put_lengths<E: StoredEnd, A: Allocator>(out: &mut Vec<u8, A>, ends: &[E]) -> VortexResult<()>
-    ensures ok { OnOk result (out.new.items ≡ out.old.items ++ lengths_bytes 0 (map E.natural ends.now)) }
-    ensures fit { OnOk result (AreEndsOf E.PTYPE (map E.natural ends.now)) }
-    ensures only { IsOkUnless result VortexError.OutOfMemory }
+// Writes the lengths of runs with these ends at the end, where there is room for them.
+fn push_lengths<E: StoredEnd, A: Allocator>(out: &mut Vec<u8, A>, ends: &[E])
+    requires { vec_len out.old + length (lengths_bytes 0 (map E.natural ends.now)) ≤ vec_capacity out.old }
+    ensures { out.new.items ≡ out.old.items ++ lengths_bytes 0 (map E.natural ends.now) }
 {
     let mut start = 0;
     for stop in ends {
         let end = stop.end();
-        put_varint(out, end.saturating_sub(start))?;
+        push_varint(out, end.saturating_sub(start));
         start = end;
     }
-    Ok(())
 }
 
 /// The ends of that type of the runs of which these are the lengths: each run but the first has a row. Refused as

@@ -7,12 +7,14 @@ mod decimal_fields;
 mod decimals;
 mod element_fields;
 mod fields;
+mod fitting;
 mod flat_fields;
 mod header;
 mod lengths;
 mod list_fields;
 mod numbers;
 mod run_fields;
+mod sizes;
 mod stored;
 mod types;
 mod validity;
@@ -25,11 +27,16 @@ pub use element_fields::{put_element_type, read_element_type};
 pub use fields::{
     put_bytes, put_bytes_key, put_number, read_bytes, read_constant, read_last_bytes, read_number,
 };
+pub use fitting::{decimals_fit, values_fit};
 pub use flat_fields::read_flat_fields;
 pub use header::{Header, put_header, read_header};
-pub use lengths::{load_ends, put_lengths_of};
-pub use list_fields::{ListFields, put_list_fields, read_list_fields};
+pub use lengths::{lengths_size, load_ends, put_lengths_field};
+pub use list_fields::{ListFields, list_fields_size, read_list_fields};
 pub use numbers::{load_value, load_values, put_value, put_values, size_of_type};
-pub use run_fields::{RunFields, put_run_fields, read_run_fields};
+pub use run_fields::{RunFields, put_run_fields, read_run_fields, run_fields_size};
+pub use sizes::{
+    bit_validity_size, bytes_key_size, decimal_type_size, header_size, number_size, size_of_total,
+    validity_size, varint_size,
+};
 pub use types::{number_of_type, type_of_number};
 pub use validity::{put_bit_validity, put_validity, read_validity};

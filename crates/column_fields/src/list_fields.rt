@@ -1,10 +1,11 @@
 //! What a message of lists ends with.
-ghost use Rattle.std.specs.Prelude.{◌≡◌, ◌^◌, ◌<◌, ◌++◌, length, IfSome, IfNone, OnOk, IsOkUnless};
+ghost use Rattle.std.specs.Prelude.{◌≡◌, ℕ, ◌^◌, ◌<◌, List, ◌++◌, length, IfSome, IfNone, IfOk, IfErr};
 ghost use Rattle.column_fields.specs.ListFields.{list_fields, AreNoListFields};
+ghost use Rattle.column_fields.specs.Sizes.{IsPast};
 
-use crate::fields::{put_bytes, read_bytes, read_last_bytes};
-use column_base::{VortexError, VortexResult};
-use std::alloc::Allocator;
+use crate::fields::{read_bytes, read_last_bytes};
+use crate::sizes::{bytes_key_size, size_of_total};
+use column_base::VortexResult;
 
 /// The messages of the elements of all lists, of the offsets, and of the sizes.
 #[derive(Clone, Copy)]
@@ -14,20 +15,21 @@ pub struct ListFields<'a> {
     pub sizes: &'a [u8],
 }
 
-/// Writes the fields at the end. Refused as `OutOfMemory` alone.
-pub fn put_list_fields<A: Allocator>(
-    out: &mut Vec<u8, A>,
-    elements: &[u8],
-    offsets: &[u8],
-    sizes: &[u8],
-) -> VortexResult<()>
-    ensures ok { OnOk result (out.new.items ≡ out.old.items ++ list_fields elements.now offsets.now sizes.now) }
-    ensures only { IsOkUnless result VortexError.OutOfMemory }
+/// How many bytes the fields have where the messages have so many. Refused as `OutOfMemory` exactly where no count tells
+/// them.
+pub fn list_fields_size(elements: usize, offsets: usize, sizes: usize) -> VortexResult<usize>
+    ensures size { IfOk result (λ size. (e o s : List ℕ) → length e ≡ elements → length o ≡ offsets →
+        length s ≡ sizes → size ≡ length (list_fields e o s)) }
+    ensures past { IfErr result (λ error. (e o s : List ℕ) → length e ≡ elements → length o ≡ offsets →
+        length s ≡ sizes → IsPast (length (list_fields e o s)) error) }
 {
-    put_bytes(out, 17, elements)?;
-    put_bytes(out, 18, offsets)?;
-    put_bytes(out, 19, sizes)?;
-    Ok(())
+    let keys = bytes_key_size(17, elements)
+        + bytes_key_size(18, offsets)
+        + bytes_key_size(19, sizes);
+    match size_of_total(keys as u128 + elements as u128 + offsets as u128 + sizes as u128) {
+        Ok(size) => Ok(size),
+        Err(error) => Err(error),
+    }
 }
 
 /// The fields that the bytes are.

@@ -1,10 +1,16 @@
 //! What a message of runs ends with.
-ghost use Rattle.std.specs.Prelude.{◌≡◌, ◌^◌, ◌<◌, ◌++◌, length, IfSome, IfNone, OnOk, IsOkUnless};
+ghost use Rattle.std.specs.Prelude.{◌≡◌, ℕ, ◌^◌, ◌<◌, List, ◌++◌, length, map, unsigned_abs, IfSome, IfNone, IfOk, IfErr, OnOk, IsOkUnless};
+ghost use Rattle.column_base.specs.Numbers.{numbers, ptype_of};
+ghost use Rattle.column_base.specs.Types.{IsUnsigned};
+ghost use Rattle.column_fields.specs.Lengths.{lengths_bytes, AreEndsOf};
 ghost use Rattle.column_fields.specs.RunFields.{run_fields, AreNoRunFields};
+ghost use Rattle.column_fields.specs.Sizes.{IsPast};
 
-use crate::fields::{put_bytes, put_number, read_bytes, read_last_bytes, read_number};
+use crate::fields::{put_bytes_key, put_number, read_bytes, read_last_bytes, read_number};
+use crate::lengths::{lengths_size, put_lengths_field};
+use crate::sizes::{bytes_key_size, number_size, size_of_total};
 use crate::types::{number_of_type, type_of_number};
-use column_base::{PType, VortexError, VortexResult};
+use column_base::{PType, PrimitiveValues, VortexError, VortexResult};
 use std::alloc::Allocator;
 
 /// The row at which the column begins, the type of the ends, the run lengths, and the message of the values.
@@ -16,22 +22,54 @@ pub struct RunFields<'a> {
     pub values: &'a [u8],
 }
 
-/// Writes the fields at the end. Refused as `OutOfMemory` alone.
-pub fn put_run_fields<A: Allocator>(
-    out: &mut Vec<u8, A>,
+/// Writes the fields at the end, but for the message of the values, which is to stand behind them and has so many
+/// bytes. Refused as `OutOfMemory` alone.
+pub fn put_run_fields<A: Allocator, B: Allocator>(
+    out: &mut Vec<u8, B>,
     offset: u64,
     ends_type: PType,
-    lengths: &[u8],
-    values: &[u8],
+    ends: &PrimitiveValues<A>,
+    values: usize,
 ) -> VortexResult<()>
-    ensures ok { OnOk result (out.new.items ≡ out.old.items ++ run_fields offset ends_type lengths.now values.now) }
+    requires { IsUnsigned (ptype_of ends.now) }
+    ensures ok { OnOk result ((message : List ℕ) → length message ≡ values → out.new.items ++ message ≡
+        out.old.items ++ run_fields offset ends_type (lengths_bytes 0 (map unsigned_abs (numbers ends.now))) message) }
+    ensures fit { OnOk result (AreEndsOf (ptype_of ends.now) (map unsigned_abs (numbers ends.now))) }
     ensures only { IsOkUnless result VortexError.OutOfMemory }
 {
     put_number(out, 8, offset)?;
     put_number(out, 9, number_of_type(ends_type))?;
-    put_bytes(out, 10, lengths)?;
-    put_bytes(out, 11, values)?;
+    put_lengths_field(out, 10, ends)?;
+    put_bytes_key(out, 11, values)?;
     Ok(())
+}
+
+/// How many bytes the fields have where the message of the values has so many. Refused as `OutOfMemory` exactly where
+/// no count tells them.
+pub fn run_fields_size<A: Allocator>(
+    offset: u64,
+    ends_type: PType,
+    ends: &PrimitiveValues<A>,
+    values: usize,
+) -> VortexResult<usize>
+    requires { IsUnsigned (ptype_of ends.now) }
+    ensures size { IfOk result (λ size. (message : List ℕ) → length message ≡ values → size ≡
+        length (run_fields offset ends_type (lengths_bytes 0 (map unsigned_abs (numbers ends.now))) message)) }
+    ensures fit { AreEndsOf (ptype_of ends.now) (map unsigned_abs (numbers ends.now)) }
+    ensures past { IfErr result (λ error. (message : List ℕ) → length message ≡ values → IsPast
+        (length (run_fields offset ends_type (lengths_bytes 0 (map unsigned_abs (numbers ends.now))) message)) error) }
+{
+    match lengths_size(ends) {
+        Ok(lengths) => {
+            let numbers = number_size(8, offset) + number_size(9, number_of_type(ends_type));
+            let keys = bytes_key_size(10, lengths) + bytes_key_size(11, values);
+            match size_of_total((numbers + keys) as u128 + lengths as u128 + values as u128) {
+                Ok(size) => Ok(size),
+                Err(error) => Err(error),
+            }
+        }
+        Err(error) => Err(error),
+    }
 }
 
 /// The fields that the bytes are.
