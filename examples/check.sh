@@ -17,7 +17,8 @@ watched="-O0 -g -fsanitize=address,undefined -fno-sanitize-recover=all"
 has() { command -v "$1" >/dev/null 2>&1; }
 skip() { skipped=$((skipped + 1)); echo "skipped: $1, no $2"; }
 
-# run NAME COMMAND..: the last line of what it says is shown that is not empty, and all of it where it fails
+# run NAME COMMAND..: the last line of what it says is shown that is not empty, and all of it where it fails, with the
+# status; 124 is that of a command which was ended because it took too long
 run() {
     name=$1
     shift
@@ -26,8 +27,10 @@ run() {
         passed=$((passed + 1))
         echo "passed: $name ($(($(date +%s) - begin)) s): $(grep . "$work/log" | tail -n 1)"
     else
+        status=$?
         failed=$((failed + 1))
-        echo "FAILED: $name"
+        [ "$status" = 124 ] && late=", which took too long" || late=
+        echo "FAILED: $name ($(($(date +%s) - begin)) s, status $status$late)"
         sed 's/^/    /' "$work/log"
     fi
 }
