@@ -74,7 +74,7 @@ SELECT refused($$SELECT '\x00'::hvcolumn$$, 'hvcolumn: the bytes are no column')
             'hv_concat: numbers, texts and bytes do not go together'),
     refused('SELECT hv_sum(hv_column(v)) FROM (VALUES (9223372036854775807), (1)) x(v)', 'hv_sum: bigint out of range')
 \g /dev/null
--- what has bytes and is no hvcolumn: true, 1.50, [7], and three rows of it in one run
+-- what has bytes and is no hvcolumn: true, 1.50, [7], three rows of it in one run, and null of lists
 SELECT refused(format('SELECT %L::hvcolumn', bytes), sentence),
     refused(format('SELECT %L::bytea::hvcolumn', bytes), sentence)
 FROM (SELECT '0801100D180420012801' || '8A0114' || '080110081801200128013A080700000000000000' ||
@@ -82,7 +82,8 @@ FROM (SELECT '0801100D180420012801' || '8A0114' || '080110081801200128013A080700
              '9A0114' || '080110041801200128013A080100000000000000') AS one(list),
     LATERAL (VALUES ('080110091801200128013A0101'),
                     ('0801100A1801200128013A109600000000000000000000000000000070057804'),
-                    (list), ('0801100D18022003400048015201035A4F' || list)) AS all_of(digits),
+                    (list), ('0801100D18022003400048015201035A4F' || list),
+                    ('0801100D1803200328033A00A00108A80101')) AS all_of(digits),
     LATERAL (SELECT '\x' || digits, 'hvcolumn: the call does not serve columns of this type or form')
         AS asked(bytes, sentence)
 \g /dev/null
