@@ -9,7 +9,7 @@ use Rattle.column_base.specs.declared.dtype.DType.TheVariants as column
 use Rattle.column_base.specs.Types.{HasNumber, nullability_of}
 use Rattle.column_base.specs.ValidityForm.{ValidityForm, AllNull}
 use Rattle.column_core.specs.ScalarForm.{ScalarForm}
-use Rattle.column_core.specs.Value.{Number, IsLists}
+use Rattle.column_core.specs.Value.{Number}
 use Rattle.varints.specs.Varint.{varint}
 use Rattle.column_fields.specs.DecimalBytes.{decimal_bytes}
 use Rattle.column_fields.specs.Field.{number_field, bytes_field}
@@ -21,7 +21,7 @@ use Rattle.column_fields.proofs.DecimalLaws.{length-decimal_bytes}
 use Rattle.column_fields.proofs.FlatFieldLaws.{puts_flat}
 use Rattle.runend_array.specs.Column.{Constant, OfConstant}
 use Rattle.column_bytes.specs.Bytes.{kind_number, column_bytes}
-use Rattle.column_bytes.specs.Values.{IsNumberIn, IsStoredType, some_validity, some_bytes, value_fields, type_fields, constant_fields}
+use Rattle.column_bytes.specs.Values.{IsNumberIn, some_validity, some_bytes, value_fields, type_fields, constant_fields}
 use Rattle.column_bytes.proofs.Scalars.{constant_body}
 
 pub puts_constant : (constant : Constant) (s : ScalarForm) (t : DType) (kind rows : ℕ) (old a b new : List ℕ) → s ≡ record { dtype = constant.dtype; value = constant.value } → t ≡ constant.dtype → kind ≡ kind_number constant.dtype → rows ≡ constant.count → a ≡ old ++ header_bytes kind 3 rows → b ≡ a ++ value_fields s.dtype s.value → new ≡ b ++ type_fields t → new ≡ old ++ column_bytes (OfConstant constant)
@@ -63,12 +63,3 @@ number_in t p n z t-is h = subst (λ (x : DType). IsNumberIn x z) t-is h
 
 pub puts_decimal : (n : Nullability) (z : ℤ) (size : ℕ) (old a b new : List ℕ) → size ≡ 16 → a ≡ old ++ validity_field (some_validity n) → b ≡ a ++ (varint (7 * 8 + 2) ++ varint size) → new ≡ b ++ decimal_bytes z → new ≡ old ++ flat_fields (some_validity n) (decimal_bytes z)
 puts_decimal n z size old a b new s p q r = puts_flat (some_validity n) (decimal_bytes z) size old a b new (s ∙ sym (length-decimal_bytes z)) p q r
-
--- a type of lists is none whose constants are written
-pub no_lists : (t : DType) → IsStoredType t → IsLists t → ⊥
-no_lists (column.Primitive t n) s l = l
-no_lists (column.Bool n) s l = l
-no_lists (column.Decimal d n) s l = l
-no_lists (column.Utf8 n) s l = l
-no_lists (column.Binary n) s l = l
-no_lists (column.List e n) s l = s

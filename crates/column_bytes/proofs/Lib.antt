@@ -1,6 +1,7 @@
 pub mod Leaves
 pub mod ConstantReads
 pub mod DecimalReads
+pub mod NullLists
 pub mod Scalars
 pub mod Shown
 pub mod ConstantWrites

@@ -13,6 +13,7 @@ use Rattle.column_bytes.specs.Read.{IsBody, IsNoBody, IsScalarIn, HasNoScalarIn,
 use Rattle.column_bytes.proofs.ConstantReads.{value_one}
 use Rattle.column_bytes.proofs.DecimalReads.{decimal_one}
 use Rattle.column_bytes.proofs.Leaves.{type_at_most}
+use Rattle.column_bytes.proofs.NullLists.{list_one}
 
 -- ---- types that their number tells
 
@@ -22,15 +23,15 @@ plain_stored (column.Bool n) p = p
 plain_stored (column.Decimal d n) p = absurd p
 plain_stored (column.Utf8 n) p = p
 plain_stored (column.Binary n) p = p
-plain_stored (column.List e n) p = p
+plain_stored (column.List e n) p = absurd p
 
-stored_plain : (t : DType) → (kind_number t ≡ 10 → ⊥) → IsStoredType t → IsPlainType t
-stored_plain (column.Primitive t n) ne s = s
-stored_plain (column.Bool n) ne s = s
-stored_plain (column.Decimal d n) ne s = absurd (ne refl)
-stored_plain (column.Utf8 n) ne s = s
-stored_plain (column.Binary n) ne s = s
-stored_plain (column.List e n) ne s = s
+stored_plain : (t : DType) → (kind_number t ≡ 10 → ⊥) → (kind_number t ≡ 13 → ⊥) → IsStoredType t → IsPlainType t
+stored_plain (column.Primitive t n) d l s = s
+stored_plain (column.Bool n) d l s = s
+stored_plain (column.Decimal e n) d l s = absurd (d refl)
+stored_plain (column.Utf8 n) d l s = s
+stored_plain (column.Binary n) d l s = s
+stored_plain (column.List e n) d l s = absurd (l refl)
 
 -- they need no more fields
 plain_fields : (t : DType) (value : Option FlatValue) → IsPlainType t → constant_fields t value ≡ value_fields t value
@@ -48,17 +49,17 @@ plain_scalar kind bytes s h = record {
   spelt = h.spelt ∙ sym (plain_fields s.dtype s.value h.stored.plain);
 }
 
-scalar_plain : (kind : ℕ) (bytes : List ℕ) (s : ScalarForm) → (kind ≡ 10 → ⊥) → IsScalarIn kind bytes s → IsValueIn kind bytes s
-scalar_plain kind bytes s ne h =
-    let plain : IsPlainType s.dtype = stored_plain s.dtype (λ e. ne (sym h.kind_is ∙ e)) h.stored.stored in
+scalar_plain : (kind : ℕ) (bytes : List ℕ) (s : ScalarForm) → (kind ≡ 10 → ⊥) → (kind ≡ 13 → ⊥) → IsScalarIn kind bytes s → IsValueIn kind bytes s
+scalar_plain kind bytes s d l h =
+    let plain : IsPlainType s.dtype = stored_plain s.dtype (λ e. d (sym h.kind_is ∙ e)) (λ e. l (sym h.kind_is ∙ e)) h.stored.stored in
     record {
       kind_is = h.kind_is;
       stored = record { plain = plain; typed = h.stored.typed };
       spelt = h.spelt ∙ plain_fields s.dtype s.value plain;
     }
 
-pub no_plain : (kind : ℕ) (bytes : List ℕ) → (kind ≡ 10 → ⊥) → HasNoValueIn kind bytes → HasNoScalarIn kind bytes
-no_plain kind bytes ne absent = record { none = λ s h. absent.none s (scalar_plain kind bytes s ne h) }
+pub no_plain : (kind : ℕ) (bytes : List ℕ) → (kind ≡ 10 → ⊥) → (kind ≡ 13 → ⊥) → HasNoValueIn kind bytes → HasNoScalarIn kind bytes
+no_plain kind bytes d l absent = record { none = λ s h. absent.none s (scalar_plain kind bytes s d l h) }
 
 -- a number of a type that is known
 pub known_scalar : (kind known : ℕ) (bytes : List ℕ) (s : ScalarForm) → kind ≡ known → IsScalarIn known bytes s → IsScalarIn kind bytes s
@@ -69,18 +70,20 @@ no_known kind known bytes is absent = subst (λ (n : ℕ). HasNoScalarIn n bytes
 
 -- ---- one scalar has these bytes
 
-plain_one : (kind : ℕ) (bytes : List ℕ) (s u : ScalarForm) → length bytes < 2 ^ 64 → (kind ≡ 10 → ⊥) → IsScalarIn kind bytes s → IsScalarIn kind bytes u → s ≡ u
-plain_one kind bytes s u lt ne p q = value_one kind bytes s u lt (scalar_plain kind bytes s ne p) (scalar_plain kind bytes u ne q)
+plain_one : (kind : ℕ) (bytes : List ℕ) (s u : ScalarForm) → length bytes < 2 ^ 64 → (kind ≡ 10 → ⊥) → (kind ≡ 13 → ⊥) → IsScalarIn kind bytes s → IsScalarIn kind bytes u → s ≡ u
+plain_one kind bytes s u lt d l p q = value_one kind bytes s u lt (scalar_plain kind bytes s d l p) (scalar_plain kind bytes u d l q)
 
 pub scalar_one : (t : DType) (v : Option FlatValue) (kind : ℕ) (bytes : List ℕ) (u : ScalarForm) → length bytes < 2 ^ 64 → IsScalarIn kind bytes (record { dtype = t; value = v }) → IsScalarIn kind bytes u → record { dtype = t; value = v } ≡ u
-scalar_one (column.Primitive t n) v kind bytes u lt p q = plain_one kind bytes (record { dtype = column.Primitive t n; value = v }) u lt (λ e. omega (arith, type_at_most t, p.kind_is, e)) p q
-scalar_one (column.Bool n) v kind bytes u lt p q = plain_one kind bytes (record { dtype = column.Bool n; value = v }) u lt (λ e. omega (arith, p.kind_is, e)) p q
+scalar_one (column.Primitive t n) v kind bytes u lt p q = plain_one kind bytes (record { dtype = column.Primitive t n; value = v }) u lt (λ e. omega (arith, type_at_most t, p.kind_is, e)) (λ e. omega (arith, type_at_most t, p.kind_is, e)) p q
+scalar_one (column.Bool n) v kind bytes u lt p q = plain_one kind bytes (record { dtype = column.Bool n; value = v }) u lt (λ e. omega (arith, p.kind_is, e)) (λ e. omega (arith, p.kind_is, e)) p q
 scalar_one (column.Decimal d n) v kind bytes u lt p q =
     let is : 10 ≡ kind = p.kind_is in
     decimal_one d n v bytes u lt (known_scalar 10 kind bytes (record { dtype = column.Decimal d n; value = v }) is p) (known_scalar 10 kind bytes u is q)
-scalar_one (column.Utf8 n) v kind bytes u lt p q = plain_one kind bytes (record { dtype = column.Utf8 n; value = v }) u lt (λ e. omega (arith, p.kind_is, e)) p q
-scalar_one (column.Binary n) v kind bytes u lt p q = plain_one kind bytes (record { dtype = column.Binary n; value = v }) u lt (λ e. omega (arith, p.kind_is, e)) p q
-scalar_one (column.List e n) v kind bytes u lt p q = absurd p.stored.stored
+scalar_one (column.Utf8 n) v kind bytes u lt p q = plain_one kind bytes (record { dtype = column.Utf8 n; value = v }) u lt (λ e. omega (arith, p.kind_is, e)) (λ e. omega (arith, p.kind_is, e)) p q
+scalar_one (column.Binary n) v kind bytes u lt p q = plain_one kind bytes (record { dtype = column.Binary n; value = v }) u lt (λ e. omega (arith, p.kind_is, e)) (λ e. omega (arith, p.kind_is, e)) p q
+scalar_one (column.List f n) v kind bytes u lt p q =
+    let is : 13 ≡ kind = p.kind_is in
+    list_one bytes (record { dtype = column.List f n; value = v }) u (known_scalar 13 kind bytes (record { dtype = column.List f n; value = v }) is p) (known_scalar 13 kind bytes u is q)
 
 -- ---- the constant
 

@@ -11,7 +11,7 @@ use Rattle.column_base.specs.declared.dtype.DType.TheVariants as column
 use Rattle.column_base.specs.Types.{nullability_of}
 use Rattle.column_base.specs.ValidityForm.{AllNull}
 use Rattle.column_base.specs.Words.{one_if}
-use Rattle.column_core.specs.Value.{FlatValue, Truth, Number, DecimalNumber, Text, Bytes, Single, MayBeNull, IsRowOf}
+use Rattle.column_core.specs.Value.{FlatValue, Truth, Number, DecimalNumber, Text, Bytes, Value, Single, Items, MayBeNull, IsRowOf}
 use Rattle.column_core.specs.ScalarForm.{ScalarForm}
 use Rattle.column_core.specs.ScalarView.{sees, IsViewOf}
 use Rattle.column_core.specs.declared.view.ScalarView.{ScalarView}
@@ -19,6 +19,11 @@ use Rattle.column_core.specs.declared.view.ScalarView.TheVariants as view
 use Rattle.column_fields.specs.DecimalBytes.{decimal_bytes}
 use Rattle.column_fields.specs.FlatFields.{flat_fields}
 use Rattle.column_bytes.specs.Values.{IsNumberIn, some_validity, some_bytes, value_fields}
+
+-- a scalar shows no list
+pub single_is_no_list : (v : Option FlatValue) (shown : Option Value) (items : List (Option FlatValue)) → shown ≡ Some (Items items) → shown ≡ option_map Single v → ⊥
+single_is_no_list None shown items p q = absurd cc
+single_is_no_list (Some v) shown items p q = absurd cc
 
 -- ---- of each type
 

@@ -1,5 +1,4 @@
--- The bytes of a column: one message, which docs/column.proto declares. A form that has none is of a kind that version
--- 1 does not write.
+-- The bytes of a column: one message, which docs/column.proto declares.
 use Rattle.std.specs.Prelude.{ℕ, pos, List, ◌++◌, map}
 use Rattle.column_base.specs.declared.dtype.DType.{DType}
 use Rattle.column_base.specs.declared.dtype.DType.TheVariants as column

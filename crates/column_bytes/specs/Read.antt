@@ -4,6 +4,7 @@ use Rattle.std.specs.Int.{w128}
 use Rattle.column_base.specs.declared.dtype.Nullability.{Nullability}
 use Rattle.column_base.specs.declared.dtype.Nullability.TheVariants.{Nullable}
 use Rattle.column_base.specs.declared.dtype.DecimalDType.{DecimalDType}
+use Rattle.column_base.specs.declared.dtype.ElementDType.{ElementDType}
 use Rattle.column_base.specs.declared.dtype.DType.{DType}
 use Rattle.column_base.specs.declared.dtype.DType.TheVariants as column
 use Rattle.column_base.specs.declared.dtype.PType.{PType}
@@ -18,6 +19,7 @@ use Rattle.column_core.specs.BoolForm.{BoolForm}
 use Rattle.column_core.specs.DecimalForm.{DecimalForm}
 use Rattle.column_fields.specs.NumberBytes.{number_bytes}
 use Rattle.column_fields.specs.DecimalBytes.{decimal_bytes}
+use Rattle.column_fields.specs.ElementFields.{IsElementType}
 use Rattle.column_fields.specs.Lengths.{lengths_bytes, Rises, AreEndsOf}
 use Rattle.runend_windows.specs.Ends.{IsEndsType, ends_of}
 use Rattle.runend_array.specs.Column.{Column, OfRuns, AreRuns, runs_with, column_dtype, depth}
@@ -101,7 +103,15 @@ pub record IsNullDecimal (decimal : DecimalDType) (bytes : List ℕ) (scalar : S
   pub is : scalar ≡ record { dtype = column.Decimal decimal Nullable; value = None }
   pub spelt : bytes ≡ []
 
--- the same of a type of integers, booleans, texts or bytes
+-- the bytes are what the message of a constant of lists of this type says behind its header: it is null
+pub record IsNullOfLists (bytes : List ℕ) (element : ElementDType) : Type 0 where
+  pub typed : IsElementType element
+  pub spelt : bytes ≡ constant_fields (column.List element Nullable) None
+
+pub record IsNullOfNoLists (bytes : List ℕ) : Type 0 where
+  pub none : (element : ElementDType) → IsNullOfLists bytes element → ⊥
+
+-- the bytes are what the message of a constant of integers, booleans, texts or bytes says behind its header
 pub record IsValueIn (kind : ℕ) (bytes : List ℕ) (scalar : ScalarForm) : Type 0 where
   pub kind_is : kind_number scalar.dtype ≡ kind
   pub stored : IsStoredValue scalar.dtype scalar.value

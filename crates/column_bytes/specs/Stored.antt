@@ -1,4 +1,4 @@
--- Which forms have bytes: those that columns have, of the kinds that version 1 writes.
+-- Which forms have bytes: those that columns have.
 use Rattle.std.specs.Prelude.{ℕ, ◌^◌, ◌<◌, All, List, length, FitsSigned}
 use Rattle.std.specs.Int.{w128}
 use Rattle.column_base.specs.Types.{HasNumber}

@@ -10,6 +10,7 @@ use Rattle.column_base.specs.Words.{one_if}
 use Rattle.column_core.specs.Value.{FlatValue, Truth, Number, DecimalNumber, Text, Bytes, Single, IsRowOf}
 use Rattle.column_fields.specs.DecimalBytes.{decimal_bytes}
 use Rattle.column_fields.specs.DecimalFields.{IsDecimalType, decimal_type}
+use Rattle.column_fields.specs.ElementFields.{IsElementType, element_type}
 use Rattle.column_fields.specs.FlatFields.{flat_fields}
 use Rattle.column_fields.specs.NumberBytes.{number_bytes}
 
@@ -27,12 +28,16 @@ pub record IsStoredValue (t : DType) (value : Option FlatValue) : Type 0 where
   pub plain : IsPlainType t
   pub typed : IsRowOf t (option_map Single value)
 
--- a type whose constants version 1 writes: a plain one, or one of decimals of native precision and scale
+-- precision and scale of decimals, also of those that are elements of lists, are numbers of their native types
 abbrev pub IsStoredType : DType → Type 0
+IsStoredType (column.Primitive t n) = Unit {0}
+IsStoredType (column.Bool n) = Unit {0}
 IsStoredType (column.Decimal d n) = IsDecimalType d
-IsStoredType t = IsPlainType t
+IsStoredType (column.Utf8 n) = Unit {0}
+IsStoredType (column.Binary n) = Unit {0}
+IsStoredType (column.List e n) = IsElementType e
 
--- the value is one of such a type, or null where the type has null
+-- the value is one of such a type, or null where the type has null; of lists it is null
 pub record IsStoredScalar (t : DType) (value : Option FlatValue) : Type 0 where
   pub stored : IsStoredType t
   pub typed : IsRowOf t (option_map Single value)
@@ -63,9 +68,10 @@ value_bytes t (Some v) = some_bytes t v
 abbrev pub value_fields : DType → Option FlatValue → List ℕ
 value_fields t value = flat_fields (value_validity (nullability_of t) value) (value_bytes t value)
 
--- what its number does not tell of a type: of decimals precision and scale
+-- what its number does not tell of a type: of decimals precision and scale, of lists the type of the elements
 abbrev pub type_fields : DType → List ℕ
 type_fields (column.Decimal d n) = decimal_type d
+type_fields (column.List e n) = element_type e
 type_fields t = []
 
 -- what the message of a constant says behind its header

@@ -1,6 +1,7 @@
 //! A column of any form, written and read.
-ghost use Rattle.std.specs.Prelude.{◌≡◌, ◌++◌, IfOk, IfErr, IsErrOf, OnOk};
+ghost use Rattle.std.specs.Prelude.{◌≡◌, ◌<◌, ◌++◌, IfOk, IfErr, IsErrOf, OnOk};
 ghost use Rattle.runend_array.specs.Array.{column_of};
+ghost use Rattle.runend_array.specs.Column.{depth};
 ghost use Rattle.column_bytes.specs.Bytes.{column_bytes};
 ghost use Rattle.column_bytes.specs.Read.{IsMessage, IsNoMessage, IsWritable, IsUnsupportedOrMemory};
 ghost use Rattle.column_fields.specs.Refusal.{IsBadOrMemory};
@@ -19,14 +20,14 @@ use std::alloc::Allocator;
 /// How many levels of runs a message has at most. Lists whose offsets, sizes or validity are in runs count as two.
 pub const MOST_LEVELS: usize = 16;
 
-/// The message of a column, in memory of the allocator `alloc`. Refused as `Unsupported` exactly for a column that
-/// version 1 does not write: a constant of a type of lists, runs over one, or more than 16 levels of runs; else as
-/// `OutOfMemory` alone.
+/// The message of a column, in memory of the allocator `alloc`. Refused as `Unsupported` exactly where there are more
+/// than 16 levels of runs, else as `OutOfMemory` alone.
 pub fn write_column<A: Allocator + Copy, B: Allocator + Copy>(
     alloc: B,
     array: &ArrayRef<A>,
 ) -> VortexResult<Vec<u8, B>>
     ensures bytes { IfOk result (λ out. out.items ≡ column_bytes (column_of array.now)) }
+    ensures deep { IsErrOf result VortexError.Unsupported → 16 < depth (column_of array.now) }
     ensures refused { IsErrOf result VortexError.Unsupported → ¬ IsWritable 16 (column_of array.now) }
     ensures writable { OnOk result (IsWritable 16 (column_of array.now)) }
     ensures only { IfErr result IsUnsupportedOrMemory }
@@ -55,6 +56,7 @@ fn put_column<A: Allocator + Copy, B: Allocator + Copy>(
 ) -> VortexResult<()>
     ensures ok { OnOk result (out.new.items ≡ out.old.items ++ column_bytes (column_of array.now)) }
     ensures writable { OnOk result (IsWritable levels (column_of array.now)) }
+    ensures deep { IsErrOf result VortexError.Unsupported → levels < depth (column_of array.now) }
     ensures refused { IsErrOf result VortexError.Unsupported → ¬ IsWritable levels (column_of array.now) }
     ensures only { IfErr result IsUnsupportedOrMemory }
 {

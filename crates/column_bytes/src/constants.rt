@@ -1,12 +1,12 @@
 //! Constants: one value in each row, or null.
-ghost use Rattle.std.specs.Prelude.{◌≡◌, ◌↔◌, ◌++◌, ◌∷◌, [], ℕ, ℤ, Bool, Some, option_map, IsTrue, OnOk, IfOk, IfErr, IfSome, IfNone, IsErrOf, IsOkUnless};
+ghost use Rattle.std.specs.Prelude.{◌≡◌, ◌++◌, ◌∷◌, [], ℕ, ℤ, Bool, Some, option_map, OnOk, IfOk, IfErr, IfSome, IfNone, IsErrOf, IsOkUnless};
 ghost use Rattle.column_base.specs.declared.dtype.Nullability.{Nullability};
 ghost use Rattle.column_base.specs.declared.dtype.DType.TheVariants.{Primitive};
 ghost use Rattle.column_base.specs.Types.{nullability_of};
 ghost use Rattle.column_base.specs.ValidityForm.{AllNull};
 ghost use Rattle.column_base.specs.Words.{one_if};
 ghost use Rattle.column_core.specs.Scalar.{flat_of, IsOwnedOf};
-ghost use Rattle.column_core.specs.Value.{Number, Single, IsLists, IsRowOf};
+ghost use Rattle.column_core.specs.Value.{Number, Single, IsRowOf};
 ghost use Rattle.runend_array.specs.Array.{column_of};
 ghost use Rattle.runend_array.specs.Column.{OfConstant};
 ghost use Rattle.column_fields.specs.DecimalBytes.{decimal_bytes};
@@ -17,34 +17,32 @@ ghost use Rattle.column_fields.specs.Refusal.{IsBadOrMemory};
 ghost use Rattle.column_bytes.specs.Bytes.{column_bytes};
 ghost use Rattle.column_bytes.specs.Values.{IsPlainType, IsStoredType, IsStoredValue, IsNumberIn, some_validity, some_bytes, value_fields, type_fields};
 ghost use Rattle.column_bytes.specs.Stored.{IsStoredConstant};
-ghost use Rattle.column_bytes.specs.Read.{IsBody, IsNoBody, IsScalarIn, HasNoScalarIn, IsValueIn, HasNoValueIn, IsNullOf, HasNoNullOf, IsSomeOf, HasNoSomeOf, IsWholeOf, HasNoValueOf, IsUnsupportedOrMemory};
+ghost use Rattle.column_bytes.specs.Read.{IsBody, IsNoBody, IsScalarIn, HasNoScalarIn, IsValueIn, HasNoValueIn, IsNullOf, HasNoNullOf, IsSomeOf, HasNoSomeOf, IsWholeOf, HasNoValueOf};
 
 use crate::decimal_constants::read_decimal;
 use crate::flat::DECIMALS;
 use crate::kinds::{kind_of_number, number_of_kind};
+use crate::list_constants::read_null_list;
+use crate::lists::LISTS;
 use column_base::{DType, Nullability, PType, Validity, VortexError, VortexResult};
 use column_core::{Scalar, ScalarValue, ScalarView};
 use column_fields::{
     DECIMAL_SIZE, Header, load_value, put_bytes, put_bytes_key, put_decimal, put_decimal_type,
-    put_header, put_number, put_value, read_flat_fields, size_of_type,
+    put_element_type, put_header, put_number, put_value, read_flat_fields, size_of_type,
 };
 use runend_array::{ArrayRef, ConstantArray};
 use std::alloc::Allocator;
 
-/// Writes a constant at the end. Refused as `Unsupported` exactly where it is of lists, else as `OutOfMemory` alone.
+/// Writes a constant at the end. Refused as `OutOfMemory` alone.
 pub(crate) fn put_constant<A: Allocator, B: Allocator>(
     out: &mut Vec<u8, B>,
     array: &ConstantArray<A>,
 ) -> VortexResult<()>
     ensures ok { OnOk result (out.new.items ≡ out.old.items ++ column_bytes (OfConstant array.now)) }
     ensures stored { OnOk result (IsStoredConstant array.now) }
-    ensures refused { IsErrOf result VortexError.Unsupported → ¬ IsStoredConstant array.now }
-    ensures only { IfErr result IsUnsupportedOrMemory }
+    ensures only { IsOkUnless result VortexError.OutOfMemory }
 {
     let dtype = array.dtype();
-    if is_lists(dtype) {
-        return Err(VortexError::Unsupported);
-    }
     put_header(
         out,
         Header {
@@ -58,25 +56,15 @@ pub(crate) fn put_constant<A: Allocator, B: Allocator>(
     Ok(())
 }
 
-// Is it a type of lists, of whose constants version 1 has no bytes?
-fn is_lists(dtype: DType) -> bool
-    ensures { IsTrue result ↔ IsLists dtype }
-{
-    match dtype {
-        DType::List(_, _) => true,
-        _ => false,
-    }
-}
-
 // Writes what its number does not tell of a type.
 fn put_type<B: Allocator>(out: &mut Vec<u8, B>, dtype: DType) -> VortexResult<()>
-    requires { ¬ IsLists dtype }
     ensures ok { OnOk result (out.new.items ≡ out.old.items ++ type_fields dtype) }
     ensures stored { OnOk result (IsStoredType dtype) }
     ensures only { IsOkUnless result VortexError.OutOfMemory }
 {
     match dtype {
         DType::Decimal(decimal, _) => put_decimal_type(out, decimal),
+        DType::List(element, _) => put_element_type(out, element),
         _ => Ok(()),
     }
 }
@@ -86,7 +74,6 @@ fn put_scalar<A: Allocator, B: Allocator>(
     out: &mut Vec<u8, B>,
     scalar: &Scalar<A>,
 ) -> VortexResult<()>
-    requires { ¬ IsLists scalar.now.dtype }
     ensures ok { OnOk result (out.new.items ≡ out.old.items ++ value_fields scalar.now.dtype scalar.now.value) }
     ensures typed { IsRowOf scalar.now.dtype (option_map Single scalar.now.value) }
     ensures only { IsOkUnless result VortexError.OutOfMemory }
@@ -215,6 +202,9 @@ fn read_scalar<A: Allocator + Copy>(alloc: A, kind: u64, bytes: &[u8]) -> Vortex
 {
     if kind == DECIMALS {
         return read_decimal(alloc, bytes);
+    }
+    if kind == LISTS {
+        return read_null_list(bytes);
     }
     read_plain(alloc, kind, bytes)
 }

@@ -8,6 +8,7 @@ mod flat;
 mod flat_messages;
 mod kinds;
 pub mod laws;
+mod list_constants;
 mod list_parts;
 mod list_reading;
 mod lists;

@@ -1,5 +1,5 @@
 //! Columns of lists, written.
-ghost use Rattle.std.specs.Prelude.{◌≡◌, ◌⊎◌, ◌++◌, IsTrue, OnOk, IfErr, IsErrOf, IsOkUnless};
+ghost use Rattle.std.specs.Prelude.{◌≡◌, ◌<◌, ◌⊎◌, ◌++◌, IsTrue, OnOk, IfErr, IsErrOf, IsOkUnless};
 ghost use Rattle.column_core.specs.FlatColumn.{leaf_of};
 ghost use Rattle.column_fields.specs.ListFields.{list_fields};
 ghost use Rattle.runend_array.specs.Array.{column_of, validity_of, IsRowValidity};
@@ -31,6 +31,7 @@ pub(crate) fn put_lists<A: Allocator + Copy, B: Allocator + Copy>(
 ) -> VortexResult<()>
     ensures ok { OnOk result (out.new.items ≡ out.old.items ++ column_bytes (OfLists lists.now)) }
     ensures writable { OnOk result (IsWritable levels (OfLists lists.now)) }
+    ensures deep { IsErrOf result VortexError.Unsupported → levels < lists_depth lists.now }
     ensures refused { IsErrOf result VortexError.Unsupported → ¬ IsWritable levels (OfLists lists.now) }
     ensures only { IfErr result IsUnsupportedOrMemory }
 {

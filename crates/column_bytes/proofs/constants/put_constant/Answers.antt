@@ -2,15 +2,11 @@ use Rattle.std.proofs.Common.{◌∙◌, ap, arith, subst}
 use Rattle.std.specs.Prelude.{option_map}
 use Rattle.column_base.specs.declared.dtype.DType.{DType}
 use Rattle.column_core.specs.ScalarForm.{ScalarForm}
-use Rattle.column_core.specs.Value.{IsLists, IsRowOf, Single}
+use Rattle.column_core.specs.Value.{IsRowOf, Single}
 use Rattle.column_bytes.specs.Bytes.{kind_number}
 use Rattle.column_bytes.specs.Values.{IsStoredType}
-use Rattle.column_bytes.proofs.ConstantWrites.{puts_constant, no_lists}
+use Rattle.column_bytes.proofs.ConstantWrites.{puts_constant}
 use Rattle.column_bytes.proofs.constants.put_constant.Goals as goal
-
-pub returns-then-is_lists-clause-refused : goal.returns-then-is_lists-clause-refused
-returns-then-is_lists-clause-refused g c =
-    λ _ s. no_lists c.args.array.now.dtype s.value.stored (subst (λ (t : DType). IsLists t) c.dtype-dtype.ensures (c.is_lists.ensures.0 c.if-is_lists.true))
 
 pub returns-clause-ok : goal.returns-clause-ok
 returns-clause-ok g c =

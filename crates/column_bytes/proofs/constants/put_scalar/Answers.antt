@@ -4,10 +4,11 @@ use Rattle.std.proofs.lemmas.Int.{to_z-of_z}
 use Rattle.std.specs.Prelude.{OnOk}
 use Rattle.std.specs.Str.{IsUtf8}
 use Rattle.column_base.specs.Types.{nullability_of}
+use Rattle.column_core.specs.ScalarView.{sees}
 use Rattle.column_fields.specs.DecimalBytes.{decimal_bytes}
 use Rattle.column_fields.specs.FlatFields.{flat_fields}
 use Rattle.column_bytes.specs.Values.{some_validity}
-use Rattle.column_bytes.proofs.Shown.{null_told, truth_told, text_told, bytes_told, decimal_told, natural_told}
+use Rattle.column_bytes.proofs.Shown.{single_is_no_list, null_told, truth_told, text_told, bytes_told, decimal_told, natural_told}
 use Rattle.column_bytes.proofs.constants.put_scalar.Goals as goal
 
 pub returns-in-Null-clause-ok : goal.returns-in-Null-clause-ok
@@ -52,3 +53,6 @@ pub returns-in-Decimal-clause-typed : goal.returns-in-Decimal-clause-typed
 returns-in-Decimal-clause-typed g c =
     let fits : FitsSigned w128 c.in-Decimal.number = search rules in
     (decimal_told c.args.scalar.now c.view.result c.in-Decimal.number c.nullability-in-Decimal.result fits c.in-Decimal.is c.view.ensures.value c.view.ensures.of_type (c.nullability-in-Decimal.ensures ∙ ap nullability_of c.dtype-dtype.ensures)).typed
+
+pub unreachable-requires : goal.unreachable-requires
+unreachable-requires g c = single_is_no_list c.args.scalar.now.value (sees c.view.result) _ (ap sees c.in-List.is) c.view.ensures.value

@@ -14,3 +14,6 @@ returns-clause-writable g c =
 
 pub returns-then-levels_of-levels-clause-refused : goal.returns-then-levels_of-levels-clause-refused
 returns-then-levels_of-levels-clause-refused g c = λ _ w. omega (arith, c.levels_of.ensures, w.shallow)
+
+pub returns-then-levels_of-levels-clause-deep : goal.returns-then-levels_of-levels-clause-deep
+returns-then-levels_of-levels-clause-deep g c = λ _. omega (arith, c.levels_of.ensures)
