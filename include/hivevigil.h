@@ -391,7 +391,7 @@ HV_CALL void hv_builder_free(hv_builder *builder);
 
 /* A column as bytes, in any form, to keep or to send: a message of the Protocol Buffers encoding (docs/column.proto),
  * in the form that the column has, with its window; of flat texts and bytes the rows, which are read into one buffer.
- * Equal forms have equal bytes. 13 for more than 16 levels of runs, where lists that runs were decoded to, whose
+ * Equal forms have equal bytes. 13 for more than 16 levels of runs alone, where lists that runs were decoded to, whose
  * offsets, sizes or validity are in runs, count as two. */
 /* How many bytes they are. */
 HV_ANSWER hv_write_size(const hv_column *column, size_t *size, hv_error *error);

@@ -452,7 +452,7 @@ class Column:
 
     def to_bytes(self) -> bytes:
         """The column as bytes, in the form that it has, to keep or to send: a message of the Protocol Buffers encoding.
-        Texts and bytes are read into one buffer. `Unsupported` for more than 16 levels of runs."""
+        Texts and bytes are read into one buffer. `Unsupported` for more than 16 levels of runs alone."""
         size = ctypes.c_size_t()
         ask(calls.hv_write_size, self, size)
         data = ctypes.create_string_buffer(size.value)

@@ -232,7 +232,7 @@ impl Column {
     }
 
     /// The column as bytes, in the form that it has, to keep or to send: a message of the Protocol Buffers encoding.
-    /// `Unsupported` for more than 16 levels of runs.
+    /// `Unsupported` for more than 16 levels of runs alone.
     pub fn to_bytes(&self) -> Result<Vec<u8>, Error> {
         let _turn = turn_of(&[self]);
         let mut size = 0;
