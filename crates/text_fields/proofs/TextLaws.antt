@@ -11,6 +11,7 @@ use Rattle.column_fields.specs.Field.{bytes_field, HasNoBytesField, IsNoBytesFie
 use Rattle.column_fields.specs.Validity.{validity_field, HasNoValidity}
 use Rattle.column_fields.proofs.FieldLaws.{bytes_field_same}
 use Rattle.column_fields.proofs.FlatFieldLaws.{last_same}
+use Rattle.column_fields.proofs.SizeLaws.{bytes_long}
 use Rattle.column_fields.proofs.ValidityLaws.{validity_same}
 use Rattle.text_fields.specs.Texts.{packed_with, sizes_bytes, sizes_in, text_bytes, text_fields, text_items, text_sizes, views_from}
 use Rattle.text_fields.specs.TextReading.{AreTextsOf, AreNoTextsOf, AreNoTextItems, AreViewsOf, AreRowsOf, AreNoRowsOf, AreNoViewsOf, AreTextsOver, HasNoTextsOver, AreTextsIn, AreNoTextsIn}
@@ -61,6 +62,22 @@ joined form old = simp append_assoc
 
 pub puts_texts : (form : VarBinForm) (v : ValidityForm) (sizes : List ℕ) (total : ℕ) (old a b c new : List ℕ) → v ≡ form.validity → sizes ≡ sizes_bytes (text_sizes form) → total ≡ sum (text_sizes form) → a ≡ old ++ validity_field v → b ≡ a ++ bytes_field 12 sizes → c ≡ b ++ (varint (13 * 8 + 2) ++ varint total) → new ≡ c ++ text_bytes form → new ≡ old ++ text_fields form.validity (text_sizes form) (text_bytes form)
 puts_texts form v sizes total old a b c new v-is s-is t-is p q r e = rw (e, r, q, p, v-is, s-is, t-is ∙ summed-own form) (sym (joined form old))
+
+pub text_fields_long : (form : VarBinForm) → length (text_fields form.validity (text_sizes form) (text_bytes form)) ≡ length (validity_field form.validity) + length (bytes_field 12 (sizes_bytes (text_sizes form))) + length (bytes_field 13 (text_bytes form))
+unfolding text_fields text_items
+text_fields_long form = omega (arith, length-append (validity_field form.validity) (bytes_field 12 (sizes_bytes (text_sizes form)) ++ bytes_field 13 (text_bytes form)), length-append (bytes_field 12 (sizes_bytes (text_sizes form))) (bytes_field 13 (text_bytes form)))
+
+-- so many bytes have the fields
+pub text_fields_sum : (form : VarBinForm) (v : ValidityForm) (sizes content a b c : ℕ) → v ≡ form.validity → sizes ≡ length (sizes_bytes (text_sizes form)) → content ≡ sum (text_sizes form) → a ≡ length (validity_field v) → b ≡ length (varint (12 * 8 + 2) ++ varint sizes) → c ≡ length (varint (13 * 8 + 2) ++ varint content) → a + (b + c) + sizes + content ≡ length (text_fields form.validity (text_sizes form) (text_bytes form))
+text_fields_sum form v sizes content a b c v-is s-is c-is p q r =
+    let shown : content ≡ length (text_bytes form) = c-is ∙ summed-own form in
+    let a' : a ≡ length (validity_field form.validity) = p ∙ ap (λ (w : ValidityForm). length (validity_field w)) v-is in
+    let b' : b ≡ length (varint (12 * 8 + 2) ++ varint (length (sizes_bytes (text_sizes form)))) = q ∙ ap (λ (n : ℕ). length (varint (12 * 8 + 2) ++ varint n)) s-is in
+    let c' : c ≡ length (varint (13 * 8 + 2) ++ varint (length (text_bytes form))) = r ∙ ap (λ (n : ℕ). length (varint (13 * 8 + 2) ++ varint n)) shown in
+    omega (arith, text_fields_long form, bytes_long 12 (sizes_bytes (text_sizes form)), bytes_long 13 (text_bytes form), a', b', c', s-is, shown)
+
+pub text_fields_past : (form : VarBinForm) → length (sizes_bytes (text_sizes form)) + sum (text_sizes form) ≤ length (text_fields form.validity (text_sizes form) (text_bytes form))
+text_fields_past form = omega (arith, text_fields_long form, bytes_long 12 (sizes_bytes (text_sizes form)), bytes_long 13 (text_bytes form), summed-own form)
 
 -- a column with these fields, behind the validity that is read
 record At (kind : VarBinKind) (rows : ℕ) (v : ValidityForm) (rest : List ℕ) (form : VarBinForm) : Type 0 where

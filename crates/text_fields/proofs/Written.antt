@@ -1,7 +1,7 @@
 -- What is written of the rows so far.
 use Rattle.std.proofs.Common.{◌≡◌, ℕ, ◌+◌, ◌<◌, ◌≤◌, List, [], ◌∷◌, ◌++◌, length, map, get_or, drop, sum, zero, suc, refl, sym, ap, ◌∙◌, arith, append_assoc}
 use Rattle.std.specs.List.{concat}
-use Rattle.std.proofs.lemmas.List.{append-nil, drop_all, drop_more, length-map}
+use Rattle.std.proofs.lemmas.List.{append-nil, drop_all, drop_more, length-append, length-map}
 use Rattle.column_core.specs.VarBinForm.{VarBinForm}
 use Rattle.varints.specs.Varint.{varint}
 use Rattle.text_fields.specs.Texts.{shown_rows, sizes_bytes, text_sizes}
@@ -22,6 +22,19 @@ size_here form row size bytes lt b s =
 pub one_size : (form : VarBinForm) (row size : ℕ) (bytes out new whole : List ℕ) → row < length (shown_rows form) → bytes ≡ get_or (shown_rows form) row [] → size ≡ length bytes → out ++ sizes_bytes (drop row (text_sizes form)) ≡ whole → new ≡ out ++ varint size → new ++ sizes_bytes (drop (row + 1) (text_sizes form)) ≡ whole
 one_size form row size bytes out new whole lt b s inv n =
     ap (λ (t : List ℕ). t ++ sizes_bytes (drop (row + 1) (text_sizes form))) n ∙ append_assoc out (varint size) (sizes_bytes (drop (row + 1) (text_sizes form))) ∙ ap (λ (t : List ℕ). out ++ t) (sym (sizes_cons size (drop (row + 1) (text_sizes form))) ∙ ap sizes_bytes (sym (size_here form row size bytes lt b s))) ∙ inv
+
+-- how many bytes are left to tell
+pub left_size : (form : VarBinForm) (row size : ℕ) (bytes : List ℕ) → row < length (shown_rows form) → bytes ≡ get_or (shown_rows form) row [] → size ≡ length bytes → length (sizes_bytes (drop row (text_sizes form))) ≡ length (varint size) + length (sizes_bytes (drop (row + 1) (text_sizes form)))
+left_size form row size bytes lt b s =
+    ap (λ (ns : List ℕ). length (sizes_bytes ns)) (size_here form row size bytes lt b s) ∙ ap length (sizes_cons size (drop (row + 1) (text_sizes form))) ∙ length-append (varint size) (sizes_bytes (drop (row + 1) (text_sizes form)))
+
+pub one_long : (form : VarBinForm) (row size total here : ℕ) (bytes : List ℕ) → row < length (shown_rows form) → bytes ≡ get_or (shown_rows form) row [] → size ≡ length bytes → total + length (sizes_bytes (drop row (text_sizes form))) ≡ length (sizes_bytes (text_sizes form)) → here ≡ length (varint size) → total + here + length (sizes_bytes (drop (row + 1) (text_sizes form))) ≡ length (sizes_bytes (text_sizes form))
+one_long form row size total here bytes lt b s inv h = omega (arith, inv, h, left_size form row size bytes lt b s)
+
+pub all_long : (form : VarBinForm) (row total : ℕ) → length (shown_rows form) ≤ row → total + length (sizes_bytes (drop row (text_sizes form))) ≡ length (sizes_bytes (text_sizes form)) → total ≡ length (sizes_bytes (text_sizes form))
+all_long form row total le inv =
+    let none : drop row (text_sizes form) ≡ [] = drop_all row (text_sizes form) (omega (arith, length-map (shown_rows form) length)) in
+    omega (arith, inv, ap length (ap sizes_bytes none), ap length sizes_none)
 
 pub one_summed : (form : VarBinForm) (row size total next : ℕ) (bytes : List ℕ) → row < length (shown_rows form) → bytes ≡ get_or (shown_rows form) row [] → size ≡ length bytes → total + sum (drop row (text_sizes form)) ≡ sum (text_sizes form) → next ≡ total + size → next + sum (drop (row + 1) (text_sizes form)) ≡ sum (text_sizes form)
 one_summed form row size total next bytes lt b s inv n = omega (arith, n, inv, ap sum (size_here form row size bytes lt b s), sum-cons size (drop (row + 1) (text_sizes form)))

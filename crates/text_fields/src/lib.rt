@@ -8,4 +8,4 @@ mod writing;
 
 pub use column_base::{VortexError, VortexResult};
 pub use reading::read_text_fields;
-pub use writing::put_text_fields;
+pub use writing::{put_text_fields, text_fields_size};

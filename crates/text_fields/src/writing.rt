@@ -1,19 +1,23 @@
 //! Texts or bytes, written.
-ghost use Rattle.std.specs.Prelude.{◌≡◌, ◌^◌, ◌<◌, ◌++◌, [], length, slice_index_or, sum, OnOk, IfOk, IsOkUnless};
+ghost use Rattle.std.specs.Prelude.{◌≡◌, ◌+◌, ◌^◌, ◌<◌, ◌≤◌, ◌++◌, [], length, slice_index_or, sum, vec_capacity, vec_len, OnOk, IfOk, IfErr, IsOkUnless};
 ghost use Rattle.column_core.specs.VarBinForm.{AreVarBins};
-ghost use Rattle.varints.specs.Varint.{varint};
+ghost use Rattle.column_fields.specs.Sizes.{IsPast};
 ghost use Rattle.text_fields.specs.Texts.{AreTexts, shown_rows, sizes_bytes, text_bytes, text_fields, text_sizes};
 
 use column_base::{VortexError, VortexResult};
 use column_core::{ScalarView, VarBinViewArray};
-use column_fields::{put_bytes, put_bytes_key, put_validity};
+use column_fields::{
+    bytes_key_size, put_bytes_key, put_validity, size_of_total, validity_size, varint_size,
+};
 use std::alloc::Allocator;
 use varints::push_varint;
 
+// The most that a count tells.
+const MOST: u128 = usize::MAX as u128;
+
 /// Writes which rows are null, how many bytes each row shows, and these bytes, at the end. Refused as `OutOfMemory`
 /// alone.
-pub fn put_text_fields<A: Allocator, B: Allocator + Copy>(
-    alloc: B,
+pub fn put_text_fields<A: Allocator, B: Allocator>(
     out: &mut Vec<u8, B>,
     array: &VarBinViewArray<A>,
 ) -> VortexResult<()>
@@ -22,47 +26,79 @@ pub fn put_text_fields<A: Allocator, B: Allocator + Copy>(
     ensures stored { OnOk result (AreTexts array.now) }
     ensures only { IsOkUnless result VortexError.OutOfMemory }
 {
-    let mut sizes = Vec::new(alloc);
-    let total = put_sizes(&mut sizes, array)?;
+    let (sizes, content) = count(array)?;
     put_validity(out, array.validity())?;
-    put_bytes(out, 12, &sizes)?;
-    put_bytes_key(out, 13, total)?;
+    put_bytes_key(out, 12, sizes)?;
+    out.reserve(sizes)?;
+    push_sizes(out, array);
+    put_bytes_key(out, 13, content)?;
     put_shown(out, array)?;
     Ok(())
 }
 
-// Writes how many bytes each row shows at the end, and answers how many they are together.
-fn put_sizes<A: Allocator, B: Allocator>(
-    out: &mut Vec<u8, B>,
-    array: &VarBinViewArray<A>,
-) -> VortexResult<usize>
-    ensures ok { OnOk result (out.new.items ≡ out.old.items ++ sizes_bytes (text_sizes array.now)) }
-    ensures total { IfOk result (λ total. total ≡ sum (text_sizes array.now)) }
-    ensures are { AreVarBins array.now }
-    ensures rows { length array.now.views < 2 ^ 64 }
-    ensures only { IsOkUnless result VortexError.OutOfMemory }
+/// How many bytes these fields have. Refused as `OutOfMemory` exactly where no count tells them.
+pub fn text_fields_size<A: Allocator>(array: &VarBinViewArray<A>) -> VortexResult<usize>
+    ensures size { IfOk result (λ size. size ≡
+        length (text_fields array.now.validity (text_sizes array.now) (text_bytes array.now))) }
+    ensures stored { OnOk result (AreTexts array.now) }
+    ensures past { IfErr result (λ error. IsPast
+        (length (text_fields array.now.validity (text_sizes array.now) (text_bytes array.now))) error) }
 {
-    let mut total = 0usize;
-    for row in 0..array.views().len() {
-        let size = shown(array, row).len();
-        put_size(out, size)?;
-        // No memory has so many bytes, but no count could tell them.
-        let Some(sum) = total.checked_add(size) else {
-            return Err(VortexError::OutOfMemory);
-        };
-        total = sum;
+    match count(array) {
+        Ok((sizes, content)) => {
+            let keys = bytes_key_size(12, sizes) + bytes_key_size(13, content);
+            let head = validity_size(array.validity()) + keys;
+            match size_of_total(head as u128 + sizes as u128 + content as u128) {
+                Ok(size) => Ok(size),
+                Err(error) => Err(error),
+            }
+        }
+        Err(error) => Err(error),
     }
-    Ok(total)
 }
 
-// Writes a number of bytes at the end.
-fn put_size<B: Allocator>(out: &mut Vec<u8, B>, size: usize) -> VortexResult<()>
-    ensures ok { OnOk result (out.new.items ≡ out.old.items ++ varint size) }
-    ensures only { IsOkUnless result VortexError.OutOfMemory }
+// How many bytes tell how many bytes each row shows, and how many the rows show together. Refused as `OutOfMemory`
+// where no count tells them.
+fn count<A: Allocator>(array: &VarBinViewArray<A>) -> VortexResult<(usize, usize)>
+    ensures sizes { IfOk result (λ r. r.0 ≡ length (sizes_bytes (text_sizes array.now))) }
+    ensures content { IfOk result (λ r. r.1 ≡ sum (text_sizes array.now)) }
+    ensures are { AreVarBins array.now }
+    ensures rows { length array.now.views < 2 ^ 64 }
+    ensures past { IfErr result
+        (λ error. IsPast (length (sizes_bytes (text_sizes array.now)) + sum (text_sizes array.now)) error) }
 {
-    out.reserve(10)?;
-    push_varint(out, size as u64);
-    Ok(())
+    let (sizes, content) = measure(array);
+    if sizes > MOST || content > MOST {
+        return Err(VortexError::OutOfMemory);
+    }
+    Ok((sizes as usize, content as usize))
+}
+
+// The same, past what a count tells too.
+fn measure<A: Allocator>(array: &VarBinViewArray<A>) -> (u128, u128)
+    ensures sizes { result.0 ≡ length (sizes_bytes (text_sizes array.now)) }
+    ensures content { result.1 ≡ sum (text_sizes array.now) }
+    ensures are { AreVarBins array.now }
+    ensures rows { length array.now.views < 2 ^ 64 }
+{
+    let mut sizes = 0;
+    let mut content = 0;
+    for row in 0..array.views().len() {
+        let size = shown(array, row).len();
+        sizes += varint_size(size as u64) as u128;
+        content += size as u128;
+    }
+    (sizes, content)
+}
+
+// Writes how many bytes each row shows at the end, where there is room for that.
+fn push_sizes<A: Allocator, B: Allocator>(out: &mut Vec<u8, B>, array: &VarBinViewArray<A>)
+    requires { vec_len out.old + length (sizes_bytes (text_sizes array.now)) ≤ vec_capacity out.old }
+    ensures { out.new.items ≡ out.old.items ++ sizes_bytes (text_sizes array.now) }
+{
+    for row in 0..array.views().len() {
+        push_varint(out, shown(array, row).len() as u64);
+    }
 }
 
 // Writes the bytes that the rows show at the end.
