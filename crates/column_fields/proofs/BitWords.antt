@@ -6,7 +6,6 @@ use Rattle.std.proofs.lemmas.Bool.{cases_lt, cases_eq}
 use Rattle.std.proofs.lemmas.List.{append-nil, length-append, length-take, get_or_append_left, get_or-append_right, get_or_past, get_or-take}
 use Rattle.std.proofs.lemmas.List.Concat.{flat_map-append}
 use Rattle.std.proofs.Math.Seq.{take-append-add}
-use Rattle.std.proofs.lemmas.Grind.{take_at_read}
 use Rattle.std.proofs.lemmas.Nat.{shr-shr, mod_below, pow_pos}
 use Rattle.std.proofs.lemmas.Nat.Bits.{bit_at_lowest, bit_at-suc, bit_at-zero, bit_at_above, same_from_bits}
 use Rattle.column_base.specs.Words.{digit_at, first_bits, one_if, Packs}
@@ -268,15 +267,6 @@ word_bits count words bits packs len =
       | inr ge8 ↦ bit_at_above (get_or bytes (length bytes - 1) 0) 8 j (small (length bytes - 1)) ge8
     ]) in
     sym (padded_shows count bytes long (padded_if count bytes long small last)) ∙ ap bit_bytes is
-
-put_step : (old out new : List ℕ) (front all : List ℕ) (w : ℕ) → out ≡ old ++ words_bytes front → new ≡ out ++ to_le_bytes w64 w → all ≡ front ++ w ∷ [] → new ≡ old ++ words_bytes all
-put_step old out new front all w o e a =
-    e ∙ ap (λ (b : List ℕ). b ++ to_le_bytes w64 w) o ∙ append_assoc old (words_bytes front) (to_le_bytes w64 w) ∙ ap (λ (b : List ℕ). old ++ b) (sym (words_more front w) ∙ ap words_bytes (sym a))
-
-pub put_word : (words : List ℕ) (i w : ℕ) (old out new : List ℕ) → i < length words → w ≡ get_or words i 0 → out ≡ old ++ words_bytes (take i words) → new ≡ out ++ to_le_bytes w64 w → new ≡ old ++ words_bytes (take (i + 1) words)
-put_word words i w old out new lt is o n =
-    let more : take (i + 1) words ≡ take i words ++ w ∷ [] = (take_at_read words i 0 lt).1 ∙ ap (λ (x : ℕ). take i words ++ x ∷ []) (sym is) in
-    put_step old out new (take i words) (take (i + 1) words) w o n more
 
 -- what is cut behind the bytes
 pub put_done : (old out new words : List ℕ) (bits : List Bool) (start count : ℕ) → Packs words bits → count ≡ (length bits + 7) / 8 → start ≡ length old → out ≡ old ++ words_bytes words → new ≡ take (start + count) out → new ≡ old ++ bit_bytes bits

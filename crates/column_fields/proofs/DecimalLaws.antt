@@ -1,10 +1,11 @@
 -- Decimals are read as they are written, and in no other way.
-use Rattle.std.proofs.Common.{◌≡◌, ℕ, ◌+◌, ◌*◌, ◌/◌, ◌%◌, ◌^◌, ◌<◌, List, [], ◌∷◌, ◌++◌, length, take, drop, ℤ, refl, sym, ap, ◌∙◌, arith, append_assoc}
-use Rattle.std.specs.List.{flat_map, AllByRecursion}
+use Rattle.std.proofs.Common.{◌≡◌, ℕ, ◌+◌, ◌*◌, ◌/◌, ◌%◌, ◌^◌, ◌<◌, List, [], ◌∷◌, ◌++◌, length, take, drop, get_or, ℤ, pos, refl, sym, ap, ◌∙◌, arith, append_assoc}
+use Rattle.std.specs.List.{flat_map, All, AllByRecursion}
 use Rattle.std.specs.Int.{w64, w128, cast_unsigned, cast_signed, to_le_bytes, from_le_bytes}
 use Rattle.std.specs.Int.RustNames.{FitsSigned}
 use Rattle.std.proofs.lemmas.Int.{ints, to_z-of_z, of_z-to_z}
 use Rattle.std.proofs.lemmas.List.{append-nil, length-append}
+use Rattle.std.proofs.lemmas.List.Elements.{All-same, All-from_recursion}
 use Rattle.std.proofs.lemmas.List.Concat.{flat_map-append}
 use Rattle.std.proofs.lemmas.Nat.{from_le_bytes-to_le_bytes_8}
 use Rattle.std.proofs.Math.Nat.{div-div-eq-div-mul}
@@ -69,10 +70,6 @@ decimal_numbers_same (n ∷ ns) (m ∷ ms) p q len e =
 
 -- ---- one decimal
 
-pub puts_decimal : (n : ℤ) (old new : List ℕ) → new ≡ old ++ to_le_bytes w128 (cast_unsigned w128 n) → new ≡ old ++ decimal_bytes n
-unfolding decimal_bytes
-puts_decimal n old new e = e
-
 pub of_words : (low high u : ℕ) (z : ℤ) (first second bytes : List ℕ) → low < 2 ^ 64 → high < 2 ^ 64 → u ≡ high * 2 ^ 64 + low → z ≡ cast_signed w128 u → to_le_bytes w64 low ≡ first → to_le_bytes w64 high ≡ second → first ≡ take 8 bytes → second ≡ drop 8 bytes → decimal_bytes z ≡ bytes
 unfolding decimal_bytes
 of_words low high u z first second bytes l h is z-is a b f s =
@@ -98,6 +95,48 @@ decimals_more ns n = flat_map-append decimal_bytes ns (n ∷ []) ∙ ap (λ (b :
 pub put_step : (old out new : List ℕ) (front all : List ℤ) (n : ℤ) → out ≡ old ++ decimals_bytes front → new ≡ out ++ decimal_bytes n → all ≡ front ++ n ∷ [] → new ≡ old ++ decimals_bytes all
 put_step old out new front all n o e a =
     e ∙ ap (λ (b : List ℕ). b ++ decimal_bytes n) o ∙ append_assoc old (decimals_bytes front) (decimal_bytes n) ∙ ap (λ (b : List ℕ). old ++ b) (sym (decimals_more front n) ∙ ap decimals_bytes (sym a))
+
+decimals_append : (ns ms : List ℤ) → decimals_bytes (ns ++ ms) ≡ decimals_bytes ns ++ decimals_bytes ms
+unfolding decimals_bytes
+decimals_append ns ms = flat_map-append decimal_bytes ns ms
+
+-- what is in front is written, and what comes after it is still to be written
+pub put_front_step : (old out new : List ℕ) (all left front after : List ℤ) → out ++ decimals_bytes left ≡ old ++ decimals_bytes all → new ≡ out ++ decimals_bytes front → left ≡ front ++ after → new ++ decimals_bytes after ≡ old ++ decimals_bytes all
+put_front_step old out new all left front after h e parts =
+    ap (λ (b : List ℕ). b ++ decimals_bytes after) e ∙ append_assoc out (decimals_bytes front) (decimals_bytes after)
+    ∙ ap (λ (b : List ℕ). out ++ b) (sym (decimals_append front after) ∙ ap decimals_bytes (sym parts)) ∙ h
+
+four_of : (ns : List ℤ) → length ns ≡ 4 → ns ≡ get_or ns 0 (pos 0) ∷ get_or ns 1 (pos 0) ∷ get_or ns 2 (pos 0) ∷ get_or ns 3 (pos 0) ∷ []
+four_of [] e = absurd (omega (arith, e))
+four_of (a ∷ []) e = absurd (omega (arith, e))
+four_of (a ∷ b ∷ []) e = absurd (omega (arith, e))
+four_of (a ∷ b ∷ c ∷ []) e = absurd (omega (arith, e))
+four_of (a ∷ b ∷ c ∷ d ∷ []) e = refl
+four_of (a ∷ b ∷ c ∷ d ∷ n ∷ ns) e = absurd (omega (arith, e))
+
+pub four_all : (P : ℤ → Type 0) (ns : List ℤ) → length ns ≡ 4 → P (get_or ns 0 (pos 0)) → P (get_or ns 1 (pos 0)) → P (get_or ns 2 (pos 0)) → P (get_or ns 3 (pos 0)) → All P ns
+four_all P ns len p0 p1 p2 p3 = All-same P _ _ (four_of ns len) (All-from_recursion P (get_or ns 0 (pos 0) ∷ get_or ns 1 (pos 0) ∷ get_or ns 2 (pos 0) ∷ get_or ns 3 (pos 0) ∷ []) (p0, (p1, (p2, (p3, tt)))))
+
+pair_bytes : (b c t u d : List ℕ) → b ++ c ≡ d → t ≡ u → b ++ (c ++ t) ≡ d ++ u
+pair_bytes b c t u d p q = sym (append_assoc b c t) ∙ ap (λ (x : List ℕ). x ++ t) p ∙ ap (λ (x : List ℕ). d ++ x) q
+
+pub pairs_shown : (low high : ℕ) (b c d : List ℕ) → b ≡ to_le_bytes w64 low → c ≡ to_le_bytes w64 high → to_le_bytes w64 low ++ to_le_bytes w64 high ≡ d → b ++ c ≡ d
+pairs_shown low high b c d p q e = ap (λ (x : List ℕ). x ++ c) p ∙ ap (λ (x : List ℕ). to_le_bytes w64 low ++ x) q ∙ e
+
+pub two_put : (n : ℤ) (out new flat b0 b1 : List ℕ) → b0 ++ b1 ≡ decimal_bytes n → flat ≡ flat_map (λ (b : List ℕ). b) (b0 ∷ b1 ∷ []) → new ≡ out ++ flat → new ≡ out ++ decimal_bytes n
+two_put n out new flat b0 b1 p joined put = put ∙ ap (λ (b : List ℕ). out ++ b) (joined ∙ pair_bytes b0 b1 [] [] (decimal_bytes n) p refl ∙ append-nil (decimal_bytes n))
+
+pub four_put : (ns : List ℤ) (out new flat b0 b1 b2 b3 b4 b5 b6 b7 : List ℕ) → length ns ≡ 4
+    → b0 ++ b1 ≡ decimal_bytes (get_or ns 0 (pos 0)) → b2 ++ b3 ≡ decimal_bytes (get_or ns 1 (pos 0)) → b4 ++ b5 ≡ decimal_bytes (get_or ns 2 (pos 0)) → b6 ++ b7 ≡ decimal_bytes (get_or ns 3 (pos 0))
+    → flat ≡ flat_map (λ (b : List ℕ). b) (b0 ∷ b1 ∷ b2 ∷ b3 ∷ b4 ∷ b5 ∷ b6 ∷ b7 ∷ []) → new ≡ out ++ flat → new ≡ out ++ decimals_bytes ns
+unfolding decimals_bytes
+four_put ns out new flat b0 b1 b2 b3 b4 b5 b6 b7 len p0 p1 p2 p3 joined put =
+    put ∙ ap (λ (b : List ℕ). out ++ b) (joined ∙ pair_bytes b0 b1 _ _ _ p0 (pair_bytes b2 b3 _ _ _ p1 (pair_bytes b4 b5 _ _ _ p2 (pair_bytes b6 b7 [] [] _ p3 refl))) ∙ ap (flat_map decimal_bytes) (sym (four_of ns len)))
+
+pub words_shown : (n : ℤ) (u low high : ℕ) → u ≡ cast_unsigned w128 n → low ≡ u % 18446744073709551616 → high ≡ u / 18446744073709551616 → to_le_bytes w64 low ++ to_le_bytes w64 high ≡ decimal_bytes n
+unfolding decimal_bytes
+words_shown n u low high is l h =
+    ap (λ (x : ℕ). to_le_bytes w64 x ++ to_le_bytes w64 high) l ∙ ap (λ (x : ℕ). to_le_bytes w64 (u % 18446744073709551616) ++ to_le_bytes w64 x) h ∙ sym (halves u) ∙ ap (to_le_bytes w128) is
 
 pub load_step : (bytes rest first back : List ℕ) (front all : List ℤ) (n : ℤ) → decimals_bytes front ++ rest ≡ bytes → first ≡ take 16 rest → back ≡ drop 16 rest → decimal_bytes n ≡ first → all ≡ front ++ n ∷ [] → decimals_bytes all ++ back ≡ bytes
 load_step bytes rest first back front all n b f k e a =

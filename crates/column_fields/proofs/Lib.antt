@@ -3,6 +3,7 @@ pub mod SizeLaws
 pub mod TypeLaws
 pub mod NumberLaws
 pub mod NumberSame
+pub mod EightLaws
 pub mod DecimalLaws
 pub mod BitLaws
 pub mod BitReading

@@ -21,6 +21,16 @@ pub put_step : (t : PType) (old out new : List ℕ) (front all : List ℤ) (n : 
 put_step t old out new front all n o e a =
     e ∙ ap (λ (b : List ℕ). b ++ number_bytes t n) o ∙ append_assoc old (numbers_bytes t front) (number_bytes t n) ∙ ap (λ (b : List ℕ). old ++ b) (sym (numbers_more t front n) ∙ ap (numbers_bytes t) (sym a))
 
+pub numbers_append : (t : PType) (ns ms : List ℤ) → numbers_bytes t (ns ++ ms) ≡ numbers_bytes t ns ++ numbers_bytes t ms
+unfolding numbers_bytes
+numbers_append t ns ms = flat_map-append (number_bytes t) ns ms
+
+-- what is in front is written, and what comes after it is still to be written
+pub put_front_step : (t : PType) (old out new : List ℕ) (all left front after : List ℤ) → out ++ numbers_bytes t left ≡ old ++ numbers_bytes t all → new ≡ out ++ numbers_bytes t front → left ≡ front ++ after → new ++ numbers_bytes t after ≡ old ++ numbers_bytes t all
+put_front_step t old out new all left front after h e parts =
+    ap (λ (b : List ℕ). b ++ numbers_bytes t after) e ∙ append_assoc out (numbers_bytes t front) (numbers_bytes t after)
+    ∙ ap (λ (b : List ℕ). out ++ b) (sym (numbers_append t front after) ∙ ap (numbers_bytes t) (sym parts)) ∙ h
+
 pub load_step : (t : PType) (bytes rest first back : List ℕ) (front all : List ℤ) (n : ℤ) (size : ℕ) → numbers_bytes t front ++ rest ≡ bytes → first ≡ take size rest → back ≡ drop size rest → number_bytes t n ≡ first → all ≡ front ++ n ∷ [] → numbers_bytes t all ++ back ≡ bytes
 load_step t bytes rest first back front all n size b f k e a =
     ap (λ (ns : List ℤ). numbers_bytes t ns ++ back) a ∙ ap (λ (x : List ℕ). x ++ back) (numbers_more t front n) ∙ append_assoc (numbers_bytes t front) (number_bytes t n) back

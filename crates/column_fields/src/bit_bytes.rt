@@ -5,6 +5,7 @@ ghost use Rattle.column_fields.specs.BitBytes.{bit_bytes, words_bytes, IsPadded,
 ghost use Rattle.column_fields.specs.Refusal.{IsBadOrMemory};
 
 use crate::decimals::load_word;
+use crate::numbers::put_all;
 use column_base::{BitBuffer, BitBufferMut, VortexError, VortexResult};
 use std::alloc::Allocator;
 
@@ -40,10 +41,7 @@ fn put_words<B: Allocator>(out: &mut Vec<u8, B>, words: &[u64]) -> VortexResult<
     ensures ok { OnOk result (out.new.items ≡ out.old.items ++ words_bytes words.now) }
     ensures only { IsOkUnless result VortexError.OutOfMemory }
 {
-    for word in words {
-        out.extend_from_slice(&word.to_le_bytes())?;
-    }
-    Ok(())
+    put_all(out, words)
 }
 
 /// So many bits, of which these are the bytes. Takes memory for them alone.

@@ -18,6 +18,47 @@ pub fn put_decimals<A: Allocator>(out: &mut Vec<u8, A>, numbers: &[i128]) -> Vor
     ensures fits { OnOk result (All (λ n. FitsSigned w128 n) numbers.now) }
     ensures only { IsOkUnless result VortexError.OutOfMemory }
 {
+    out.reserve(numbers.len().saturating_mul(DECIMAL_SIZE))?;
+    let mut rest = numbers;
+    while rest.len() >= 4 {
+        let (front, back) = rest.split_at(4);
+        put_four(out, front)?;
+        rest = back;
+    }
+    put_each(out, rest)
+}
+
+// Writes the integers of four decimals at the end, in one step.
+fn put_four<A: Allocator>(out: &mut Vec<u8, A>, numbers: &[i128]) -> VortexResult<()>
+    requires { length numbers.now ≡ 4 }
+    ensures ok { OnOk result (out.new.items ≡ out.old.items ++ decimals_bytes numbers.now) }
+    ensures fits { All (λ n. FitsSigned w128 n) numbers.now }
+    ensures only { IsOkUnless result VortexError.OutOfMemory }
+{
+    let (a, b) = words_of(numbers[0]);
+    let (c, d) = words_of(numbers[1]);
+    let (e, f) = words_of(numbers[2]);
+    let (g, h) = words_of(numbers[3]);
+    let bytes = [
+        a.to_le_bytes(),
+        b.to_le_bytes(),
+        c.to_le_bytes(),
+        d.to_le_bytes(),
+        e.to_le_bytes(),
+        f.to_le_bytes(),
+        g.to_le_bytes(),
+        h.to_le_bytes(),
+    ];
+    out.extend_from_slice(bytes.as_flattened())?;
+    Ok(())
+}
+
+// Writes the integers of decimals at the end, one by one.
+fn put_each<A: Allocator>(out: &mut Vec<u8, A>, numbers: &[i128]) -> VortexResult<()>
+    ensures ok { OnOk result (out.new.items ≡ out.old.items ++ decimals_bytes numbers.now) }
+    ensures fits { OnOk result (All (λ n. FitsSigned w128 n) numbers.now) }
+    ensures only { IsOkUnless result VortexError.OutOfMemory }
+{
     for number in numbers {
         put_decimal(out, *number)?;
     }
@@ -30,8 +71,18 @@ pub fn put_decimal<A: Allocator>(out: &mut Vec<u8, A>, number: i128) -> VortexRe
     ensures fits { FitsSigned w128 number }
     ensures only { IsOkUnless result VortexError.OutOfMemory }
 {
-    out.extend_from_slice(&number.to_le_bytes())?;
+    let (low, high) = words_of(number);
+    let bytes = [low.to_le_bytes(), high.to_le_bytes()];
+    out.extend_from_slice(bytes.as_flattened())?;
     Ok(())
+}
+
+// The lower and the upper word of the integer of a decimal.
+fn words_of(number: i128) -> (u64, u64)
+    ensures { to_le_bytes w64 result.0 ++ to_le_bytes w64 result.1 ≡ decimal_bytes number }
+{
+    let unsigned = number.cast_unsigned();
+    ((unsigned % WORD) as u64, (unsigned / WORD) as u64)
 }
 
 /// The integers of so many decimals, of which these are the bytes. Takes memory for them, and for no more.

@@ -1,11 +1,12 @@
 //! Buffers of native numbers as bytes.
-ghost use Rattle.std.specs.Prelude.{◌≡◌, ◌+◌, ◌*◌, ◌++◌, length, map, All, OnOk, IfOk, IsOkUnless, vec_capacity};
+ghost use Rattle.std.specs.Prelude.{◌≡◌, ◌+◌, ◌*◌, ◌++◌, length, map, pos, All, OnOk, IfOk, IsOkUnless, vec_capacity};
 ghost use Rattle.column_base.specs.Types.{HasNumber};
+ghost use Rattle.column_base.specs.declared.dtype.PType.TheVariants.{U8};
 ghost use Rattle.column_base.specs.Numbers.{numbers, ptype_of};
 ghost use Rattle.column_fields.specs.NumberBytes.{number_bytes, numbers_bytes, size_of};
 
 use crate::stored::StoredNumber;
-use column_base::{PType, PrimitiveValues, VortexError, VortexResult, match_each_native};
+use column_base::{PType, PrimitiveValues, VortexError, VortexResult};
 use std::alloc::Allocator;
 
 /// How many bytes a number of that type has.
@@ -76,8 +77,27 @@ fn load_one<T: StoredNumber>(bytes: &[u8]) -> i128
     T::load(bytes).widen()
 }
 
-/// Writes the numbers at the end.
-fn put_all<T: StoredNumber, A: Allocator>(out: &mut Vec<u8, A>, items: &[T]) -> VortexResult<()>
+// Writes the numbers at the end, eight in one step.
+pub(crate) fn put_all<T: StoredNumber, A: Allocator>(
+    out: &mut Vec<u8, A>,
+    items: &[T],
+) -> VortexResult<()>
+    ensures ok { OnOk result (out.new.items ≡ out.old.items ++ numbers_bytes T.PTYPE (map T.number items.now)) }
+    ensures fits { OnOk result (All (λ n. HasNumber T.PTYPE n) (map T.number items.now)) }
+    ensures only { IsOkUnless result VortexError.OutOfMemory }
+{
+    out.reserve(items.len().saturating_mul(T::size()))?;
+    let mut rest = items;
+    while rest.len() >= 8 {
+        let (front, back) = rest.split_at(8);
+        T::put_eight(out, front)?;
+        rest = back;
+    }
+    put_each(out, rest)
+}
+
+// Writes the numbers at the end, one by one.
+fn put_each<T: StoredNumber, A: Allocator>(out: &mut Vec<u8, A>, items: &[T]) -> VortexResult<()>
     ensures ok { OnOk result (out.new.items ≡ out.old.items ++ numbers_bytes T.PTYPE (map T.number items.now)) }
     ensures fits { OnOk result (All (λ n. HasNumber T.PTYPE n) (map T.number items.now)) }
     ensures only { IsOkUnless result VortexError.OutOfMemory }
@@ -85,6 +105,16 @@ fn put_all<T: StoredNumber, A: Allocator>(out: &mut Vec<u8, A>, items: &[T]) -> 
     for item in items {
         item.put(out)?;
     }
+    Ok(())
+}
+
+// Writes numbers of one byte each at the end, which are their bytes.
+fn put_u8<A: Allocator>(out: &mut Vec<u8, A>, items: &[u8]) -> VortexResult<()>
+    ensures ok { OnOk result (out.new.items ≡ out.old.items ++ numbers_bytes U8 (map (λ n. pos n) items.now)) }
+    ensures fits { OnOk result (All (λ n. HasNumber U8 n) (map (λ n. pos n) items.now)) }
+    ensures only { IsOkUnless result VortexError.OutOfMemory }
+{
+    out.extend_from_slice(items)?;
     Ok(())
 }
 
@@ -98,7 +128,16 @@ pub fn put_values<A: Allocator, B: Allocator>(
     ensures fits { OnOk result (All (λ n. HasNumber (ptype_of values.now) n) (numbers values.now)) }
     ensures only { IsOkUnless result VortexError.OutOfMemory }
 {
-    match_each_native!(values, items => put_all(out, items.as_slice()))
+    match values {
+        PrimitiveValues::U8(items) => put_u8(out, items.as_slice()),
+        PrimitiveValues::U16(items) => put_all(out, items.as_slice()),
+        PrimitiveValues::U32(items) => put_all(out, items.as_slice()),
+        PrimitiveValues::U64(items) => put_all(out, items.as_slice()),
+        PrimitiveValues::I8(items) => put_all(out, items.as_slice()),
+        PrimitiveValues::I16(items) => put_all(out, items.as_slice()),
+        PrimitiveValues::I32(items) => put_all(out, items.as_slice()),
+        PrimitiveValues::I64(items) => put_all(out, items.as_slice()),
+    }
 }
 
 /// So many numbers, of which these are the bytes. Takes memory for them, and for no more.

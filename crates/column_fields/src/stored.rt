@@ -1,6 +1,6 @@
 //! Native numbers as bytes, the lowest first.
-ghost use Rattle.std.specs.Prelude.{◌≡◌, ◌++◌, length, pos, OnOk, IsOkUnless};
-ghost use Rattle.column_fields.specs.NumberBytes.{number_bytes, size_of};
+ghost use Rattle.std.specs.Prelude.{◌≡◌, ◌++◌, length, map, pos, All, OnOk, IsOkUnless};
+ghost use Rattle.column_fields.specs.NumberBytes.{number_bytes, numbers_bytes, size_of};
 ghost use Rattle.column_base.specs.Number.{Narrows};
 ghost use Rattle.column_base.specs.Types.{HasNumber};
 
@@ -19,11 +19,35 @@ pub(crate) trait StoredNumber: NativePType {
         ensures ok { OnOk result (out.new.items ≡ out.old.items ++ number_bytes Self.PTYPE (Self.number self)) }
         ensures only { IsOkUnless result VortexError.OutOfMemory };
 
+    /// Writes eight of them at the end, in one step.
+    fn put_eight<A: Allocator>(out: &mut Vec<u8, A>, items: &[Self]) -> VortexResult<()>
+        requires { length items.now ≡ 8 }
+        ensures fits { All (λ n. HasNumber Self.PTYPE n) (map Self.number items.now) }
+        ensures ok { OnOk result
+            (out.new.items ≡ out.old.items ++ numbers_bytes Self.PTYPE (map Self.number items.now)) }
+        ensures only { IsOkUnless result VortexError.OutOfMemory };
+
     /// The number of these bytes.
     fn load(bytes: &[u8]) -> Self
         requires { length bytes.now ≡ size_of Self.PTYPE }
         ensures shows { number_bytes Self.PTYPE (Self.number result) ≡ bytes.now }
         ensures fits { HasNumber Self.PTYPE (Self.number result) };
+}
+
+// The bytes of each of eight numbers.
+macro_rules! bytes_of_eight {
+    ($items:ident) => {
+        [
+            $items[0].to_le_bytes(),
+            $items[1].to_le_bytes(),
+            $items[2].to_le_bytes(),
+            $items[3].to_le_bytes(),
+            $items[4].to_le_bytes(),
+            $items[5].to_le_bytes(),
+            $items[6].to_le_bytes(),
+            $items[7].to_le_bytes(),
+        ]
+    };
 }
 
 /// The end of a run, as its type stores it.
@@ -88,6 +112,11 @@ impl StoredNumber for u8 {
         Ok(())
     }
 
+    fn put_eight<A: Allocator>(out: &mut Vec<u8, A>, items: &[u8]) -> VortexResult<()> {
+        out.extend_from_slice(items)?;
+        Ok(())
+    }
+
     fn load(bytes: &[u8]) -> u8 {
         u8::from_le_bytes([bytes[0]])
     }
@@ -100,6 +129,12 @@ impl StoredNumber for u16 {
 
     fn put<A: Allocator>(self, out: &mut Vec<u8, A>) -> VortexResult<()> {
         out.extend_from_slice(&self.to_le_bytes())?;
+        Ok(())
+    }
+
+    fn put_eight<A: Allocator>(out: &mut Vec<u8, A>, items: &[u16]) -> VortexResult<()> {
+        let bytes = bytes_of_eight!(items);
+        out.extend_from_slice(bytes.as_flattened())?;
         Ok(())
     }
 
@@ -118,6 +153,12 @@ impl StoredNumber for u32 {
         Ok(())
     }
 
+    fn put_eight<A: Allocator>(out: &mut Vec<u8, A>, items: &[u32]) -> VortexResult<()> {
+        let bytes = bytes_of_eight!(items);
+        out.extend_from_slice(bytes.as_flattened())?;
+        Ok(())
+    }
+
     fn load(bytes: &[u8]) -> u32 {
         u32::from_le_bytes([bytes[0], bytes[1], bytes[2], bytes[3]])
     }
@@ -130,6 +171,12 @@ impl StoredNumber for u64 {
 
     fn put<A: Allocator>(self, out: &mut Vec<u8, A>) -> VortexResult<()> {
         out.extend_from_slice(&self.to_le_bytes())?;
+        Ok(())
+    }
+
+    fn put_eight<A: Allocator>(out: &mut Vec<u8, A>, items: &[u64]) -> VortexResult<()> {
+        let bytes = bytes_of_eight!(items);
+        out.extend_from_slice(bytes.as_flattened())?;
         Ok(())
     }
 
@@ -150,6 +197,12 @@ impl StoredNumber for i8 {
         Ok(())
     }
 
+    fn put_eight<A: Allocator>(out: &mut Vec<u8, A>, items: &[i8]) -> VortexResult<()> {
+        let bytes = bytes_of_eight!(items);
+        out.extend_from_slice(bytes.as_flattened())?;
+        Ok(())
+    }
+
     fn load(bytes: &[u8]) -> i8 {
         i8::from_le_bytes([bytes[0]])
     }
@@ -162,6 +215,12 @@ impl StoredNumber for i16 {
 
     fn put<A: Allocator>(self, out: &mut Vec<u8, A>) -> VortexResult<()> {
         out.extend_from_slice(&self.to_le_bytes())?;
+        Ok(())
+    }
+
+    fn put_eight<A: Allocator>(out: &mut Vec<u8, A>, items: &[i16]) -> VortexResult<()> {
+        let bytes = bytes_of_eight!(items);
+        out.extend_from_slice(bytes.as_flattened())?;
         Ok(())
     }
 
@@ -180,6 +239,12 @@ impl StoredNumber for i32 {
         Ok(())
     }
 
+    fn put_eight<A: Allocator>(out: &mut Vec<u8, A>, items: &[i32]) -> VortexResult<()> {
+        let bytes = bytes_of_eight!(items);
+        out.extend_from_slice(bytes.as_flattened())?;
+        Ok(())
+    }
+
     fn load(bytes: &[u8]) -> i32 {
         i32::from_le_bytes([bytes[0], bytes[1], bytes[2], bytes[3]])
     }
@@ -192,6 +257,12 @@ impl StoredNumber for i64 {
 
     fn put<A: Allocator>(self, out: &mut Vec<u8, A>) -> VortexResult<()> {
         out.extend_from_slice(&self.to_le_bytes())?;
+        Ok(())
+    }
+
+    fn put_eight<A: Allocator>(out: &mut Vec<u8, A>, items: &[i64]) -> VortexResult<()> {
+        let bytes = bytes_of_eight!(items);
+        out.extend_from_slice(bytes.as_flattened())?;
         Ok(())
     }
 

@@ -1,12 +1,15 @@
-use Rattle.std.proofs.Common.{◌≡◌, ◌++◌, take}
+use Rattle.std.proofs.Common.{◌≡◌, ◌++◌, length}
 use Rattle.std.specs.List.{All}
 use Rattle.std.specs.Int.{w128}
 use Rattle.std.specs.Int.RustNames.{FitsSigned}
 use Rattle.column_fields.specs.DecimalBytes.{decimals_bytes}
 use Rattle.column_fields.proofs.decimals.put_decimals.Given as goal
 
-abbrev pub invariant-loop-number : goal.invariant-loop-number
-invariant-loop-number g l = record {
-  shows : l.out.items ≡ l.fn.out.items ++ decimals_bytes (take l.number-index l.numbers);
-  fits : All (λ n. FitsSigned w128 n) (take l.number-index l.numbers);
+abbrev pub invariant-loop-rest : goal.invariant-loop-rest
+invariant-loop-rest g l = record {
+  shows : l.out.items ++ decimals_bytes l.rest ≡ l.fn.out.items ++ decimals_bytes l.numbers;
+  fits : All (λ n. FitsSigned w128 n) l.rest → All (λ n. FitsSigned w128 n) l.numbers;
 }
+
+abbrev pub decreases-loop-rest : goal.decreases-loop-rest
+decreases-loop-rest g l = length l.rest

@@ -1,31 +1,33 @@
-use Rattle.std.proofs.Common.{◌≡◌, ◌+◌, ap, ◌∙◌, sym, map, take, arith, List, ℕ, ◌++◌, [], ◌∷◌}
-use Rattle.std.proofs.lemmas.List.{map_more, take_all, append-nil}
-use Rattle.std.proofs.lemmas.List.Elements.{All-push, All-nil, All-same}
+use Rattle.std.proofs.Common.{◌≡◌, ap, ◌∙◌, map, List, ℕ, ◌++◌}
+use Rattle.std.proofs.lemmas.List.{map-append}
+use Rattle.std.proofs.lemmas.List.Elements.{All-append, All-same}
+use Rattle.std.proofs.lemmas.Result.{on_ok_weaker}
 use Rattle.column_base.specs.Types.{HasNumber}
 use Rattle.column_fields.specs.NumberBytes.{numbers_bytes}
-use Rattle.column_fields.proofs.NumberLaws.{put_step, numbers_none}
+use Rattle.column_fields.proofs.EightLaws.{cut_items}
+use Rattle.column_fields.proofs.NumberLaws.{put_front_step}
 use Rattle.column_fields.proofs.numbers.put_all.Goals as goal
 
-pub loop-item-init : goal.loop-item-init
-loop-item-init g c = record {
-  shows = sym (ap (λ (t : List ℕ). c.args.out.now.items ++ t) (numbers_none g.T.NativePType.PTYPE) ∙ append-nil c.args.out.now.items);
-  fits = All-nil (λ n. HasNumber g.T.NativePType.PTYPE n);
+pub loop-rest-init : goal.loop-rest-init
+loop-rest-init g c = record {
+  shows = ap (λ (b : List ℕ). b ++ numbers_bytes g.T.NativePType.PTYPE (map g.T.NativePType.number c.args.items.now)) c.in_ok-reserve.ensures.items;
+  fits = λ h. h;
 }
 
-pub loop-item-preserved : goal.loop-item-preserved
-loop-item-preserved g c =
+pub loop-rest-preserved : goal.loop-rest-preserved
+loop-rest-preserved g c =
     let t = g.T.NativePType.PTYPE in
     let number = g.T.NativePType.number in
-    let front = map number (take c.loop-item.item-index c.args.items.now) in
-    let more : map number (take (c.loop-item.item-index + 1) c.args.items.now) ≡ front ++ number c.item-item.result ∷ [] = map_more number c.args.items.now c.loop-item.item-index c.item-item.result c.loop-item-test.true ∙ ap (λ x. front ++ number x ∷ []) (sym c.item-item.is) in
+    let front = c.split_at.result.0.now in
+    let back = c.split_at.result.1.now in
+    let parts : map number c.loop-rest.rest.now ≡ map number front ++ map number back = ap (map number) (cut_items 8 c.loop-rest.rest.now front back c.split_at.ensures.front c.split_at.ensures.back) ∙ map-append number front back in
     record {
-      shows = put_step t _ _ _ front _ (number c.item-item.result) c.loop-item.invariant.shows c.in_ok-put.ensures.ok more;
-      fits = All-same (λ n. HasNumber t n) _ _ more (All-push (λ n. HasNumber t n) front (number c.item-item.result) c.loop-item.invariant.fits c.in_ok-put.ensures.fits);
+      shows = put_front_step t c.args.out.now.items c.loop-rest.out.items _ (map number c.args.items.now) (map number c.loop-rest.rest.now) (map number front) (map number back) c.loop-rest.invariant.shows c.in_ok-put_eight.ensures.ok parts;
+      fits = λ left. c.loop-rest.invariant.fits (All-same (λ n. HasNumber t n) _ _ parts (All-append (λ n. HasNumber t n) (map number front) (map number back) c.in_ok-put_eight.ensures.fits left));
     }
 
 pub returns-clause-ok : goal.returns-clause-ok
-returns-clause-ok g c = c.loop-item.invariant.shows ∙ ap (λ xs. c.args.out.now.items ++ numbers_bytes g.T.NativePType.PTYPE (map g.T.NativePType.number xs)) (take_all c.loop-item.item-index c.args.items.now (omega arith))
+returns-clause-ok g c = on_ok_weaker c.put_each.result (λ ok. ok ∙ c.loop-rest.invariant.shows) c.put_each.ensures.ok
 
 pub returns-clause-fits : goal.returns-clause-fits
-returns-clause-fits g c =
-    All-same (λ n. HasNumber g.T.NativePType.PTYPE n) _ _ (ap (map g.T.NativePType.number) (sym (take_all c.loop-item.item-index c.args.items.now (omega arith)))) c.loop-item.invariant.fits
+returns-clause-fits g c = on_ok_weaker c.put_each.result c.loop-rest.invariant.fits c.put_each.ensures.fits

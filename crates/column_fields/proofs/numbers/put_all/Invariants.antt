@@ -1,11 +1,14 @@
-use Rattle.std.proofs.Common.{◌≡◌, ◌++◌, map, take}
+use Rattle.std.proofs.Common.{◌≡◌, ◌++◌, map, length}
 use Rattle.std.specs.List.{All}
 use Rattle.column_base.specs.Types.{HasNumber}
 use Rattle.column_fields.specs.NumberBytes.{numbers_bytes}
 use Rattle.column_fields.proofs.numbers.put_all.Given as goal
 
-abbrev pub invariant-loop-item : goal.invariant-loop-item
-invariant-loop-item g l = record {
-  shows : l.out.items ≡ l.fn.out.items ++ numbers_bytes g.T.NativePType.PTYPE (map g.T.NativePType.number (take l.item-index l.items));
-  fits : All (λ n. HasNumber g.T.NativePType.PTYPE n) (map g.T.NativePType.number (take l.item-index l.items));
+abbrev pub invariant-loop-rest : goal.invariant-loop-rest
+invariant-loop-rest g l = record {
+  shows : l.out.items ++ numbers_bytes g.T.NativePType.PTYPE (map g.T.NativePType.number l.rest) ≡ l.fn.out.items ++ numbers_bytes g.T.NativePType.PTYPE (map g.T.NativePType.number l.items);
+  fits : All (λ n. HasNumber g.T.NativePType.PTYPE n) (map g.T.NativePType.number l.rest) → All (λ n. HasNumber g.T.NativePType.PTYPE n) (map g.T.NativePType.number l.items);
 }
+
+abbrev pub decreases-loop-rest : goal.decreases-loop-rest
+decreases-loop-rest g l = length l.rest

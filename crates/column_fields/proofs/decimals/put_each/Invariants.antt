@@ -1,0 +1,12 @@
+use Rattle.std.proofs.Common.{◌≡◌, ◌++◌, take}
+use Rattle.std.specs.List.{All}
+use Rattle.std.specs.Int.{w128}
+use Rattle.std.specs.Int.RustNames.{FitsSigned}
+use Rattle.column_fields.specs.DecimalBytes.{decimals_bytes}
+use Rattle.column_fields.proofs.decimals.put_each.Given as goal
+
+abbrev pub invariant-loop-number : goal.invariant-loop-number
+invariant-loop-number g l = record {
+  shows : l.out.items ≡ l.fn.out.items ++ decimals_bytes (take l.number-index l.numbers);
+  fits : All (λ n. FitsSigned w128 n) (take l.number-index l.numbers);
+}

@@ -1,0 +1,57 @@
+use Rattle.std.proofs.Common.{◌≡◌, ◌∙◌, ℤ, pos, get_or, refl, ap, rules, FitsSigned}
+use Rattle.std.specs.Int.{w16, cast_signed, cast_unsigned}
+use Rattle.std.proofs.lemmas.Int.{to_z-of_z}
+use Rattle.column_base.specs.Types.{HasNumber}
+use Rattle.column_base.specs.declared.dtype.PType.TheVariants.{I16}
+use Rattle.column_fields.specs.NumberBytes.{number_bytes}
+use Rattle.column_fields.proofs.EightLaws.{eight_put, eight_all}
+use Rattle.column_fields.proofs.stored.I16StoredNumber.put_eight.Goals as goal
+
+pub returns-clause-fits : goal.returns-clause-fits
+returns-clause-fits g c =
+    let items = c.args.items.now in
+    let f0 : FitsSigned w16 (get_or items 0 (pos 0)) = search rules in
+    let f1 : FitsSigned w16 (get_or items 1 (pos 0)) = search rules in
+    let f2 : FitsSigned w16 (get_or items 2 (pos 0)) = search rules in
+    let f3 : FitsSigned w16 (get_or items 3 (pos 0)) = search rules in
+    let f4 : FitsSigned w16 (get_or items 4 (pos 0)) = search rules in
+    let f5 : FitsSigned w16 (get_or items 5 (pos 0)) = search rules in
+    let f6 : FitsSigned w16 (get_or items 6 (pos 0)) = search rules in
+    let f7 : FitsSigned w16 (get_or items 7 (pos 0)) = search rules in
+    eight_all (λ n. HasNumber I16 n) (λ n. n) (pos 0) items c.requires f0 f1 f2 f3 f4 f5 f6 f7
+
+pub returns-in_err-extend_from_slice-clause-fits : goal.returns-in_err-extend_from_slice-clause-fits
+returns-in_err-extend_from_slice-clause-fits g c =
+    let items = c.args.items.now in
+    let f0 : FitsSigned w16 (get_or items 0 (pos 0)) = search rules in
+    let f1 : FitsSigned w16 (get_or items 1 (pos 0)) = search rules in
+    let f2 : FitsSigned w16 (get_or items 2 (pos 0)) = search rules in
+    let f3 : FitsSigned w16 (get_or items 3 (pos 0)) = search rules in
+    let f4 : FitsSigned w16 (get_or items 4 (pos 0)) = search rules in
+    let f5 : FitsSigned w16 (get_or items 5 (pos 0)) = search rules in
+    let f6 : FitsSigned w16 (get_or items 6 (pos 0)) = search rules in
+    let f7 : FitsSigned w16 (get_or items 7 (pos 0)) = search rules in
+    eight_all (λ n. HasNumber I16 n) (λ n. n) (pos 0) items c.requires f0 f1 f2 f3 f4 f5 f6 f7
+
+pub returns-clause-ok : goal.returns-clause-ok
+returns-clause-ok g c =
+    let items = c.args.items.now in
+    let f0 : FitsSigned w16 (get_or items 0 (pos 0)) = search rules in
+    let f1 : FitsSigned w16 (get_or items 1 (pos 0)) = search rules in
+    let f2 : FitsSigned w16 (get_or items 2 (pos 0)) = search rules in
+    let f3 : FitsSigned w16 (get_or items 3 (pos 0)) = search rules in
+    let f4 : FitsSigned w16 (get_or items 4 (pos 0)) = search rules in
+    let f5 : FitsSigned w16 (get_or items 5 (pos 0)) = search rules in
+    let f6 : FitsSigned w16 (get_or items 6 (pos 0)) = search rules in
+    let f7 : FitsSigned w16 (get_or items 7 (pos 0)) = search rules in
+    let again : (n : ℤ) → FitsSigned w16 n → number_bytes I16 (cast_signed w16 (cast_unsigned w16 n)) ≡ number_bytes I16 n = λ n f. ap (number_bytes I16) (to_z-of_z w16 n f) in
+    eight_put I16 (λ n. n) (number_bytes I16) (pos 0) items c.args.out.now.items _ _ _ _ _ _ _ _ _ _ (λ x. refl) c.requires
+    (c.to_le_bytes.ensures ∙ again (get_or items 0 (pos 0)) f0)
+    (c.to_le_bytes-2.ensures ∙ again (get_or items 1 (pos 0)) f1)
+    (c.to_le_bytes-3.ensures ∙ again (get_or items 2 (pos 0)) f2)
+    (c.to_le_bytes-4.ensures ∙ again (get_or items 3 (pos 0)) f3)
+    (c.to_le_bytes-5.ensures ∙ again (get_or items 4 (pos 0)) f4)
+    (c.to_le_bytes-6.ensures ∙ again (get_or items 5 (pos 0)) f5)
+    (c.to_le_bytes-7.ensures ∙ again (get_or items 6 (pos 0)) f6)
+    (c.to_le_bytes-8.ensures ∙ again (get_or items 7 (pos 0)) f7)
+    c.as_flattened.ensures.value c.in_ok-extend_from_slice.ensures.items
