@@ -2,3 +2,4 @@ pub mod Lists
 pub mod Cuts
 pub mod Rows
 pub mod Grown
+pub mod Packed

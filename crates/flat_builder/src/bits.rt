@@ -1,7 +1,8 @@
 //! Bits that grow, a byte for each, and are packed at last.
-ghost use Rattle.std.specs.Prelude.{◌≡◌, ◌+◌, ◌-◌, ◌≤◌, ◌++◌, IfOk, IsOkUnless, OnErr, OnOk, drop, length, vec_capacity, vec_len};
+ghost use Rattle.std.specs.Prelude.{◌≡◌, ◌+◌, ◌-◌, ◌/◌, ◌≤◌, ◌++◌, IfOk, IsOkUnless, OnErr, OnOk, drop, length, vec_capacity, vec_len};
 ghost use Rattle.column_base.specs.Validity.{form_of};
 ghost use Rattle.column_base.specs.ValidityForm.{HasLength, flags as flags_in};
+ghost use Rattle.column_base.specs.Words.{first_bits, IsWordOf};
 
 use column_core::{BitBuffer, BitBufferMut, Validity, VortexError, VortexResult};
 use std::alloc::Allocator;
@@ -47,11 +48,34 @@ pub(crate) fn packed<A: Allocator + Copy>(alloc: A, bits: &[bool]) -> VortexResu
     ensures only { IsOkUnless result VortexError.OutOfMemory }
     ensures bits { IfOk result (λ buffer. buffer ≡ bits.now) }
 {
-    let mut buffer = BitBufferMut::with_capacity(alloc, bits.len())?;
-    for bit in bits {
-        buffer.append(*bit)?;
+    let words = words_of(alloc, bits)?;
+    Ok(BitBufferMut::from_words(words, bits.len()).freeze())
+}
+
+// The words that hold the bits.
+fn words_of<A: Allocator + Copy>(alloc: A, bits: &[bool]) -> VortexResult<Vec<u64, A>>
+    ensures only { IsOkUnless result VortexError.OutOfMemory }
+    ensures len { IfOk result (λ words. length words.items ≡ (length bits.now + 63) / 64) }
+    ensures bits { IfOk result (λ words. first_bits (length bits.now) words.items ≡ bits.now) }
+{
+    let mut words = Vec::with_capacity(alloc, bits.len().div_ceil(64))?;
+    for chunk in bits.chunks(64) {
+        words.push(word_of(chunk))?;
     }
-    Ok(buffer.freeze())
+    Ok(words)
+}
+
+// Up to 64 bits as a word, which has 0 behind them.
+#[inline(always)]
+fn word_of(bits: &[bool]) -> u64
+    requires { length bits.now ≤ 64 }
+    ensures { IsWordOf result bits.now }
+{
+    let mut word = 0;
+    for index in 0..bits.len() {
+        word |= u64::from(bits[index]) << index;
+    }
+    word
 }
 
 // The same where there is room.
