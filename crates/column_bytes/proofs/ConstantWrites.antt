@@ -44,7 +44,7 @@ pub puts_some : (v : ValidityForm) (items : List ℕ) (old a new : List ℕ) →
 unfolding flat_fields
 puts_some v items old a new p q = q ∙ ap (λ (x : List ℕ). x ++ bytes_field 7 items) p ∙ append_assoc old (validity_field v) (bytes_field 7 items)
 
-length-number_bytes : (p : PType) (z : ℤ) → length (number_bytes p z) ≡ size_of p
+pub length-number_bytes : (p : PType) (z : ℤ) → length (number_bytes p z) ≡ size_of p
 length-number_bytes U8 z = refl
 length-number_bytes U16 z = refl
 length-number_bytes U32 z = refl

@@ -9,6 +9,7 @@ pub mod Ends
 pub mod Messages
 pub mod ListColumns
 pub mod Writes
+pub mod MessageSizes
 pub mod Packing
 pub mod RunLaws
 pub mod FlatReads

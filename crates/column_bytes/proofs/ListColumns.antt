@@ -1,8 +1,9 @@
 -- Offsets, sizes and flags of lists, as columns of their own, and how lists are written.
-use Rattle.std.proofs.Common.{◌≡◌, ℕ, ℤ, pos, negsuc, ◌≤◌, List, [], ◌∷◌, ◌++◌, map, All, refl, sym, ap, subst, ◌∙◌, arith, append_assoc}
+use Rattle.std.proofs.Common.{◌≡◌, ℕ, ℤ, pos, negsuc, ◌+◌, ◌*◌, ◌≤◌, List, [], ◌∷◌, ◌++◌, length, map, All, refl, sym, ap, subst, ◌∙◌, arith, append_assoc}
 use Rattle.std.specs.Prelude.{unsigned_abs}
 use Rattle.std.specs.List.{AllByRecursion}
 use Rattle.std.proofs.lemmas.Int.{ints}
+use Rattle.std.proofs.lemmas.List.{length-append}
 use Rattle.std.proofs.lemmas.List.Elements.{recursion_from_All}
 use Rattle.column_base.specs.declared.dtype.Nullability.{Nullability}
 use Rattle.column_base.specs.declared.dtype.Nullability.TheVariants.{NonNullable}
@@ -17,9 +18,13 @@ use Rattle.column_core.specs.VarBinForm.{kind_dtype}
 use Rattle.column_core.specs.PrimitiveForm.{primitive_with}
 use Rattle.column_core.specs.BoolForm.{bool_with}
 use Rattle.column_core.specs.Leaf.{Leaf, OfNumbers, OfTruths, OfDecimals, OfVarBins}
+use Rattle.varints.specs.Varint.{varint}
 use Rattle.column_fields.specs.Field.{number_field, bytes_field}
 use Rattle.column_fields.specs.Header.{header_bytes}
 use Rattle.column_fields.specs.ListFields.{list_fields}
+use Rattle.column_fields.proofs.LengthLaws.{puts_bytes}
+use Rattle.column_fields.proofs.ListFieldLaws.{list_fields_long}
+use Rattle.column_fields.proofs.SizeLaws.{bytes_long}
 use Rattle.runend_array.specs.Lists.{Index, PlainIndex, RunIndex, RowValidityForm, Lists, AreLists, list_count, lists_depth}
 use Rattle.runend_array.specs.Column.{Column, OfLeaf, OfConstant, OfLists, OfRuns, Runs, IsPlainIndex, IsIndex, IsPlainTruths, column_of_runs, end_numbers, index_of, runs_validity, truths_of}
 use Rattle.column_bytes.specs.Bytes.{column_bytes, leaf_message, index_form, index_message, row_validity_field}
@@ -91,10 +96,6 @@ index_stored_at (RunIndex t ends numbers offset count) s = record { fit = s.0; r
 pub index_stored : (index : Index) (c : Column) → IsIndex c → index_of c ≡ index → IsStored c → IsStoredIndex index
 index_stored index c h is s = index_stored_at index (subst IsStored (index_is c h s ∙ ap index_column is) s)
 
-pub index_written : (index : Index) (c : Column) (old new : List ℕ) → IsIndex c → index_of c ≡ index → IsStored c → new ≡ old ++ column_bytes c → new ≡ old ++ index_message index
-index_written index c old new h is s p =
-    p ∙ ap (λ (x : Column). old ++ column_bytes x) (index_is c h s ∙ ap index_column is) ∙ ap (λ (x : List ℕ). old ++ x) (index_bytes index)
-
 -- ---- validity
 
 pub flags_are : (r : Runs) → IsPlainTruths r.values → column_of_runs r ≡ flags_column r.ends_type r.ends (truths_of r.values) r.offset r.count
@@ -110,27 +111,7 @@ pub flags_bytes : (r : Runs) (seen : List ℕ) → IsPlainTruths r.values → se
 flags_bytes r seen h e =
     ap (λ (x : List ℕ). number_field 5 5 ++ bytes_field 16 x) (e ∙ ap column_bytes (flags_are r h) ∙ runs_bytes r.ends_type r.ends (OfTruths (bool_with (truths_of r.values) NeverNull)) r.offset r.count)
 
-pub flags_written : (r : Runs) (first message seen old a new : List ℕ) → IsPlainTruths r.values → first ≡ [] → message ≡ first ++ column_bytes (column_of_runs r) → seen ≡ message → a ≡ old ++ number_field 5 5 → new ≡ a ++ bytes_field 16 seen → new ≡ old ++ row_validity_field (runs_validity r)
-flags_written r first message seen old a new h f m s p q =
-    let is : seen ≡ column_bytes (column_of_runs r) = s ∙ m ∙ ap (λ (x : List ℕ). x ++ column_bytes (column_of_runs r)) f in
-    q ∙ ap (λ (x : List ℕ). x ++ bytes_field 16 seen) p ∙ append_assoc old (number_field 5 5) (bytes_field 16 seen) ∙ ap (λ (x : List ℕ). old ++ x) (flags_bytes r seen h is)
-
 -- ---- lists
-
--- what a message that begins empty is
-message_is : (first message seen wanted : List ℕ) → first ≡ [] → message ≡ first ++ wanted → seen ≡ message → seen ≡ wanted
-message_is first message seen wanted f m s = s ∙ m ∙ ap (λ (x : List ℕ). x ++ wanted) f
-
-pub elements_are : (leaf shown : Leaf) (first message seen : List ℕ) → shown ≡ leaf → first ≡ [] → message ≡ first ++ column_bytes (OfLeaf shown) → seen ≡ message → seen ≡ leaf_message leaf
-elements_are leaf shown first message seen is f m s =
-    message_is first message seen (column_bytes (OfLeaf shown)) f m s ∙ leaf_bytes shown ∙ ap leaf_message is
-
-pub numbers_are : (index : Index) (c : Column) (first message seen : List ℕ) → IsIndex c → index_of c ≡ index → IsStored c → first ≡ [] → message ≡ first ++ column_bytes c → seen ≡ message → seen ≡ index_message index
-numbers_are index c first message seen h is st f m s = message_is first message seen (index_message index) f (index_written index c first message h is st m) s
-
-pub puts_parts : (l : Lists) (elements offsets sizes old new : List ℕ) → elements ≡ leaf_message l.elements → offsets ≡ index_message l.offsets → sizes ≡ index_message l.sizes → new ≡ old ++ list_fields elements offsets sizes → new ≡ old ++ list_fields (leaf_message l.elements) (index_message l.offsets) (index_message l.sizes)
-puts_parts l elements offsets sizes old new e o s p =
-    p ∙ ap (λ (x : List ℕ). old ++ list_fields x offsets sizes) e ∙ ap (λ (x : List ℕ). old ++ list_fields (leaf_message l.elements) x sizes) o ∙ ap (λ (x : List ℕ). old ++ list_fields (leaf_message l.elements) (index_message l.offsets) x) s
 
 pub puts_list_rows : (l : Lists) (v : RowValidityForm) (rows : ℕ) (old a b new : List ℕ) → v ≡ l.validity → rows ≡ list_count l → a ≡ old ++ header_bytes 13 4 rows → b ≡ a ++ row_validity_field v → new ≡ b ++ list_fields (leaf_message l.elements) (index_message l.offsets) (index_message l.sizes) → new ≡ old ++ column_bytes (OfLists l)
 puts_list_rows l v rows old a b new is r p q s =
@@ -146,3 +127,53 @@ lists_writable levels n l is le e o s v are = record {
   stored = record { elements = e; offsets = o; sizes = s; validity = v; are = are };
   shallow = omega (arith, is, le);
 }
+
+-- ---- sizes
+
+pub index_same : (c : Column) → IsIndex c → IsStored c → column_bytes c ≡ index_message (index_of c)
+index_same c h s = ap column_bytes (index_is c h s) ∙ index_bytes (index_of c)
+
+pub runs_same : (r : Runs) → IsIndex (column_of_runs r) → IsStored r.values → column_bytes (column_of_runs r) ≡ index_message (index_of (column_of_runs r))
+runs_same r h s = ap column_bytes (ap (λ (v : Column). OfRuns r.ends_type r.ends v r.offset r.count) (index_whole r.values h s)) ∙ index_bytes (index_of (column_of_runs r))
+
+pub elements_long : (leaf shown : Leaf) (size : ℕ) → shown ≡ leaf → size ≡ length (column_bytes (OfLeaf shown)) → length (leaf_message leaf) ≡ size
+elements_long leaf shown size is s = sym (s ∙ ap length (leaf_bytes shown) ∙ ap (λ (x : Leaf). length (leaf_message x)) is)
+
+pub index_long : (index : Index) (c : Column) (size : ℕ) → index_of c ≡ index → column_bytes c ≡ index_message (index_of c) → size ≡ length (column_bytes c) → length (index_message index) ≡ size
+index_long index c size is same s = sym (s ∙ ap length same ∙ ap (λ (x : Index). length (index_message x)) is)
+
+pub flags_sized : (r : Runs) (flags a b : ℕ) → IsPlainTruths r.values → flags ≡ length (column_bytes (column_of_runs r)) → a ≡ length (number_field 5 5) → b ≡ length (varint (16 * 8 + 2) ++ varint flags) → a + b + flags ≡ length (row_validity_field (runs_validity r))
+flags_sized r flags a b h f p q =
+    let message : List ℕ = column_bytes (column_of_runs r) in
+    let sum : a + b + flags ≡ length (number_field 5 5 ++ bytes_field 16 message) = omega (arith, p, q, f, ap (λ (n : ℕ). length (varint (16 * 8 + 2) ++ varint n)) f, bytes_long 16 message, length-append (number_field 5 5) (bytes_field 16 message)) in
+    sum ∙ ap length (flags_bytes r message h refl)
+
+pub lists_sized : (l : Lists) (v : RowValidityForm) (rows header validity parts : ℕ) → v ≡ l.validity → rows ≡ list_count l → header ≡ length (header_bytes 13 4 rows) → validity ≡ length (row_validity_field v) → parts ≡ length (list_fields (leaf_message l.elements) (index_message l.offsets) (index_message l.sizes)) → header + validity + parts ≡ length (column_bytes (OfLists l))
+lists_sized l v rows header validity parts is r h p q =
+    let flags : List ℕ = row_validity_field l.validity in
+    let fields : List ℕ = list_fields (leaf_message l.elements) (index_message l.offsets) (index_message l.sizes) in
+    let sum : header + validity + parts ≡ length (header_bytes 13 4 (list_count l) ++ (flags ++ fields)) = omega (arith, h, p, q, ap (λ (n : ℕ). length (header_bytes 13 4 n)) r, ap (λ (x : RowValidityForm). length (row_validity_field x)) is, length-append (header_bytes 13 4 (list_count l)) (flags ++ fields), length-append flags fields) in
+    sum ∙ ap (λ (x : List ℕ). length (header_bytes 13 4 (list_count l) ++ x)) (sym (lists_body_is l))
+
+-- the fields are longer than each message in them
+pub elements_within : (l : Lists) → length (leaf_message l.elements) ≤ length (list_fields (leaf_message l.elements) (index_message l.offsets) (index_message l.sizes))
+elements_within l = omega (arith, list_fields_long (leaf_message l.elements) (index_message l.offsets) (index_message l.sizes), bytes_long 17 (leaf_message l.elements))
+
+pub offsets_within : (l : Lists) → length (index_message l.offsets) ≤ length (list_fields (leaf_message l.elements) (index_message l.offsets) (index_message l.sizes))
+offsets_within l = omega (arith, list_fields_long (leaf_message l.elements) (index_message l.offsets) (index_message l.sizes), bytes_long 18 (index_message l.offsets))
+
+pub sizes_within : (l : Lists) → length (index_message l.sizes) ≤ length (list_fields (leaf_message l.elements) (index_message l.offsets) (index_message l.sizes))
+sizes_within l = omega (arith, list_fields_long (leaf_message l.elements) (index_message l.offsets) (index_message l.sizes), bytes_long 19 (index_message l.sizes))
+
+-- ---- written in place, behind a key with their size
+
+pub elements_written : (leaf shown : Leaf) (old new : List ℕ) → shown ≡ leaf → new ≡ old ++ column_bytes (OfLeaf shown) → new ≡ old ++ leaf_message leaf
+elements_written leaf shown old new is p = p ∙ ap (λ (x : List ℕ). old ++ x) (leaf_bytes shown ∙ ap leaf_message is)
+
+pub index_field : (field : ℕ) (index : Index) (c : Column) (old new : List ℕ) → IsIndex c → index_of c ≡ index → IsStored c → new ≡ old ++ bytes_field field (column_bytes c) → new ≡ old ++ bytes_field field (index_message index)
+index_field field index c old new h is s p = p ∙ ap (λ (x : List ℕ). old ++ bytes_field field x) (index_same c h s ∙ ap index_message is)
+
+pub flags_put : (r : Runs) (flags : ℕ) (old a b new : List ℕ) → IsPlainTruths r.values → flags ≡ length (column_bytes (column_of_runs r)) → a ≡ old ++ number_field 5 5 → b ≡ a ++ (varint (16 * 8 + 2) ++ varint flags) → new ≡ b ++ column_bytes (column_of_runs r) → new ≡ old ++ row_validity_field (runs_validity r)
+flags_put r flags old a b new h f p q s =
+    let message : List ℕ = column_bytes (column_of_runs r) in
+    puts_bytes 16 flags message a b new f q s ∙ ap (λ (x : List ℕ). x ++ bytes_field 16 message) p ∙ append_assoc old (number_field 5 5) (bytes_field 16 message) ∙ ap (λ (x : List ℕ). old ++ x) (flags_bytes r message h refl)

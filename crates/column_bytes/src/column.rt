@@ -11,6 +11,7 @@ use crate::flat::{put_decimal_rows, put_numbers, put_truths, read_leaf};
 use crate::list_reading::read_lists;
 use crate::lists::put_lists;
 use crate::runs::{put_runs, read_runs};
+use crate::sizes::{message_size, size_within};
 use crate::texts::put_texts;
 use column_base::{VortexError, VortexResult};
 use column_fields::{read_header, read_run_fields};
@@ -20,8 +21,11 @@ use std::alloc::Allocator;
 /// How many levels of runs a message has at most. Lists whose offsets, sizes or validity are in runs count as two.
 pub const MOST_LEVELS: usize = 16;
 
-/// The message of a column, in memory of the allocator `alloc`. Refused as `Unsupported` exactly where there are more
-/// than 16 levels of runs, else as `OutOfMemory` alone.
+// As many bytes of the last word of bits are written and cut again.
+const CUT: usize = 7;
+
+/// The message of a column, in memory of the allocator `alloc` that is taken once. Refused as `Unsupported` exactly
+/// where there are more than 16 levels of runs, else as `OutOfMemory` alone.
 pub fn write_column<A: Allocator + Copy, B: Allocator + Copy>(
     alloc: B,
     array: &ArrayRef<A>,
@@ -32,8 +36,9 @@ pub fn write_column<A: Allocator + Copy, B: Allocator + Copy>(
     ensures writable { OnOk result (IsWritable 16 (column_of array.now)) }
     ensures only { IfErr result IsUnsupportedOrMemory }
 {
-    let mut out = Vec::new(alloc);
-    put_column(alloc, &mut out, array, MOST_LEVELS)?;
+    let size = message_size(array)?;
+    let mut out = Vec::with_capacity(alloc, size.saturating_add(CUT))?;
+    put_column(&mut out, array, MOST_LEVELS)?;
     Ok(out)
 }
 
@@ -48,8 +53,7 @@ pub fn read_column<A: Allocator + Copy>(alloc: A, bytes: &[u8]) -> VortexResult<
 }
 
 // Writes the message of a column with at most so many levels of runs at the end.
-fn put_column<A: Allocator + Copy, B: Allocator + Copy>(
-    alloc: B,
+fn put_column<A: Allocator + Copy, B: Allocator>(
     out: &mut Vec<u8, B>,
     array: &ArrayRef<A>,
     levels: usize,
@@ -64,17 +68,18 @@ fn put_column<A: Allocator + Copy, B: Allocator + Copy>(
         ArrayRef::Primitive(numbers) => put_numbers(out, numbers),
         ArrayRef::Bool(truths) => put_truths(out, truths),
         ArrayRef::Decimal(decimals) => put_decimal_rows(out, decimals),
-        ArrayRef::VarBinView(texts) => put_texts(alloc, out, texts),
+        ArrayRef::VarBinView(texts) => put_texts(out, texts),
         ArrayRef::Constant(constant) => put_constant(out, constant),
         ArrayRef::RunEnd(runs) => {
             if levels == 0 {
                 return Err(VortexError::Unsupported);
             }
-            let mut values = Vec::new(alloc);
-            put_column(alloc, &mut values, runs.values(), levels - 1)?;
-            put_runs(alloc, out, runs, &values)
+            let values = size_within(runs.values(), levels - 1)?;
+            put_runs(out, runs, values)?;
+            put_column(out, runs.values(), levels - 1)?;
+            Ok(())
         }
-        ArrayRef::ListView(lists) => put_lists(alloc, out, lists, levels),
+        ArrayRef::ListView(lists) => put_lists(out, lists, levels),
     }
 }
 

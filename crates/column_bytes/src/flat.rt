@@ -20,7 +20,7 @@ use runend_array::ArrayRef;
 use std::alloc::Allocator;
 
 /// The number of the type of booleans.
-const TRUTHS: u64 = 9;
+pub(crate) const TRUTHS: u64 = 9;
 
 /// The number of the type of decimals.
 pub(crate) const DECIMALS: u64 = 10;

@@ -2,18 +2,23 @@
 #![tactic(auto)]
 
 mod column;
+mod constant_sizes;
 mod constants;
 mod decimal_constants;
 mod flat;
 mod flat_messages;
+mod flat_sizes;
 mod kinds;
 pub mod laws;
 mod list_constants;
 mod list_parts;
 mod list_reading;
+mod list_sizes;
 mod lists;
 mod runs;
+mod sizes;
 mod texts;
 
 pub use column::{MOST_LEVELS, read_column, write_column};
 pub use column_base::{VortexError, VortexResult};
+pub use sizes::message_size;

@@ -1,6 +1,7 @@
 //! Columns of lists, written.
 ghost use Rattle.std.specs.Prelude.{◌≡◌, ◌<◌, ◌⊎◌, ◌++◌, IsTrue, OnOk, IfErr, IsErrOf, IsOkUnless};
 ghost use Rattle.column_core.specs.FlatColumn.{leaf_of};
+ghost use Rattle.column_fields.specs.Field.{bytes_field};
 ghost use Rattle.column_fields.specs.ListFields.{list_fields};
 ghost use Rattle.runend_array.specs.Array.{column_of, validity_of, IsRowValidity};
 ghost use Rattle.runend_array.specs.Column.{OfLeaf, OfLists, IsIndex, IsPlainIndex, IsPlainTruths, index_of, column_of_runs, runs_validity};
@@ -10,11 +11,12 @@ ghost use Rattle.column_bytes.specs.Read.{IsWritable, IsUnsupportedOrMemory};
 ghost use Rattle.column_bytes.specs.Stored.{IsStored, IsStoredLeaf, IsStoredIndex, IsStoredValidity};
 
 use crate::flat::{put_decimal_rows, put_numbers, put_truths};
+use crate::list_sizes::{elements_size, flat_runs_size, index_size, run_values_size};
 use crate::runs::put_runs;
 use crate::texts::put_texts;
 use column_base::{VortexError, VortexResult};
 use column_core::FlatColumn;
-use column_fields::{Header, put_bit_validity, put_bytes, put_header, put_list_fields, put_number};
+use column_fields::{Header, put_bit_validity, put_bytes_key, put_header, put_number};
 use runend_array::{ArrayRef, ListViewArray, RowValidity, RunEndArray, RunEndArraySlotsExt};
 use std::alloc::Allocator;
 
@@ -23,8 +25,7 @@ pub(crate) const LISTS: u64 = 13;
 
 /// Writes a column of lists at the end. Refused as `Unsupported` exactly where its offsets, its sizes or its validity
 /// are in runs and fewer than two levels are left, else as `OutOfMemory` alone.
-pub(crate) fn put_lists<A: Allocator + Copy, B: Allocator + Copy>(
-    alloc: B,
+pub(crate) fn put_lists<A: Allocator + Copy, B: Allocator>(
     out: &mut Vec<u8, B>,
     lists: &ListViewArray<A>,
     levels: usize,
@@ -46,8 +47,8 @@ pub(crate) fn put_lists<A: Allocator + Copy, B: Allocator + Copy>(
             rows: lists.len() as u64,
         },
     )?;
-    put_row_validity(alloc, out, lists.validity())?;
-    put_parts(alloc, out, lists)?;
+    put_row_validity(out, lists.validity())?;
+    put_parts(out, lists)?;
     Ok(())
 }
 
@@ -77,8 +78,7 @@ fn is_in_runs<A: Allocator>(array: &ArrayRef<A>) -> bool
 
 // Writes the fields that tell which lists are valid.
 #[tactic(auto, unfolding(column_fields::specs::Validity::validity_field))]
-fn put_row_validity<A: Allocator + Copy, B: Allocator + Copy>(
-    alloc: B,
+fn put_row_validity<A: Allocator + Copy, B: Allocator>(
     out: &mut Vec<u8, B>,
     validity: &RowValidity<A>,
 ) -> VortexResult<()>
@@ -92,13 +92,12 @@ fn put_row_validity<A: Allocator + Copy, B: Allocator + Copy>(
         RowValidity::AllValid => put_number(out, 5, 2),
         RowValidity::AllInvalid => put_number(out, 5, 3),
         RowValidity::Bits(bits) => put_bit_validity(out, bits),
-        RowValidity::Runs(runs) => put_run_validity(alloc, out, runs),
+        RowValidity::Runs(runs) => put_run_validity(out, runs),
     }
 }
 
 // Writes that runs of booleans tell the validity, and their message.
-fn put_run_validity<A: Allocator + Copy, B: Allocator + Copy>(
-    alloc: B,
+fn put_run_validity<A: Allocator + Copy, B: Allocator>(
     out: &mut Vec<u8, B>,
     runs: &RunEndArray<A>,
 ) -> VortexResult<()>
@@ -107,16 +106,15 @@ fn put_run_validity<A: Allocator + Copy, B: Allocator + Copy>(
     ensures stored { OnOk result (IsStoredValidity (runs_validity runs.now)) }
     ensures only { IsOkUnless result VortexError.OutOfMemory }
 {
-    let mut flags = Vec::new(alloc);
-    put_flat_runs(alloc, &mut flags, runs)?;
+    let flags = flat_runs_size(runs)?;
     put_number(out, 5, 5)?;
-    put_bytes(out, 16, &flags)?;
+    put_bytes_key(out, 16, flags)?;
+    put_flat_runs(out, runs)?;
     Ok(())
 }
 
 // Writes elements, offsets and sizes, each as a message of its own.
-fn put_parts<A: Allocator + Copy, B: Allocator + Copy>(
-    alloc: B,
+fn put_parts<A: Allocator + Copy, B: Allocator>(
     out: &mut Vec<u8, B>,
     lists: &ListViewArray<A>,
 ) -> VortexResult<()>
@@ -127,19 +125,16 @@ fn put_parts<A: Allocator + Copy, B: Allocator + Copy>(
     ensures sizes { OnOk result (IsStoredIndex lists.now.sizes) }
     ensures only { IsOkUnless result VortexError.OutOfMemory }
 {
-    let mut elements = Vec::new(alloc);
-    put_elements(alloc, &mut elements, lists.elements())?;
-    let mut offsets = Vec::new(alloc);
-    put_index(alloc, &mut offsets, lists.offsets())?;
-    let mut sizes = Vec::new(alloc);
-    put_index(alloc, &mut sizes, lists.sizes())?;
-    put_list_fields(out, &elements, &offsets, &sizes)?;
+    let elements = elements_size(lists.elements())?;
+    put_bytes_key(out, 17, elements)?;
+    put_elements(out, lists.elements())?;
+    put_index_field(out, 18, lists.offsets())?;
+    put_index_field(out, 19, lists.sizes())?;
     Ok(())
 }
 
 // Writes the message of the elements at the end.
-fn put_elements<A: Allocator, B: Allocator + Copy>(
-    alloc: B,
+fn put_elements<A: Allocator, B: Allocator>(
     out: &mut Vec<u8, B>,
     column: &FlatColumn<A>,
 ) -> VortexResult<()>
@@ -151,44 +146,71 @@ fn put_elements<A: Allocator, B: Allocator + Copy>(
         FlatColumn::Primitive(numbers) => put_numbers(out, numbers),
         FlatColumn::Bool(truths) => put_truths(out, truths),
         FlatColumn::Decimal(decimals) => put_decimal_rows(out, decimals),
-        FlatColumn::VarBinView(texts) => put_texts(alloc, out, texts),
+        FlatColumn::VarBinView(texts) => put_texts(out, texts),
     }
 }
 
+// Writes the field of the message of offsets or of sizes at the end.
+fn put_index_field<A: Allocator + Copy, B: Allocator>(
+    out: &mut Vec<u8, B>,
+    field: u64,
+    index: &ArrayRef<A>,
+) -> VortexResult<()>
+    requires field { field < 32 }
+    requires index { IsIndex (column_of index.now) }
+    ensures ok { OnOk result (out.new.items ≡ out.old.items ++ bytes_field field (column_bytes (column_of index.now))) }
+    ensures stored { OnOk result (IsStored (column_of index.now)) }
+    ensures only { IsOkUnless result VortexError.OutOfMemory }
+{
+    let count = index_size(index)?;
+    put_bytes_key(out, field, count)?;
+    put_index(out, index)?;
+    Ok(())
+}
+
 // Writes the message of offsets or of sizes at the end.
-fn put_index<A: Allocator + Copy, B: Allocator + Copy>(
-    alloc: B,
+fn put_index<A: Allocator + Copy, B: Allocator>(
     out: &mut Vec<u8, B>,
     index: &ArrayRef<A>,
 ) -> VortexResult<()>
     requires { IsIndex (column_of index.now) }
     ensures ok { OnOk result (out.new.items ≡ out.old.items ++ column_bytes (column_of index.now)) }
-    ensures stored { OnOk result (IsStored (column_of index.now)) }
     ensures only { IsOkUnless result VortexError.OutOfMemory }
 {
     match index {
         ArrayRef::Primitive(numbers) => put_numbers(out, numbers),
-        ArrayRef::RunEnd(runs) => put_flat_runs(alloc, out, runs),
+        ArrayRef::RunEnd(runs) => put_flat_runs(out, runs),
         _ => unreachable!(),
     }
 }
 
 // Writes the message of runs over flat integers or booleans at the end.
-fn put_flat_runs<A: Allocator + Copy, B: Allocator + Copy>(
-    alloc: B,
+fn put_flat_runs<A: Allocator + Copy, B: Allocator>(
     out: &mut Vec<u8, B>,
     runs: &RunEndArray<A>,
 ) -> VortexResult<()>
     requires { IsPlainIndex runs.now.values ⊎ IsPlainTruths runs.now.values }
     ensures ok { OnOk result (out.new.items ≡ out.old.items ++ column_bytes (column_of_runs runs.now)) }
-    ensures stored { OnOk result (IsStored (column_of_runs runs.now)) }
     ensures only { IsOkUnless result VortexError.OutOfMemory }
 {
-    let mut values = Vec::new(alloc);
-    match runs.values() {
-        ArrayRef::Primitive(numbers) => put_numbers(&mut values, numbers)?,
-        ArrayRef::Bool(truths) => put_truths(&mut values, truths)?,
+    let values = run_values_size(runs.values())?;
+    put_runs(out, runs, values)?;
+    put_run_values(out, runs.values())?;
+    Ok(())
+}
+
+// Writes the message of flat integers or booleans, which are values of runs, at the end.
+fn put_run_values<A: Allocator + Copy, B: Allocator>(
+    out: &mut Vec<u8, B>,
+    values: &ArrayRef<A>,
+) -> VortexResult<()>
+    requires { IsPlainIndex (column_of values.now) ⊎ IsPlainTruths (column_of values.now) }
+    ensures ok { OnOk result (out.new.items ≡ out.old.items ++ column_bytes (column_of values.now)) }
+    ensures only { IsOkUnless result VortexError.OutOfMemory }
+{
+    match values {
+        ArrayRef::Primitive(numbers) => put_numbers(out, numbers),
+        ArrayRef::Bool(truths) => put_truths(out, truths),
         _ => unreachable!(),
     }
-    put_runs(alloc, out, runs, &values)
 }

@@ -3,30 +3,35 @@ ghost use Rattle.std.specs.Prelude.{◌≡◌, ◌<◌, ◌++◌, ◌↔◌, IsT
 ghost use Rattle.column_core.specs.PrimitiveForm.{primitive_dtype};
 ghost use Rattle.runend_windows.specs.Ends.{IsEndsType, ends_of};
 ghost use Rattle.runend_array.specs.Array.{column_of, dtype_of};
-ghost use Rattle.runend_array.specs.Column.{OfRuns, AreRuns, column_of_runs, runs_with};
+ghost use Rattle.runend_array.specs.Column.{OfRuns, AreRuns, column_dtype, column_of_runs, runs_with};
 ghost use Rattle.runend_windows.specs.Window.{IsWindow};
 ghost use Rattle.column_fields.specs.Lengths.{AreEndsOf, HasNoEndsOf, Rises};
 ghost use Rattle.column_fields.specs.Refusal.{IsBadOrMemory};
+ghost use Rattle.column_fields.specs.Sizes.{IsPast};
 ghost use Rattle.column_bytes.specs.Bytes.{column_bytes, kind_number};
 ghost use Rattle.column_bytes.specs.Read.{AreRunsOf, AreNoRunsOf, IsEndsColumn};
 
 use crate::kinds::number_of_kind;
 use column_base::{PType, Validity, VortexError, VortexResult};
 use column_core::PrimitiveArray;
-use column_fields::{Header, RunFields, load_ends, put_header, put_lengths_of, put_run_fields};
+use column_fields::{
+    Header, RunFields, header_size, load_ends, put_header, put_run_fields, run_fields_size,
+    size_of_total,
+};
 use runend_array::{ArrayRef, RunEnd, RunEndArray, RunEndArrayExt, RunEndArraySlotsExt};
 use runend_windows::last_end_of;
 use std::alloc::Allocator;
 
-/// Writes a run column at the end, where these are the bytes of its values. Refused as `OutOfMemory` alone.
-pub(crate) fn put_runs<A: Allocator + Copy, B: Allocator + Copy>(
-    alloc: B,
+/// Writes a run column at the end, but for the message of its values, which is to stand behind it and has so many
+/// bytes. Refused as `OutOfMemory` alone.
+pub(crate) fn put_runs<A: Allocator + Copy, B: Allocator>(
     out: &mut Vec<u8, B>,
     runs: &RunEndArray<A>,
-    values: &[u8],
+    values: usize,
 ) -> VortexResult<()>
-    requires { values.now ≡ column_bytes runs.now.values }
-    ensures ok { OnOk result (out.new.items ≡ out.old.items ++ column_bytes (column_of_runs runs.now)) }
+    requires { values ≡ length (column_bytes runs.now.values) }
+    ensures ok { OnOk result (out.new.items ++ column_bytes runs.now.values ≡
+        out.old.items ++ column_bytes (column_of_runs runs.now)) }
     ensures fit { OnOk result (AreEndsOf runs.now.ends_type runs.now.ends) }
     ensures runs { AreRuns runs.now }
     ensures only { IsOkUnless result VortexError.OutOfMemory }
@@ -34,19 +39,50 @@ pub(crate) fn put_runs<A: Allocator + Copy, B: Allocator + Copy>(
     let ArrayRef::Primitive(ends) = runs.ends() else {
         unreachable!()
     };
-    let mut lengths = Vec::new(alloc);
-    put_lengths_of(&mut lengths, ends.values())?;
-    let kind = number_of_kind(runs.dtype());
-    put_header(
+    put_header(out, header_of(runs))?;
+    put_run_fields(
         out,
-        Header {
-            kind,
-            form: 2,
-            rows: runs.len() as u64,
-        },
+        runs.offset() as u64,
+        ends.ptype(),
+        ends.values(),
+        values,
     )?;
-    put_run_fields(out, runs.offset() as u64, ends.ptype(), &lengths, values)?;
     Ok(())
+}
+
+/// How many bytes the message of a run column has, where that of its values has so many. Refused as `OutOfMemory`
+/// exactly where no count tells them.
+pub(crate) fn runs_size<A: Allocator + Copy>(
+    runs: &RunEndArray<A>,
+    values: usize,
+) -> VortexResult<usize>
+    requires { values ≡ length (column_bytes runs.now.values) }
+    ensures size { IfOk result (λ size. size ≡ length (column_bytes (column_of_runs runs.now))) }
+    ensures fit { AreEndsOf runs.now.ends_type runs.now.ends }
+    ensures runs { AreRuns runs.now }
+    ensures past { IfErr result (λ error. IsPast (length (column_bytes (column_of_runs runs.now))) error) }
+{
+    let ArrayRef::Primitive(ends) = runs.ends() else {
+        unreachable!()
+    };
+    let header = header_size(header_of(runs));
+    match run_fields_size(runs.offset() as u64, ends.ptype(), ends.values(), values) {
+        Ok(fields) => size_of_total(header as u128 + fields as u128),
+        Err(error) => Err(error),
+    }
+}
+
+// The header of a run column.
+fn header_of<A: Allocator + Copy>(runs: &RunEndArray<A>) -> Header
+    ensures kind { result.kind ≡ kind_number (column_dtype runs.now.values) }
+    ensures form { result.form ≡ 2 }
+    ensures rows { result.rows ≡ runs.now.count }
+{
+    Header {
+        kind: number_of_kind(runs.dtype()),
+        form: 2,
+        rows: runs.len() as u64,
+    }
 }
 
 /// The run column behind this header, with these fields and values. Refused as `BadMetadata` exactly where they make

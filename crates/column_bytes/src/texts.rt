@@ -17,8 +17,7 @@ use std::alloc::Allocator;
 use text_fields::{put_text_fields, read_text_fields};
 
 /// Writes a flat column of texts or of bytes at the end. Refused as `OutOfMemory` alone.
-pub(crate) fn put_texts<A: Allocator, B: Allocator + Copy>(
-    alloc: B,
+pub(crate) fn put_texts<A: Allocator, B: Allocator>(
     out: &mut Vec<u8, B>,
     array: &VarBinViewArray<A>,
 ) -> VortexResult<()>
@@ -34,7 +33,7 @@ pub(crate) fn put_texts<A: Allocator, B: Allocator + Copy>(
             rows: array.len() as u64,
         },
     )?;
-    put_text_fields(alloc, out, array)?;
+    put_text_fields(out, array)?;
     Ok(())
 }
 
