@@ -35,19 +35,19 @@ fn put_four<A: Allocator>(out: &mut Vec<u8, A>, numbers: &[i128]) -> VortexResul
     ensures fits { All (λ n. FitsSigned w128 n) numbers.now }
     ensures only { IsOkUnless result VortexError.OutOfMemory }
 {
-    let (a, b) = words_of(numbers[0]);
-    let (c, d) = words_of(numbers[1]);
-    let (e, f) = words_of(numbers[2]);
-    let (g, h) = words_of(numbers[3]);
+    let (first_low, first_high) = words_of(numbers[0]);
+    let (second_low, second_high) = words_of(numbers[1]);
+    let (third_low, third_high) = words_of(numbers[2]);
+    let (fourth_low, fourth_high) = words_of(numbers[3]);
     let bytes = [
-        a.to_le_bytes(),
-        b.to_le_bytes(),
-        c.to_le_bytes(),
-        d.to_le_bytes(),
-        e.to_le_bytes(),
-        f.to_le_bytes(),
-        g.to_le_bytes(),
-        h.to_le_bytes(),
+        first_low.to_le_bytes(),
+        first_high.to_le_bytes(),
+        second_low.to_le_bytes(),
+        second_high.to_le_bytes(),
+        third_low.to_le_bytes(),
+        third_high.to_le_bytes(),
+        fourth_low.to_le_bytes(),
+        fourth_high.to_le_bytes(),
     ];
     out.extend_from_slice(bytes.as_flattened())?;
     Ok(())
