@@ -15,8 +15,8 @@ pub struct ListFields<'a> {
     pub sizes: &'a [u8],
 }
 
-/// How many bytes the fields have where the messages have so many. Refused as `OutOfMemory` exactly where no count tells
-/// them.
+/// How many bytes the fields have where the messages have so many. Refused as `OutOfMemory` exactly where no count
+/// tells them.
 pub fn list_fields_size(elements: usize, offsets: usize, sizes: usize) -> VortexResult<usize>
     ensures size { IfOk result (λ size. (e o s : List ℕ) → length e ≡ elements → length o ≡ offsets →
         length s ≡ sizes → size ≡ length (list_fields e o s)) }
