@@ -1,6 +1,5 @@
 -- The type of elements is read as it is written, and in no other way.
-use Rattle.std.proofs.Common.{◌≡◌, ◌⊎◌, inl, inr, ℕ, ◌^◌, ◌<◌, Option, Some, None, List, [], ◌++◌, length, cond, eqb, refl, sym, ap, subst, ◌∙◌, arith, append_assoc}
-use Rattle.std.specs.Prelude.{IfSome, IfNone}
+use Rattle.std.proofs.Common.{◌≡◌, ◌⊎◌, inl, inr, ℕ, ◌^◌, ◌<◌, List, [], ◌++◌, length, cond, eqb, refl, sym, ap, ◌∙◌, arith, append_assoc}
 use Rattle.std.proofs.lemmas.List.{append-nil, nil_from_length}
 use Rattle.column_base.specs.declared.dtype.PType.{PType}
 use Rattle.column_base.specs.declared.dtype.PType.TheVariants.{U8, U16, U32, U64, I8, I16, I32, I64}
@@ -117,19 +116,6 @@ no_decimals d bytes rest native b h = record { none = λ e typed is. no_decimals
 
 pub other_number : (d : DecimalDType) (bytes rest : List ℕ) (k : ℕ) (m : Nullability) → IsDecimalType d → k < 2 ^ 64 → bytes ≡ decimal_type d ++ rest → rest ≡ numbered_type k m → (k ≡ 10 → ⊥) → IsNoElementType bytes
 other_number d bytes rest k m native lt b r ne = record { none = λ e typed is. no_decimals_at d rest native (λ n s. ne (numbered_same k 10 m n lt (omega arith) (sym r ∙ s)).0) e typed (sym b ∙ is) }
-
--- ---- a type is told
-
-pub found_plain : (result : Option ElementDType) (fields bytes : List ℕ) → bytes ≡ fields → IfSome result (λ e. element_type e ≡ fields) → IfSome result (λ e. bytes ≡ element_type e)
-found_plain None fields bytes b h = tt
-found_plain (Some e) fields bytes b h = b ∙ sym h
-
-pub none_plain : (result : Option ElementDType) (fields bytes : List ℕ) → bytes ≡ fields → IfNone result (IsNoElementType fields) → IfNone result (IsNoElementType bytes)
-none_plain None fields bytes b h = subst IsNoElementType (sym b) h
-none_plain (Some e) fields bytes b h = tt
-
-pub found_decimals : (d : DecimalDType) (bytes rest : List ℕ) (k : ℕ) (n : Nullability) → bytes ≡ decimal_type d ++ rest → rest ≡ numbered_type k n → k ≡ 10 → bytes ≡ element_type (element.Decimal d n)
-found_decimals d bytes rest k n b r is = b ∙ ap (λ (x : List ℕ). decimal_type d ++ x) (r ∙ ap (λ (x : ℕ). numbered_type x n) is)
 
 -- ---- one type has these fields
 
