@@ -18,3 +18,4 @@ pub mod Short
 pub mod TextRows
 pub mod Told
 pub mod TwoColumns
+pub mod MessageEndings

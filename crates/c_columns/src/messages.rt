@@ -11,14 +11,16 @@ use column_core::VortexResult;
 use runend_array::ArrayRef;
 use std::alloc::Global;
 
-/// How many bytes the message of a column has. Refused as `Unsupported` where the version writes no message of it,
-/// else for want of memory.
-pub fn message_size(alloc: Global, array: &ArrayRef<Global>) -> VortexResult<usize>
+/// How many bytes the message of a column has. Takes no memory. Refused as `Unsupported` where the version writes no
+/// message of it, else for want of memory, where no count tells so many bytes.
+pub fn message_size(array: &ArrayRef<Global>) -> VortexResult<usize>
     ensures told { IfOk result (λ size. HasMessage (column_of array.now) size) }
     ensures refused { IfErr result (λ error. IsShortOr (SizeFault array.now) error) }
 {
-    let message = write_column(alloc, array)?;
-    Ok(message.len())
+    match column_bytes::message_size(array) {
+        Ok(size) => Ok(size),
+        Err(error) => Err(error),
+    }
 }
 
 /// Puts the message of a column to the front of `room`, and answers how many bytes it has. Refused as `Unsupported`

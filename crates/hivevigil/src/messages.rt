@@ -10,7 +10,8 @@ use c_columns::handle::Handle;
 use c_columns::messages;
 use std::alloc::Global;
 
-/// How many bytes the message of a column has: `size` says it. Refused as `Unsupported` where there is none.
+/// How many bytes the message of a column has: `size` says it. Takes no memory. Refused as `Unsupported` where there is
+/// none.
 #[tactic(auto, using(crate::proofs::PartEndings::held_empty, crate::proofs::PartEndings::held_done, crate::proofs::PartEndings::held_refused))]
 #[unsafe(no_mangle)]
 pub extern "C" fn hv_write_size(
@@ -26,7 +27,7 @@ pub extern "C" fn hv_write_size(
     let Some(array) = column.take(alloc) else {
         return NO_COLUMN;
     };
-    let outcome = messages::message_size(alloc, &array);
+    let outcome = messages::message_size(&array);
     column.put(array);
     write_answer(outcome, size, error)
 }
