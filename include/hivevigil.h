@@ -393,7 +393,7 @@ HV_CALL void hv_builder_free(hv_builder *builder);
  * in the form that the column has, with its window; of flat texts and bytes the rows, which are read into one buffer.
  * Equal forms have equal bytes. 13 for more than 16 levels of runs alone, where lists that runs were decoded to, whose
  * offsets, sizes or validity are in runs, count as two. */
-/* How many bytes they are. */
+/* How many bytes they are, by a pass over lengths that takes no memory. */
 HV_ANSWER hv_write_size(const hv_column *column, size_t *size, hv_error *error);
 /* They go to the front of `bytes`, and *size says how many they are; 11 (needed, bytes_len) where they have no room
  * there. */
