@@ -1,6 +1,6 @@
 -- Builders behind which rows were put, or not.
-use Rattle.std.proofs.Common.{◌≡◌, ◌++◌, ℕ, List, inl, inr, subst}
-use Rattle.std.specs.Prelude.{Option, Some, Result, Ok, Err, IfErr, OnErr, OnOk, length, replicate}
+use Rattle.std.proofs.Common.{◌≡◌, ◌∙◌, ◌++◌, ℕ, List, inl, inr, subst, sym}
+use Rattle.std.specs.Prelude.{Option, None, Some, Result, Ok, Err, IfErr, OnErr, OnOk, length, replicate}
 use Rattle.column_base.specs.declared.error.VortexError.{VortexError}
 use Rattle.column_core.specs.Refusal.{IsRefusedBy}
 use Rattle.column_core.specs.ScalarForm.{ScalarForm}
@@ -34,9 +34,19 @@ no_value built value text count error (inl short) = inl short
 no_value built value text count error (inr wrong) = inr (inl wrong)
 
 pub value_refused : {T : Type 0} (result : Result T VortexError) (built : Built) (scalar : ScalarForm) (value : RowValue) (text : List ℕ) (count : ℕ)
-    → scalar ≡ record { dtype = built.dtype; value = value_in value.kind value text } → IsRefusedBy (append_fault built.dtype scalar.dtype (length built.rows) count) result
+    → scalar ≡ record { dtype = built.dtype; value = value_in value.kind value text } → ((error : VortexError) → ¬ (ConstantFault built.dtype value text error))
+    → IsRefusedBy (append_fault built.dtype scalar.dtype (length built.rows) count) result
     → IfErr result (λ error. IsShortOr (PassedAppendFault built value text count) error)
-value_refused (Ok done) built scalar value text count same refused = tt
-value_refused (Err error) built scalar value text count same (inl short) = inl short
-value_refused (Err error) built scalar value text count same (inr found) =
-    inr (inr (subst (λ (s : ScalarForm). append_fault built.dtype s.dtype (length built.rows) count ≡ Some error) same found))
+value_refused (Ok done) built scalar value text count same served refused = tt
+value_refused (Err error) built scalar value text count same served (inl short) = inl short
+value_refused (Err error) built scalar value text count same served (inr found) =
+    inr (inr (served, subst (λ (s : ScalarForm). append_fault built.dtype s.dtype (length built.rows) count ≡ Some error) same found))
+
+-- it is a value of the type, and there are not too many rows
+pub value_served : {T : Type 0} (result : Result T VortexError) (built : Built) (scalar : ScalarForm) (value : RowValue) (text : List ℕ) (count : ℕ)
+    → scalar ≡ record { dtype = built.dtype; value = value_in value.kind value text } → ((error : VortexError) → ¬ (ConstantFault built.dtype value text error))
+    → IsRefusedBy (append_fault built.dtype scalar.dtype (length built.rows) count) result → OnOk result ((error : VortexError) → ¬ (PassedAppendFault built value text count error))
+value_served (Ok done) built scalar value text count same served none = λ error fault.
+    let fits : append_fault built.dtype built.dtype (length built.rows) count ≡ None = subst (λ (s : ScalarForm). append_fault built.dtype s.dtype (length built.rows) count ≡ None) same none in
+    elim fault as (λ _. ⊥) [ inl wrong ↦ served error wrong | inr many ↦ (let both : None ≡ Some error = sym fits ∙ many.1 in cc) ]
+value_served (Err error) built scalar value text count same served refused = tt

@@ -1,6 +1,6 @@
 -- Scalars that are passed: of which types their values are.
 use Rattle.std.proofs.Common.{◌≡◌, ◌⊎◌, inl, inr, refl, sym, subst, ℤ, ℕ, zero, suc, List, Bool}
-use Rattle.std.specs.Prelude.{Some, None, IsNone, Result, Ok, Err, ◌↔◌, IfErr, IsErrOf, IsOk, IsSome}
+use Rattle.std.specs.Prelude.{Some, None, IsNone, Result, Ok, Err, ◌↔◌, IfErr, IsErrOf, IsOk, IsSome, OnOk}
 use Rattle.std.proofs.lemmas.Bool.{false≢true}
 use Rattle.column_base.specs.declared.error.VortexError.{VortexError}
 use Rattle.column_base.specs.declared.error.VortexError.TheVariants.{NullNotAllowed, OutOfMemory, TypeMismatch}
@@ -143,6 +143,24 @@ value_refused dtype value text owned (Err error) some types accepts mismatch =
     let told = mismatch.1 (refl, wrong) in
     let same : error ≡ TypeMismatch = cc in
     inr (no_value dtype value.kind value text error some same (λ passed. wrong ((types dtype).1 passed)))
+
+-- what is not refused is null of a type with null
+pub null_served : (dtype : DType) (value : RowValue) (text : List ℕ) (result : Result ScalarForm VortexError) → value.kind ≡ 0
+    → (IsErrOf result NullNotAllowed ↔ (IsNone {T = ScalarValue Global} None × (nullability_of dtype ≡ NonNullable))) → OnOk result ((error : VortexError) → ¬ (ConstantFault dtype value text error))
+null_served dtype value text (Ok scalar) zero_kind null = λ error fault.
+    let found : IsNoValueOf dtype 0 value text error = subst (λ (k : ℕ). IsNoValueOf dtype k value text error) zero_kind fault in
+    let refused : IsErrOf {T = ScalarForm} (Ok scalar) NullNotAllowed = null.1 (refl, found.1) in cc
+null_served dtype value text (Err error) zero_kind null = tt
+
+-- or a value of the type
+no_fault : (dtype : DType) (kind : ℕ) (value : RowValue) (text : List ℕ) (error : VortexError) → (kind ≡ 0 → ⊥) → IsPassedIn dtype kind value text → ¬ (IsNoValueOf dtype kind value text error)
+no_fault dtype zero value text error some passed fault = some refl
+no_fault dtype (suc k) value text error some passed fault = fault.1 passed
+
+pub value_served : (dtype : DType) (value : RowValue) (text : List ℕ) (owned : ScalarValue Global) (result : Result ScalarForm VortexError) → (value.kind ≡ 0 → ⊥) → ((t : DType) → IsOwnedOf t owned ↔ IsPassedIn t value.kind value text)
+    → (IsOk result ↔ IsScalarOf dtype (Some owned)) → OnOk result ((error : VortexError) → ¬ (ConstantFault dtype value text error))
+value_served dtype value text owned (Ok scalar) some types accepts = λ error. no_fault dtype value.kind value text error some ((types dtype).0 (accepts.0 refl))
+value_served dtype value text owned (Err error) some types accepts = tt
 
 -- what is passed is no value of any type
 pub given_refused : (dtype : DType) (value : RowValue) (text : List ℕ) (error : VortexError) → (value.kind ≡ 0 → ⊥) → (error ≡ OutOfMemory) ⊎ ((error ≡ TypeMismatch) × ((t : DType) → ¬ IsPassedIn t value.kind value text))

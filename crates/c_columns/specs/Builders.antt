@@ -18,7 +18,7 @@ use Rattle.runend_array.specs.declared.array_ref.ArrayRef.{ArrayRef}
 use Rattle.runend_encode_rows.specs.Encoded.{IsEncodedRows}
 use Rattle.runend_builder.specs.Builder.{Built, append_fault, built_with}
 use Rattle.runend_builder.specs.contracts.builder.RunBuilder as builder
-use Rattle.c_columns.specs.Ending.{EndsAs, EndsBy}
+use Rattle.c_columns.specs.Ending.{EndsBy, EndsUnless}
 use Rattle.c_columns.specs.Makers.{ConstantFault}
 use Rattle.c_columns.specs.Values.{value_in}
 use Rattle.c_columns.specs.declared.error_fields.ErrorFields.{ErrorFields}
@@ -66,14 +66,16 @@ passed_row value text = option_map Single (value_in value.kind value text)
 abbrev pub column_append_fault : Built → ArrayRef Global → Option VortexError
 column_append_fault built c = append_fault built.dtype (dtype_of c) (length built.rows) (length (rows c))
 
--- why so many rows of a value that is passed are not: it is none of the type, or there were too many rows
+-- why so many rows of a value that is passed are not: it is none of the type; or it is one, and there were too many rows
 abbrev pub PassedAppendFault : Built → RowValue → List ℕ → ℕ → VortexError → Type 0
-PassedAppendFault built value text count error = ConstantFault built.dtype value text error ⊎ (append_fault built.dtype built.dtype (length built.rows) count ≡ Some error)
+PassedAppendFault built value text count error =
+    ConstantFault built.dtype value text error
+    ⊎ (((other : VortexError) → ¬ (ConstantFault built.dtype value text other)) × (append_fault built.dtype built.dtype (length built.rows) count ≡ Some error))
 
 -- how a call on a builder ends: with 22 where the handle is empty
 abbrev pub EndsOnBuilder : (Built → VortexError → Type 0) → Option Built → ℤ → ErrorFields → Type 0
 EndsOnBuilder Fault None code fields = code ≡ pos 22
-EndsOnBuilder Fault (Some built) code fields = EndsAs (Fault built) code fields
+EndsOnBuilder Fault (Some built) code fields = EndsUnless (Fault built) code fields
 
 -- of one that has no fault
 abbrev pub EndsOnBuilt : Option Built → ℤ → ErrorFields → Type 0

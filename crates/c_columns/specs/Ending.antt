@@ -59,6 +59,11 @@ IsShortOr Fault error = (error ≡ OutOfMemory) ⊎ Fault error
 abbrev pub EndsAs : (VortexError → Type 0) → ℤ → ErrorFields → Type 0
 EndsAs Fault code fields = (code ≡ pos 0) ⊎ ((error : VortexError) × IsShortOr Fault error × IsRefusedAs error code fields)
 
+-- the call ends with 0, and there is no fault of this kind; or for want of memory, or by such a fault
+abbrev pub EndsUnless : (VortexError → Type 0) → ℤ → ErrorFields → Type 0
+EndsUnless Fault code fields =
+    ((code ≡ pos 0) × ((error : VortexError) → ¬ Fault error)) ⊎ ((error : VortexError) × IsShortOr Fault error × IsRefusedAs error code fields)
+
 -- the first fault of a command on a column; there is none to do where what is lent is of the wrong type
 abbrev pub fault_of : Option (Command Global) → ArrayRef Global → Option VortexError
 fault_of None c = Some TypeMismatch

@@ -54,8 +54,8 @@ pub fn append_column(
 }
 
 /// Puts `count` rows of the value that C passes, of the builder's type, behind its rows. Refused as `scalar_of_type`
-/// says, and then as `RunBuilder::append_value` refuses; the builder stays as it is then.
-#[tactic(auto, using(crate::proofs::Appended::value_grown, crate::proofs::Appended::still_kept, crate::proofs::Appended::no_value, crate::proofs::Appended::value_refused))]
+/// says, whatever the count is, and then as `RunBuilder::append_value` refuses; the builder stays as it is then.
+#[tactic(auto, using(crate::proofs::Appended::value_grown, crate::proofs::Appended::still_kept, crate::proofs::Appended::no_value, crate::proofs::Appended::value_refused, crate::proofs::Appended::value_served))]
 pub fn append_passed(
     alloc: Global,
     builder: &mut RunBuilder<Global>,
@@ -68,6 +68,8 @@ pub fn append_passed(
     ensures kept { OnErr result (builder.new ≡ builder.old) }
     ensures refused { IfErr result
         (λ error. IsShortOr (PassedAppendFault builder.old value.now text.now count) error) }
+    ensures served { OnOk result
+        ((error : VortexError) → ¬ (PassedAppendFault builder.old value.now text.now count error)) }
 {
     let scalar = scalar_of_type(alloc, builder.dtype(), value, text)?;
     let appended = builder.append_value(&scalar, count);

@@ -1,5 +1,5 @@
 //! One value of a row, as C reads and writes it.
-ghost use Rattle.std.specs.Prelude.{◌≡◌, ◌<◌, ◌⊎◌, ◌↔◌, length, take, IfOk, IfErr, Some};
+ghost use Rattle.std.specs.Prelude.{◌≡◌, ◌<◌, ◌⊎◌, ◌↔◌, length, take, IfOk, IfErr, OnOk, Some};
 ghost use Rattle.std.specs.Str.{IsUtf8};
 ghost use Rattle.column_base.specs.declared.dtype.DType.{DType};
 ghost use Rattle.column_core.specs.Value.{Text};
@@ -101,7 +101,7 @@ pub fn scalar_of(
 
 /// The scalar of this type that C passes. `text` has the bytes of a text. Refused as `NullNotAllowed` for null in a
 /// type without null, and as `TypeMismatch` where it is no value of the type, or the bytes are not UTF-8.
-#[tactic(auto, using(crate::proofs::Passed::null_refused, crate::proofs::Passed::value_refused, crate::proofs::Passed::given_refused))]
+#[tactic(auto, using(crate::proofs::Passed::null_refused, crate::proofs::Passed::value_refused, crate::proofs::Passed::given_refused, crate::proofs::Passed::null_served, crate::proofs::Passed::value_served))]
 pub fn scalar_of_type(
     alloc: Global,
     dtype: DType,
@@ -111,6 +111,7 @@ pub fn scalar_of_type(
     ensures scalar { IfOk result
         (λ scalar. scalar ≡ record { dtype = dtype; value = value_in value.now.kind value.now text.now }) }
     ensures refused { IfErr result (λ error. IsShortOr (ConstantFault dtype value.now text.now) error) }
+    ensures served { OnOk result ((error : VortexError) → ¬ (ConstantFault dtype value.now text.now error)) }
 {
     if value.kind == 0 {
         return Scalar::try_new(dtype, None);

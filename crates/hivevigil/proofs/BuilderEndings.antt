@@ -1,6 +1,6 @@
 -- How calls on builders end.
 use Rattle.std.proofs.Common.{◌≡◌, ◌≢◌, inl, inr, sym, subst, pos, ℤ}
-use Rattle.std.specs.Prelude.{Option, Some, None, Result, Ok, Err, IfErr, IfOk}
+use Rattle.std.specs.Prelude.{Option, Some, None, Result, Ok, Err, IfErr, IfOk, OnOk}
 use Rattle.std.specs.Global.{Global}
 use Rattle.column_base.specs.declared.error.VortexError.{VortexError}
 use Rattle.column_base.specs.declared.error.VortexError.TheVariants.{OutOfMemory}
@@ -26,12 +26,20 @@ Faults = Built → VortexError → Type 0
 pub builder_empty : (Fault : Faults) (b : HeldBuilder) (code : ℤ) (fields : ErrorFields) → b ≡ None → code ≡ pos 22 → EndsOnBuilder Fault b code fields
 builder_empty Fault b code fields none is = subst (λ (h : HeldBuilder). EndsOnBuilder Fault h code fields) (sym none) is
 
-pub builder_done : (Fault : Faults) (b : HeldBuilder) (a : Built) (code : ℤ) (fields : ErrorFields) → b ≡ Some a → code ≡ pos 0 → EndsOnBuilder Fault b code fields
-builder_done Fault b a code fields some is = subst (λ (h : HeldBuilder). EndsOnBuilder Fault h code fields) (sym some) (inl is)
+pub builder_done : (Fault : Faults) (b : HeldBuilder) (a : Built) (code : ℤ) (fields : ErrorFields) → b ≡ Some a → ((error : VortexError) → ¬ (Fault a error)) → code ≡ pos 0
+    → EndsOnBuilder Fault b code fields
+builder_done Fault b a code fields some none is = subst (λ (h : HeldBuilder). EndsOnBuilder Fault h code fields) (sym some) (inl (is, none))
 
 pub builder_refused : (Fault : Faults) (b : HeldBuilder) (a : Built) (error : VortexError) (code : ℤ) (fields : ErrorFields)
     → b ≡ Some a → IsShortOr (Fault a) error → code ≡ pos (number_of error) → HasFields error fields → EndsOnBuilder Fault b code fields
 builder_refused Fault b a error code fields some why is told = subst (λ (h : HeldBuilder). EndsOnBuilder Fault h code fields) (sym some) (inr (error, why, (is, told)))
+
+-- a call that answers what came of it ends so
+pub builder_ends : {T : Type 0} (outcome : Result T VortexError) (Fault : Faults) (b : HeldBuilder) (a : Built) (code : ℤ) (fields : ErrorFields) → b ≡ Some a
+    → OnOk outcome ((error : VortexError) → ¬ (Fault a error)) → IfErr outcome (λ error. IsShortOr (Fault a) error) → IfOk outcome (λ _. code ≡ pos 0)
+    → IfErr outcome (λ error. (code ≡ pos (number_of error)) × (code ≢ pos 0) × HasFields error fields) → EndsOnBuilder Fault b code fields
+builder_ends (Ok done) Fault b a code fields some served refused ok err = builder_done Fault b a code fields some served ok
+builder_ends (Err error) Fault b a code fields some served refused ok err = builder_refused Fault b a error code fields some refused err.0 err.2
 
 -- no fault
 pub built_empty : (b : HeldBuilder) (code : ℤ) (fields : ErrorFields) → b ≡ None → code ≡ pos 22 → EndsOnBuilt b code fields

@@ -90,8 +90,9 @@ pub extern "C" fn hv_append(
     write_status(outcome, error)
 }
 
-/// Puts `count` rows of a value of the builder's type behind its rows. Refused as `builders::append_passed` says.
-#[tactic(auto, using(crate::proofs::BuilderEndings::builder_empty, crate::proofs::BuilderEndings::builder_done, crate::proofs::BuilderEndings::builder_refused))]
+/// Puts `count` rows of a value of the builder's type behind its rows. Refused as `builders::append_passed` says: first
+/// for the value, then for too many rows.
+#[tactic(auto, using(crate::proofs::BuilderEndings::builder_empty))]
 #[unsafe(no_mangle)]
 pub extern "C" fn hv_append_value(
     alloc: Global,
