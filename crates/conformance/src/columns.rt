@@ -1,15 +1,12 @@
-//! Columns made of slices, and what they are compared with.
+//! Contexts, columns made of slices, and the rows that they are compared with.
 ghost use Rattle.std.specs.Prelude.{IfOk};
 ghost use Rattle.column_core.specs.PrimitiveForm.{primitive_dtype};
 ghost use Rattle.runend_windows.specs.Ends.{IsEndsType};
 
-use runend_windows::validate_ends;
+use crate::parts::bits;
 use std::alloc::Allocator;
-use std::fmt::Debug;
-use std::process::Abort;
-use vortex_runend::compress::runend_decode_primitive;
 use vortex_runend::{
-    ArrayRef, BitBufferMut, ExecutionCtx, NativePType, PrimitiveArray, RunEnd, ScalarView,
+    ArrayRef, ExecutionCtx, NativePType, PrimitiveArray, RunEnd, RunEndArray, ScalarView,
     UnsignedPType, Validity, VortexResult, VortexSession, initialize,
 };
 
@@ -30,10 +27,8 @@ pub(crate) fn required<T: NativePType, A: Allocator + Copy>(
     alloc: A,
     items: &[T],
 ) -> VortexResult<PrimitiveArray<A>> {
-    PrimitiveArray::try_new(
-        T::wrap(Vec::from_slice(alloc, items)?),
-        Validity::NonNullable,
-    )
+    let items = Vec::from_slice(alloc, items)?;
+    PrimitiveArray::try_new(T::wrap(items), Validity::NonNullable)
 }
 
 /// A column with a bit for each row, null where the flag is false.
@@ -42,25 +37,14 @@ pub(crate) fn nullable<T: NativePType, A: Allocator + Copy>(
     items: &[T],
     flags: &[bool],
 ) -> VortexResult<PrimitiveArray<A>> {
-    let mut bits = BitBufferMut::with_capacity(alloc, flags.len())?;
-    for flag in flags {
-        bits.append(*flag)?;
+    let flags = bits(alloc, flags)?;
+    match Vec::from_slice(alloc, items) {
+        Ok(items) => PrimitiveArray::try_new(T::wrap(items), Validity::Bits(flags)),
+        Err(error) => {
+            drop(flags);
+            Err(error.into())
+        }
     }
-    let values = T::wrap(Vec::from_slice(alloc, items)?);
-    PrimitiveArray::try_new(values, Validity::Bits(bits.freeze()))
-}
-
-/// The run column of these ends and values, `length` rows from row `offset` on.
-pub(crate) fn run_column<A: Allocator + Copy>(
-    ends: PrimitiveArray<A>,
-    values: ArrayRef<A>,
-    offset: usize,
-    length: usize,
-    ctx: &mut ExecutionCtx<A>,
-) -> VortexResult<ArrayRef<A>> {
-    let ends = ArrayRef::Primitive(ends);
-    let runs = RunEnd::try_new_offset_length(ends, values, offset, length, ctx)?;
-    ArrayRef::of_runs(*ctx.allocator(), runs)
 }
 
 /// A column of ends.
@@ -70,55 +54,63 @@ pub(crate) fn ends_column<T: UnsignedPType, A: Allocator + Copy>(
 ) -> VortexResult<PrimitiveArray<A>>
     ensures { IfOk result (λ ends. IsEndsType (primitive_dtype ends)) }
 {
-    let ends = T::wrap(Vec::from_slice(alloc, items)?);
-    Ok(PrimitiveArray::new_unchecked(ends, Validity::NonNullable))
+    let ends = Vec::from_slice(alloc, items)?;
+    Ok(PrimitiveArray::new_unchecked(T::wrap(ends), Validity::NonNullable))
 }
 
-/// What the decoder makes of parts that are valid; else their fault.
-pub(crate) fn decoded<A: Allocator + Copy>(
-    ends: PrimitiveArray<A>,
-    values: PrimitiveArray<A>,
+/// Runs of these ends and values, `length` rows from row `offset` on.
+pub(crate) fn runs_of<A: Allocator + Copy>(
+    ends: VortexResult<PrimitiveArray<A>>,
+    values: VortexResult<PrimitiveArray<A>>,
     offset: usize,
     length: usize,
     ctx: &mut ExecutionCtx<A>,
-) -> VortexResult<ArrayRef<A>>
-    requires { IsEndsType (primitive_dtype ends) }
-{
-    match validate_ends(&ends, values.len(), offset, length) {
-        Ok(()) => runend_decode_primitive(ends, values, offset, length, ctx),
+) -> VortexResult<RunEndArray<A>> {
+    let (ends, values) = both(ends, values)?;
+    let (ends, values) = (ArrayRef::Primitive(ends), ArrayRef::Primitive(values));
+    RunEnd::try_new_offset_length(ends, values, offset, length, ctx)
+}
+
+/// The same as a column of any form.
+pub(crate) fn run_column<A: Allocator + Copy>(
+    ends: VortexResult<PrimitiveArray<A>>,
+    values: VortexResult<PrimitiveArray<A>>,
+    offset: usize,
+    length: usize,
+    ctx: &mut ExecutionCtx<A>,
+) -> VortexResult<ArrayRef<A>> {
+    let runs = runs_of(ends, values, offset, length, ctx)?;
+    ArrayRef::of_runs(*ctx.allocator(), runs)
+}
+
+/// Both, or the first refusal.
+pub(crate) fn both<L: Drop, R: Drop>(
+    left: VortexResult<L>,
+    right: VortexResult<R>,
+) -> VortexResult<(L, R)> {
+    match left {
+        Ok(left) => match right {
+            Ok(right) => Ok((left, right)),
+            Err(error) => {
+                drop(left);
+                Err(error)
+            }
+        },
         Err(error) => {
-            drop(ends);
-            drop(values);
+            drop(right);
             Err(error)
         }
     }
 }
 
-/// Are the numbers as they are stored of this type, and these?
-pub(crate) fn assert_stored<T: NativePType + Debug, A: Allocator>(
-    rt: &impl Abort,
-    array: &PrimitiveArray<A>,
-    numbers: &[T],
-) {
-    match T::slice_of(array.values()) {
-        Some(items) => assert_eq!(rt; items, numbers),
-        None => panic!(rt; "numbers of another type"),
-    }
-}
-
 /// Are the rows these, of a signed type?
-pub(crate) fn assert_rows<A: Allocator + Copy>(
-    rt: &impl Abort,
-    array: &ArrayRef<A>,
-    rows: &[Option<i64>],
-) {
-    assert_eq!(rt; array.len(), rows.len());
+pub(crate) fn are_rows<A: Allocator + Copy>(array: &ArrayRef<A>, rows: &[Option<i64>]) -> bool {
     for index in 0..rows.len() {
-        let row = match array.scalar_at(index) {
-            Ok(ScalarView::Null) => None,
-            Ok(ScalarView::Signed(number)) => Some(number),
-            _ => panic!(rt; "no signed row at {index}"),
-        };
-        assert_eq!(rt; row, rows[index], "at {index}");
+        match array.scalar_at(index) {
+            Ok(ScalarView::Null) if rows[index].is_none() => {}
+            Ok(ScalarView::Signed(number)) if rows[index] == Some(number) => {}
+            _ => return false,
+        }
     }
+    array.len() == rows.len()
 }

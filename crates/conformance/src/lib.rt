@@ -1,27 +1,21 @@
-//! Tests of worked vectors that cross crates: columns are encoded, decoded, sliced, searched and refused, and
-//! the rows, ends and faults that come out are compared with those worked out by hand.
+//! Tests of the library as a program calls it: the lines that the pages show, and the calls that no line of vectors can
+//! make.
 #![tactic(auto)]
 
 #[cfg(test)]
 mod columns;
 #[cfg(test)]
-mod edges;
+mod decoders;
 #[cfg(test)]
-mod encoded;
+mod functions;
 #[cfg(test)]
-mod indices;
-#[cfg(test)]
-mod kinds;
-#[cfg(test)]
-mod lists;
+mod laws;
 #[cfg(test)]
 mod lookups;
 #[cfg(test)]
 mod many_runs;
 #[cfg(test)]
-mod memory;
-#[cfg(test)]
-mod messages;
+mod names;
 #[cfg(test)]
 mod parts;
 #[cfg(test)]
@@ -29,16 +23,6 @@ mod shared;
 #[cfg(test)]
 mod shown;
 #[cfg(test)]
-mod slots;
-#[cfg(test)]
 mod strategies;
-#[cfg(test)]
-mod texts;
-#[cfg(test)]
-mod trials;
-#[cfg(test)]
-mod truths;
-#[cfg(test)]
-mod typed;
 #[cfg(test)]
 mod usage;

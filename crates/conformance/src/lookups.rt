@@ -1,56 +1,54 @@
 //! The runs of rows.
-use crate::columns::{context, required};
-use std::alloc::Allocator;
-use std::process::Abort;
+use crate::columns::{context, required, runs_of};
+use std::alloc::{Allocator, Global};
 use std::test::Fail;
-use vortex_runend::{
-    ArrayRef, RunEnd, RunEndArray, RunEndArrayExt, RunEndArraySlotsExt, VortexResult,
-};
+use vortex_runend::{RunEndArray, RunEndArrayExt, RunEndArraySlotsExt, VortexResult};
 
-// The run of a row, and where the runs of the rows before it stop.
-fn assert_runs_at<A: Allocator + Copy>(
-    rt: &impl Abort,
-    array: &RunEndArray<A>,
-    index: usize,
-    runs: (usize, usize),
-) {
+// The run of a row, and where the runs of the rows before it stop, if there is such a row.
+fn runs_at<A: Allocator + Copy>(array: &RunEndArray<A>, index: usize) -> Option<(usize, usize)> {
     let _ends = array.ends();
     if index >= array.len() {
-        panic!(rt; "no row {index}");
+        return None;
     }
-    assert_eq!(rt;
-        (
-            array.find_physical_index(index),
-            array.find_slice_end_index(index)
-        ),
-        runs,
-        "at {index}"
-    );
+    Some((
+        array.find_physical_index(index),
+        array.find_slice_end_index(index),
+    ))
+}
+
+// The same of row 0, if there is a run.
+fn runs_at_first<A: Allocator + Copy>(array: &RunEndArray<A>) -> Option<(usize, usize)> {
+    if array.values().len() == 0 {
+        return None;
+    }
+    Some((array.find_physical_index(0), array.find_slice_end_index(0)))
 }
 
 // Nine rows from row 1 on, in runs that end at 2, 5 and 10.
-fn three_runs<A: Allocator + Copy>(alloc: A) -> VortexResult<RunEndArray<A>> {
-    let ends = required(alloc, &[2u32, 5, 10])?;
-    match required(alloc, &[1i32, 2, 3]) {
-        Ok(values) => {
-            let (ends, values) = (ArrayRef::Primitive(ends), ArrayRef::Primitive(values));
-            RunEnd::try_new_offset_length(ends, values, 1, 9, &mut context(alloc))
-        }
-        Err(error) => {
-            drop(ends);
-            Err(error)
-        }
-    }
+fn are_found(alloc: Global) -> VortexResult<bool> {
+    let ends = required(alloc, &[2u32, 5, 10]);
+    let values = required(alloc, &[1i32, 2, 3]);
+    let array = runs_of(ends, values, 1, 9, &mut context(alloc))?;
+    let are_found = runs_at(&array, 0) == Some((0, 1))
+        && runs_at(&array, 1) == Some((1, 1))
+        && runs_at(&array, 3) == Some((1, 2))
+        && runs_at(&array, 4) == Some((2, 2))
+        && runs_at(&array, 8) == Some((2, 3));
+    drop(array);
+    Ok(are_found)
+}
+
+// No row from the last position on, over one run that ends at 2.
+fn is_behind_all(alloc: Global) -> VortexResult<bool> {
+    let (ends, values) = (required(alloc, &[2u8]), required(alloc, &[7i32]));
+    let array = runs_of(ends, values, usize::MAX, 0, &mut context(alloc))?;
+    let runs = runs_at_first(&array);
+    drop(array);
+    Ok(runs == Some((0, 1)))
 }
 
 #[test]
 fn runs_of_rows_are_found(rt: HostRuntime) -> Result<(), Fail> {
-    let array = three_runs(rt.alloc())?;
-    assert_runs_at(&rt, &array, 0, (0, 1));
-    assert_runs_at(&rt, &array, 1, (1, 1));
-    assert_runs_at(&rt, &array, 3, (1, 2));
-    assert_runs_at(&rt, &array, 4, (2, 2));
-    assert_runs_at(&rt, &array, 8, (2, 3));
-    drop(array);
+    assert!(rt; are_found(rt.alloc())? && is_behind_all(rt.alloc())?);
     Ok(())
 }

@@ -1,4 +1,5 @@
 //! Columns of which run columns are made: booleans and texts.
+use crate::columns::both;
 use bytes::Bytes;
 use std::alloc::Allocator;
 use vortex_runend::{
@@ -20,64 +21,31 @@ pub(crate) fn nullable_truths<A: Allocator + Copy>(
     items: &[bool],
     flags: &[bool],
 ) -> VortexResult<BoolArray<A>> {
-    let validity = Validity::Bits(bits(alloc, flags)?);
-    BoolArray::try_new(bits(alloc, items)?, validity)
+    let (items, flags) = both(bits(alloc, items), bits(alloc, flags))?;
+    BoolArray::try_new(items, Validity::Bits(flags))
 }
 
-/// One buffer of these bytes.
-pub(crate) fn one_buffer<A: Allocator + Copy>(
-    alloc: A,
-    bytes: &[u8],
-) -> VortexResult<Vec<Bytes<A>, A>> {
-    let mut buffers = Vec::new(alloc);
-    buffers.push(Bytes::copy_from_slice(alloc, bytes)?)?;
+// One buffer of the bytes of "first" and "last".
+fn one_buffer<A: Allocator + Copy>(alloc: A) -> VortexResult<Vec<Bytes<A>, A>> {
+    let mut buffers = Vec::with_capacity(alloc, 1)?;
+    let bytes = Bytes::copy_from_slice(alloc, b"firstlast")?;
+    buffers.push_reserved(bytes);
     Ok(buffers)
 }
 
-// The bytes of these texts, one behind the other.
-fn bytes_of<A: Allocator + Copy>(alloc: A, rows: &[Option<&str>]) -> VortexResult<Vec<u8, A>> {
-    let mut bytes = Vec::new(alloc);
-    for row in rows {
-        bytes.extend_from_slice(row.unwrap_or("").as_bytes())?;
-    }
-    Ok(bytes)
+// Where each text lies in that buffer.
+fn three_views<A: Allocator + Copy>(alloc: A) -> VortexResult<Vec<View, A>> {
+    let view = |start, size| View {
+        buffer: 0,
+        start,
+        size,
+    };
+    Ok(Vec::from_slice(alloc, &[view(0, 5), view(5, 0), view(5, 4)])?)
 }
 
-// Where each text lies in those bytes.
-fn views_of<A: Allocator + Copy>(alloc: A, rows: &[Option<&str>]) -> VortexResult<Vec<View, A>> {
-    let mut views = Vec::new(alloc);
-    let mut start = 0usize;
-    for row in rows {
-        let size = row.unwrap_or("").len();
-        views.push(View {
-            buffer: 0,
-            start,
-            size,
-        })?;
-        start = start.saturating_add(size);
-    }
-    Ok(views)
-}
-
-// Which rows have a text.
-fn flags_of<A: Allocator + Copy>(alloc: A, rows: &[Option<&str>]) -> VortexResult<BitBuffer<A>> {
-    let mut flags = BitBufferMut::with_capacity(alloc, rows.len())?;
-    for row in rows {
-        flags.append(row.is_some())?;
-    }
-    Ok(flags.freeze())
-}
-
-/// Texts that lie one behind the other in one buffer.
-pub(crate) fn texts<A: Allocator + Copy>(
-    alloc: A,
-    rows: &[Option<&str>],
-) -> VortexResult<VarBinViewArray<A>> {
-    let bytes = bytes_of(alloc, rows)?;
-    let buffers = one_buffer(alloc, &bytes);
-    drop(bytes);
-    let buffers = buffers?;
-    let views = views_of(alloc, rows)?;
-    let validity = Validity::Bits(flags_of(alloc, rows)?);
-    VarBinViewArray::try_new(views, buffers, VarBinKind::Utf8, validity)
+/// "first", null and "last", one behind the other in one buffer.
+pub(crate) fn three_texts<A: Allocator + Copy>(alloc: A) -> VortexResult<VarBinViewArray<A>> {
+    let parts = both(three_views(alloc), one_buffer(alloc));
+    let ((views, buffers), flags) = both(parts, bits(alloc, &[true, false, true]))?;
+    VarBinViewArray::try_new(views, buffers, VarBinKind::Utf8, Validity::Bits(flags))
 }

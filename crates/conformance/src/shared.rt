@@ -1,9 +1,8 @@
 //! Slices and clones of a column of many runs ask for a box alone, and compact copies for what they show.
-use crate::columns::{full_context, run_column};
-use crate::trials::{Trial, refused_in_turn};
+use crate::columns::{both, full_context, run_column};
 use bumpalo::Bump;
-use std::alloc::{Allocator, Global};
-use std::process::Abort;
+use refusing::{Calls, are_answered_in_turn};
+use std::alloc::Allocator;
 use std::test::Fail;
 use vortex_runend::compute::slice;
 use vortex_runend::{
@@ -24,21 +23,44 @@ const SHOWN_BYTES: usize = 4_096_000;
 // More than the boxes of a run column take.
 const FEW_BYTES: usize = 1024;
 
-// So many runs of one row each. A row shows its number, but where that is a multiple of 3 it is null.
-fn many_runs<A: Allocator + Copy>(alloc: A) -> VortexResult<ArrayRef<A>> {
-    let mut ends = Vec::with_capacity(alloc, MANY as usize)?;
-    let mut numbers = Vec::with_capacity(alloc, MANY as usize)?;
-    let mut flags = BitBufferMut::with_capacity(alloc, MANY as usize)?;
-    for number in 0..MANY {
-        ends.push(number + 1)?;
-        numbers.push(number)?;
+// So many numbers, from this one on.
+fn numbers_from<A: Allocator + Copy>(
+    alloc: A,
+    first: u32,
+    count: u32,
+) -> VortexResult<Vec<u32, A>> {
+    let mut numbers = Vec::new(alloc);
+    for passed in 0..count {
+        numbers.push(first.wrapping_add(passed))?;
+    }
+    Ok(numbers)
+}
+
+// The ends of so many runs of one row each.
+fn ends<A: Allocator + Copy>(alloc: A, count: u32) -> VortexResult<PrimitiveArray<A>> {
+    let ends = numbers_from(alloc, 1, count)?;
+    PrimitiveArray::try_new(PrimitiveValues::from_vec(ends), Validity::NonNullable)
+}
+
+// The numbers of so many rows, null where they are a multiple of 3.
+fn numbers<A: Allocator + Copy>(alloc: A, count: u32) -> VortexResult<PrimitiveArray<A>> {
+    let flags = no_multiples_of_three(alloc, count);
+    let (numbers, flags) = both(numbers_from(alloc, 0, count), flags)?;
+    PrimitiveArray::try_new(PrimitiveValues::from_vec(numbers), flags)
+}
+
+fn no_multiples_of_three<A: Allocator + Copy>(alloc: A, count: u32) -> VortexResult<Validity<A>> {
+    let mut flags = BitBufferMut::with_capacity(alloc, 0)?;
+    for number in 0..count {
         flags.append(number % 3 != 0)?;
     }
-    let ends = PrimitiveArray::try_new(PrimitiveValues::from_vec(ends), Validity::NonNullable)?;
-    let flags = Validity::from_bits(flags.freeze());
-    let values = PrimitiveArray::try_new(PrimitiveValues::from_vec(numbers), flags)?;
-    let values = ArrayRef::Primitive(values);
-    run_column(ends, values, 0, MANY as usize, &mut full_context(alloc))
+    Ok(Validity::from_bits(flags.freeze()))
+}
+
+// A million runs of one row each. A row shows its number, but where that is a multiple of 3 it is null.
+fn many_runs<A: Allocator + Copy>(alloc: A) -> VortexResult<ArrayRef<A>> {
+    let (ends, numbers) = (ends(alloc, MANY), numbers(alloc, MANY));
+    run_column(ends, numbers, 0, MANY as usize, &mut full_context(alloc))
 }
 
 // Half of the column, sliced in this memory.
@@ -50,114 +72,106 @@ fn half_of<A: Allocator + Copy>(alloc: A, column: &ArrayRef<A>) -> VortexResult<
 }
 
 // Does the row show its number, or null where that is a multiple of 3?
-fn assert_row<A: Allocator + Copy>(
-    rt: &impl Abort,
-    array: &ArrayRef<A>,
-    index: usize,
-    number: u64,
-) {
+fn is_row<A: Allocator + Copy>(array: &ArrayRef<A>, index: usize, number: u64) -> bool {
     match array.scalar_at(index) {
-        Ok(ScalarView::Unsigned(shown)) => assert!(rt; shown == number && number % 3 != 0),
-        Ok(ScalarView::Null) => assert_eq!(rt; number % 3, 0),
-        _ => panic!(rt; "no unsigned row at {index}"),
+        Ok(ScalarView::Unsigned(shown)) => shown == number && number % 3 != 0,
+        Ok(ScalarView::Null) => number % 3 == 0,
+        _ => false,
     }
 }
 
 // Are the rows those of half of the column?
-fn assert_half<A: Allocator + Copy>(rt: &impl Abort, half: &ArrayRef<A>) {
-    assert!(rt; matches!(half, ArrayRef::RunEnd(_)));
-    assert_eq!(rt; half.len(), 512_000);
-    assert_row(rt, half, 0, 256_000);
-    assert_row(rt, half, 1, 256_001);
-    assert_row(rt, half, 511_999, 767_999);
+fn is_half<A: Allocator + Copy>(half: &ArrayRef<A>) -> bool {
+    matches!(half, ArrayRef::RunEnd(_))
+        && half.len() == 512_000
+        && is_row(half, 0, 256_000)
+        && is_row(half, 1, 256_001)
+        && is_row(half, 511_999, 767_999)
 }
 
-#[test]
-fn a_slice_of_half_of_many_runs_copies_none(rt: HostRuntime) -> Result<(), Fail> {
-    let heap = Bump::new(rt.alloc());
-    let small = Bump::new(rt.alloc());
-    let column = many_runs(&heap)?;
-    let half = half_of(&small, &column);
-    drop(column);
-    let half = half?;
-    assert!(rt; small.allocated_bytes() < FEW_BYTES);
-    assert_half(&rt, &half);
+// Is what was made half of the column?
+fn shows_half<A: Allocator + Copy>(made: VortexResult<ArrayRef<A>>) -> VortexResult<bool> {
+    let half = made?;
+    let is_half = is_half(&half);
     drop(half);
-    Ok(())
+    Ok(is_half)
 }
 
-#[test]
-fn a_clone_of_many_runs_copies_none(rt: HostRuntime) -> Result<(), Fail> {
-    let heap = Bump::new(rt.alloc());
-    let small = Bump::new(rt.alloc());
-    let column = many_runs(&heap)?;
-    let clone = column.try_clone(&mut full_context(&small));
+// A slice in memory of its own.
+fn is_sliced<A: Allocator + Copy>(large: A, small: A) -> VortexResult<bool> {
+    let column = many_runs(large)?;
+    let half = half_of(small, &column);
+    drop(column);
+    shows_half(half)
+}
+
+// A clone in memory of its own.
+fn is_cloned<A: Allocator + Copy>(large: A, small: A) -> VortexResult<bool> {
+    let column = many_runs(large)?;
+    let clone = column.try_clone(&mut full_context(small));
     drop(column);
     let clone = clone?;
-    assert!(rt; small.allocated_bytes() < FEW_BYTES);
-    assert_eq!(rt; clone.len(), 1_000_000);
-    assert_row(&rt, &clone, 999_998, 999_998);
+    let is_cloned = clone.len() == 1_000_000 && is_row(&clone, 999_998, 999_998);
     drop(clone);
+    Ok(is_cloned)
+}
+
+#[test]
+fn slices_and_clones_of_many_runs_copy_none(rt: HostRuntime) -> Result<(), Fail> {
+    let heap = Bump::new(rt.alloc());
+    let small = Bump::new(rt.alloc());
+    let are_rows = is_sliced(&heap, &small)? && is_cloned(&heap, &small)?;
+    let bytes = small.allocated_bytes();
+    drop(heap);
+    drop(small);
+    assert!(rt; are_rows && bytes < FEW_BYTES);
     Ok(())
 }
 
 // A compact copy of half of the runs.
-fn compact_half<A: Allocator + Copy>(large: A, small: A) -> VortexResult<ArrayRef<A>> {
+fn is_compact<A: Allocator + Copy>(large: A, small: A) -> VortexResult<bool> {
     let column = many_runs(large)?;
     let half = half_of(large, &column);
     drop(column);
     let half = half?;
     let compact = half.compact(&mut full_context(small));
     drop(half);
-    compact
+    shows_half(compact)
 }
 
 #[test]
 fn a_compact_copy_has_what_is_shown(rt: HostRuntime) -> Result<(), Fail> {
     let heap = Bump::new(rt.alloc());
     let own = Bump::new(rt.alloc());
-    let compact = compact_half(&heap, &own)?;
-    assert!(rt; own.allocated_bytes() > SHOWN_BYTES);
-    assert_half(&rt, &compact);
-    drop(compact);
+    let are_rows = is_compact(&heap, &own)?;
+    let bytes = own.allocated_bytes();
+    drop(heap);
+    drop(own);
+    assert!(rt; are_rows && bytes > SHOWN_BYTES);
     Ok(())
 }
 
-// A compact copy of forty runs of two rows each, of which each fifth is null.
+// A compact copy of seventy runs of eighty, behind one that is hidden.
 struct CompactOfRuns {}
 
-impl Trial for CompactOfRuns {
-    fn run<A: Allocator + Copy>(alloc: A) -> VortexResult<ArrayRef<A>> {
-        let mut ends = Vec::new(alloc);
-        let mut numbers = Vec::new(alloc);
-        let mut flags = BitBufferMut::with_capacity(alloc, 40)?;
-        for number in 0..40u8 {
-            ends.push(2 * number + 2)?;
-            numbers.push(number)?;
-            flags.append(number % 5 != 0)?;
-        }
-        let ends = PrimitiveArray::try_new(PrimitiveValues::from_vec(ends), Validity::NonNullable)?;
-        let flags = Validity::from_bits(flags.freeze());
-        let values = PrimitiveArray::try_new(PrimitiveValues::from_vec(numbers), flags)?;
-        let values = ArrayRef::Primitive(values);
+impl Calls for CompactOfRuns {
+    fn are_answered<A: Allocator + Copy>(alloc: A) -> VortexResult<bool> {
         let mut ctx = full_context(alloc);
-        let column = run_column(ends, values, 1, 70, &mut ctx)?;
+        let column = run_column(ends(alloc, 80), numbers(alloc, 80), 1, 70, &mut ctx)?;
         let compact = column.compact(&mut ctx);
         drop(column);
-        compact
-    }
-
-    fn assert_rows<A: Allocator + Copy>(rt: &impl Abort, rows: &ArrayRef<A>) {
-        assert_eq!(rt; rows.len(), 70);
-        assert!(rt; matches!(rows.scalar_at(0), Ok(ScalarView::Null)));
-        assert!(rt; matches!(rows.scalar_at(1), Ok(ScalarView::Unsigned(1))));
-        assert!(rt; matches!(rows.scalar_at(68), Ok(ScalarView::Unsigned(34))));
-        assert!(rt; matches!(rows.scalar_at(69), Ok(ScalarView::Null)));
+        let compact = compact?;
+        let are_rows = compact.len() == 70
+            && is_row(&compact, 0, 1)
+            && is_row(&compact, 2, 3)
+            && is_row(&compact, 69, 70);
+        drop(compact);
+        Ok(are_rows)
     }
 }
 
 #[test]
-fn a_compact_copy_refused_at_each_request(rt: HostRuntime) -> Result<(), Fail> {
-    refused_in_turn::<CompactOfRuns>(&rt, rt.alloc());
+fn a_compact_copy_is_refused_at_each_request(rt: HostRuntime) -> Result<(), Fail> {
+    assert!(rt; are_answered_in_turn::<CompactOfRuns>(rt.alloc()));
     Ok(())
 }

@@ -1,7 +1,6 @@
 //! What rows of any type are compared with.
 use std::alloc::Allocator;
-use std::process::Abort;
-use vortex_runend::{ArrayRef, BitBuffer, FlatColumn, ScalarView, VortexResult};
+use vortex_runend::{ArrayRef, FlatColumn, ScalarView, VortexResult};
 
 /// A value that a row may show.
 pub(crate) trait Shown {
@@ -46,21 +45,6 @@ impl<'a, S: Shown> Shown for &'a [S] {
     }
 }
 
-/// Are the rows these?
-pub(crate) fn assert_shown<S: Shown, A: Allocator + Copy>(
-    rt: &impl Abort,
-    array: &ArrayRef<A>,
-    rows: &[Option<S>],
-) {
-    assert_eq!(rt; array.len(), rows.len());
-    for index in 0..rows.len() {
-        match array.scalar_at(index) {
-            Ok(view) => assert!(rt; is_row(&rows[index], view), "at {index}"),
-            Err(_) => panic!(rt; "no row at {index}"),
-        }
-    }
-}
-
 /// Are the rows that a call makes these?
 pub(crate) fn are_shown<S: Shown, A: Allocator + Copy>(
     made: VortexResult<ArrayRef<A>>,
@@ -70,16 +54,6 @@ pub(crate) fn are_shown<S: Shown, A: Allocator + Copy>(
     let are_seen = are_rows(&array, rows);
     drop(array);
     Ok(are_seen)
-}
-
-/// Are the bits these?
-pub(crate) fn assert_bits<A: Allocator>(rt: &impl Abort, bits: &BitBuffer<A>, flags: &[bool]) {
-    if bits.len() != flags.len() {
-        panic!(rt; "another number of bits");
-    }
-    for index in 0..flags.len() {
-        assert_eq!(rt; bits.value(index), flags[index], "at {index}");
-    }
 }
 
 // Are the rows these?

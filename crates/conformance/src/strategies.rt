@@ -1,179 +1,112 @@
-//! Calls that no command makes: the ends of kept runs, functions of rows, and rows at indices that were tested
-//! before, with each request for memory refused in turn.
-use crate::columns::{assert_rows, context, full_context, required, run_column};
-use crate::shown::assert_shown;
-use crate::trials::{Calls, Trial, each_refused_in_turn, refused_in_turn};
+//! The runs that indices are in, by each strategy of a take, with each request for memory refused in turn.
+ghost use Rattle.std.specs.Prelude.{◌≡◌, true, false, ◌∷◌, ◌++◌, IfOk, replicate};
+ghost use Rattle.column_base.specs.Mask.{mask_bits};
+
+use crate::columns::{context, full_context};
+use refusing::{Calls, are_answered_in_turn};
 use std::alloc::Allocator;
-use std::process::Abort;
 use std::test::Fail;
 use vortex_runend::compute::{
-    filter_run_end_primitive, map_rows, map_rows_bool, take_indices_unchecked,
+    physical_indices, physical_indices_binary, physical_indices_linear_sorted,
+    physical_indices_linear_unsorted, physical_indices_table, run_index_table,
 };
-use vortex_runend::{
-    ArrayRef, BitBuffer, BitBufferMut, DType, ExecutionCtx, Mask, NativePType, Nullability, PType,
-    Validity, VortexError, VortexResult,
-};
+use vortex_runend::{BitBufferMut, CountedEnds, ExecutionCtx, Mask, VortexResult};
 
-// Every other of 112 rows, from the first on.
-fn every_other<A: Allocator + Copy>(alloc: A) -> VortexResult<BitBuffer<A>> {
-    let mut mask = BitBufferMut::with_capacity(alloc, 112)?;
-    for row in 0..112usize {
-        mask.append(row % 2 == 0)?;
-    }
-    Ok(mask.freeze())
+// Where four runs end, in rows.
+const ENDS: [u32; 4] = [3, 6, 8, 12];
+
+// Indices of which the second is null, over the number of a row that is not there.
+const INDICES: [u8; 5] = [5, 100, 2, 11, 0];
+
+const RUNS: [u64; 5] = [1, 0, 0, 3, 0];
+
+// Five indices, of which the second is null.
+fn second_is_null<A: Allocator + Copy>(alloc: A) -> VortexResult<Mask<A>>
+    ensures { IfOk result (λ mask. mask_bits mask ≡ replicate 1 true ++ false ∷ replicate 3 true) }
+{
+    let mut bits = BitBufferMut::full(alloc, true, 1)?;
+    bits.append(false)?;
+    bits.append_n(true, 3)?;
+    Ok(Mask::from_buffer(bits.freeze()))
 }
 
-// The ends of runs of 32 rows from row 16 on, of which every other row is selected.
-struct KeptRuns {}
-
-impl Calls for KeptRuns {
-    fn are_answered<A: Allocator + Copy>(alloc: A) -> VortexResult<bool> {
-        let mask = every_other(alloc)?;
-        if mask.len() != 112 {
-            return Ok(false);
-        }
-        let mut ctx = context(alloc);
-        let kept = filter_run_end_primitive(&[32u8, 64, 96, 128], 16, 112, &mask, &mut ctx);
-        drop(mask);
-        let (ends, kept) = kept?;
-        let are_ends = u8::slice_of(ends.values()) == Some([8u8, 24, 40, 56].as_slice());
-        drop(ends);
-        Ok(are_ends && matches!(&kept, Mask::AllTrue(4)))
-    }
+// Are the runs that were found these?
+fn are_runs<A: Allocator>(found: VortexResult<Vec<u64, A>>, runs: &[u64]) -> VortexResult<bool> {
+    let found = found?;
+    let are_due = found.as_slice() == runs;
+    drop(found);
+    Ok(are_due)
 }
 
-#[test]
-fn ends_of_kept_runs_count_selected_rows(rt: HostRuntime) -> Result<(), Fail> {
-    each_refused_in_turn::<KeptRuns>(&rt, rt.alloc());
-    Ok(())
-}
-
-// Three rows of 7, behind a run of 300 that is hidden.
-fn rows_of_seven<A: Allocator + Copy>(ctx: &mut ExecutionCtx<A>) -> VortexResult<ArrayRef<A>> {
-    let alloc = *ctx.allocator();
-    let ends = required(alloc, &[2u32, 5])?;
-    match required(alloc, &[300i32, 7]) {
-        Ok(values) => run_column(ends, ArrayRef::Primitive(values), 2, 3, ctx),
-        Err(error) => {
-            drop(ends);
-            Err(error)
-        }
-    }
-}
-
-// Twice each of these rows.
-fn doubled<A: Allocator + Copy>(ctx: &mut ExecutionCtx<A>) -> VortexResult<ArrayRef<A>> {
-    let column = rows_of_seven(ctx)?;
-    let double = |row: Option<i32>| row.map(|number| 2 * i64::from(number));
-    let wide = map_rows(&column, &double, ctx);
-    drop(column);
-    wide
-}
-
-// By the kernel of scalar functions, which keeps runs.
-struct DoubledRuns {}
-
-impl Trial for DoubledRuns {
-    fn run<A: Allocator + Copy>(alloc: A) -> VortexResult<ArrayRef<A>> {
-        doubled(&mut full_context(alloc))
-    }
-
-    fn assert_rows<A: Allocator + Copy>(rt: &impl Abort, rows: &ArrayRef<A>) {
-        let dtype = DType::Primitive(PType::I64, Nullability::Nullable);
-        assert!(rt; matches!(rows, ArrayRef::RunEnd(_)) && rows.dtype() == dtype);
-        assert_rows(rt, rows, &[Some(14), Some(14), Some(14)]);
-    }
-}
-
-// Without it, row by row.
-struct DoubledRows {}
-
-impl Trial for DoubledRows {
-    fn run<A: Allocator + Copy>(alloc: A) -> VortexResult<ArrayRef<A>> {
-        doubled(&mut context(alloc))
-    }
-
-    fn assert_rows<A: Allocator + Copy>(rt: &impl Abort, rows: &ArrayRef<A>) {
-        assert!(rt; matches!(rows, ArrayRef::Primitive(_)));
-        assert_rows(rt, rows, &[Some(14), Some(14), Some(14)]);
-    }
-}
-
-#[test]
-fn functions_are_asked_for_visible_rows(rt: HostRuntime) -> Result<(), Fail> {
-    refused_in_turn::<DoubledRuns>(&rt, rt.alloc());
-    refused_in_turn::<DoubledRows>(&rt, rt.alloc());
-    Ok(())
-}
-
-struct SmallRows {}
-
-impl Trial for SmallRows {
-    fn run<A: Allocator + Copy>(alloc: A) -> VortexResult<ArrayRef<A>> {
-        let mut ctx = full_context(alloc);
-        let column = rows_of_seven(&mut ctx)?;
-        let is_small = |row: Option<i32>| row.map(|number| number < 10);
-        let small = map_rows_bool(&column, &is_small, &mut ctx);
-        drop(column);
-        small
-    }
-
-    fn assert_rows<A: Allocator + Copy>(rt: &impl Abort, rows: &ArrayRef<A>) {
-        assert_shown(rt, rows, &[Some(true), Some(true), Some(true)]);
-    }
-}
-
-#[test]
-fn conditions_are_asked_of_visible_rows(rt: HostRuntime) -> Result<(), Fail> {
-    refused_in_turn::<SmallRows>(&rt, rt.alloc());
-    Ok(())
-}
-
-// Twelve rows in runs of 1, 4, 2 and 5.
-fn four_runs<A: Allocator + Copy>(ctx: &mut ExecutionCtx<A>) -> VortexResult<ArrayRef<A>> {
-    let alloc = *ctx.allocator();
-    let ends = required(alloc, &[3u32, 6, 8, 12])?;
-    match required(alloc, &[1i32, 4, 2, 5]) {
-        Ok(values) => run_column(ends, ArrayRef::Primitive(values), 0, 12, ctx),
-        Err(error) => {
-            drop(ends);
-            Err(error)
-        }
-    }
-}
-
-// The rows 9, 8, 1 and 3 of twelve.
-fn four_rows<A: Allocator + Copy>(
-    column: &ArrayRef<A>,
+// Does each strategy find these runs, where the second index is null?
+fn strategies_agree<A: Allocator + Copy>(
+    mask: &Mask<A>,
     ctx: &mut ExecutionCtx<A>,
-) -> VortexResult<ArrayRef<A>> {
-    let length = column.len();
-    match column {
-        ArrayRef::RunEnd(runs) if length >= 12 => {
-            take_indices_unchecked(runs, &[9u8, 8, 1, 3], &Validity::NonNullable, ctx)
-        }
-        _ => Err(VortexError::OutOfBounds { index: 9, length }),
-    }
+) -> VortexResult<bool>
+    requires { mask_bits mask.now ≡ replicate 1 true ++ false ∷ replicate 3 true }
+{
+    let mut ends = CountedEnds::new(&ENDS);
+    let table = run_index_table(&mut ends, 0, 12, ctx)?;
+    let looked_up = physical_indices_table(&table, &INDICES, mask, ctx);
+    drop(table);
+    let looked_up = are_runs(looked_up, &RUNS)?;
+    let merged = physical_indices_linear_unsorted(&mut ends, 0, &INDICES, mask, ctx);
+    let merged = are_runs(merged, &RUNS)?;
+    let searched = physical_indices_binary(&mut ends, 0, &INDICES, mask, ctx);
+    Ok(looked_up && merged && are_runs(searched, &RUNS)?)
 }
 
-struct TakenRows {}
+// Does the strategy that the session picks find these runs?
+fn picked_agrees<A: Allocator + Copy>(
+    mask: &Mask<A>,
+    ctx: &mut ExecutionCtx<A>,
+) -> VortexResult<bool>
+    requires { mask_bits mask.now ≡ replicate 1 true ++ false ∷ replicate 3 true }
+{
+    let mut ends = CountedEnds::new(&ENDS);
+    let found = physical_indices(&mut ends, 0, 12, &INDICES, mask, ctx);
+    are_runs(found, &RUNS)
+}
 
-impl Trial for TakenRows {
-    fn run<A: Allocator + Copy>(alloc: A) -> VortexResult<ArrayRef<A>> {
-        let mut ctx = full_context(alloc);
-        let column = four_runs(&mut ctx)?;
-        let taken = four_rows(&column, &mut ctx);
-        drop(column);
-        taken
-    }
+// Of the picked ones a table by the thresholds of the library, halves where all are 0.
+struct Strategies {}
 
-    fn assert_rows<A: Allocator + Copy>(rt: &impl Abort, rows: &ArrayRef<A>) {
-        assert_rows(rt, rows, &[Some(5), Some(5), Some(1), Some(4)]);
+impl Calls for Strategies {
+    fn are_answered<A: Allocator + Copy>(alloc: A) -> VortexResult<bool> {
+        let (mut full, mut empty) = (full_context(alloc), context(alloc));
+        let mask = second_is_null(alloc)?;
+        let agree = strategies_agree(&mask, &mut empty);
+        let by_table = picked_agrees(&mask, &mut full);
+        let by_halves = picked_agrees(&mask, &mut empty);
+        drop(mask);
+        Ok(agree? && by_table? && by_halves?)
     }
 }
 
 #[test]
-fn rows_are_taken_at_tested_indices(rt: HostRuntime) -> Result<(), Fail> {
-    refused_in_turn::<TakenRows>(&rt, rt.alloc());
+fn strategies_agree_where_no_index_is_null(rt: HostRuntime) -> Result<(), Fail> {
+    assert!(rt; are_answered_in_turn::<Strategies>(rt.alloc()));
+    Ok(())
+}
+
+// The run of each row, and those of indices that are sorted, merged with the ends as they stand.
+struct Merged {}
+
+impl Calls for Merged {
+    fn are_answered<A: Allocator + Copy>(alloc: A) -> VortexResult<bool> {
+        let mut ctx = context(alloc);
+        let mut ends = CountedEnds::new(&ENDS);
+        let table = run_index_table(&mut ends, 0, 12, &mut ctx);
+        let listed = are_runs(table, &[0, 0, 0, 1, 1, 1, 2, 2, 3, 3, 3, 3])?;
+        let indices = [0u8, 2, 3, 6, 8, 11];
+        let mask = Mask::AllTrue(6);
+        let merged = physical_indices_linear_sorted(&mut ends, 0, &indices, &mask, &mut ctx);
+        Ok(listed && are_runs(merged, &[0, 0, 1, 2, 3, 3])?)
+    }
+}
+
+#[test]
+fn sorted_indices_are_merged(rt: HostRuntime) -> Result<(), Fail> {
+    assert!(rt; are_answered_in_turn::<Merged>(rt.alloc()));
     Ok(())
 }

@@ -1,5 +1,5 @@
 //! The library as a program calls it. The README and `docs/CALLING.md` show these lines.
-use crate::columns::assert_rows;
+use crate::columns::{are_rows, both};
 use std::alloc::Global;
 use std::test::Fail;
 use vortex_runend::compute::{CompareOperator, fill_null, slice, sum};
@@ -43,6 +43,15 @@ fn runs_with_null(
     RunEnd::encode(ArrayRef::Primitive(rows_with_null(alloc)?), ctx)
 }
 
+// The same as an array of any form.
+fn array_with_null(
+    alloc: Global,
+    ctx: &mut ExecutionCtx<Global>,
+) -> VortexResult<ArrayRef<Global>> {
+    let runs = runs_with_null(alloc, ctx)?;
+    ArrayRef::of_runs(alloc, runs)
+}
+
 #[test]
 fn rows_are_encoded_summed_and_sliced(rt: HostRuntime) -> Result<(), Fail> {
     let mut session = VortexSession::empty();
@@ -56,10 +65,10 @@ fn rows_are_encoded_summed_and_sliced(rt: HostRuntime) -> Result<(), Fail> {
     let part = slice(&runs, 2..5, &mut ctx);
     drop(runs);
 
-    assert_eq!(rt; total, Ok(THIRTY_FIVE));
     let part = part?;
-    assert_rows(&rt, &part, &[Some(4), Some(7), Some(7)]);
+    let are_sliced = are_rows(&part, &[Some(4), Some(7), Some(7)]);
     drop(part);
+    assert!(rt; total == Ok(THIRTY_FIVE) && are_sliced);
     Ok(())
 }
 
@@ -80,8 +89,9 @@ fn nulls_are_filled_by_a_kernel(rt: HostRuntime) -> Result<(), Fail> {
     let filled = filled_with_zero(&runs, &mut ctx);
     drop(runs);
     let filled = filled?;
-    assert_rows(&rt, &filled, &[Some(4), Some(4), Some(0), Some(0), Some(9)]);
+    let are_filled = are_rows(&filled, &[Some(4), Some(4), Some(0), Some(0), Some(9)]);
     drop(filled);
+    assert!(rt; are_filled);
     Ok(())
 }
 
@@ -101,9 +111,11 @@ fn sum_with_zero(
 #[test]
 fn operations_serve_arrays_of_any_form(rt: HostRuntime) -> Result<(), Fail> {
     let mut ctx = context(rt.alloc());
-    let flat = ArrayRef::Primitive(rows_with_null(rt.alloc())?);
-    let runs = runs_with_null(rt.alloc(), &mut ctx)?;
-    let runs = ArrayRef::of_runs(rt.alloc(), runs)?;
+    let (flat, runs) = both(
+        rows_with_null(rt.alloc()),
+        array_with_null(rt.alloc(), &mut ctx),
+    )?;
+    let flat = ArrayRef::Primitive(flat);
     let of_flat = sum_with_zero(&flat, &mut ctx);
     let of_runs = sum_with_zero(&runs, &mut ctx);
     let beside = arrays::compare(&flat, CompareOperator::Eq, &runs, &mut ctx);
@@ -114,12 +126,12 @@ fn operations_serve_arrays_of_any_form(rt: HostRuntime) -> Result<(), Fail> {
         sum: Some(SumValue::Signed(17)),
         is_empty: false,
     };
-    assert_eq!(rt; of_flat, Ok(total));
-    assert_eq!(rt; of_runs, Ok(total));
     let beside = beside?;
-    assert_eq!(rt; beside.scalar_at(1).map(truth_of), Ok(Some(true)));
-    assert_eq!(rt; beside.scalar_at(2).map(truth_of), Ok(None));
+    let equal = beside.scalar_at(1).map(truth_of);
+    let null = beside.scalar_at(2).map(truth_of);
     drop(beside);
+    assert!(rt; of_flat == Ok(total) && of_runs == Ok(total));
+    assert!(rt; equal == Ok(Some(true)) && null == Ok(None));
     Ok(())
 }
 
@@ -141,7 +153,7 @@ fn commands_are_run_as_a_list(rt: HostRuntime) -> Result<(), Fail> {
     let answers = execute(&mut column, &commands, &mut ctx);
     drop(commands);
 
-    assert_rows(&rt, &column, &[Some(4), None, None, Some(9)]);
+    let are_left = are_rows(&column, &[Some(4), None, None, Some(9)]);
     drop(column);
     let answers = answers?;
     let refusal = VortexError::OutOfBounds {
@@ -152,10 +164,10 @@ fn commands_are_run_as_a_list(rt: HostRuntime) -> Result<(), Fail> {
         sum: Some(SumValue::Signed(13)),
         is_empty: false,
     };
-    assert_eq!(rt; answers.first(), Some(&Answer::Done));
-    assert_eq!(rt; answers.get(1), Some(&Answer::Refused(refusal)));
-    assert_eq!(rt; answers.get(2), Some(&Answer::Sum(total)));
+    let due = [Answer::Done, Answer::Refused(refusal), Answer::Sum(total)];
+    let are_due = answers.as_slice() == due.as_slice();
     drop(answers);
+    assert!(rt; are_left && are_due);
     Ok(())
 }
 
@@ -175,8 +187,21 @@ fn rows_are_read(rt: HostRuntime) -> Result<(), Fail> {
     let last = probe.execute_scalar(4).map(number_of);
     let null = probe.execute_scalar(2).map(number_of);
     drop(runs);
-    assert_eq!(rt; last, Ok(Some(9)));
-    assert_eq!(rt; null, Ok(None));
+    assert!(rt; last == Ok(Some(9)) && null == Ok(None));
+    Ok(())
+}
+
+// Cuts the rows from `start` to `stop` out of a column.
+fn cut(
+    column: &mut ArrayRef<Global>,
+    start: usize,
+    stop: usize,
+    ctx: &mut ExecutionCtx<Global>,
+) -> VortexResult<()> {
+    let commands = vec![in *ctx.allocator(); Command::Slice(start..stop)]?;
+    let answers = execute(column, &commands, ctx);
+    drop(commands);
+    drop(answers?);
     Ok(())
 }
 
@@ -185,23 +210,17 @@ fn a_session_decides_the_form_alone(rt: HostRuntime) -> Result<(), Fail> {
     let mut session = VortexSession::empty();
     session.register(Kernel::Slice);
     let mut ctx = ExecutionCtx::new(session, rt.alloc());
-    let runs = runs_with_null(rt.alloc(), &mut ctx)?;
-    let mut column = ArrayRef::of_runs(rt.alloc(), runs)?;
+    let mut column = array_with_null(rt.alloc(), &mut ctx)?;
 
-    let commands = vec![in rt.alloc(); Command::Slice(1..5)]?;
-    let answers = execute(&mut column, &commands, &mut ctx);
-    drop(commands);
-    drop(answers?);
-    assert!(rt; matches!(&column, ArrayRef::RunEnd(_)));
+    let is_cut = cut(&mut column, 1, 5, &mut ctx).is_ok();
+    let is_in_runs = matches!(&column, ArrayRef::RunEnd(_));
 
-    let commands = vec![in rt.alloc(); Command::Slice(0..2)]?;
     *ctx.session_mut() = VortexSession::empty();
-    let answers = execute(&mut column, &commands, &mut ctx);
-    drop(commands);
-    drop(answers?);
-    assert!(rt; matches!(&column, ArrayRef::Primitive(_)));
-    assert_rows(&rt, &column, &[Some(4), None]);
+    let is_cut_again = cut(&mut column, 0, 2, &mut ctx).is_ok();
+    let is_flat = matches!(&column, ArrayRef::Primitive(_));
+    let are_kept = are_rows(&column, &[Some(4), None]);
     drop(column);
+    assert!(rt; is_cut && is_in_runs && is_cut_again && is_flat && are_kept);
     Ok(())
 }
 
@@ -223,7 +242,8 @@ fn a_record_is_written_and_read(rt: HostRuntime) -> Result<(), Fail> {
     let read = recorded(&runs, &mut ctx);
     drop(runs);
     let column = ArrayRef::of_runs(rt.alloc(), read?)?;
-    assert_rows(&rt, &column, &[Some(4), Some(4), None, None, Some(9)]);
+    let are_read = are_rows(&column, &[Some(4), Some(4), None, None, Some(9)]);
     drop(column);
+    assert!(rt; are_read);
     Ok(())
 }

@@ -4,15 +4,20 @@ use crate::fakes::{Closed, Endless, FailsAt};
 use refusing::Refusing;
 use runend_script::{script, serve};
 use std::alloc::{Allocator, Global};
-use std::process::Abort;
+use std::io::Read;
 use std::test::Fail;
 use vortex_runend::{ExecutionCtx, VortexResult, VortexSession};
 
-// What a script answers, and whether a bad line ended it.
-fn answered<A: Allocator + Copy>(alloc: A, text: &str) -> VortexResult<(String<A>, bool)> {
-    let mut ctx = ExecutionCtx::new(VortexSession::empty(), alloc);
-    let answer = script(text, &mut ctx)?;
-    Ok((answer.text, answer.bad))
+fn context<A: Allocator + Copy>(alloc: A) -> ExecutionCtx<A> {
+    ExecutionCtx::new(VortexSession::empty(), alloc)
+}
+
+// Does a bad line end the script, with these answers before it?
+fn is_ended(alloc: Global, text: &str, answers: &str) -> VortexResult<bool> {
+    let answer = script(text, &mut context(alloc))?;
+    let is_due = answer.bad && answer.text.as_str() == answers;
+    drop(answer);
+    Ok(is_due)
 }
 
 // Lines that are no commands on a column of `u8?`.
@@ -118,41 +123,49 @@ const BAD_LINES: &[&str] = &[
     "read 08,02",
 ];
 
+// Is this line no command on a column of `u8?`?
+fn is_no_command(alloc: Global, line: &str) -> VortexResult<bool> {
+    let text = format!(in alloc; "\n col u8? null\n\n{line}\nrows\n")?;
+    let is_ended = is_ended(alloc, text.as_str(), "ok\nline 4: bad command\n");
+    drop(text);
+    is_ended
+}
+
 #[test]
 fn lines_that_are_no_commands(rt: HostRuntime) -> Result<(), Fail> {
     for line in BAD_LINES {
-        let text = format!(in rt.alloc(); "\n col u8? null\n\n{line}\nrows\n")?;
-        let (found, ended) = answered(rt.alloc(), text.as_str())?;
-        assert_eq!(rt; found.as_str(), "ok\nline 4: bad command\n", "of {line:?}");
-        assert!(rt; ended);
+        assert!(rt; is_no_command(rt.alloc(), line)?, "{line:?}");
     }
     Ok(())
 }
 
+const LINES_OF_A_COLUMN: &[&str] = &[
+    "encode",
+    "rows",
+    "at 0",
+    "slice 0 0",
+    "filter",
+    "take",
+    "append",
+    "append 0",
+    "repeat 0 1",
+    "cast u8",
+    "fill 0",
+    "sum",
+    "kernels all",
+    "thresholds zero",
+    "meta",
+    "bytes",
+    "read 08 02",
+];
+
 #[test]
 fn lines_that_want_a_column(rt: HostRuntime) -> Result<(), Fail> {
-    for line in [
-        "encode",
-        "rows",
-        "at 0",
-        "slice 0 0",
-        "filter",
-        "take",
-        "append",
-        "append 0",
-        "repeat 0 1",
-        "cast u8",
-        "fill 0",
-        "sum",
-        "kernels all",
-        "thresholds zero",
-        "meta",
-        "bytes",
-        "read 08 02",
-    ] {
-        let (found, ended) = answered(rt.alloc(), line)?;
-        assert_eq!(rt; found.as_str(), "line 1: bad command\n", "of {line:?}");
-        assert!(rt; ended);
+    for line in LINES_OF_A_COLUMN {
+        assert!(rt;
+            is_ended(rt.alloc(), line, "line 1: bad command\n")?,
+            "{line:?}"
+        );
     }
     Ok(())
 }
@@ -166,29 +179,47 @@ const ENDED_ANSWERS: &str =
     "ok\nok\nruns i32 u8 offset 0 length 12 ends 3 6 8 12 values 1 4 2 5\nvalue 5\nok\nrows 4 4 2 2 5\n\
     refused 8 5 5\nok\nrows 5 4 2 4\nsum 15\nline 11: bad command\n";
 
+// Is the input served with this status, and is this written, and that as an error?
+fn is_served<A: Allocator + Copy, R: Read>(
+    alloc: Global,
+    ctx: &mut ExecutionCtx<A>,
+    input: &mut R,
+    due: (u8, &[u8], &[u8]),
+) -> bool {
+    let mut out = Vec::new(alloc);
+    let mut err = Vec::new(alloc);
+    let status = serve(input, &mut out, &mut err, ctx);
+    let (due_status, text, error) = due;
+    let is_due = status == due_status && out.as_slice() == text && err.as_slice() == error;
+    drop(out);
+    drop(err);
+    is_due
+}
+
+// Inputs, and the status and the text that each is served with.
+const INPUTS: [(&[u8], u8, &str); 7] = [
+    (b"", 0, ""),
+    (b" \n\n", 0, ""),
+    (b"col u8 1\nrows", 0, "ok\nrows 1\n"),
+    (b"col u8\njump\n", 2, "ok\nline 2: bad command\n"),
+    (
+        b"col u8\nappend 1\nappend 2 null\n",
+        2,
+        "ok\nok\nline 3: bad command\n",
+    ),
+    (ENDED, 2, ENDED_ANSWERS),
+    (b"col u8\n\xff", 2, "not UTF-8\n"),
+];
+
 #[test]
 fn served_inputs(rt: HostRuntime) -> Result<(), Fail> {
-    for (input, status, text) in [
-        (b"".as_slice(), 0, ""),
-        (b" \n\n".as_slice(), 0, ""),
-        (b"col u8 1\nrows".as_slice(), 0, "ok\nrows 1\n"),
-        (b"col u8\njump\n".as_slice(), 2, "ok\nline 2: bad command\n"),
-        (
-            b"col u8\nappend 1\nappend 2 null\n".as_slice(),
-            2,
-            "ok\nok\nline 3: bad command\n",
-        ),
-        (ENDED, 2, ENDED_ANSWERS),
-        (b"col u8\n\xff".as_slice(), 2, "not UTF-8\n"),
-    ] {
-        let mut ctx = ExecutionCtx::new(VortexSession::empty(), rt.alloc());
+    for (input, status, text) in INPUTS {
         let mut input = input;
-        let mut out = Vec::new(rt.alloc());
-        let mut err = Vec::new(rt.alloc());
-        let found = serve(&mut input, &mut out, &mut err, &mut ctx);
-        assert_eq!(rt; found, status, "before {text:?}");
-        assert_eq!(rt; out.as_slice(), text.as_bytes());
-        assert!(rt; err.is_empty());
+        let due = (status, text.as_bytes(), b"".as_slice());
+        assert!(rt;
+            is_served(rt.alloc(), &mut context(rt.alloc()), &mut input, due),
+            "{text:?}"
+        );
     }
     Ok(())
 }
@@ -196,46 +227,48 @@ fn served_inputs(rt: HostRuntime) -> Result<(), Fail> {
 // Three blocks of 65,536 bytes, the last of them not full, and so four reads that have to succeed.
 const LONG: usize = 140_000;
 
+// Does a read of the text that fails at this call end the script, where it comes to that call?
+fn is_read(alloc: Global, text: &[u8], failing: u64) -> bool {
+    let mut input = FailsAt::new(text, failing);
+    let due = if failing < 5 {
+        (3, b"".as_slice(), b"cannot read input\n".as_slice())
+    } else {
+        (0, b"".as_slice(), b"".as_slice())
+    };
+    is_served(alloc, &mut context(alloc), &mut input, due)
+}
+
 #[test]
 fn reads_that_fail(rt: HostRuntime) -> Result<(), Fail> {
     let text = vec![in rt.alloc(); b'\n'; LONG]?;
     for failing in 1..6u64 {
-        let mut ctx = ExecutionCtx::new(VortexSession::empty(), rt.alloc());
-        let mut input = FailsAt::new(&text, failing);
-        let mut out = Vec::new(rt.alloc());
-        let mut err = Vec::new(rt.alloc());
-        let status = serve(&mut input, &mut out, &mut err, &mut ctx);
-        let (due, said) = if failing < 5 {
-            (3, "cannot read input\n")
-        } else {
-            (0, "")
-        };
-        assert_eq!(rt; status, due);
-        assert_eq!(rt; err.as_slice(), said.as_bytes());
-        assert!(rt; out.is_empty());
+        assert!(rt; is_read(rt.alloc(), &text, failing), "at call {failing}");
     }
+    drop(text);
     Ok(())
 }
 
 #[test]
 fn input_without_end(rt: HostRuntime) {
-    let mut ctx = ExecutionCtx::new(VortexSession::empty(), rt.alloc());
     let mut input = Endless::new();
-    let mut out = Vec::new(rt.alloc());
-    let mut err = Vec::new(rt.alloc());
-    assert_eq!(rt; serve(&mut input, &mut out, &mut err, &mut ctx), 3);
-    assert_eq!(rt; input.calls(), 1_048_576);
-    assert_eq!(rt; err.as_slice(), b"cannot read input\n".as_slice());
-    assert!(rt; out.is_empty());
+    let due = (3, b"".as_slice(), b"cannot read input\n".as_slice());
+    let is_refused = is_served(rt.alloc(), &mut context(rt.alloc()), &mut input, due);
+    assert!(rt; is_refused && input.calls() == 1_048_576);
+}
+
+// The status and the error text where nothing can be written.
+fn is_closed(alloc: Global) -> bool {
+    let mut input = b"col u8\n".as_slice();
+    let mut err = Vec::new(alloc);
+    let status = serve(&mut input, &mut Closed, &mut err, &mut context(alloc));
+    let is_silent = err.is_empty();
+    drop(err);
+    status == 3 && is_silent
 }
 
 #[test]
 fn a_write_that_fails(rt: HostRuntime) {
-    let mut ctx = ExecutionCtx::new(VortexSession::empty(), rt.alloc());
-    let mut input = b"col u8\n".as_slice();
-    let mut err = Vec::new(rt.alloc());
-    assert_eq!(rt; serve(&mut input, &mut Closed, &mut err, &mut ctx), 3);
-    assert!(rt; err.is_empty());
+    assert!(rt; is_closed(rt.alloc()));
 }
 
 // Lines of each kind, on runs and on a flat column.
@@ -253,34 +286,36 @@ const SERVED_ANSWERS: &[u8] =
     ok\nmeta 10 02 18 01\nsum 14\nminmax 4 5\nconstant false\nsorted true\nstrict false\n\
     ok\nok\nruns i8 u8 offset 0 length 6 ends 1 4 6 values 4 5 6\n";
 
-// What is served where this request is refused, alone or with all later ones. Was it refused?
-fn assert_served(rt: &impl Abort, alloc: Global, request: u64, is_alone: bool) -> bool {
+// What comes of the lines where this request is refused, alone or with all later ones: is it as it is due where the
+// request comes (`Some(true)`), or is it none that comes, and is all answered (`None`)?
+fn refused_at(alloc: Global, request: u64, is_alone: bool) -> Option<bool> {
     let heap = if is_alone {
         Refusing::only(alloc, request)
     } else {
         Refusing::from(alloc, request)
     };
-    let mut ctx = ExecutionCtx::new(VortexSession::empty(), &heap);
     let mut input = SERVED;
     let mut out = Vec::new(alloc);
     let mut err = Vec::new(alloc);
-    let status = serve(&mut input, &mut out, &mut err, &mut ctx);
-    if heap.refused() == 0 {
-        assert_eq!(rt; status, 0);
-        assert_eq!(rt; out.as_slice(), SERVED_ANSWERS);
-        return false;
+    let status = serve(&mut input, &mut out, &mut err, &mut context(&heap));
+    let is_short = status == 3 && out.is_empty() && err.as_slice() == b"out of memory\n".as_slice();
+    let is_answered = status == 0 && err.is_empty() && out.as_slice() == SERVED_ANSWERS;
+    drop(out);
+    drop(err);
+    match heap.refused() {
+        0 if is_answered => None,
+        0 => Some(false),
+        _ => Some(is_short),
     }
-    assert_eq!(rt; status, 3);
-    assert_eq!(rt; err.as_slice(), b"out of memory\n".as_slice());
-    assert!(rt; out.is_empty());
-    true
 }
 
-// The first request that does not come, so that it is not refused.
-fn first_unmet(rt: &impl Abort, alloc: Global, is_alone: bool) -> u64 {
+// The first request that does not come, so that it is not refused, or 0 where something else comes of the lines.
+fn first_unmet(alloc: Global, is_alone: bool) -> u64 {
     for request in 1..999u64 {
-        if !assert_served(rt, alloc, request, is_alone) {
-            return request;
+        match refused_at(alloc, request, is_alone) {
+            Some(true) => {}
+            Some(false) => return 0,
+            None => return request,
         }
     }
     999
@@ -288,8 +323,9 @@ fn first_unmet(rt: &impl Abort, alloc: Global, is_alone: bool) -> u64 {
 
 #[test]
 fn growths_that_are_refused(rt: HostRuntime) {
-    for is_alone in [true, false] {
-        let unmet = first_unmet(&rt, rt.alloc(), is_alone);
-        assert!(rt; unmet > 30 && unmet < 999);
-    }
+    let (alone, later) = (
+        first_unmet(rt.alloc(), true),
+        first_unmet(rt.alloc(), false),
+    );
+    assert!(rt; alone > 30 && alone < 999 && later > 30 && later < 999);
 }

@@ -1,6 +1,6 @@
 use Rattle.std.proofs.Common.{rules, ◌≡◌, ◌<◌, ◌≤◌, ◌≤ℤ◌, ◌<ℤ◌, ℕ, ℤ, pos, List, [], ◌∷◌, Option, Some, IfSome, All}
 use Rattle.std.proofs.lemmas.List.Elements.{All-cons}
-use Rattle.conformance.proofs.indices.MergedCalls.are_answered.Goals as goal
+use Rattle.conformance.proofs.strategies.MergedCalls.are_answered.Goals as goal
 
 pub physical_indices_linear_sorted-merged-requires-clause-in_window :
     goal.physical_indices_linear_sorted-merged-requires-clause-in_window

@@ -1,0 +1,272 @@
+//! The decoders of runs that are given by their parts, with each request for memory refused in turn.
+ghost use Rattle.std.specs.Prelude.{◌≡◌, IfOk, length};
+ghost use Rattle.column_core.specs.PrimitiveForm.{primitive_dtype};
+ghost use Rattle.runend_windows.specs.Ends.{IsEndsType};
+
+use crate::columns::{both, context, ends_column, full_context, nullable, required};
+use crate::parts::{bits, nullable_truths, three_texts};
+use crate::shown::are_shown;
+use refusing::{Calls, are_answered_in_turn};
+use runend_windows::validate_ends;
+use std::alloc::Allocator;
+use std::rc::Rc;
+use std::test::Fail;
+use vortex_runend::compress::{
+    runend_decode_decimal, runend_decode_listview, runend_decode_primitive,
+    runend_decode_typed_primitive, runend_decode_varbinview,
+};
+use vortex_runend::decompress_bool::{runend_decode_bools, runend_decode_typed_bool};
+use vortex_runend::{
+    ArrayRef, BitBuffer, BitBufferMut, DecimalArray, DecimalDType, ExecutionCtx, FlatColumn,
+    ListViewArray, Mask, Nullability, PrimitiveArray, RowValidity, Validity, VortexResult,
+    trimmed_ends_iter,
+};
+
+// Where three runs end. Of the rows 1 to 8 one is in the first run, three in the second and four in the last.
+const ENDS: [u8; 3] = [2, 5, 10];
+
+// These ends beside values.
+fn with_ends<V: Drop, A: Allocator + Copy>(
+    alloc: A,
+    values: VortexResult<V>,
+) -> VortexResult<(PrimitiveArray<A>, V)>
+    ensures { IfOk result (λ parts. IsEndsType (primitive_dtype parts.0)) }
+{
+    let values = values?;
+    match ends_column(alloc, &ENDS) {
+        Ok(ends) => Ok((ends, values)),
+        Err(error) => {
+            drop(values);
+            Err(error)
+        }
+    }
+}
+
+// Null, 1 and null, with another number stored under null.
+fn numbers<A: Allocator + Copy>(ctx: &mut ExecutionCtx<A>) -> VortexResult<ArrayRef<A>> {
+    let alloc = *ctx.allocator();
+    let values = nullable(alloc, &[77i32, 1, 77], &[false, true, false]);
+    let (ends, values) = with_ends(alloc, values)?;
+    match validate_ends(&ends, values.len(), 1, 8) {
+        Ok(()) => runend_decode_primitive(ends, values, 1, 8, ctx),
+        Err(error) => {
+            drop(ends);
+            drop(values);
+            Err(error)
+        }
+    }
+}
+
+// True, null over a stored true, and false.
+fn truths<A: Allocator + Copy>(ctx: &mut ExecutionCtx<A>) -> VortexResult<ArrayRef<A>> {
+    let alloc = *ctx.allocator();
+    let values = nullable_truths(alloc, &[true, true, false], &[true, false, true]);
+    let (ends, values) = with_ends(alloc, values)?;
+    match validate_ends(&ends, values.len(), 1, 8) {
+        Ok(()) => runend_decode_bools(ends, values, 1, 8, ctx),
+        Err(error) => {
+            drop(ends);
+            drop(values);
+            Err(error)
+        }
+    }
+}
+
+// 123.45, null over a stored number, and -123.00.
+fn three_decimals<A: Allocator + Copy>(alloc: A) -> VortexResult<DecimalArray<A>> {
+    let decimal = DecimalDType {
+        precision: 10,
+        scale: 2,
+    };
+    let flags = bits(alloc, &[true, false, true])?;
+    match Vec::from_slice(alloc, &[12345i128, 77, -12300]) {
+        Ok(numbers) => DecimalArray::try_new(numbers, decimal, Validity::Bits(flags)),
+        Err(error) => {
+            drop(flags);
+            Err(error.into())
+        }
+    }
+}
+
+fn decimals<A: Allocator + Copy>(ctx: &mut ExecutionCtx<A>) -> VortexResult<ArrayRef<A>> {
+    let alloc = *ctx.allocator();
+    let (ends, values) = with_ends(alloc, three_decimals(alloc))?;
+    match validate_ends(&ends, values.len(), 1, 8) {
+        Ok(()) => runend_decode_decimal(ends, values, 1, 8, ctx),
+        Err(error) => {
+            drop(ends);
+            drop(values);
+            Err(error)
+        }
+    }
+}
+
+// "first", null and "last", in one buffer.
+fn words<A: Allocator + Copy>(ctx: &mut ExecutionCtx<A>) -> VortexResult<ArrayRef<A>> {
+    let alloc = *ctx.allocator();
+    let values = three_texts(alloc);
+    let (ends, values) = with_ends(alloc, values)?;
+    match validate_ends(&ends, values.len(), 1, 8) {
+        Ok(()) => runend_decode_varbinview(ends, values, 1, 8, ctx),
+        Err(error) => {
+            drop(ends);
+            drop(values);
+            Err(error)
+        }
+    }
+}
+
+struct FlatValues {}
+
+impl Calls for FlatValues {
+    fn are_answered<A: Allocator + Copy>(alloc: A) -> VortexResult<bool> {
+        let mut ctx = context(alloc);
+        let (no_number, one, no_truth) = (None::<i64>, Some(1i64), None::<bool>);
+        let numbers = are_shown(
+            numbers(&mut ctx),
+            &[
+                no_number, one, one, one, no_number, no_number, no_number, no_number,
+            ],
+        );
+        let truths = are_shown(
+            truths(&mut ctx),
+            &[
+                Some(true),
+                no_truth,
+                no_truth,
+                no_truth,
+                Some(false),
+                Some(false),
+                Some(false),
+                Some(false),
+            ],
+        );
+        let (first, null, last) = (Some(12345i128), None, Some(-12300i128));
+        let decimals = are_shown(
+            decimals(&mut ctx),
+            &[first, null, null, null, last, last, last, last],
+        );
+        let (first, null, last) = (Some("first"), None, Some("last"));
+        let words = are_shown(
+            words(&mut ctx),
+            &[first, null, null, null, last, last, last, last],
+        );
+        Ok(numbers? && truths? && decimals? && words?)
+    }
+}
+
+#[test]
+fn flat_values_are_decoded(rt: HostRuntime) -> Result<(), Fail> {
+    assert!(rt; are_answered_in_turn::<FlatValues>(rt.alloc()));
+    Ok(())
+}
+
+// The lists 1 2, null and 4 5 6.
+fn three_lists<A: Allocator + Copy>(ctx: &mut ExecutionCtx<A>) -> VortexResult<ListViewArray<A>> {
+    let alloc = *ctx.allocator();
+    let numbers = FlatColumn::Primitive(required(alloc, &[1i64, 2, 3, 4, 5, 6])?);
+    let elements = match Rc::new(alloc, numbers) {
+        Ok(elements) => Ok(elements),
+        Err(failed) => Err(failed.into()),
+    };
+    let starts_and_sizes = both(
+        required(alloc, &[0u64, 2, 3]),
+        required(alloc, &[2u64, 1, 3]),
+    );
+    let flags = bits(alloc, &[true, false, true]);
+    let ((elements, flags), (starts, sizes)) = both(both(elements, flags), starts_and_sizes)?;
+    let (starts, sizes) = (ArrayRef::Primitive(starts), ArrayRef::Primitive(sizes));
+    ListViewArray::try_new(elements, starts, sizes, RowValidity::Bits(flags), ctx)
+}
+
+fn three_runs_of_lists<A: Allocator + Copy>(
+    ctx: &mut ExecutionCtx<A>,
+) -> VortexResult<ArrayRef<A>> {
+    let alloc = *ctx.allocator();
+    let (ends, values) = with_ends(alloc, three_lists(ctx))?;
+    match validate_ends(&ends, values.len(), 1, 8) {
+        Ok(()) => {
+            let lists = runend_decode_listview(ends, values, 1, 8, ctx)?;
+            Ok(ArrayRef::ListView(Box::new(alloc, lists)?))
+        }
+        Err(error) => {
+            drop(ends);
+            drop(values);
+            Err(error)
+        }
+    }
+}
+
+struct Lists {}
+
+impl Calls for Lists {
+    fn are_answered<A: Allocator + Copy>(alloc: A) -> VortexResult<bool> {
+        let (first, null, last) = (
+            Some([1i64, 2].as_slice()),
+            None,
+            Some([4i64, 5, 6].as_slice()),
+        );
+        are_shown(
+            three_runs_of_lists(&mut context(alloc)),
+            &[first, null, null, null, last, last, last, last],
+        )
+    }
+}
+
+#[test]
+fn lists_are_decoded(rt: HostRuntime) -> Result<(), Fail> {
+    assert!(rt; are_answered_in_turn::<Lists>(rt.alloc()));
+    Ok(())
+}
+
+// Numbers by ends from an iterator, null but in the second run.
+fn typed_numbers<A: Allocator + Copy>(ctx: &mut ExecutionCtx<A>) -> VortexResult<ArrayRef<A>> {
+    let alloc = *ctx.allocator();
+    let mask = Mask::from_indices(alloc, 3, &[1])?;
+    let ends = trimmed_ends_iter(&ENDS, 1, 8);
+    let nullable = Nullability::Nullable;
+    let rows = runend_decode_typed_primitive(ends, &[77i32, 1, 77], mask, nullable, 8, ctx)?;
+    Ok(ArrayRef::Primitive(rows))
+}
+
+// The bits true, false, true.
+fn three_bits<A: Allocator + Copy>(alloc: A) -> VortexResult<BitBuffer<A>>
+    ensures { IfOk result (λ bits. length bits ≡ 3) }
+{
+    let mut bits = BitBufferMut::full(alloc, true, 3)?;
+    bits.fill_range(1, 2, false);
+    Ok(bits.freeze())
+}
+
+// Booleans by ends from an iterator: false in the second run, true in the others.
+fn typed_truths<A: Allocator + Copy>(ctx: &mut ExecutionCtx<A>) -> VortexResult<ArrayRef<A>> {
+    let values = three_bits(*ctx.allocator())?;
+    let ends = trimmed_ends_iter(&ENDS, 1, 8);
+    let (all, required) = (Mask::AllTrue(3), Nullability::NonNullable);
+    let rows = runend_decode_typed_bool(ends, &values, all, required, 8, ctx);
+    drop(values);
+    rows
+}
+
+// The threshold from which booleans are filled before is 0 runs in the one context, and 32 in the other.
+struct TypedValues {}
+
+impl Calls for TypedValues {
+    fn are_answered<A: Allocator + Copy>(alloc: A) -> VortexResult<bool> {
+        let (mut filled, mut appended) = (context(alloc), full_context(alloc));
+        let (null, one) = (None, Some(1i64));
+        let rows = [null, one, one, one, null, null, null, null];
+        let numbers = are_shown(typed_numbers(&mut filled), &rows);
+        let (yes, no) = (Some(true), Some(false));
+        let rows = [yes, no, no, no, yes, yes, yes, yes];
+        let before = are_shown(typed_truths(&mut filled), &rows);
+        let behind = are_shown(typed_truths(&mut appended), &rows);
+        Ok(numbers? && before? && behind?)
+    }
+}
+
+#[test]
+fn values_are_decoded_by_ends_from_an_iterator(rt: HostRuntime) -> Result<(), Fail> {
+    assert!(rt; are_answered_in_turn::<TypedValues>(rt.alloc()));
+    Ok(())
+}
