@@ -161,6 +161,27 @@ fn flat_values_are_decoded(rt: HostRuntime) -> Result<(), Fail> {
     Ok(())
 }
 
+// Do the texts that were made lie in the one buffer of the values?
+fn are_in_one_buffer<A: Allocator + Copy>(made: VortexResult<ArrayRef<A>>) -> VortexResult<bool> {
+    let array = made?;
+    let are_kept = match &array {
+        ArrayRef::VarBinView(flat) => match flat.buffers() {
+            [buffer] => buffer.as_slice() == b"firstlast".as_slice(),
+            _ => false,
+        },
+        _ => false,
+    };
+    drop(array);
+    Ok(are_kept)
+}
+
+#[test]
+fn decoded_texts_keep_their_buffer(rt: HostRuntime) -> Result<(), Fail> {
+    let made = words(&mut context(rt.alloc()));
+    assert!(rt; are_in_one_buffer(made)?);
+    Ok(())
+}
+
 // The lists 1 2, null and 4 5 6.
 fn three_lists<A: Allocator + Copy>(ctx: &mut ExecutionCtx<A>) -> VortexResult<ListViewArray<A>> {
     let alloc = *ctx.allocator();
