@@ -1,5 +1,6 @@
 //! The library as a program calls it. The README and `docs/CALLING.md` show these lines.
 use crate::columns::{are_rows, both};
+use column_bytes::{message_size, read_column, write_column};
 use std::alloc::Global;
 use std::test::Fail;
 use vortex_runend::compute::{CompareOperator, fill_null, slice, sum};
@@ -245,5 +246,23 @@ fn a_record_is_written_and_read(rt: HostRuntime) -> Result<(), Fail> {
     let are_read = are_rows(&column, &[Some(4), Some(4), None, None, Some(9)]);
     drop(column);
     assert!(rt; are_read);
+    Ok(())
+}
+
+#[test]
+fn a_column_is_kept_as_bytes(rt: HostRuntime) -> Result<(), Fail> {
+    let mut ctx = context(rt.alloc());
+    let column = array_with_null(rt.alloc(), &mut ctx)?;
+    let size = message_size(&column);
+    let bytes = write_column(rt.alloc(), &column);
+    drop(column);
+
+    // 17 bytes of fields before the values, 2 of their key and length, 13 of their fields before items of 26.
+    let bytes = bytes?;
+    let are_so_many = size == Ok(58) && bytes.len() == 58;
+    let kept = read_column(rt.alloc(), &bytes)?;
+    let are_kept = are_rows(&kept, &[Some(4), Some(4), None, None, Some(9)]);
+    drop(kept);
+    assert!(rt; are_so_many && are_kept);
     Ok(())
 }
