@@ -5,6 +5,7 @@ pub mod ListParts
 pub mod ListRuns
 pub mod ListSlice
 pub mod ListWalks
+pub mod FlatLists
 pub mod ListTake
 pub mod ShownLists
 pub mod RowFlags

@@ -1,12 +1,12 @@
 -- Why parts are no run column, or no column of lists: the first fault, in the order in which they are tested.
-use Rattle.std.specs.Prelude.{◌≡◌, ◌≢◌, ◌⊎◌, ℕ, pos, ◌<◌, length, IsTrue, Option, Some}
+use Rattle.std.specs.Prelude.{◌≡◌, ◌≢◌, ◌⊎◌, ℕ, pos, ◌<◌, length, IsTrue, List, Option, Some}
 use Rattle.column_base.specs.declared.error.VortexError.{VortexError}
 use Rattle.column_base.specs.declared.error.VortexError.TheVariants.{EndsNotUnsigned, OutOfBounds, ColumnLength, TypeMismatch}
 use Rattle.column_base.specs.ValidityForm.{length_of}
 use Rattle.column_core.specs.Leaf.{leaf_rows}
 use Rattle.column_core.specs.declared.flat.FlatColumn.{FlatColumn}
 use Rattle.runend_windows.specs.WindowFault.{WindowFault}
-use Rattle.runend_array.specs.Lists.{Lists, RowValidityForm, ByRows, ByRuns, HasRows, IsWithinElements, index_count, list_count, row_flag_at}
+use Rattle.runend_array.specs.Lists.{Lists, RowValidityForm, ByRows, ByRuns, HasRows, IsRangeWithin, IsWithinElements, index_count, list_count, row_flag_at}
 use Rattle.runend_array.specs.Column.{Column, column_rows, IsPlainEnds, end_numbers}
 use Rattle.runend_array.specs.Array.{AreListTypes, lists_of}
 use Rattle.runend_array.specs.declared.array_ref.ArrayRef.{ArrayRef}
@@ -23,6 +23,12 @@ pub record IsFirstOutside (lists : Lists) (row : ℕ) : Type 0 where
   pub valid : IsTrue (row_flag_at lists.validity row)
   pub outside : ¬ IsWithinElements lists row
   pub least : (k : ℕ) → k < row → IsTrue (row_flag_at lists.validity k) → IsWithinElements lists k
+
+-- the first row, of offsets and sizes row by row, whose elements do not lie within so many
+pub record IsFirstPast (offsets sizes : List ℕ) (count row : ℕ) : Type 0 where
+  pub within : row < length offsets
+  pub outside : ¬ IsRangeWithin offsets sizes count row
+  pub least : (k : ℕ) → k < row → IsRangeWithin offsets sizes count k
 
 -- how many rows a validity speaks of, where its form says so
 abbrev pub rows_told : RowValidityForm → Option ℕ

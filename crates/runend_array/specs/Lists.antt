@@ -55,6 +55,14 @@ abbrev pub row_flag_at : RowValidityForm → ℕ → Bool
 row_flag_at (ByRows form) i = flag_at form i
 row_flag_at (ByRuns ends_type ends bits offset count) i = slice_index_or bits (run_at ends (offset + i)) false
 
+-- the form alone says that all rows are valid
+abbrev pub IsAllValid : RowValidityForm → Type 0
+IsAllValid (ByRows NeverNull) = ⊤
+IsAllValid (ByRows NoneNull) = ⊤
+IsAllValid (ByRows AllNull) = ⊥
+IsAllValid (ByRows (ByBits bits)) = ⊥
+IsAllValid (ByRuns ends_type ends bits offset count) = ⊥
+
 -- where the run of a row may be sought from, among flags
 abbrev pub IsFlagRunUpTo : RowValidityForm → ℕ → ℕ → Type 0
 IsFlagRunUpTo (ByRows form) run i = ⊤
@@ -114,6 +122,10 @@ list_dtype lists = column.List (element_of (leaf_dtype lists.elements)) (row_nul
 -- the elements of a row lie within those that there are
 abbrev pub IsWithinElements : Lists → ℕ → Type 0
 IsWithinElements lists i = index_at lists.offsets i + index_at lists.sizes i ≤ length (leaf_rows lists.elements)
+
+-- the elements of a row, of offsets and sizes row by row, lie within so many
+abbrev pub IsRangeWithin : List ℕ → List ℕ → ℕ → ℕ → Type 0
+IsRangeWithin offsets sizes count row = slice_index offsets row + slice_index sizes row ≤ count
 
 -- a column of lists: a size and a flag for each offset, and the elements of each valid row lie within those that there
 -- are

@@ -5,6 +5,7 @@ mod runs;
 mod slice;
 mod stretch;
 mod take;
+mod within;
 
 pub(crate) use index::{is_plain_index, is_plain_truths, plain_number_at, plain_truth_at};
 pub use listview::ListViewArray;

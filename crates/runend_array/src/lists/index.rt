@@ -1,8 +1,8 @@
 //! The numbers of a column of lists: offsets or sizes, flat or in runs.
-ghost use Rattle.std.specs.Prelude.{◌≡◌, ◌<◌, ◌≤◌, ◌↔◌, IfOk, IsOkUnless, IsTrue, length, slice_index, slice_index_or, slice_range, false};
+ghost use Rattle.std.specs.Prelude.{◌≡◌, ◌<◌, ◌≤◌, ◌↔◌, IfOk, IsOkUnless, IsTrue, MatchOption, length, slice_index, slice_index_or, slice_range, false};
 ghost use Rattle.runend_array.specs.Array.{column_of};
 ghost use Rattle.runend_array.specs.Column.{IsIndex, IsPlainIndex, IsPlainTruths, end_numbers, index_of, truths_of};
-ghost use Rattle.runend_array.specs.Lists.{IsRunUpTo, index_at as number_in_row, index_count, index_stop};
+ghost use Rattle.runend_array.specs.Lists.{IsRunUpTo, PlainIndex, index_at as number_in_row, index_count, index_stop};
 
 use crate::array_ref::ArrayRef;
 use crate::lists::stretch::Stretch;
@@ -18,6 +18,21 @@ pub(crate) fn is_plain_index<A: Allocator + Copy>(column: &ArrayRef<A>) -> bool
             numbers.dtype() == DType::Primitive(PType::U64, Nullability::NonNullable)
         }
         _ => false,
+    }
+}
+
+/// The numbers of a flat column of u64 without null, and `None` for offsets or sizes in runs.
+pub(crate) fn plain_numbers<A: Allocator + Copy>(column: &ArrayRef<A>) -> Option<&[u64]>
+    requires { IsIndex (column_of column.now) }
+    ensures { MatchOption result (¬ IsPlainIndex (column_of column.now))
+        (λ numbers. index_of (column_of column.now) ≡ PlainIndex numbers.now) }
+{
+    match column {
+        ArrayRef::Primitive(numbers) => match numbers.values() {
+            PrimitiveValues::U64(items) => Some(items.as_slice()),
+            _ => unreachable!(),
+        },
+        _ => None,
     }
 }
 

@@ -1,5 +1,5 @@
 //! Columns of lists over shared elements.
-ghost use Rattle.std.specs.Prelude.{◌≡◌, ◌+◌, ◌<◌, ◌≤◌, ◌↔◌, length, IsTrue, slice_range, IfOk, IsErrOf, IsOkUnless, MatchOption, MatchResult, Some};
+ghost use Rattle.std.specs.Prelude.{◌≡◌, ◌+◌, ◌<◌, ◌≤◌, ◌↔◌, length, IsTrue, slice_range, IfOk, IsErrOf, IsOkUnless, MatchResult, Some};
 ghost use Rattle.column_core.specs.FlatColumn.{leaf_of};
 ghost use Rattle.column_core.specs.ScalarView.{sees, IsViewOf};
 ghost use Rattle.runend_array.specs.Array.{AreListParts, AreListTypes, IsRowValidity, column_of, lists_of, validity_of};
@@ -9,8 +9,8 @@ ghost use Rattle.runend_windows.specs.Window.{run_rows};
 ghost use Rattle.column_core.specs.PrimitiveForm.{primitive_dtype};
 ghost use Rattle.column_core.specs.Ranges.{IsBadRange};
 ghost use Rattle.runend_windows.specs.Window.{IsWindow};
-ghost use Rattle.runend_array.specs.Fault.{IsFirstOutside, ListPartsFault, ListsFault};
-ghost use Rattle.runend_array.specs.Lists.{AreLists, HasRows, index_count, list_at, list_count, list_dtype, list_rows};
+ghost use Rattle.runend_array.specs.Fault.{ListPartsFault, ListsFault};
+ghost use Rattle.runend_array.specs.Lists.{AreLists, list_at, list_count, list_dtype, list_rows};
 ghost use Rattle.column_core.specs.Value.{element_of as element_type_of};
 ghost use Rattle.runend_array.specs.ListRuns.{AreListsInRuns};
 ghost use Rattle.runend_array.specs.ListSlice.{AreListsInRange};
@@ -21,10 +21,11 @@ ghost use Rattle.column_base.specs.Validity.{form_of};
 
 use crate::array_ref::{ArrayRef, out_of_bounds};
 use crate::copies::Buffers;
-use crate::lists::index::{index_at, index_from, index_len, is_index};
+use crate::lists::index::{index_at, index_len, is_index};
 use crate::lists::runs::{index_in_runs, run_validity_of_lists};
 use crate::lists::slice::{index_between, validity_between};
 use crate::lists::take::{index_taken, validity_taken};
+use crate::lists::within::first_outside;
 use crate::session::ExecutionCtx;
 use crate::validities::RowValidity;
 use column_core::{
@@ -417,47 +418,6 @@ fn validate_lists<A: Allocator + Copy>(
         Some(row) => Err(out_of_bounds(row, elements.len())),
         None => Ok(()),
     }
-}
-
-// The first valid row that does not lie within the elements. A step is a stretch of rows in which
-// offset, size and validity stay the same, so rows in runs take as many steps as there are runs.
-fn first_outside<A: Allocator + Copy>(
-    elements: &FlatColumn<A>,
-    offsets: &ArrayRef<A>,
-    sizes: &ArrayRef<A>,
-    validity: &RowValidity<A>,
-) -> Option<usize>
-    requires types { AreListTypes offsets.now sizes.now validity.now }
-    requires sized { index_count (index_of (column_of sizes.now)) ≡ index_count (index_of (column_of offsets.now)) }
-    requires flagged { HasRows (validity_of validity.now) (index_count (index_of (column_of offsets.now))) }
-    ensures { MatchOption result
-        (AreLists (lists_of elements.now offsets.now sizes.now validity.now))
-        (λ row. IsFirstOutside (lists_of elements.now offsets.now sizes.now validity.now) row) }
-{
-    let rows = index_len(offsets);
-    let count = elements.len();
-    let mut flag_run = 0;
-    let mut offset_run = 0;
-    let mut size_run = 0;
-    let mut row = 0;
-    while row < rows {
-        let flag = validity.valid_from(&mut flag_run, row, rows);
-        let offset = index_from(offsets, &mut offset_run, row);
-        let size = index_from(sizes, &mut size_run, row);
-        if flag.value && !is_within(offset.value, size.value, count) {
-            return Some(row);
-        }
-        row = flag.stop.min(offset.stop).min(size.stop);
-    }
-    None
-}
-
-// Does the list of `size` elements from `offset` on lie within `count` elements?
-fn is_within(offset: u64, size: u64, count: usize) -> bool
-    ensures { IsTrue result ↔ (offset + size ≤ count) }
-{
-    let count = count as u64;
-    offset <= count && size <= count - offset
 }
 
 // The type of elements that lie in a flat column of this type.

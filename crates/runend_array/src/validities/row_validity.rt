@@ -2,7 +2,7 @@
 ghost use Rattle.std.specs.Prelude.{◌≡◌, ◌<◌, ◌↔◌, IsTrue, IfOk, IsOkUnless};
 ghost use Rattle.runend_array.specs.Array.{validity_of, IsRowValidity};
 ghost use Rattle.runend_array.specs.Fault.{rows_told};
-ghost use Rattle.runend_array.specs.Lists.{HasRows, IsFlagRunUpTo, flag_stop, row_flag_at, row_nullability};
+ghost use Rattle.runend_array.specs.Lists.{HasRows, IsAllValid, IsFlagRunUpTo, flag_stop, row_flag_at, row_nullability};
 
 use crate::array::RunEndArray;
 use crate::copies::{Buffers, copy_bits};
@@ -58,6 +58,13 @@ impl<A: Allocator + Copy> RowValidity<A> {
             RowValidity::Bits(bits) => Some(bits.len()),
             RowValidity::Runs(runs) => Some(runs.len()),
         }
+    }
+
+    /// Does its form say that all rows are there, whatever their number?
+    pub(crate) fn is_all_valid(&self) -> bool
+        ensures { IsTrue result ↔ IsAllValid (validity_of self.now) }
+    {
+        matches!(self, RowValidity::NonNullable | RowValidity::AllValid)
     }
 
     /// Is the row at `index` there, of `count` rows?

@@ -2,7 +2,7 @@ use Rattle.std.proofs.Common.{ℕ, ◌-◌, ◌<◌, IsTrue}
 use Rattle.runend_array.specs.Array.{column_of, lists_of, validity_of}
 use Rattle.runend_array.specs.Column.{index_of}
 use Rattle.runend_array.specs.Lists.{IsFlagRunUpTo, IsRunUpTo, IsWithinElements, row_flag_at}
-use Rattle.runend_array.proofs.lists.listview.first_outside.Given as goal
+use Rattle.runend_array.proofs.lists.within.first_outside_in_stretches.Given as goal
 
 -- each valid row before this one lies within the elements, and no run is past this row
 abbrev pub invariant-loop-row : goal.invariant-loop-row

@@ -2,8 +2,8 @@ use Rattle.std.proofs.Common.{◌≤◌, IsTrue, arith, min}
 use Rattle.runend_array.specs.Array.{lists_of}
 use Rattle.runend_array.specs.Lists.{IsWithinElements, flag_stop, index_stop, row_flag_at}
 use Rattle.runend_array.proofs.ListWalks.{run-up_to_later, run-up_to_later_flag, within-stretch}
-use Rattle.runend_array.proofs.lists.listview.first_outside.Goals as goal
-use Rattle.runend_array.proofs.lists.listview.first_outside.Goals.{else-flag-via-then-flag+else-not-is_within, else-flag-via-else-flag}
+use Rattle.runend_array.proofs.lists.within.first_outside_in_stretches.Goals as goal
+use Rattle.runend_array.proofs.lists.within.first_outside_in_stretches.Goals.{else-flag-via-then-flag+else-not-is_within, else-flag-via-else-flag}
 
 pub loop-row-preserved : goal.loop-row-preserved
 loop-row-preserved g c =
