@@ -1,5 +1,5 @@
 -- Texts that are put one behind the other into one buffer.
-use Rattle.std.proofs.Common.{◌≡◌, ◌∙◌, ◌+◌, ◌-◌, ◌<◌, ◌≤◌, ℕ, zero, suc, List, [], ◌∷◌, ◌++◌, Bool, true, false, Some, length, map, drop, take, refl, sym, ap, subst, arith, get_or}
+use Rattle.std.proofs.Common.{◌≡◌, ◌∙◌, ◌+◌, ◌-◌, ◌<◌, ◌≤◌, ℕ, zero, suc, List, [], ◌∷◌, ◌++◌, Bool, false, Some, length, map, drop, take, refl, sym, ap, subst, arith, get_or}
 use Rattle.std.specs.Prelude.{All, option_map, slice_get, slice_index_or, slice_range}
 use Rattle.std.proofs.lemmas.List.{drop-append-le, drop_at, length-append, length-drop, map-append, take-append-le, take_all}
 use Rattle.std.proofs.lemmas.List.Elements.{All-head, All-push, All-tail, All-weaker}
@@ -12,16 +12,16 @@ use Rattle.column_core.specs.declared.varbinview.View.{View}
 use Rattle.flat_builder.specs.Texts.{AreCut, IsCut, text_view, texts_of}
 
 -- what a view of the one buffer cuts
-cut_of_one : (bytes : List ℕ) (v : View) → v.buffer ≡ 0 → view_bytes (bytes ∷ []) v ≡ slice_range bytes v.start (v.start + v.size)
+pub cut_of_one : (bytes : List ℕ) (v : View) → v.buffer ≡ 0 → view_bytes (bytes ∷ []) v ≡ slice_range bytes v.start (v.start + v.size)
 cut_of_one bytes v first = ap (λ (n : ℕ). slice_range (slice_index_or (bytes ∷ []) n []) v.start (v.start + v.size)) first
 
 -- a view within the one buffer
-in_one : (bytes : List ℕ) (v : View) → IsWithinBuffer (bytes ∷ []) v → (v.buffer ≡ 0) × (v.start + v.size ≤ length bytes)
+pub in_one : (bytes : List ℕ) (v : View) → IsWithinBuffer (bytes ∷ []) v → (v.buffer ≡ 0) × (v.start + v.size ≤ length bytes)
 in_one bytes v within =
     let first : v.buffer ≡ 0 = (let below = within.buffer in omega arith) in
     (first, subst (λ (n : ℕ). v.start + v.size ≤ length (slice_index_or (bytes ∷ []) n [])) first within.bytes)
 
-within_one : (bytes : List ℕ) (v : View) → v.buffer ≡ 0 → v.start + v.size ≤ length bytes → IsWithinBuffer (bytes ∷ []) v
+pub within_one : (bytes : List ℕ) (v : View) → v.buffer ≡ 0 → v.start + v.size ≤ length bytes → IsWithinBuffer (bytes ∷ []) v
 within_one bytes v first stop = record {
   buffer = omega arith;
   bytes = subst (λ (n : ℕ). v.start + v.size ≤ length (slice_index_or (bytes ∷ []) n [])) (sym first) stop;
@@ -34,12 +34,12 @@ range_stays bytes more start stop ordered within =
     ap (take (stop - start)) (drop-append-le start bytes more (omega arith)) ∙ take-append-le (stop - start) (drop start bytes) more (omega arith)
 
 -- nor what a view cuts
-cut_stays : (bytes more : List ℕ) (v : View) → IsWithinBuffer (bytes ∷ []) v → view_bytes ((bytes ++ more) ∷ []) v ≡ view_bytes (bytes ∷ []) v
+pub cut_stays : (bytes more : List ℕ) (v : View) → IsWithinBuffer (bytes ∷ []) v → view_bytes ((bytes ++ more) ∷ []) v ≡ view_bytes (bytes ∷ []) v
 cut_stays bytes more v within =
     let one = in_one bytes v within in
     cut_of_one (bytes ++ more) v one.0 ∙ range_stays bytes more v.start (v.start + v.size) (omega arith) one.1 ∙ sym (cut_of_one bytes v one.0)
 
-still_cut : (kind : VarBinKind) (bytes more : List ℕ) (v : View) → IsCut kind (bytes ∷ []) v → IsCut kind ((bytes ++ more) ∷ []) v
+pub still_cut : (kind : VarBinKind) (bytes more : List ℕ) (v : View) → IsCut kind (bytes ∷ []) v → IsCut kind ((bytes ++ more) ∷ []) v
 still_cut kind bytes more v cut =
     let one = in_one bytes v cut.within in
     record {
@@ -74,7 +74,7 @@ new_cut kind bytes text of_kind = record {
 }
 
 -- maps that agree on each item
-maps_agree : {X Y : Type 0} (f g : X → Y) (xs : List X) → All (λ x. f x ≡ g x) xs → map f xs ≡ map g xs
+pub maps_agree : {X Y : Type 0} (f g : X → Y) (xs : List X) → All (λ x. f x ≡ g x) xs → map f xs ≡ map g xs
 maps_agree f g [] agree = refl
 maps_agree {X} {Y} f g (x ∷ xs) agree =
     let here = All-head (λ (y : X). f y ≡ g y) x xs agree in

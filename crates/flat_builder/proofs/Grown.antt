@@ -1,12 +1,11 @@
 -- What a builder holds, once a column is put behind it, and as a column.
-use Rattle.std.proofs.Common.{◌≡◌, ◌∙◌, ◌+◌, ◌-◌, ◌≤◌, ℕ, ℤ, List, [], ◌∷◌, ◌++◌, Bool, true, false, length, map, drop, pos, refl, sym, ap, subst, arith, replicate}
+use Rattle.std.proofs.Common.{◌≡◌, ◌∙◌, ℕ, ℤ, List, [], ◌∷◌, ◌++◌, Bool, true, false, length, drop, pos, refl, sym, ap, subst, arith, replicate}
 use Rattle.std.specs.Prelude.{All, Err, IfOk, Ok, OnOk, Result, is_err}
-use Rattle.std.proofs.lemmas.List.{length-append, length-drop, length-map, length-replicate}
+use Rattle.std.proofs.lemmas.List.{length-append, length-drop, length-map}
 use Rattle.std.proofs.lemmas.List.Elements.{All-append, All-drop, All-head, All-nil, All-replicate, All-tail, All-weaker}
-use Rattle.column_base.specs.declared.dtype.DType.{DType}
 use Rattle.column_base.specs.declared.dtype.DType.TheVariants as column
 use Rattle.column_base.specs.declared.dtype.Nullability.{Nullability}
-use Rattle.column_base.specs.declared.dtype.Nullability.TheVariants.{NonNullable, Nullable}
+use Rattle.column_base.specs.declared.dtype.Nullability.TheVariants.{NonNullable}
 use Rattle.column_base.specs.Types.{nullability_of, with_nullability}
 use Rattle.column_base.specs.ValidityForm.{AllNull, ByBits, HasLength, NeverNull, NoneNull, ValidityForm, flags, nullability_in}
 use Rattle.column_base.proofs.ValidityRows.{length-flags}
@@ -16,12 +15,12 @@ use Rattle.column_core.specs.declared.flat.FlatColumn.{FlatColumn}
 use Rattle.column_core.specs.Leaf.{Leaf, OfDecimals, OfNumbers, OfTruths, OfVarBins, leaf_count, leaf_dtype, leaf_validity, single_rows}
 use Rattle.column_core.specs.Optionals.{AreBlankAtNulls}
 use Rattle.column_core.specs.Value.{DecimalNumber, FlatValue, Number, Truth}
-use Rattle.column_core.specs.VarBinForm.{AreVarBins, VarBinForm, kind_dtype, varbin_value, varbin_with, view_bytes, zero_view}
+use Rattle.column_core.specs.VarBinForm.{kind_dtype, varbin_value, view_bytes, zero_view}
 use Rattle.column_core.specs.declared.varbinview.VarBinKind.{VarBinKind}
 use Rattle.column_core.specs.declared.varbinview.VarBinKind.TheVariants.{Binary, Utf8}
 use Rattle.column_core.specs.declared.varbinview.View.{View}
 use Rattle.flat_builder.specs.Items.{AreAppended, AreBlank, AreSound, IsColumnOf, IsGrown, IsValidityOf, type_with, with_validity}
-use Rattle.flat_builder.specs.Texts.{AreCut, IsCut, texts_of}
+use Rattle.flat_builder.specs.Texts.{IsCut, texts_of}
 use Rattle.flat_builder.proofs.Cuts.{length_of_cut}
 use Rattle.flat_builder.proofs.Rows.{blank-append, blank-map, blank-rest, blank-unmap, rows_append, rows_of}
 

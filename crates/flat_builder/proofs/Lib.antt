@@ -1,5 +1,6 @@
 pub mod Lists
 pub mod Cuts
+pub mod Moved
 pub mod Rows
 pub mod Grown
 pub mod Packed

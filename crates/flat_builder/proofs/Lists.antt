@@ -1,7 +1,7 @@
 -- Lists that grow by what is left of others.
-use Rattle.std.proofs.Common.{◌≡◌, ◌∙◌, ◌+◌, ◌-◌, ◌<◌, ◌≤◌, ℕ, List, [], ◌∷◌, ◌++◌, Some, drop, length, take, refl, sym, ap, arith, append-nil, append_assoc, get_or}
-use Rattle.std.specs.Prelude.{slice_get, slice_range}
-use Rattle.std.proofs.lemmas.List.{drop_all, drop_more, length-append, length-drop, take-append-le, take_all, take_more}
+use Rattle.std.proofs.Common.{◌≡◌, ◌∙◌, ◌+◌, ◌-◌, ◌<◌, ◌≤◌, ℕ, List, [], ◌∷◌, ◌++◌, Some, drop, length, take, sym, ap, arith, append-nil, append_assoc, get_or}
+use Rattle.std.specs.Prelude.{Err, Ok, OnOk, Result, replicate, slice_get, slice_range}
+use Rattle.std.proofs.lemmas.List.{drop-replicate, drop_all, drop_more, length-append, length-drop, take-append-le, take_all, take_more}
 use Rattle.std.proofs.lemmas.Option.{get_or_from_slice_get, slice_get_within}
 
 -- one item more of those from the first on
@@ -32,3 +32,9 @@ first_stay old now next more long first grown =
 
 pub first_kept : {X : Type 0} (old now next : List X) → take (length old) now ≡ old → next ≡ now → take (length old) next ≡ old
 first_kept old now next first same = ap (take (length old)) same ∙ first
+
+-- copies behind others are what is left of more copies
+pub copies_behind : {X T E : Type 0} (result : Result T E) (now old copies : List X) (start count : ℕ) (x : X) → copies ≡ replicate count x → OnOk result (now ≡ old ++ replicate (count - start) x)
+    → OnOk result (now ≡ old ++ drop start copies)
+copies_behind {X} (Ok value) now old copies start count x same pushed = pushed ∙ ap (λ (xs : List X). old ++ xs) (sym (ap (drop start) same ∙ drop-replicate start count x))
+copies_behind (Err error) now old copies start count x same pushed = tt

@@ -14,7 +14,7 @@ use Rattle.column_core.specs.Leaf.{Leaf, OfDecimals, OfNumbers, OfTruths, OfVarB
 use Rattle.column_core.specs.Optionals.{AreBlankAtNulls}
 use Rattle.column_core.specs.PrimitiveForm.{primitive_with}
 use Rattle.column_core.specs.Value.{PlainColumn}
-use Rattle.column_core.specs.VarBinForm.{VarBinForm, varbin_with}
+use Rattle.column_core.specs.VarBinForm.{varbin_with}
 use Rattle.flat_builder.specs.Texts.{AreCut, texts_of}
 use Rattle.flat_builder.specs.declared.items.Items.{Items}
 use Rattle.flat_builder.specs.declared.items.Items.TheVariants as kind

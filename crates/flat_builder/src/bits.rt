@@ -1,5 +1,5 @@
 //! Bits that grow, a byte for each, and are packed at last.
-ghost use Rattle.std.specs.Prelude.{◌≡◌, ◌+◌, ◌-◌, ◌/◌, ◌≤◌, ◌++◌, IfOk, IsOkUnless, OnErr, OnOk, drop, length, vec_capacity, vec_len};
+ghost use Rattle.std.specs.Prelude.{◌≡◌, ◌+◌, ◌-◌, ◌/◌, ◌≤◌, ◌++◌, IfOk, IsOkUnless, OnErr, OnOk, drop, length, replicate, vec_capacity, vec_len};
 ghost use Rattle.column_base.specs.Validity.{form_of};
 ghost use Rattle.column_base.specs.ValidityForm.{HasLength, flags as flags_in};
 ghost use Rattle.column_base.specs.Words.{first_bits, IsWordOf};
@@ -22,8 +22,26 @@ pub(crate) fn append_flags<A: Allocator>(
         flags.old.items ++ drop start (flags_in (form_of validity.now) count)) }
     ensures kept { OnErr result (flags.new.items ≡ flags.old.items) }
 {
-    flags.reserve(count - start)?;
-    push_flags(flags, validity, start, count);
+    match validity {
+        Validity::NonNullable => append_copies(flags, true, count - start),
+        Validity::AllValid => append_copies(flags, true, count - start),
+        Validity::AllInvalid => append_copies(flags, false, count - start),
+        Validity::Bits(bits) => append_bits(flags, bits, start),
+    }
+}
+
+// Puts so many copies of a flag behind the flags. Refused as `OutOfMemory` alone, and then the flags stay.
+fn append_copies<A: Allocator>(
+    flags: &mut Vec<bool, A>,
+    flag: bool,
+    count: usize,
+) -> VortexResult<()>
+    ensures only { IsOkUnless result VortexError.OutOfMemory }
+    ensures flags { OnOk result (flags.new.items ≡ flags.old.items ++ replicate count flag) }
+    ensures kept { OnErr result (flags.new.items ≡ flags.old.items) }
+{
+    flags.reserve(count)?;
+    flags.resize(flags.len() + count, flag)?;
     Ok(())
 }
 
@@ -76,23 +94,6 @@ fn word_of(bits: &[bool]) -> u64
         word |= u64::from(bits[index]) << index;
     }
     word
-}
-
-// The same where there is room.
-fn push_flags<A: Allocator>(
-    flags: &mut Vec<bool, A>,
-    validity: &Validity<A>,
-    start: usize,
-    count: usize,
-)
-    requires within { start ≤ count }
-    requires counted { HasLength (form_of validity.now) count }
-    requires room { vec_len flags.old + (count - start) ≤ vec_capacity flags.old }
-    ensures { flags.new.items ≡ flags.old.items ++ drop start (flags_in (form_of validity.now) count) }
-{
-    for row in start..count {
-        flags.push_reserved(validity.is_valid(row));
-    }
 }
 
 // The same where there is room.

@@ -6,6 +6,7 @@ mod builder;
 mod columns;
 mod items;
 mod numbers;
+mod spans;
 mod texts;
 
 pub use builder::FlatBuilder;

@@ -3,6 +3,7 @@ ghost use Rattle.std.specs.Prelude.{◌≡◌, ◌≤◌, ◌<◌, ◌++◌, ◌
 ghost use Rattle.column_core.specs.VarBinForm.{IsOfKind, IsWithinBuffer, IsZeroViewAtNulls, view_bytes, zero_view};
 ghost use Rattle.flat_builder.specs.Texts.{AreCut, text_view, texts_of};
 
+use crate::spans::{push_span, span_of};
 use bytes::Bytes;
 use column_core::{VarBinKind, VarBinViewArray, View, VortexError, VortexResult};
 use std::alloc::Allocator;
@@ -31,6 +32,40 @@ pub(crate) fn no_texts<A: Allocator + Copy>(alloc: A, kind: VarBinKind) -> TextI
 /// Puts the texts of the same kind from row `start` on behind the others, in bytes of their own, with the view of
 /// nothing for null. Refused as `OutOfMemory` alone, and then the others stay.
 pub(crate) fn append_texts<A: Allocator>(
+    items: &mut TextItems<A>,
+    part: &VarBinViewArray<A>,
+    start: usize,
+) -> VortexResult<()>
+    requires kind { part.now.kind ≡ items.old.kind }
+    requires blank { IsZeroViewAtNulls part.now }
+    requires within { start ≤ length part.now.views }
+    requires cut { AreCut items.old.kind (items.old.bytes.items ∷ []) items.old.views.items }
+    ensures only { IsOkUnless result VortexError.OutOfMemory }
+    ensures texts { OnOk result (texts_of (items.new.bytes.items ∷ []) items.new.views.items ≡
+        texts_of (items.old.bytes.items ∷ []) items.old.views.items ++
+        drop start (texts_of part.now.buffers part.now.views)) }
+    ensures kept_views { OnErr result (items.new.views.items ≡ items.old.views.items) }
+    ensures kept_bytes { OnErr result (items.new.bytes.items ≡ items.old.bytes.items) }
+    ensures cut { AreCut items.new.kind (items.new.bytes.items ∷ []) items.new.views.items }
+    ensures kind { items.new.kind ≡ items.old.kind }
+{
+    if let [buffer] = part.buffers() {
+        let views = &part.views()[start..];
+        if let Some(span) = span_of(views, buffer.as_slice()) {
+            return push_span(
+                &mut items.views,
+                &mut items.bytes,
+                views,
+                buffer.as_slice(),
+                &span,
+            );
+        }
+    }
+    append_each(items, part, start)
+}
+
+// The same text by text.
+fn append_each<A: Allocator>(
     items: &mut TextItems<A>,
     part: &VarBinViewArray<A>,
     start: usize,

@@ -1,4 +1,4 @@
-use Rattle.std.proofs.Common.{◌+◌, ◌++◌, drop, arith}
+use Rattle.std.proofs.Common.{◌++◌, drop, arith}
 use Rattle.flat_builder.proofs.Lists.{rest_all, rest_next}
 use Rattle.flat_builder.proofs.bits.push_bits.Goals as goal
 

@@ -1,6 +1,6 @@
-use Rattle.std.proofs.Common.{◌≡◌, ◌∙◌, ℕ, List, Bool, length, sym, ap, subst}
+use Rattle.std.proofs.Common.{◌∙◌, List, Bool, sym, subst}
 use Rattle.column_base.specs.Validity.{form_of}
-use Rattle.column_base.specs.ValidityForm.{NeverNull, flags}
+use Rattle.column_base.specs.ValidityForm.{NeverNull}
 use Rattle.column_base.specs.declared.dtype.Nullability.{Nullability}
 use Rattle.column_base.proofs.ValidityRows.{nullable-of_bits}
 use Rattle.flat_builder.specs.Items.{IsValidityOf}

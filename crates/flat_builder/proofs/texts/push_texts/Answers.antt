@@ -1,4 +1,4 @@
-use Rattle.std.proofs.Common.{◌≡◌, ◌∙◌, ◌++◌, ℕ, List, [], ◌∷◌, drop, length, ap, arith}
+use Rattle.std.proofs.Common.{◌≡◌, ◌++◌, [], ◌∷◌, drop, arith}
 use Rattle.std.proofs.lemmas.List.{length-map}
 use Rattle.column_core.specs.VarBinForm.{view_bytes}
 use Rattle.flat_builder.specs.Texts.{text_view, texts_of}

@@ -1,5 +1,4 @@
 use Rattle.std.proofs.Common.{◌≡◌, ◌∙◌, ◌++◌, drop, sym, ap}
-use Rattle.column_base.specs.Validity.{form_of}
 use Rattle.column_base.specs.ValidityForm.{ByBits, flags}
 use Rattle.column_core.specs.FlatView.{leaf_in}
 use Rattle.column_core.specs.Leaf.{leaf_count, leaf_validity, single_rows}

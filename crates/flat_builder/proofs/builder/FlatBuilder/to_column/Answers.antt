@@ -1,10 +1,9 @@
-use Rattle.std.proofs.Common.{◌≡◌, ◌∙◌, List, Bool, ap, subst}
-use Rattle.std.specs.Prelude.{IfOk}
+use Rattle.std.proofs.Common.{◌≡◌, ◌∙◌, ap}
 use Rattle.column_core.specs.Computed.{IsComputedLeaf}
 use Rattle.column_core.specs.FlatColumn.{leaf_of}
 use Rattle.column_core.specs.Leaf.{leaf_dtype, single_rows}
 use Rattle.column_core.specs.Value.{PlainColumn}
-use Rattle.flat_builder.specs.Items.{IsColumnOf, stored_in}
+use Rattle.flat_builder.specs.Items.{stored_in}
 use Rattle.flat_builder.proofs.Grown.{on_column}
 use Rattle.flat_builder.proofs.builder.FlatBuilder.to_column.Goals as goal
 
