@@ -6,3 +6,4 @@ pub mod LeastEnds
 pub mod Joined
 pub mod Windows
 pub mod Encodings
+pub mod DifferingRows

@@ -6,6 +6,7 @@ use Rattle.std.specs.declared.cmp.Ordering.TheVariants.{Less, Equal, Greater}
 use Rattle.std.specs.Ordering.{is_eq, ordering_reverse}
 use Rattle.column_base.specs.ValidityForm.{ValidityForm, HasLength, flag_at, flags}
 use Rattle.std.proofs.lemmas.Bool.{eqb-true}
+use Rattle.std.proofs.lemmas.List.{length-map}
 use Rattle.std.proofs.lemmas.Option.{slice_get-get_or, slice_get-map}
 use Rattle.column_core.specs.Optionals.{optionals}
 use Rattle.column_core.specs.VarBinForm.{VarBinForm, varbin_rows, varbin_value, view_bytes, zero_view}
@@ -156,3 +157,22 @@ same-by_view f left right v w fits l r lv rv left_valid right_valid same =
     let bytes_there : slice_get xs right ≡ Some (view_bytes f.buffers view) = slice_get-map (view_bytes f.buffers) f.views right ∙ ap (option_map (view_bytes f.buffers)) there in
     valid-row_of value xs f.validity n left (view_bytes f.buffers view) (Some (Single (value (view_bytes f.buffers view)))) fits l (sym lv ∙ left_valid) bytes_here refl
     ∙ sym (valid-row_of value xs f.validity n right (view_bytes f.buffers view) (Some (Single (value (view_bytes f.buffers view)))) fits r (sym rv ∙ right_valid) bytes_there refl)
+
+-- rows of views go on where a bit is 0 that is made of their flags and of whether their views go on
+by_views : (f : VarBinForm) (row bit item : ℕ) (v w : Bool) → HasLength f.validity (length f.views) → row < length f.views → v ≡ flag_at f.validity (row - 1) → w ≡ flag_at f.validity row
+    → ((item ≡ 0) ↔ GoesOn f.views row) → (v ≡ true → w ≡ true → bit ≡ item) → (v ≢ w → bit ≡ 1) → bit ≡ 0
+    → GoesOn (map (option_map (λ (v : FlatValue). Single v)) (varbin_rows f)) row
+by_views f row bit item true true fits within lv rv items both differ none =
+    same-by_view f (row - 1) row true true fits (omega arith) within lv rv refl refl (items.0 (sym (both refl refl) ∙ none))
+by_views f row bit item true false fits within lv rv items both differ none = let one = differ (λ e. cc) in absurd (omega arith)
+by_views f row bit item false true fits within lv rv items both differ none = let one = differ (λ e. cc) in absurd (omega arith)
+by_views f row bit item false false fits within lv rv items both differ none =
+    let xs = map (view_bytes f.buffers) f.views in
+    let counted = length-map f.views (view_bytes f.buffers) in
+    null-row_of (varbin_value f.kind) xs f.validity (length f.views) (row - 1) fits counted (omega arith) (sym lv)
+    ∙ sym (null-row_of (varbin_value f.kind) xs f.validity (length f.views) row fits counted within (sym rv))
+
+pub go_on-by_views : (f : VarBinForm) (row bit item : ℕ) → HasLength f.validity (length f.views) → row < length f.views → ((item ≡ 0) ↔ GoesOn f.views row)
+    → (flag_at f.validity (row - 1) ≡ true → flag_at f.validity row ≡ true → bit ≡ item) → (flag_at f.validity (row - 1) ≢ flag_at f.validity row → bit ≡ 1) → bit ≡ 0
+    → GoesOn (map (option_map (λ (v : FlatValue). Single v)) (varbin_rows f)) row
+go_on-by_views f row bit item fits within items both differ none = by_views f row bit item (flag_at f.validity (row - 1)) (flag_at f.validity row) fits within refl refl items both differ none

@@ -9,6 +9,7 @@ mod row_changes;
 mod row_ends;
 mod rows;
 mod run_ends;
+mod view_changes;
 
 pub use encode::{encode_flat, encode_runs};
 pub use least::least_ends;

@@ -6,6 +6,7 @@ ghost use Rattle.runend_encode.specs.Starts.{AreChangeBits, GoesOn};
 
 use crate::item_changes::{changed_bits, changed_numbers, changed_optionals};
 use crate::rows::FlatRows;
+use crate::view_changes::{changed_views, differing_rows};
 use column_core::{BoolArray, DecimalArray, PrimitiveArray, VarBinViewArray};
 use column_ops::ColumnOps;
 use std::alloc::Allocator;
@@ -50,9 +51,11 @@ impl<A: Allocator + Copy> RowChanges<A> for DecimalArray<A> {
 impl<A: Allocator + Copy> RowChanges<A> for VarBinViewArray<A> {
     #[inline(always)]
     fn change_word(&self, index: usize) -> u64 {
-        let count = self.row_count();
+        let stored = self.views();
         let start = index * 64;
-        tested_rows(self, start, start + (count - start).min(64))
+        let items = changed_views(stored, start);
+        let unlike = changed_optionals(self.validity(), index, items);
+        differing_rows(self, start, unlike)
     }
 }
 

@@ -68,12 +68,15 @@ fn are_all(first: bool, second: bool, third: bool) -> bool
     first & second & third
 }
 
-// Are the views at `left` and at `right` of the same bytes of the same buffer?
+/// Are the views at `left` and at `right` of the same bytes of the same buffer? Both are read whole, so that no branch
+/// is taken between their fields.
 #[inline(always)]
-fn are_same_views(views: &[View], left: usize, right: usize) -> bool
+pub(crate) fn are_same_views(views: &[View], left: usize, right: usize) -> bool
     requires left { left < length views.now }
     requires right { right < length views.now }
     ensures { IsTrue result ↔ (slice_get views.now left ≡ slice_get views.now right) }
 {
-    views[left] == views[right]
+    let before = views[left];
+    let here = views[right];
+    before == here
 }

@@ -1,0 +1,9 @@
+use Rattle.std.proofs.Common.{◌≡◌, ◌+◌, ◌-◌}
+use Rattle.runend_encode.specs.Starts.{AreChangeBits}
+use Rattle.runend_encode.proofs.view_changes.few_views.Given as goal
+
+abbrev pub invariant-loop-lane : goal.invariant-loop-lane
+invariant-loop-lane l = record {
+  before : l.before ≡ l.start + l.lane - 1;
+  bits : AreChangeBits l.views l.start (l.start + l.lane) l.word;
+}
