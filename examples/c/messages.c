@@ -56,15 +56,26 @@ static void make_columns(void) {
     hv_free(&ends);
 }
 
-/* The message of a column is these bytes; with room for one less there is none; what is read of it has these rows. */
+/* Is each of these bytes as FILL left it? */
+static bool is_filled(const uint8_t *bytes, size_t len) {
+    for (size_t at = 0; at < len; at++)
+        if (bytes[at] != 0xA5) return false;
+    return true;
+}
+
+/* The message of a column is these bytes, behind which nothing is written; with room for one less there is none, and
+ * nothing is written at all; what is read of it has these rows. */
 static void check_message(hv_column *column, const uint8_t *message, size_t len, const char *rows) {
     uint8_t written[LONGEST];
     size_t size;
     FILL(size);
     CHECK(!hv_write_size(column, &size, &error) && size == len);
-    FILL(size);
+    FILL(size), FILL(written);
     CHECK(!hv_write(column, written, len, &size, &error) && size == len && memcmp(written, message, len) == 0);
+    CHECK(is_filled(written + len, sizeof written - len));
+    FILL(written);
     CHECK_REFUSED(hv_write(column, written, len - 1, &size, &error), 11, len, len - 1, 0);
+    CHECK(is_filled(written, sizeof written));
     CHECK_ROWS(column, rows);
 
     hv_column read = HV_EMPTY;
@@ -162,7 +173,7 @@ static void check_lists(void) {
     hv_free(&elements), hv_free(&lists), hv_free(&read), hv_free(&part);
 }
 
-/* What `levels` more levels of runs over the column are written as: read again, or refused. */
+/* What `levels` more levels of runs over the column are written as: read again, or refused, and nothing is written. */
 static void check_levels(hv_column *column, int levels, int32_t answer) {
     const uint8_t last[1] = {1};
     uint8_t room[1024];
@@ -172,8 +183,10 @@ static void check_levels(hv_column *column, int levels, int32_t answer) {
     for (int level = 0; level < levels; level++)
         CHECK(!hv_runs(&ends, &over, 0, 1, &next, &error) && !hv_clone(&next, &over, &error));
     CHECK(hv_write_size(&over, &size, &error) == answer);
+    FILL(room);
     CHECK(hv_write(&over, room, sizeof room, &size, &error) == answer);
-    if (!answer) CHECK(!hv_read_column(room, size, &read, &error) && hv_length(&read) == 1);
+    if (answer) CHECK(is_filled(room, sizeof room));
+    else CHECK(!hv_read_column(room, size, &read, &error) && hv_length(&read) == 1);
     hv_free(&ends), hv_free(&over), hv_free(&next), hv_free(&read);
 }
 

@@ -308,12 +308,16 @@ static bool try_step(const step *it, long number, bool rest) {
     return was_refused;
 }
 
-/* Reads, and these questions over runs whose kernels are registered and whose values are no texts, take no memory. */
+/* Reads, messages that are measured or written, and these questions over runs whose kernels are registered and whose
+ * values are no texts, take no memory. */
 static bool takes_no_memory(const char *name) {
     static const char *const questions[] = {"sum", "is_constant", "is_sorted", "extreme", "min_max_numbers"};
+    static const char *const fronts[] = {"read_", "size_of_", "write_"};
     for (size_t i = 0; i < COUNT(questions); i++)
         if (strcmp(name, questions[i]) == 0) return true;
-    return strncmp(name, "read_", 5) == 0;
+    for (size_t i = 0; i < COUNT(fronts); i++)
+        if (strncmp(name, fronts[i], strlen(fronts[i])) == 0) return true;
+    return false;
 }
 
 int main(void) {

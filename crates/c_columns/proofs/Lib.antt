@@ -6,6 +6,7 @@ pub mod Endings
 pub mod Extremes
 pub mod FlatParts
 pub mod Forms
+pub mod Fronts
 pub mod Left
 mod ListsPassed
 pub mod LookUps

@@ -4,6 +4,7 @@ pub mod Builders
 pub mod Ending
 pub mod Flags
 pub mod Forms
+pub mod Front
 pub mod Handle
 pub mod InPlace
 pub mod Kinds

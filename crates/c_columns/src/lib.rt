@@ -10,6 +10,7 @@ pub mod commands;
 pub mod constants;
 pub mod error_fields;
 pub mod flat;
+mod front;
 pub mod handle;
 pub mod kinds;
 pub mod lists;

@@ -13,6 +13,7 @@ use crate::lists::put_lists;
 use crate::runs::{put_runs, read_runs};
 use crate::sizes::{message_size, size_within};
 use crate::texts::put_texts;
+use bytes::BufMut;
 use column_base::{VortexError, VortexResult};
 use column_fields::{read_header, read_run_fields};
 use runend_array::{ArrayRef, RunEndArraySlotsExt};
@@ -20,9 +21,6 @@ use std::alloc::Allocator;
 
 /// How many levels of runs a message has at most. Lists whose offsets, sizes or validity are in runs count as two.
 pub const MOST_LEVELS: usize = 16;
-
-// As many bytes of the last word of bits are written and cut again.
-const CUT: usize = 7;
 
 /// The message of a column, in memory of the allocator `alloc` that is taken once. Refused as `Unsupported` exactly
 /// where there are more than 16 levels of runs, else as `OutOfMemory` alone.
@@ -37,9 +35,26 @@ pub fn write_column<A: Allocator + Copy, B: Allocator + Copy>(
     ensures only { IfErr result IsUnsupportedOrMemory }
 {
     let size = message_size(array)?;
-    let mut out = Vec::with_capacity(alloc, size.saturating_add(CUT))?;
-    put_column(&mut out, array, MOST_LEVELS)?;
+    let mut out = Vec::with_capacity(alloc, size)?;
+    put_message(&mut out, array)?;
     Ok(out)
+}
+
+/// Writes the message of a column to the end of a buffer: a vector, or any other of the crate `bytes`. Takes no memory
+/// but what the buffer takes for these bytes. Refused as `Unsupported` exactly where there are more than 16 levels of
+/// runs, else as `OutOfMemory` alone, as where the buffer has no room; an `Err` may leave a part of the message at its
+/// end. `message_size` tells how much room that is.
+pub fn put_message<A: Allocator + Copy, W: BufMut>(
+    out: &mut W,
+    array: &ArrayRef<A>,
+) -> VortexResult<()>
+    ensures ok { OnOk result (W.written out.new ≡ W.written out.old ++ column_bytes (column_of array.now)) }
+    ensures deep { IsErrOf result VortexError.Unsupported → 16 < depth (column_of array.now) }
+    ensures refused { IsErrOf result VortexError.Unsupported → ¬ IsWritable 16 (column_of array.now) }
+    ensures writable { OnOk result (IsWritable 16 (column_of array.now)) }
+    ensures only { IfErr result IsUnsupportedOrMemory }
+{
+    put_column(out, array, MOST_LEVELS)
 }
 
 /// The column of which the bytes are the message. Refused as `BadMetadata` exactly where they are the message of no
@@ -53,12 +68,12 @@ pub fn read_column<A: Allocator + Copy>(alloc: A, bytes: &[u8]) -> VortexResult<
 }
 
 // Writes the message of a column with at most so many levels of runs at the end.
-fn put_column<A: Allocator + Copy, B: Allocator>(
-    out: &mut Vec<u8, B>,
+fn put_column<A: Allocator + Copy, W: BufMut>(
+    out: &mut W,
     array: &ArrayRef<A>,
     levels: usize,
 ) -> VortexResult<()>
-    ensures ok { OnOk result (out.new.items ≡ out.old.items ++ column_bytes (column_of array.now)) }
+    ensures ok { OnOk result (W.written out.new ≡ W.written out.old ++ column_bytes (column_of array.now)) }
     ensures writable { OnOk result (IsWritable levels (column_of array.now)) }
     ensures deep { IsErrOf result VortexError.Unsupported → levels < depth (column_of array.now) }
     ensures refused { IsErrOf result VortexError.Unsupported → ¬ IsWritable levels (column_of array.now) }

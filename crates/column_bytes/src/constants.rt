@@ -24,6 +24,7 @@ use crate::flat::DECIMALS;
 use crate::kinds::{kind_of_number, number_of_kind};
 use crate::list_constants::read_null_list;
 use crate::lists::LISTS;
+use bytes::BufMut;
 use column_base::{DType, Nullability, PType, Validity, VortexError, VortexResult};
 use column_core::{Scalar, ScalarValue, ScalarView};
 use column_fields::{
@@ -34,11 +35,11 @@ use runend_array::{ArrayRef, ConstantArray};
 use std::alloc::Allocator;
 
 /// Writes a constant at the end. Refused as `OutOfMemory` alone.
-pub(crate) fn put_constant<A: Allocator, B: Allocator>(
-    out: &mut Vec<u8, B>,
+pub(crate) fn put_constant<A: Allocator, W: BufMut>(
+    out: &mut W,
     array: &ConstantArray<A>,
 ) -> VortexResult<()>
-    ensures ok { OnOk result (out.new.items ≡ out.old.items ++ column_bytes (OfConstant array.now)) }
+    ensures ok { OnOk result (W.written out.new ≡ W.written out.old ++ column_bytes (OfConstant array.now)) }
     ensures stored { OnOk result (IsStoredConstant array.now) }
     ensures only { IsOkUnless result VortexError.OutOfMemory }
 {
@@ -57,8 +58,8 @@ pub(crate) fn put_constant<A: Allocator, B: Allocator>(
 }
 
 // Writes what its number does not tell of a type.
-fn put_type<B: Allocator>(out: &mut Vec<u8, B>, dtype: DType) -> VortexResult<()>
-    ensures ok { OnOk result (out.new.items ≡ out.old.items ++ type_fields dtype) }
+fn put_type<W: BufMut>(out: &mut W, dtype: DType) -> VortexResult<()>
+    ensures ok { OnOk result (W.written out.new ≡ W.written out.old ++ type_fields dtype) }
     ensures stored { OnOk result (IsStoredType dtype) }
     ensures only { IsOkUnless result VortexError.OutOfMemory }
 {
@@ -70,11 +71,8 @@ fn put_type<B: Allocator>(out: &mut Vec<u8, B>, dtype: DType) -> VortexResult<()
 }
 
 // Writes what the message of a constant says of its value.
-fn put_scalar<A: Allocator, B: Allocator>(
-    out: &mut Vec<u8, B>,
-    scalar: &Scalar<A>,
-) -> VortexResult<()>
-    ensures ok { OnOk result (out.new.items ≡ out.old.items ++ value_fields scalar.now.dtype scalar.now.value) }
+fn put_scalar<A: Allocator, W: BufMut>(out: &mut W, scalar: &Scalar<A>) -> VortexResult<()>
+    ensures ok { OnOk result (W.written out.new ≡ W.written out.old ++ value_fields scalar.now.dtype scalar.now.value) }
     ensures typed { IsRowOf scalar.now.dtype (option_map Single scalar.now.value) }
     ensures only { IsOkUnless result VortexError.OutOfMemory }
 {
@@ -92,8 +90,8 @@ fn put_scalar<A: Allocator, B: Allocator>(
 }
 
 // Writes that the value is null.
-fn put_null<B: Allocator>(out: &mut Vec<u8, B>) -> VortexResult<()>
-    ensures ok { OnOk result (out.new.items ≡ out.old.items ++ flat_fields AllNull []) }
+fn put_null<W: BufMut>(out: &mut W) -> VortexResult<()>
+    ensures ok { OnOk result (W.written out.new ≡ W.written out.old ++ flat_fields AllNull []) }
     ensures only { IsOkUnless result VortexError.OutOfMemory }
 {
     put_number(out, 5, 3)?;
@@ -102,12 +100,9 @@ fn put_null<B: Allocator>(out: &mut Vec<u8, B>) -> VortexResult<()>
 }
 
 // Writes that there is a value, and its bytes.
-fn put_some<B: Allocator>(
-    out: &mut Vec<u8, B>,
-    nullability: Nullability,
-    bytes: &[u8],
-) -> VortexResult<()>
-    ensures ok { OnOk result (out.new.items ≡ out.old.items ++ flat_fields (some_validity nullability) bytes.now) }
+fn put_some<W: BufMut>(out: &mut W, nullability: Nullability, bytes: &[u8]) -> VortexResult<()>
+    ensures ok { OnOk result (W.written out.new ≡ W.written out.old ++
+        flat_fields (some_validity nullability) bytes.now) }
     ensures only { IsOkUnless result VortexError.OutOfMemory }
 {
     put_told(out, nullability)?;
@@ -116,12 +111,8 @@ fn put_some<B: Allocator>(
 }
 
 // The same of a boolean.
-fn put_truth<B: Allocator>(
-    out: &mut Vec<u8, B>,
-    nullability: Nullability,
-    truth: bool,
-) -> VortexResult<()>
-    ensures ok { OnOk result (out.new.items ≡ out.old.items ++
+fn put_truth<W: BufMut>(out: &mut W, nullability: Nullability, truth: bool) -> VortexResult<()>
+    ensures ok { OnOk result (W.written out.new ≡ W.written out.old ++
         flat_fields (some_validity nullability) (one_if truth ∷ [])) }
     ensures only { IsOkUnless result VortexError.OutOfMemory }
 {
@@ -131,12 +122,8 @@ fn put_truth<B: Allocator>(
 }
 
 // The same of a decimal.
-fn put_number_of<B: Allocator>(
-    out: &mut Vec<u8, B>,
-    nullability: Nullability,
-    number: i128,
-) -> VortexResult<()>
-    ensures ok { OnOk result (out.new.items ≡ out.old.items ++
+fn put_number_of<W: BufMut>(out: &mut W, nullability: Nullability, number: i128) -> VortexResult<()>
+    ensures ok { OnOk result (W.written out.new ≡ W.written out.old ++
         flat_fields (some_validity nullability) (decimal_bytes number)) }
     ensures only { IsOkUnless result VortexError.OutOfMemory }
 {
@@ -147,9 +134,9 @@ fn put_number_of<B: Allocator>(
 }
 
 // The same of a number, where the type is one of numbers.
-fn put_whole<B: Allocator>(out: &mut Vec<u8, B>, dtype: DType, number: i128) -> VortexResult<()>
+fn put_whole<W: BufMut>(out: &mut W, dtype: DType, number: i128) -> VortexResult<()>
     requires { IsNumberIn dtype number }
-    ensures ok { OnOk result (out.new.items ≡ out.old.items ++
+    ensures ok { OnOk result (W.written out.new ≡ W.written out.old ++
         flat_fields (some_validity (nullability_of dtype)) (some_bytes dtype (Number number))) }
     ensures only { IsOkUnless result VortexError.OutOfMemory }
 {
@@ -166,8 +153,8 @@ fn put_whole<B: Allocator>(out: &mut Vec<u8, B>, dtype: DType, number: i128) -> 
 
 // Writes that there is a value.
 #[tactic(auto, unfolding(column_fields::specs::Validity::validity_field))]
-fn put_told<B: Allocator>(out: &mut Vec<u8, B>, nullability: Nullability) -> VortexResult<()>
-    ensures ok { OnOk result (out.new.items ≡ out.old.items ++ validity_field (some_validity nullability)) }
+fn put_told<W: BufMut>(out: &mut W, nullability: Nullability) -> VortexResult<()>
+    ensures ok { OnOk result (W.written out.new ≡ W.written out.old ++ validity_field (some_validity nullability)) }
     ensures only { IsOkUnless result VortexError.OutOfMemory }
 {
     match nullability {

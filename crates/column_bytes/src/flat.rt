@@ -9,6 +9,7 @@ ghost use Rattle.column_bytes.specs.Stored.{AreNumbers, AreTruths, AreDecimals};
 ghost use Rattle.column_bytes.specs.Read.{IsBody, IsNoBody, AreNumbersOf, AreNoNumbersOf, AreTruthsOf, AreNoTruthsOf, AreDecimalsOf, AreNoDecimalsOf};
 
 use crate::texts::read_texts;
+use bytes::BufMut;
 use column_base::{PType, VortexError, VortexResult};
 use column_core::{BoolArray, DecimalArray, PrimitiveArray, VarBinKind};
 use column_fields::{
@@ -32,11 +33,11 @@ const TEXTS: u64 = 11;
 const BYTES: u64 = 12;
 
 /// Writes a flat column of integers at the end. Refused as `OutOfMemory` alone.
-pub(crate) fn put_numbers<A: Allocator, B: Allocator>(
-    out: &mut Vec<u8, B>,
+pub(crate) fn put_numbers<A: Allocator, W: BufMut>(
+    out: &mut W,
     array: &PrimitiveArray<A>,
 ) -> VortexResult<()>
-    ensures ok { OnOk result (out.new.items ≡ out.old.items ++ column_bytes (OfLeaf (OfNumbers array.now))) }
+    ensures ok { OnOk result (W.written out.new ≡ W.written out.old ++ column_bytes (OfLeaf (OfNumbers array.now))) }
     ensures stored { OnOk result (AreNumbers array.now) }
     ensures only { IsOkUnless result VortexError.OutOfMemory }
 {
@@ -62,11 +63,11 @@ pub(crate) fn put_numbers<A: Allocator, B: Allocator>(
 }
 
 /// Writes a flat column of booleans at the end. Refused as `OutOfMemory` alone.
-pub(crate) fn put_truths<A: Allocator, B: Allocator>(
-    out: &mut Vec<u8, B>,
+pub(crate) fn put_truths<A: Allocator, W: BufMut>(
+    out: &mut W,
     array: &BoolArray<A>,
 ) -> VortexResult<()>
-    ensures ok { OnOk result (out.new.items ≡ out.old.items ++ column_bytes (OfLeaf (OfTruths array.now))) }
+    ensures ok { OnOk result (W.written out.new ≡ W.written out.old ++ column_bytes (OfLeaf (OfTruths array.now))) }
     ensures stored { OnOk result (AreTruths array.now) }
     ensures only { IsOkUnless result VortexError.OutOfMemory }
 {
@@ -86,11 +87,11 @@ pub(crate) fn put_truths<A: Allocator, B: Allocator>(
 }
 
 /// Writes a flat column of decimals at the end. Refused as `OutOfMemory` alone.
-pub(crate) fn put_decimal_rows<A: Allocator, B: Allocator>(
-    out: &mut Vec<u8, B>,
+pub(crate) fn put_decimal_rows<A: Allocator, W: BufMut>(
+    out: &mut W,
     array: &DecimalArray<A>,
 ) -> VortexResult<()>
-    ensures ok { OnOk result (out.new.items ≡ out.old.items ++ column_bytes (OfLeaf (OfDecimals array.now))) }
+    ensures ok { OnOk result (W.written out.new ≡ W.written out.old ++ column_bytes (OfLeaf (OfDecimals array.now))) }
     ensures stored { OnOk result (AreDecimals array.now) }
     ensures only { IsOkUnless result VortexError.OutOfMemory }
 {

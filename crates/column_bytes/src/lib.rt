@@ -19,6 +19,6 @@ mod runs;
 mod sizes;
 mod texts;
 
-pub use column::{MOST_LEVELS, read_column, write_column};
+pub use column::{MOST_LEVELS, put_message, read_column, write_column};
 pub use column_base::{VortexError, VortexResult};
 pub use sizes::message_size;

@@ -14,6 +14,7 @@ use crate::flat::{put_decimal_rows, put_numbers, put_truths};
 use crate::list_sizes::{elements_size, flat_runs_size, index_size, run_values_size};
 use crate::runs::put_runs;
 use crate::texts::put_texts;
+use bytes::BufMut;
 use column_base::{VortexError, VortexResult};
 use column_core::FlatColumn;
 use column_fields::{Header, put_bit_validity, put_bytes_key, put_header, put_number};
@@ -25,12 +26,12 @@ pub(crate) const LISTS: u64 = 13;
 
 /// Writes a column of lists at the end. Refused as `Unsupported` exactly where its offsets, its sizes or its validity
 /// are in runs and fewer than two levels are left, else as `OutOfMemory` alone.
-pub(crate) fn put_lists<A: Allocator + Copy, B: Allocator>(
-    out: &mut Vec<u8, B>,
+pub(crate) fn put_lists<A: Allocator + Copy, W: BufMut>(
+    out: &mut W,
     lists: &ListViewArray<A>,
     levels: usize,
 ) -> VortexResult<()>
-    ensures ok { OnOk result (out.new.items ≡ out.old.items ++ column_bytes (OfLists lists.now)) }
+    ensures ok { OnOk result (W.written out.new ≡ W.written out.old ++ column_bytes (OfLists lists.now)) }
     ensures writable { OnOk result (IsWritable levels (OfLists lists.now)) }
     ensures deep { IsErrOf result VortexError.Unsupported → levels < lists_depth lists.now }
     ensures refused { IsErrOf result VortexError.Unsupported → ¬ IsWritable levels (OfLists lists.now) }
@@ -78,12 +79,12 @@ fn is_in_runs<A: Allocator>(array: &ArrayRef<A>) -> bool
 
 // Writes the fields that tell which lists are valid.
 #[tactic(auto, unfolding(column_fields::specs::Validity::validity_field))]
-fn put_row_validity<A: Allocator + Copy, B: Allocator>(
-    out: &mut Vec<u8, B>,
+fn put_row_validity<A: Allocator + Copy, W: BufMut>(
+    out: &mut W,
     validity: &RowValidity<A>,
 ) -> VortexResult<()>
     requires { IsRowValidity validity.now }
-    ensures ok { OnOk result (out.new.items ≡ out.old.items ++ row_validity_field (validity_of validity.now)) }
+    ensures ok { OnOk result (W.written out.new ≡ W.written out.old ++ row_validity_field (validity_of validity.now)) }
     ensures stored { OnOk result (IsStoredValidity (validity_of validity.now)) }
     ensures only { IsOkUnless result VortexError.OutOfMemory }
 {
@@ -97,12 +98,12 @@ fn put_row_validity<A: Allocator + Copy, B: Allocator>(
 }
 
 // Writes that runs of booleans tell the validity, and their message.
-fn put_run_validity<A: Allocator + Copy, B: Allocator>(
-    out: &mut Vec<u8, B>,
+fn put_run_validity<A: Allocator + Copy, W: BufMut>(
+    out: &mut W,
     runs: &RunEndArray<A>,
 ) -> VortexResult<()>
     requires { IsPlainTruths runs.now.values }
-    ensures ok { OnOk result (out.new.items ≡ out.old.items ++ row_validity_field (runs_validity runs.now)) }
+    ensures ok { OnOk result (W.written out.new ≡ W.written out.old ++ row_validity_field (runs_validity runs.now)) }
     ensures stored { OnOk result (IsStoredValidity (runs_validity runs.now)) }
     ensures only { IsOkUnless result VortexError.OutOfMemory }
 {
@@ -114,11 +115,11 @@ fn put_run_validity<A: Allocator + Copy, B: Allocator>(
 }
 
 // Writes elements, offsets and sizes, each as a message of its own.
-fn put_parts<A: Allocator + Copy, B: Allocator>(
-    out: &mut Vec<u8, B>,
+fn put_parts<A: Allocator + Copy, W: BufMut>(
+    out: &mut W,
     lists: &ListViewArray<A>,
 ) -> VortexResult<()>
-    ensures ok { OnOk result (out.new.items ≡ out.old.items ++ list_fields (leaf_message lists.now.elements)
+    ensures ok { OnOk result (W.written out.new ≡ W.written out.old ++ list_fields (leaf_message lists.now.elements)
         (index_message lists.now.offsets) (index_message lists.now.sizes)) }
     ensures elements { OnOk result (IsStoredLeaf lists.now.elements) }
     ensures offsets { OnOk result (IsStoredIndex lists.now.offsets) }
@@ -134,11 +135,8 @@ fn put_parts<A: Allocator + Copy, B: Allocator>(
 }
 
 // Writes the message of the elements at the end.
-fn put_elements<A: Allocator, B: Allocator>(
-    out: &mut Vec<u8, B>,
-    column: &FlatColumn<A>,
-) -> VortexResult<()>
-    ensures ok { OnOk result (out.new.items ≡ out.old.items ++ column_bytes (OfLeaf (leaf_of column.now))) }
+fn put_elements<A: Allocator, W: BufMut>(out: &mut W, column: &FlatColumn<A>) -> VortexResult<()>
+    ensures ok { OnOk result (W.written out.new ≡ W.written out.old ++ column_bytes (OfLeaf (leaf_of column.now))) }
     ensures stored { OnOk result (IsStoredLeaf (leaf_of column.now)) }
     ensures only { IsOkUnless result VortexError.OutOfMemory }
 {
@@ -151,14 +149,15 @@ fn put_elements<A: Allocator, B: Allocator>(
 }
 
 // Writes the field of the message of offsets or of sizes at the end.
-fn put_index_field<A: Allocator + Copy, B: Allocator>(
-    out: &mut Vec<u8, B>,
+fn put_index_field<A: Allocator + Copy, W: BufMut>(
+    out: &mut W,
     field: u64,
     index: &ArrayRef<A>,
 ) -> VortexResult<()>
     requires field { field < 32 }
     requires index { IsIndex (column_of index.now) }
-    ensures ok { OnOk result (out.new.items ≡ out.old.items ++ bytes_field field (column_bytes (column_of index.now))) }
+    ensures ok { OnOk result (W.written out.new ≡ W.written out.old ++
+        bytes_field field (column_bytes (column_of index.now))) }
     ensures stored { OnOk result (IsStored (column_of index.now)) }
     ensures only { IsOkUnless result VortexError.OutOfMemory }
 {
@@ -169,12 +168,9 @@ fn put_index_field<A: Allocator + Copy, B: Allocator>(
 }
 
 // Writes the message of offsets or of sizes at the end.
-fn put_index<A: Allocator + Copy, B: Allocator>(
-    out: &mut Vec<u8, B>,
-    index: &ArrayRef<A>,
-) -> VortexResult<()>
+fn put_index<A: Allocator + Copy, W: BufMut>(out: &mut W, index: &ArrayRef<A>) -> VortexResult<()>
     requires { IsIndex (column_of index.now) }
-    ensures ok { OnOk result (out.new.items ≡ out.old.items ++ column_bytes (column_of index.now)) }
+    ensures ok { OnOk result (W.written out.new ≡ W.written out.old ++ column_bytes (column_of index.now)) }
     ensures only { IsOkUnless result VortexError.OutOfMemory }
 {
     match index {
@@ -185,12 +181,12 @@ fn put_index<A: Allocator + Copy, B: Allocator>(
 }
 
 // Writes the message of runs over flat integers or booleans at the end.
-fn put_flat_runs<A: Allocator + Copy, B: Allocator>(
-    out: &mut Vec<u8, B>,
+fn put_flat_runs<A: Allocator + Copy, W: BufMut>(
+    out: &mut W,
     runs: &RunEndArray<A>,
 ) -> VortexResult<()>
     requires { IsPlainIndex runs.now.values ⊎ IsPlainTruths runs.now.values }
-    ensures ok { OnOk result (out.new.items ≡ out.old.items ++ column_bytes (column_of_runs runs.now)) }
+    ensures ok { OnOk result (W.written out.new ≡ W.written out.old ++ column_bytes (column_of_runs runs.now)) }
     ensures only { IsOkUnless result VortexError.OutOfMemory }
 {
     let values = run_values_size(runs.values())?;
@@ -200,12 +196,12 @@ fn put_flat_runs<A: Allocator + Copy, B: Allocator>(
 }
 
 // Writes the message of flat integers or booleans, which are values of runs, at the end.
-fn put_run_values<A: Allocator + Copy, B: Allocator>(
-    out: &mut Vec<u8, B>,
+fn put_run_values<A: Allocator + Copy, W: BufMut>(
+    out: &mut W,
     values: &ArrayRef<A>,
 ) -> VortexResult<()>
     requires { IsPlainIndex (column_of values.now) ⊎ IsPlainTruths (column_of values.now) }
-    ensures ok { OnOk result (out.new.items ≡ out.old.items ++ column_bytes (column_of values.now)) }
+    ensures ok { OnOk result (W.written out.new ≡ W.written out.old ++ column_bytes (column_of values.now)) }
     ensures only { IsOkUnless result VortexError.OutOfMemory }
 {
     match values {

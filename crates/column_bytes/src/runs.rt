@@ -12,6 +12,7 @@ ghost use Rattle.column_bytes.specs.Bytes.{column_bytes, kind_number};
 ghost use Rattle.column_bytes.specs.Read.{AreRunsOf, AreNoRunsOf, IsEndsColumn};
 
 use crate::kinds::number_of_kind;
+use bytes::BufMut;
 use column_base::{PType, Validity, VortexError, VortexResult};
 use column_core::PrimitiveArray;
 use column_fields::{
@@ -24,14 +25,14 @@ use std::alloc::Allocator;
 
 /// Writes a run column at the end, but for the message of its values, which is to stand behind it and has so many
 /// bytes. Refused as `OutOfMemory` alone.
-pub(crate) fn put_runs<A: Allocator + Copy, B: Allocator>(
-    out: &mut Vec<u8, B>,
+pub(crate) fn put_runs<A: Allocator + Copy, W: BufMut>(
+    out: &mut W,
     runs: &RunEndArray<A>,
     values: usize,
 ) -> VortexResult<()>
     requires { values ≡ length (column_bytes runs.now.values) }
-    ensures ok { OnOk result (out.new.items ++ column_bytes runs.now.values ≡
-        out.old.items ++ column_bytes (column_of_runs runs.now)) }
+    ensures ok { OnOk result (W.written out.new ++ column_bytes runs.now.values ≡
+        W.written out.old ++ column_bytes (column_of_runs runs.now)) }
     ensures fit { OnOk result (AreEndsOf runs.now.ends_type runs.now.ends) }
     ensures runs { AreRuns runs.now }
     ensures only { IsOkUnless result VortexError.OutOfMemory }

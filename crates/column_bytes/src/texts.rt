@@ -9,6 +9,7 @@ ghost use Rattle.column_bytes.specs.Bytes.{column_bytes, varbin_number};
 ghost use Rattle.column_bytes.specs.Read.{IsBody, IsNoBody};
 
 use crate::kinds::number_of_kind;
+use bytes::BufMut;
 use column_base::{VortexError, VortexResult};
 use column_core::{VarBinKind, VarBinViewArray};
 use column_fields::{Header, put_header};
@@ -17,11 +18,11 @@ use std::alloc::Allocator;
 use text_fields::{put_text_fields, read_text_fields};
 
 /// Writes a flat column of texts or of bytes at the end. Refused as `OutOfMemory` alone.
-pub(crate) fn put_texts<A: Allocator, B: Allocator>(
-    out: &mut Vec<u8, B>,
+pub(crate) fn put_texts<A: Allocator, W: BufMut>(
+    out: &mut W,
     array: &VarBinViewArray<A>,
 ) -> VortexResult<()>
-    ensures ok { OnOk result (out.new.items ≡ out.old.items ++ column_bytes (OfLeaf (OfVarBins array.now))) }
+    ensures ok { OnOk result (W.written out.new ≡ W.written out.old ++ column_bytes (OfLeaf (OfVarBins array.now))) }
     ensures stored { OnOk result (AreTexts array.now) }
     ensures only { IsOkUnless result VortexError.OutOfMemory }
 {

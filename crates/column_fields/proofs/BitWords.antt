@@ -3,7 +3,7 @@ use Rattle.std.proofs.Common.{◌≡◌, ◌≢◌, ℕ, zero, suc, ◌+◌, ◌
 use Rattle.std.specs.Int.{w64, bit_at, to_le_bytes}
 use Rattle.std.specs.List.{flat_map}
 use Rattle.std.proofs.lemmas.Bool.{cases_lt, cases_eq}
-use Rattle.std.proofs.lemmas.List.{append-nil, length-append, length-take, get_or_append_left, get_or-append_right, get_or_past, get_or-take}
+use Rattle.std.proofs.lemmas.List.{append-nil, length-append, length-take, nil_from_length, get_or_append_left, get_or-append_right, get_or_past, get_or-take}
 use Rattle.std.proofs.lemmas.List.Concat.{flat_map-append}
 use Rattle.std.proofs.Math.Seq.{take-append-add}
 use Rattle.std.proofs.lemmas.Nat.{shr-shr, mod_below, pow_pos}
@@ -14,7 +14,7 @@ use Rattle.column_base.proofs.WordDigits.{first_bits_packed, one_if_past}
 use Rattle.column_base.proofs.WordBits.{bits_of_digits}
 use Rattle.column_fields.specs.BitBytes.{bit_bytes, bits_of, bits_from, words_bytes, IsPadded, HasNoBits}
 use Rattle.column_fields.proofs.FieldLaws.{cut}
-use Rattle.column_fields.proofs.BitReading.{length-bits_of, length-bits_from, padded_shows, padded_bits}
+use Rattle.column_fields.proofs.BitReading.{length-bits_of, length-bits_from, length-bit_bytes, padded_shows, padded_bits}
 
 -- bit i of the bytes as a number, where bit j of byte k is bit 8 * k + j
 byte_digit : List ℕ → ℕ → ℕ
@@ -268,11 +268,20 @@ word_bits count words bits packs len =
     ]) in
     sym (padded_shows count bytes long (padded_if count bytes long small last)) ∙ ap bit_bytes is
 
--- what is cut behind the bytes
-pub put_done : (old out new words : List ℕ) (bits : List Bool) (start count : ℕ) → Packs words bits → count ≡ (length bits + 7) / 8 → start ≡ length old → out ≡ old ++ words_bytes words → new ≡ take (start + count) out → new ≡ old ++ bit_bytes bits
-put_done old out new words bits start count packs c s o n =
-    let all : take (start + count) out ≡ old ++ take count (words_bytes words) = ap (take (start + count)) o ∙ ap (λ (m : ℕ). take (m + count) (old ++ words_bytes words)) s ∙ take-append-add old (words_bytes words) count in
-    n ∙ all ∙ ap (λ (k : ℕ). old ++ take k (words_bytes words)) c ∙ ap (λ (b : List ℕ). old ++ b) (word_bits (length bits) words bits packs refl)
+-- all words but the last, and the first bytes of the last
+pub put_done : (old out new words whole bytes : List ℕ) (last left : ℕ) (bits : List Bool) → Packs words bits → words ≡ whole ++ last ∷ [] → bytes ≡ to_le_bytes w64 last → left ≡ (length bits + 7) / 8 - length whole * 8 → out ≡ old ++ words_bytes whole → new ≡ out ++ take left bytes → new ≡ old ++ bit_bytes bits
+put_done old out new words whole bytes last left bits packs w b l o n =
+    let k = (length bits + 7) / 8 in
+    let count : k ≡ length (words_bytes whole) + left = omega (arith, packs.least, ap length w, length-append whole (last ∷ []), length-words_bytes whole, l) in
+    let all : words_bytes words ≡ words_bytes whole ++ bytes = ap words_bytes w ∙ words_more whole last ∙ ap (λ (x : List ℕ). words_bytes whole ++ x) (sym b) in
+    let first : take k (words_bytes words) ≡ words_bytes whole ++ take left bytes = ap (take k) all ∙ ap (λ (m : ℕ). take m (words_bytes whole ++ bytes)) count ∙ take-append-add (words_bytes whole) bytes left in
+    n ∙ ap (λ (x : List ℕ). x ++ take left bytes) o ∙ append_assoc old (words_bytes whole) (take left bytes) ∙ ap (λ (x : List ℕ). old ++ x) (sym first ∙ word_bits (length bits) words bits packs refl)
+
+-- where there are no words there are no bits
+pub put_none : (old words : List ℕ) (bits : List Bool) → Packs words bits → length words ≡ 0 → old ≡ old ++ bit_bytes bits
+put_none old words bits packs none =
+    let empty : bit_bytes bits ≡ [] = nil_from_length (bit_bytes bits) (omega (arith, length-bit_bytes bits, packs.least, none)) in
+    sym (append-nil old) ∙ ap (λ (b : List ℕ). old ++ b) (sym empty)
 
 -- ---- words that are read
 

@@ -1,5 +1,5 @@
 -- Run lengths are read as they are written, and in no other way.
-use Rattle.std.proofs.Common.{◌≡◌, ℕ, ◌+◌, ◌-◌, ◌^◌, ◌<◌, ◌≤◌, Bool, true, false, List, [], ◌∷◌, ◌++◌, length, get_or, pos, refl, sym, ap, subst, ◌∙◌, arith, append_assoc}
+use Rattle.std.proofs.Common.{◌≡◌, ℕ, ◌+◌, ◌-◌, ◌^◌, ◌<◌, ◌≤◌, Bool, true, false, List, [], ◌∷◌, ◌++◌, length, get_or, map, pos, refl, sym, ap, subst, ◌∙◌, arith, append_assoc}
 use Rattle.std.proofs.lemmas.List.{append-nil, length-append, get_or-append_right}
 use Rattle.std.proofs.lemmas.List.Elements.{All-get_or}
 use Rattle.varints.specs.Varint.{varint, BeginsWithNoShortest}
@@ -7,6 +7,7 @@ use Rattle.column_base.specs.declared.dtype.PType.{PType}
 use Rattle.column_base.specs.Types.{HasNumber}
 use Rattle.column_fields.specs.Lengths.{lengths_bytes, Rises, HasNoEndsOf}
 use Rattle.varints.proofs.Forms.{varint_same, varint_some}
+use Rattle.column_fields.proofs.EightLaws.{eight_of}
 use Rattle.column_fields.proofs.LengthLaws.{lengths_cons, lengths_none}
 
 -- the ends that are read, and what they have to do with the rest
@@ -18,11 +19,11 @@ pub record Progress (bytes rest : List ℕ) (first : Bool) (start : ℕ) (read :
 pub started : (bytes read : List ℕ) → read ≡ [] → Progress bytes bytes true 0 read
 started bytes read none = rw none (record { onward = λ tail e. e; rises = λ tail h. h; only = λ all h e. (all, refl, h, e) })
 
-rises_none : (first : Bool) (start : ℕ) → Rises first start []
+pub rises_none : (first : Bool) (start : ℕ) → Rises first start []
 unfolding Rises
 rises_none first start = tt
 
-rises_cons : (first : Bool) (start end : ℕ) (tail : List ℕ) → start ≤ end → end < 2 ^ 64 → (first ≡ false → start < end) → Rises false end tail → Rises first start (end ∷ tail)
+pub rises_cons : (first : Bool) (start end : ℕ) (tail : List ℕ) → start ≤ end → end < 2 ^ 64 → (first ≡ false → start < end) → Rises false end tail → Rises first start (end ∷ tail)
 unfolding Rises
 rises_cons first start end tail a b c d = (a, b, c, d)
 
@@ -64,6 +65,31 @@ one_more bytes rest after first start len end read new h small r some is fits n 
       let e-is : x.end ≡ end = x.end-is ∙ sym is in
       (x.others, o.1 ∙ ap (λ (t : List ℕ). read ++ t) (x.is ∙ ap (λ (k : ℕ). k ∷ x.others) e-is) ∙ sym (append_assoc read (end ∷ []) x.others), subst (λ (k : ℕ). Rises false k x.others) e-is x.parts.rest, subst (λ (k : ℕ). after ≡ lengths_bytes k x.others) e-is x.rest);
 })
+
+-- ends that rise, one after another
+more_from : (bytes rest after : List ℕ) (first : Bool) (start end : ℕ) (ends read : List ℕ) → Progress bytes rest first start read → rest ≡ lengths_bytes start (end ∷ ends) ++ after → Rises false start (end ∷ ends) → Progress bytes after false (get_or (end ∷ ends) (length ends) 0) (read ++ end ∷ ends)
+more_from bytes rest after first start end [] read h r k =
+    let p = rises_parts false start end [] k in
+    let lt : start < end = p.later refl in
+    let here : rest ≡ varint (end - start) ++ after = r ∙ ap (λ (t : List ℕ). t ++ after) (lengths_cons start end [] ∙ ap (λ (t : List ℕ). varint (end - start) ++ t) (lengths_none end) ∙ append-nil (varint (end - start))) in
+    one_more bytes rest after first start (end - start) end read (read ++ end ∷ []) h (omega (arith, p.small)) here (λ _. omega (arith, lt)) (omega (arith, lt)) p.small refl
+more_from bytes rest after first start end (next ∷ ends) read h r k =
+    let p = rises_parts false start end (next ∷ ends) k in
+    let lt : start < end = p.later refl in
+    let mid : List ℕ = lengths_bytes end (next ∷ ends) ++ after in
+    let here : rest ≡ varint (end - start) ++ mid = r ∙ ap (λ (t : List ℕ). t ++ after) (lengths_cons start end (next ∷ ends)) ∙ append_assoc (varint (end - start)) (lengths_bytes end (next ∷ ends)) after in
+    let step = one_more bytes rest mid first start (end - start) end read (read ++ end ∷ []) h (omega (arith, p.small)) here (λ _. omega (arith, lt)) (omega (arith, lt)) p.small refl in
+    subst (λ (t : List ℕ). Progress bytes after false (get_or (next ∷ ends) (length ends) 0) t) (append_assoc read (end ∷ []) (next ∷ ends)) (more_from bytes mid after false end next ends (read ++ end ∷ []) step refl p.rest)
+
+-- eight ends at once
+pub eight_more : (bytes rest after : List ℕ) (first : Bool) (start end : ℕ) (ends read new : List ℕ) → Progress bytes rest first start read → rest ≡ lengths_bytes start ends ++ after → Rises false start ends → length ends ≡ 8 → end ≡ get_or ends 7 0 → new ≡ read ++ ends → Progress bytes after false end new
+eight_more bytes rest after first start end ends read new h r k len last put =
+    let e = eight_of 0 ends len in
+    let all = more_from bytes rest after first start (get_or ends 0 0) (get_or ends 1 0 ∷ get_or ends 2 0 ∷ get_or ends 3 0 ∷ get_or ends 4 0 ∷ get_or ends 5 0 ∷ get_or ends 6 0 ∷ get_or ends 7 0 ∷ []) read h (r ∙ ap (λ (t : List ℕ). lengths_bytes start t ++ after) e) (subst (λ (t : List ℕ). Rises false start t) e k) in
+    subst (λ (t : List ℕ). Progress bytes after false end t) (sym (put ∙ ap (λ (t : List ℕ). read ++ t) e)) (subst (λ (n : ℕ). Progress bytes after false n (read ++ (get_or ends 0 0 ∷ get_or ends 1 0 ∷ get_or ends 2 0 ∷ get_or ends 3 0 ∷ get_or ends 4 0 ∷ get_or ends 5 0 ∷ get_or ends 6 0 ∷ get_or ends 7 0 ∷ []))) (sym last) all)
+
+pub last_end : {X : Type 0} (f : X → ℕ) (d : X) (xs : List X) → length xs ≡ 8 → get_or (map f xs) 7 0 ≡ f (get_or xs 7 d)
+last_end f d xs len = ap (λ ys. get_or (map f ys) 7 0) (eight_of d xs len)
 
 pub all_read : (bytes rest : List ℕ) (first : Bool) (start : ℕ) (read : List ℕ) → Progress bytes rest first start read → rest ≡ [] → (bytes ≡ lengths_bytes 0 read) × Rises true 0 read
 all_read bytes rest first start read h none =

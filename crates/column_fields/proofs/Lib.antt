@@ -12,6 +12,9 @@ pub mod Refusals
 pub mod ValidityLaws
 pub mod LengthLaws
 pub mod LengthBytes
+pub mod OneByteLaws
+pub mod ShortLaws
+pub mod ShortVarintLaws
 pub mod EndReading
 pub mod HeaderLaws
 pub mod FlatFieldLaws

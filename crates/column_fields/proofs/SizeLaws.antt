@@ -1,13 +1,11 @@
 -- How many bytes varints and fields have.
-use Rattle.std.proofs.Common.{◌≡◌, ℕ, ℤ, Bool, map, zero, suc, ◌+◌, ◌-◌, ◌*◌, ◌/◌, ◌%◌, ◌^◌, ◌<◌, ◌≤◌, ◌⊎◌, List, [], ◌∷◌, ◌++◌, length, refl, sym, ap, ◌∙◌, arith, inl, inr}
+use Rattle.std.proofs.Common.{◌≡◌, ℕ, ℤ, Bool, map, zero, suc, ◌+◌, ◌-◌, ◌*◌, ◌/◌, ◌^◌, ◌<◌, ◌≤◌, List, [], ◌∷◌, ◌++◌, length, refl, sym, ap, ◌∙◌, arith, inl, inr}
 use Rattle.std.proofs.lemmas.Bool.{cases_lt, le-ltb, lt-ltb}
 use Rattle.std.proofs.lemmas.List.{length-append}
 use Rattle.std.proofs.lemmas.Nat.{leading_length, pow-add, pow_pos}
 use Rattle.std.proofs.Math.Nat.{pow-le-pow_right}
 use Rattle.std.specs.Int.{w64, leading_zeros}
-use Rattle.varints.specs.Spelling.{FitsBehind}
-use Rattle.varints.specs.Varint.{IsShortestVarint, varint, varint_within}
-use Rattle.varints.proofs.Forms.{varint_is}
+use Rattle.varints.specs.Varint.{varint, varint_within}
 use Rattle.column_base.specs.declared.dtype.DecimalDType.{DecimalDType}
 use Rattle.column_base.specs.ValidityForm.{ByBits}
 use Rattle.column_fields.specs.BitBytes.{bit_bytes}
@@ -82,10 +80,6 @@ varint_bytes (suc n) ahead lt z =
     let h = leading_length 64 (suc n) lt in
     let top : 2 ^ h.0 ≤ 2 * suc n = even_bits h.0 (suc n) (omega arith) h.2 h.3 in
     omega (arith, within_size 9 h.0 (suc n) h.2 top (omega (arith, h.1)), some_bits h.0 (suc n) h.2 top, h.1)
-
--- where a varint has room
-pub fits_behind : (used capacity n : ℕ) → used + length (varint n) ≤ capacity → FitsBehind IsShortestVarint used capacity n
-fits_behind used capacity n room = record { fits = λ bytes h. omega (arith, ap length (varint_is bytes n h)) }
 
 -- ---- fields
 

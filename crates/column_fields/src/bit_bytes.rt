@@ -6,6 +6,7 @@ ghost use Rattle.column_fields.specs.Refusal.{IsBadOrMemory};
 
 use crate::decimals::load_word;
 use crate::numbers::put_all;
+use bytes::BufMut;
 use column_base::{BitBuffer, BitBufferMut, VortexError, VortexResult};
 use std::alloc::Allocator;
 
@@ -20,25 +21,24 @@ pub fn bytes_for(count: usize) -> usize
     }
 }
 
-/// Writes the bits at the end.
-pub fn put_bits<A: Allocator, B: Allocator>(
-    out: &mut Vec<u8, B>,
-    bits: &BitBuffer<A>,
-) -> VortexResult<()>
-    ensures ok { OnOk result (out.new.items ≡ out.old.items ++ bit_bytes bits.now) }
+/// Writes the bits at the end. Refused as `OutOfMemory` alone.
+pub fn put_bits<A: Allocator, W: BufMut>(out: &mut W, bits: &BitBuffer<A>) -> VortexResult<()>
+    ensures ok { OnOk result (W.written out.new ≡ W.written out.old ++ bit_bytes bits.now) }
     ensures only { IsOkUnless result VortexError.OutOfMemory }
 {
-    let start = out.len();
-    let count = bytes_for(bits.len());
-    put_words(out, bits.words())?;
-    // The last word has bytes above the last bit, all of them 0.
-    out.truncate(start + count);
+    let Some((last, whole)) = bits.words().split_last() else {
+        return Ok(());
+    };
+    put_words(out, whole)?;
+    // The last word may have bytes above the last bit, which are no part of the message.
+    let left = bytes_for(bits.len()) - whole.len() * 8;
+    out.put_slice(&last.to_le_bytes()[..left])?;
     Ok(())
 }
 
 // Writes words at the end.
-fn put_words<B: Allocator>(out: &mut Vec<u8, B>, words: &[u64]) -> VortexResult<()>
-    ensures ok { OnOk result (out.new.items ≡ out.old.items ++ words_bytes words.now) }
+fn put_words<W: BufMut>(out: &mut W, words: &[u64]) -> VortexResult<()>
+    ensures ok { OnOk result (W.written out.new ≡ W.written out.old ++ words_bytes words.now) }
     ensures only { IsOkUnless result VortexError.OutOfMemory }
 {
     put_all(out, words)

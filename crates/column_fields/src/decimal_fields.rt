@@ -8,15 +8,13 @@ ghost use Rattle.column_fields.specs.Refusal.{IsBadOrMemory};
 
 use crate::fields::{put_number, read_bytes, read_number};
 use crate::validity::read_validity;
+use bytes::BufMut;
 use column_base::{DecimalDType, Validity, VortexError, VortexResult};
 use std::alloc::Allocator;
 
 /// Writes the precision and the scale at the end. Refused as `OutOfMemory` alone.
-pub fn put_decimal_type<A: Allocator>(
-    out: &mut Vec<u8, A>,
-    decimal: DecimalDType,
-) -> VortexResult<()>
-    ensures ok { OnOk result (out.new.items ≡ out.old.items ++ decimal_type decimal) }
+pub fn put_decimal_type<W: BufMut>(out: &mut W, decimal: DecimalDType) -> VortexResult<()>
+    ensures ok { OnOk result (W.written out.new ≡ W.written out.old ++ decimal_type decimal) }
     ensures typed { IsDecimalType decimal }
     ensures only { IsOkUnless result VortexError.OutOfMemory }
 {

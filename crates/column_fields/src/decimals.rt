@@ -3,6 +3,7 @@ ghost use Rattle.std.specs.Prelude.{◌≡◌, ◌*◌, ◌++◌, length, All, O
 ghost use Rattle.std.specs.Int.{w64, w128, to_le_bytes};
 ghost use Rattle.column_fields.specs.DecimalBytes.{decimal_bytes, decimals_bytes};
 
+use bytes::BufMut;
 use column_base::{VortexError, VortexResult};
 use std::alloc::Allocator;
 
@@ -13,8 +14,8 @@ pub const DECIMAL_SIZE: usize = 16;
 const WORD: u128 = 1 << 64;
 
 /// Writes the integers of decimals at the end.
-pub fn put_decimals<A: Allocator>(out: &mut Vec<u8, A>, numbers: &[i128]) -> VortexResult<()>
-    ensures ok { OnOk result (out.new.items ≡ out.old.items ++ decimals_bytes numbers.now) }
+pub fn put_decimals<W: BufMut>(out: &mut W, numbers: &[i128]) -> VortexResult<()>
+    ensures ok { OnOk result (W.written out.new ≡ W.written out.old ++ decimals_bytes numbers.now) }
     ensures fits { OnOk result (All (λ n. FitsSigned w128 n) numbers.now) }
     ensures only { IsOkUnless result VortexError.OutOfMemory }
 {
@@ -29,9 +30,9 @@ pub fn put_decimals<A: Allocator>(out: &mut Vec<u8, A>, numbers: &[i128]) -> Vor
 }
 
 // Writes the integers of four decimals at the end, in one step.
-fn put_four<A: Allocator>(out: &mut Vec<u8, A>, numbers: &[i128]) -> VortexResult<()>
+fn put_four<W: BufMut>(out: &mut W, numbers: &[i128]) -> VortexResult<()>
     requires { length numbers.now ≡ 4 }
-    ensures ok { OnOk result (out.new.items ≡ out.old.items ++ decimals_bytes numbers.now) }
+    ensures ok { OnOk result (W.written out.new ≡ W.written out.old ++ decimals_bytes numbers.now) }
     ensures fits { All (λ n. FitsSigned w128 n) numbers.now }
     ensures only { IsOkUnless result VortexError.OutOfMemory }
 {
@@ -49,13 +50,13 @@ fn put_four<A: Allocator>(out: &mut Vec<u8, A>, numbers: &[i128]) -> VortexResul
         fourth_low.to_le_bytes(),
         fourth_high.to_le_bytes(),
     ];
-    out.extend_from_slice(bytes.as_flattened())?;
+    out.put_slice(bytes.as_flattened())?;
     Ok(())
 }
 
 // Writes the integers of decimals at the end, one by one.
-fn put_each<A: Allocator>(out: &mut Vec<u8, A>, numbers: &[i128]) -> VortexResult<()>
-    ensures ok { OnOk result (out.new.items ≡ out.old.items ++ decimals_bytes numbers.now) }
+fn put_each<W: BufMut>(out: &mut W, numbers: &[i128]) -> VortexResult<()>
+    ensures ok { OnOk result (W.written out.new ≡ W.written out.old ++ decimals_bytes numbers.now) }
     ensures fits { OnOk result (All (λ n. FitsSigned w128 n) numbers.now) }
     ensures only { IsOkUnless result VortexError.OutOfMemory }
 {
@@ -66,14 +67,14 @@ fn put_each<A: Allocator>(out: &mut Vec<u8, A>, numbers: &[i128]) -> VortexResul
 }
 
 /// Writes the integer of one decimal at the end.
-pub fn put_decimal<A: Allocator>(out: &mut Vec<u8, A>, number: i128) -> VortexResult<()>
-    ensures ok { OnOk result (out.new.items ≡ out.old.items ++ decimal_bytes number) }
+pub fn put_decimal<W: BufMut>(out: &mut W, number: i128) -> VortexResult<()>
+    ensures ok { OnOk result (W.written out.new ≡ W.written out.old ++ decimal_bytes number) }
     ensures fits { FitsSigned w128 number }
     ensures only { IsOkUnless result VortexError.OutOfMemory }
 {
     let (low, high) = words_of(number);
     let bytes = [low.to_le_bytes(), high.to_le_bytes()];
-    out.extend_from_slice(bytes.as_flattened())?;
+    out.put_slice(bytes.as_flattened())?;
     Ok(())
 }
 

@@ -5,15 +5,12 @@ ghost use Rattle.column_fields.specs.ElementFields.{element_type, numbered_type,
 use crate::decimal_fields::{put_decimal_type, read_decimal_type};
 use crate::fields::{put_number, read_number};
 use crate::types::{number_of_type, type_of_number};
+use bytes::BufMut;
 use column_base::{ElementDType, Nullability, VortexError, VortexResult};
-use std::alloc::Allocator;
 
 /// Writes the type of the elements at the end. Refused as `OutOfMemory` alone.
-pub fn put_element_type<A: Allocator>(
-    out: &mut Vec<u8, A>,
-    element: ElementDType,
-) -> VortexResult<()>
-    ensures ok { OnOk result (out.new.items ≡ out.old.items ++ element_type element) }
+pub fn put_element_type<W: BufMut>(out: &mut W, element: ElementDType) -> VortexResult<()>
+    ensures ok { OnOk result (W.written out.new ≡ W.written out.old ++ element_type element) }
     ensures typed { IsElementType element }
     ensures only { IsOkUnless result VortexError.OutOfMemory }
 {
@@ -32,12 +29,12 @@ pub fn put_element_type<A: Allocator>(
 }
 
 // Writes the number of a type, and whether it has a null.
-fn put_numbered_type<A: Allocator>(
-    out: &mut Vec<u8, A>,
+fn put_numbered_type<W: BufMut>(
+    out: &mut W,
     number: u64,
     nullability: Nullability,
 ) -> VortexResult<()>
-    ensures ok { OnOk result (out.new.items ≡ out.old.items ++ numbered_type number nullability) }
+    ensures ok { OnOk result (W.written out.new ≡ W.written out.old ++ numbered_type number nullability) }
     ensures only { IsOkUnless result VortexError.OutOfMemory }
 {
     put_number(out, 20, number)?;

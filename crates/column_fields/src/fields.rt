@@ -3,25 +3,29 @@ ghost use Rattle.std.specs.Prelude.{◌≡◌, ◌≢◌, ◌+◌, ◌*◌, ◌^
 ghost use Rattle.varints.specs.Varint.{varint};
 ghost use Rattle.column_fields.specs.Field.{number_field, bytes_field, HasNoNumberField, HasNoConstantField, HasNoBytesField, IsNoBytesField};
 
-use crate::sizes::varint_size;
+use bytes::BufMut;
 use column_base::{VortexError, VortexResult};
-use std::alloc::Allocator;
-use varints::{push_varint, read_shortest};
+use varints::read_shortest;
 
-/// Writes the shortest varint of a number at the end.
-pub fn put_varint<A: Allocator>(out: &mut Vec<u8, A>, number: u64) -> VortexResult<()>
-    ensures ok { OnOk result (out.new.items ≡ out.old.items ++ varint number) }
+/// Writes the shortest varint of a number at the end. Refused as `OutOfMemory` alone.
+#[inline(always)]
+pub fn put_varint<W: BufMut>(out: &mut W, number: u64) -> VortexResult<()>
+    ensures ok { OnOk result (W.written out.new ≡ W.written out.old ++ varint number) }
     ensures only { IsOkUnless result VortexError.OutOfMemory }
 {
-    out.reserve(varint_size(number))?;
-    push_varint(out, number);
+    let mut rest = number;
+    while rest >= 128 {
+        out.put_u8((rest % 128 + 128) as u8)?;
+        rest /= 128;
+    }
+    out.put_u8(rest as u8)?;
     Ok(())
 }
 
-/// Writes a field with a number.
-pub fn put_number<A: Allocator>(out: &mut Vec<u8, A>, field: u64, number: u64) -> VortexResult<()>
+/// Writes a field with a number. Refused as `OutOfMemory` alone.
+pub fn put_number<W: BufMut>(out: &mut W, field: u64, number: u64) -> VortexResult<()>
     requires { field < 32 }
-    ensures ok { OnOk result (out.new.items ≡ out.old.items ++ number_field field number) }
+    ensures ok { OnOk result (W.written out.new ≡ W.written out.old ++ number_field field number) }
     ensures only { IsOkUnless result VortexError.OutOfMemory }
 {
     put_varint(out, field * 8)?;
@@ -29,14 +33,11 @@ pub fn put_number<A: Allocator>(out: &mut Vec<u8, A>, field: u64, number: u64) -
     Ok(())
 }
 
-/// Writes the key and the length of a field of so many bytes, which the caller puts behind them.
-pub fn put_bytes_key<A: Allocator>(
-    out: &mut Vec<u8, A>,
-    field: u64,
-    count: usize,
-) -> VortexResult<()>
+/// Writes the key and the length of a field of so many bytes, which the caller puts behind them. Refused as
+/// `OutOfMemory` alone.
+pub fn put_bytes_key<W: BufMut>(out: &mut W, field: u64, count: usize) -> VortexResult<()>
     requires { field < 32 }
-    ensures ok { OnOk result (out.new.items ≡ out.old.items ++ (varint (field * 8 + 2) ++ varint count)) }
+    ensures ok { OnOk result (W.written out.new ≡ W.written out.old ++ (varint (field * 8 + 2) ++ varint count)) }
     ensures only { IsOkUnless result VortexError.OutOfMemory }
 {
     put_varint(out, field * 8 + 2)?;
@@ -44,14 +45,14 @@ pub fn put_bytes_key<A: Allocator>(
     Ok(())
 }
 
-/// Writes a field with bytes.
-pub fn put_bytes<A: Allocator>(out: &mut Vec<u8, A>, field: u64, content: &[u8]) -> VortexResult<()>
+/// Writes a field with bytes. Refused as `OutOfMemory` alone.
+pub fn put_bytes<W: BufMut>(out: &mut W, field: u64, content: &[u8]) -> VortexResult<()>
     requires { field < 32 }
-    ensures ok { OnOk result (out.new.items ≡ out.old.items ++ bytes_field field content.now) }
+    ensures ok { OnOk result (W.written out.new ≡ W.written out.old ++ bytes_field field content.now) }
     ensures only { IsOkUnless result VortexError.OutOfMemory }
 {
     put_bytes_key(out, field, content.len())?;
-    out.extend_from_slice(content)?;
+    out.put_slice(content)?;
     Ok(())
 }
 

@@ -3,8 +3,8 @@ ghost use Rattle.std.specs.Prelude.{◌≡◌, ◌^◌, ◌<◌, ◌++◌, IfSom
 ghost use Rattle.column_fields.specs.Header.{header_bytes, HasNoHeader};
 
 use crate::fields::{put_number, read_constant, read_number};
+use bytes::BufMut;
 use column_base::{VortexError, VortexResult};
-use std::alloc::Allocator;
 
 /// The number of the type of the rows, the number of the form, and how many rows.
 #[derive(Clone, Copy)]
@@ -15,8 +15,9 @@ pub struct Header {
 }
 
 /// Writes a header at the end. Refused as `OutOfMemory` alone.
-pub fn put_header<A: Allocator>(out: &mut Vec<u8, A>, stated: Header) -> VortexResult<()>
-    ensures ok { OnOk result (out.new.items ≡ out.old.items ++ header_bytes stated.kind stated.form stated.rows) }
+pub fn put_header<W: BufMut>(out: &mut W, stated: Header) -> VortexResult<()>
+    ensures ok { OnOk result (W.written out.new ≡
+        W.written out.old ++ header_bytes stated.kind stated.form stated.rows) }
     ensures only { IsOkUnless result VortexError.OutOfMemory }
 {
     put_number(out, 1, 1)?;

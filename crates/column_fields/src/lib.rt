@@ -6,14 +6,17 @@ mod bit_bytes;
 mod decimal_fields;
 mod decimals;
 mod element_fields;
+mod ends;
 mod fields;
 mod fitting;
 mod flat_fields;
 mod header;
+mod length_sizes;
 mod lengths;
 mod list_fields;
 mod numbers;
 mod run_fields;
+mod short_varints;
 mod sizes;
 mod stored;
 mod types;
@@ -24,13 +27,16 @@ pub use column_base::{VortexError, VortexResult};
 pub use decimal_fields::{put_decimal_type, read_decimal_fields};
 pub use decimals::{DECIMAL_SIZE, load_decimal, load_decimals, put_decimal, put_decimals};
 pub use element_fields::{put_element_type, read_element_type};
+pub use ends::load_ends;
 pub use fields::{
-    put_bytes, put_bytes_key, put_number, read_bytes, read_constant, read_last_bytes, read_number,
+    put_bytes, put_bytes_key, put_number, put_varint, read_bytes, read_constant, read_last_bytes,
+    read_number,
 };
 pub use fitting::{decimals_fit, values_fit};
 pub use flat_fields::read_flat_fields;
 pub use header::{Header, put_header, read_header};
-pub use lengths::{lengths_size, load_ends, put_lengths_field};
+pub use length_sizes::lengths_size;
+pub use lengths::put_lengths_field;
 pub use list_fields::{ListFields, list_fields_size, read_list_fields};
 pub use numbers::{load_value, load_values, put_value, put_values, size_of_type};
 pub use run_fields::{RunFields, put_run_fields, read_run_fields, run_fields_size};

@@ -6,6 +6,7 @@ ghost use Rattle.column_base.specs.Numbers.{numbers, ptype_of};
 ghost use Rattle.column_fields.specs.NumberBytes.{number_bytes, numbers_bytes, size_of};
 
 use crate::stored::StoredNumber;
+use bytes::BufMut;
 use column_base::{PType, PrimitiveValues, VortexError, VortexResult};
 use std::alloc::Allocator;
 
@@ -22,26 +23,26 @@ pub fn size_of_type(ptype: PType) -> usize
 }
 
 /// Writes one number of a type at the end.
-pub fn put_value<A: Allocator>(out: &mut Vec<u8, A>, ptype: PType, number: i128) -> VortexResult<()>
+pub fn put_value<W: BufMut>(out: &mut W, ptype: PType, number: i128) -> VortexResult<()>
     requires { HasNumber ptype number }
-    ensures ok { OnOk result (out.new.items ≡ out.old.items ++ number_bytes ptype number) }
+    ensures ok { OnOk result (W.written out.new ≡ W.written out.old ++ number_bytes ptype number) }
     ensures only { IsOkUnless result VortexError.OutOfMemory }
 {
     match ptype {
-        PType::U8 => put_one::<u8, A>(out, number),
-        PType::U16 => put_one::<u16, A>(out, number),
-        PType::U32 => put_one::<u32, A>(out, number),
-        PType::U64 => put_one::<u64, A>(out, number),
-        PType::I8 => put_one::<i8, A>(out, number),
-        PType::I16 => put_one::<i16, A>(out, number),
-        PType::I32 => put_one::<i32, A>(out, number),
-        PType::I64 => put_one::<i64, A>(out, number),
+        PType::U8 => put_one::<u8, W>(out, number),
+        PType::U16 => put_one::<u16, W>(out, number),
+        PType::U32 => put_one::<u32, W>(out, number),
+        PType::U64 => put_one::<u64, W>(out, number),
+        PType::I8 => put_one::<i8, W>(out, number),
+        PType::I16 => put_one::<i16, W>(out, number),
+        PType::I32 => put_one::<i32, W>(out, number),
+        PType::I64 => put_one::<i64, W>(out, number),
     }
 }
 
-fn put_one<T: StoredNumber, A: Allocator>(out: &mut Vec<u8, A>, number: i128) -> VortexResult<()>
+fn put_one<T: StoredNumber, W: BufMut>(out: &mut W, number: i128) -> VortexResult<()>
     requires { HasNumber T.PTYPE number }
-    ensures ok { OnOk result (out.new.items ≡ out.old.items ++ number_bytes T.PTYPE number) }
+    ensures ok { OnOk result (W.written out.new ≡ W.written out.old ++ number_bytes T.PTYPE number) }
     ensures only { IsOkUnless result VortexError.OutOfMemory }
 {
     let Some(item) = T::narrow(number) else {
@@ -78,11 +79,9 @@ fn load_one<T: StoredNumber>(bytes: &[u8]) -> i128
 }
 
 // Writes the numbers at the end, eight in one step.
-pub(crate) fn put_all<T: StoredNumber, A: Allocator>(
-    out: &mut Vec<u8, A>,
-    items: &[T],
-) -> VortexResult<()>
-    ensures ok { OnOk result (out.new.items ≡ out.old.items ++ numbers_bytes T.PTYPE (map T.number items.now)) }
+pub(crate) fn put_all<T: StoredNumber, W: BufMut>(out: &mut W, items: &[T]) -> VortexResult<()>
+    ensures ok { OnOk result
+        (W.written out.new ≡ W.written out.old ++ numbers_bytes T.PTYPE (map T.number items.now)) }
     ensures fits { OnOk result (All (λ n. HasNumber T.PTYPE n) (map T.number items.now)) }
     ensures only { IsOkUnless result VortexError.OutOfMemory }
 {
@@ -97,8 +96,9 @@ pub(crate) fn put_all<T: StoredNumber, A: Allocator>(
 }
 
 // Writes the numbers at the end, one by one.
-fn put_each<T: StoredNumber, A: Allocator>(out: &mut Vec<u8, A>, items: &[T]) -> VortexResult<()>
-    ensures ok { OnOk result (out.new.items ≡ out.old.items ++ numbers_bytes T.PTYPE (map T.number items.now)) }
+fn put_each<T: StoredNumber, W: BufMut>(out: &mut W, items: &[T]) -> VortexResult<()>
+    ensures ok { OnOk result
+        (W.written out.new ≡ W.written out.old ++ numbers_bytes T.PTYPE (map T.number items.now)) }
     ensures fits { OnOk result (All (λ n. HasNumber T.PTYPE n) (map T.number items.now)) }
     ensures only { IsOkUnless result VortexError.OutOfMemory }
 {
@@ -109,21 +109,21 @@ fn put_each<T: StoredNumber, A: Allocator>(out: &mut Vec<u8, A>, items: &[T]) ->
 }
 
 // Writes numbers of one byte each at the end, which are their bytes.
-fn put_u8<A: Allocator>(out: &mut Vec<u8, A>, items: &[u8]) -> VortexResult<()>
-    ensures ok { OnOk result (out.new.items ≡ out.old.items ++ numbers_bytes U8 (map (λ n. pos n) items.now)) }
+fn put_u8<W: BufMut>(out: &mut W, items: &[u8]) -> VortexResult<()>
+    ensures ok { OnOk result (W.written out.new ≡ W.written out.old ++ numbers_bytes U8 (map (λ n. pos n) items.now)) }
     ensures fits { OnOk result (All (λ n. HasNumber U8 n) (map (λ n. pos n) items.now)) }
     ensures only { IsOkUnless result VortexError.OutOfMemory }
 {
-    out.extend_from_slice(items)?;
+    out.put_slice(items)?;
     Ok(())
 }
 
 /// Writes the numbers of a buffer at the end.
-pub fn put_values<A: Allocator, B: Allocator>(
-    out: &mut Vec<u8, B>,
+pub fn put_values<A: Allocator, W: BufMut>(
+    out: &mut W,
     values: &PrimitiveValues<A>,
 ) -> VortexResult<()>
-    ensures ok { OnOk result (out.new.items ≡ out.old.items ++ numbers_bytes (ptype_of values.now)
+    ensures ok { OnOk result (W.written out.new ≡ W.written out.old ++ numbers_bytes (ptype_of values.now)
         (numbers values.now)) }
     ensures fits { OnOk result (All (λ n. HasNumber (ptype_of values.now) n) (numbers values.now)) }
     ensures only { IsOkUnless result VortexError.OutOfMemory }

@@ -7,9 +7,11 @@ ghost use Rattle.column_fields.specs.RunFields.{run_fields, AreNoRunFields};
 ghost use Rattle.column_fields.specs.Sizes.{IsPast};
 
 use crate::fields::{put_bytes_key, put_number, read_bytes, read_last_bytes, read_number};
-use crate::lengths::{lengths_size, put_lengths_field};
+use crate::length_sizes::lengths_size;
+use crate::lengths::put_lengths_field;
 use crate::sizes::{bytes_key_size, number_size, size_of_total};
 use crate::types::{number_of_type, type_of_number};
+use bytes::BufMut;
 use column_base::{PType, PrimitiveValues, VortexError, VortexResult};
 use std::alloc::Allocator;
 
@@ -24,16 +26,17 @@ pub struct RunFields<'a> {
 
 /// Writes the fields at the end, but for the message of the values, which is to stand behind them and has so many
 /// bytes. Refused as `OutOfMemory` alone.
-pub fn put_run_fields<A: Allocator, B: Allocator>(
-    out: &mut Vec<u8, B>,
+pub fn put_run_fields<A: Allocator, W: BufMut>(
+    out: &mut W,
     offset: u64,
     ends_type: PType,
     ends: &PrimitiveValues<A>,
     values: usize,
 ) -> VortexResult<()>
     requires { IsUnsigned (ptype_of ends.now) }
-    ensures ok { OnOk result ((message : List ℕ) → length message ≡ values → out.new.items ++ message ≡
-        out.old.items ++ run_fields offset ends_type (lengths_bytes 0 (map unsigned_abs (numbers ends.now))) message) }
+    ensures ok { OnOk result ((message : List ℕ) → length message ≡ values →
+        W.written out.new ++ message ≡ W.written out.old ++
+        run_fields offset ends_type (lengths_bytes 0 (map unsigned_abs (numbers ends.now))) message) }
     ensures fit { OnOk result (AreEndsOf (ptype_of ends.now) (map unsigned_abs (numbers ends.now))) }
     ensures only { IsOkUnless result VortexError.OutOfMemory }
 {

@@ -1,11 +1,12 @@
 //! Native numbers as bytes, the lowest first.
-ghost use Rattle.std.specs.Prelude.{◌≡◌, ◌++◌, length, map, pos, All, OnOk, IsOkUnless};
+ghost use Rattle.std.specs.Prelude.{◌≡◌, ◌++◌, ◌+◌, ◌-◌, ◌≤◌, length, map, pos, All, OnOk, IsOkUnless};
 ghost use Rattle.column_fields.specs.NumberBytes.{number_bytes, numbers_bytes, size_of};
 ghost use Rattle.column_base.specs.Number.{Narrows};
 ghost use Rattle.column_base.specs.Types.{HasNumber};
+ghost use Rattle.varints.specs.Varint.{varint};
 
+use bytes::BufMut;
 use column_base::{NativePType, UnsignedPType, VortexError, VortexResult};
-use std::alloc::Allocator;
 
 /// A native number that is stored as bytes.
 pub(crate) trait StoredNumber: NativePType {
@@ -14,17 +15,18 @@ pub(crate) trait StoredNumber: NativePType {
         ensures { result ≡ size_of Self.PTYPE };
 
     /// Writes it at the end.
-    fn put<A: Allocator>(self, out: &mut Vec<u8, A>) -> VortexResult<()>
+    fn put<W: BufMut>(self, out: &mut W) -> VortexResult<()>
         ensures fits { HasNumber Self.PTYPE (Self.number self) }
-        ensures ok { OnOk result (out.new.items ≡ out.old.items ++ number_bytes Self.PTYPE (Self.number self)) }
+        ensures ok { OnOk result
+            (W.written out.new ≡ W.written out.old ++ number_bytes Self.PTYPE (Self.number self)) }
         ensures only { IsOkUnless result VortexError.OutOfMemory };
 
     /// Writes eight of them at the end, in one step.
-    fn put_eight<A: Allocator>(out: &mut Vec<u8, A>, items: &[Self]) -> VortexResult<()>
+    fn put_eight<W: BufMut>(out: &mut W, items: &[Self]) -> VortexResult<()>
         requires { length items.now ≡ 8 }
         ensures fits { All (λ n. HasNumber Self.PTYPE n) (map Self.number items.now) }
         ensures ok { OnOk result
-            (out.new.items ≡ out.old.items ++ numbers_bytes Self.PTYPE (map Self.number items.now)) }
+            (W.written out.new ≡ W.written out.old ++ numbers_bytes Self.PTYPE (map Self.number items.now)) }
         ensures only { IsOkUnless result VortexError.OutOfMemory };
 
     /// The number of these bytes.
@@ -57,6 +59,13 @@ pub(crate) trait StoredEnd: UnsignedPType {
         ensures value { result ≡ Self.natural self }
         ensures fits { HasNumber Self.PTYPE (pos (Self.natural self)) };
 
+    /// How many bytes behind its first the varint of the length of a run has that begins and ends there, one for each
+    /// power of 128 that the length reaches. The end is a number of its own type too.
+    fn longer(start: Self, end: Self) -> u32
+        ensures size { 1 + result ≡ length (varint (Self.natural end - Self.natural start)) }
+        ensures most { result ≤ 9 }
+        ensures fits { HasNumber Self.PTYPE (pos (Self.natural end)) };
+
     /// The end of that number, or `None` exactly where the type does not have it.
     fn of_end(end: u64) -> Option<Self>
         ensures { Narrows Self.number (HasNumber Self.PTYPE) (pos end) result };
@@ -65,6 +74,11 @@ pub(crate) trait StoredEnd: UnsignedPType {
 impl StoredEnd for u8 {
     fn end(self) -> u64 {
         u64::from(self)
+    }
+
+    #[inline(always)]
+    fn longer(start: u8, end: u8) -> u32 {
+        u32::from(end.saturating_sub(start) >= 128)
     }
 
     fn of_end(end: u64) -> Option<u8> {
@@ -77,6 +91,12 @@ impl StoredEnd for u16 {
         u64::from(self)
     }
 
+    #[inline(always)]
+    fn longer(start: u16, end: u16) -> u32 {
+        let length = end.saturating_sub(start);
+        u32::from(length >= 128) + u32::from(length >= 16_384)
+    }
+
     fn of_end(end: u64) -> Option<u16> {
         u16::try_from(end).ok()
     }
@@ -85,6 +105,15 @@ impl StoredEnd for u16 {
 impl StoredEnd for u32 {
     fn end(self) -> u64 {
         u64::from(self)
+    }
+
+    #[inline(always)]
+    fn longer(start: u32, end: u32) -> u32 {
+        let length = end.saturating_sub(start);
+        u32::from(length >= 128)
+            + u32::from(length >= 16_384)
+            + u32::from(length >= 2_097_152)
+            + u32::from(length >= 268_435_456)
     }
 
     fn of_end(end: u64) -> Option<u32> {
@@ -97,6 +126,13 @@ impl StoredEnd for u64 {
         self
     }
 
+    #[inline(always)]
+    fn longer(start: u64, end: u64) -> u32 {
+        let bits = 64 - end.saturating_sub(start).leading_zeros();
+        // One for each seven bits behind the first seven: up to 64 bits that is this, which divides by nothing.
+        bits * 9 / 64
+    }
+
     fn of_end(end: u64) -> Option<u64> {
         Some(end)
     }
@@ -107,13 +143,13 @@ impl StoredNumber for u8 {
         1
     }
 
-    fn put<A: Allocator>(self, out: &mut Vec<u8, A>) -> VortexResult<()> {
-        out.extend_from_slice(&self.to_le_bytes())?;
+    fn put<W: BufMut>(self, out: &mut W) -> VortexResult<()> {
+        out.put_slice(&self.to_le_bytes())?;
         Ok(())
     }
 
-    fn put_eight<A: Allocator>(out: &mut Vec<u8, A>, items: &[u8]) -> VortexResult<()> {
-        out.extend_from_slice(items)?;
+    fn put_eight<W: BufMut>(out: &mut W, items: &[u8]) -> VortexResult<()> {
+        out.put_slice(items)?;
         Ok(())
     }
 
@@ -127,14 +163,14 @@ impl StoredNumber for u16 {
         2
     }
 
-    fn put<A: Allocator>(self, out: &mut Vec<u8, A>) -> VortexResult<()> {
-        out.extend_from_slice(&self.to_le_bytes())?;
+    fn put<W: BufMut>(self, out: &mut W) -> VortexResult<()> {
+        out.put_slice(&self.to_le_bytes())?;
         Ok(())
     }
 
-    fn put_eight<A: Allocator>(out: &mut Vec<u8, A>, items: &[u16]) -> VortexResult<()> {
+    fn put_eight<W: BufMut>(out: &mut W, items: &[u16]) -> VortexResult<()> {
         let bytes = bytes_of_eight!(items);
-        out.extend_from_slice(bytes.as_flattened())?;
+        out.put_slice(bytes.as_flattened())?;
         Ok(())
     }
 
@@ -148,14 +184,14 @@ impl StoredNumber for u32 {
         4
     }
 
-    fn put<A: Allocator>(self, out: &mut Vec<u8, A>) -> VortexResult<()> {
-        out.extend_from_slice(&self.to_le_bytes())?;
+    fn put<W: BufMut>(self, out: &mut W) -> VortexResult<()> {
+        out.put_slice(&self.to_le_bytes())?;
         Ok(())
     }
 
-    fn put_eight<A: Allocator>(out: &mut Vec<u8, A>, items: &[u32]) -> VortexResult<()> {
+    fn put_eight<W: BufMut>(out: &mut W, items: &[u32]) -> VortexResult<()> {
         let bytes = bytes_of_eight!(items);
-        out.extend_from_slice(bytes.as_flattened())?;
+        out.put_slice(bytes.as_flattened())?;
         Ok(())
     }
 
@@ -169,14 +205,14 @@ impl StoredNumber for u64 {
         8
     }
 
-    fn put<A: Allocator>(self, out: &mut Vec<u8, A>) -> VortexResult<()> {
-        out.extend_from_slice(&self.to_le_bytes())?;
+    fn put<W: BufMut>(self, out: &mut W) -> VortexResult<()> {
+        out.put_slice(&self.to_le_bytes())?;
         Ok(())
     }
 
-    fn put_eight<A: Allocator>(out: &mut Vec<u8, A>, items: &[u64]) -> VortexResult<()> {
+    fn put_eight<W: BufMut>(out: &mut W, items: &[u64]) -> VortexResult<()> {
         let bytes = bytes_of_eight!(items);
-        out.extend_from_slice(bytes.as_flattened())?;
+        out.put_slice(bytes.as_flattened())?;
         Ok(())
     }
 
@@ -192,14 +228,14 @@ impl StoredNumber for i8 {
         1
     }
 
-    fn put<A: Allocator>(self, out: &mut Vec<u8, A>) -> VortexResult<()> {
-        out.extend_from_slice(&self.to_le_bytes())?;
+    fn put<W: BufMut>(self, out: &mut W) -> VortexResult<()> {
+        out.put_slice(&self.to_le_bytes())?;
         Ok(())
     }
 
-    fn put_eight<A: Allocator>(out: &mut Vec<u8, A>, items: &[i8]) -> VortexResult<()> {
+    fn put_eight<W: BufMut>(out: &mut W, items: &[i8]) -> VortexResult<()> {
         let bytes = bytes_of_eight!(items);
-        out.extend_from_slice(bytes.as_flattened())?;
+        out.put_slice(bytes.as_flattened())?;
         Ok(())
     }
 
@@ -213,14 +249,14 @@ impl StoredNumber for i16 {
         2
     }
 
-    fn put<A: Allocator>(self, out: &mut Vec<u8, A>) -> VortexResult<()> {
-        out.extend_from_slice(&self.to_le_bytes())?;
+    fn put<W: BufMut>(self, out: &mut W) -> VortexResult<()> {
+        out.put_slice(&self.to_le_bytes())?;
         Ok(())
     }
 
-    fn put_eight<A: Allocator>(out: &mut Vec<u8, A>, items: &[i16]) -> VortexResult<()> {
+    fn put_eight<W: BufMut>(out: &mut W, items: &[i16]) -> VortexResult<()> {
         let bytes = bytes_of_eight!(items);
-        out.extend_from_slice(bytes.as_flattened())?;
+        out.put_slice(bytes.as_flattened())?;
         Ok(())
     }
 
@@ -234,14 +270,14 @@ impl StoredNumber for i32 {
         4
     }
 
-    fn put<A: Allocator>(self, out: &mut Vec<u8, A>) -> VortexResult<()> {
-        out.extend_from_slice(&self.to_le_bytes())?;
+    fn put<W: BufMut>(self, out: &mut W) -> VortexResult<()> {
+        out.put_slice(&self.to_le_bytes())?;
         Ok(())
     }
 
-    fn put_eight<A: Allocator>(out: &mut Vec<u8, A>, items: &[i32]) -> VortexResult<()> {
+    fn put_eight<W: BufMut>(out: &mut W, items: &[i32]) -> VortexResult<()> {
         let bytes = bytes_of_eight!(items);
-        out.extend_from_slice(bytes.as_flattened())?;
+        out.put_slice(bytes.as_flattened())?;
         Ok(())
     }
 
@@ -255,14 +291,14 @@ impl StoredNumber for i64 {
         8
     }
 
-    fn put<A: Allocator>(self, out: &mut Vec<u8, A>) -> VortexResult<()> {
-        out.extend_from_slice(&self.to_le_bytes())?;
+    fn put<W: BufMut>(self, out: &mut W) -> VortexResult<()> {
+        out.put_slice(&self.to_le_bytes())?;
         Ok(())
     }
 
-    fn put_eight<A: Allocator>(out: &mut Vec<u8, A>, items: &[i64]) -> VortexResult<()> {
+    fn put_eight<W: BufMut>(out: &mut W, items: &[i64]) -> VortexResult<()> {
         let bytes = bytes_of_eight!(items);
-        out.extend_from_slice(bytes.as_flattened())?;
+        out.put_slice(bytes.as_flattened())?;
         Ok(())
     }
 

@@ -7,16 +7,17 @@ ghost use Rattle.column_fields.specs.Refusal.{IsBadOrMemory};
 
 use crate::bit_bytes::{bytes_for, load_bits, put_bits};
 use crate::fields::{put_bytes_key, put_number, read_bytes, read_number};
+use bytes::BufMut;
 use column_base::{BitBuffer, Validity, VortexError, VortexResult};
 use std::alloc::Allocator;
 
-/// Writes how validity is told.
+/// Writes how validity is told. Refused as `OutOfMemory` alone.
 #[tactic(auto, unfolding(crate::specs::Validity::validity_field))]
-pub fn put_validity<A: Allocator, B: Allocator>(
-    out: &mut Vec<u8, B>,
+pub fn put_validity<A: Allocator, W: BufMut>(
+    out: &mut W,
     validity: &Validity<A>,
 ) -> VortexResult<()>
-    ensures ok { OnOk result (out.new.items ≡ out.old.items ++ validity_field (form_of validity.now)) }
+    ensures ok { OnOk result (W.written out.new ≡ W.written out.old ++ validity_field (form_of validity.now)) }
     ensures only { IsOkUnless result VortexError.OutOfMemory }
 {
     match validity {
@@ -28,11 +29,11 @@ pub fn put_validity<A: Allocator, B: Allocator>(
 }
 
 /// Writes that validity is told by bits, and the bits. Refused as `OutOfMemory` alone.
-pub fn put_bit_validity<A: Allocator, B: Allocator>(
-    out: &mut Vec<u8, B>,
+pub fn put_bit_validity<A: Allocator, W: BufMut>(
+    out: &mut W,
     bits: &BitBuffer<A>,
 ) -> VortexResult<()>
-    ensures ok { OnOk result (out.new.items ≡ out.old.items ++ validity_field (ByBits bits.now)) }
+    ensures ok { OnOk result (W.written out.new ≡ W.written out.old ++ validity_field (ByBits bits.now)) }
     ensures only { IsOkUnless result VortexError.OutOfMemory }
 {
     let count = bytes_for(bits.len());

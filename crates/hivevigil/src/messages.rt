@@ -32,8 +32,9 @@ pub extern "C" fn hv_write_size(
     write_answer(outcome, size, error)
 }
 
-/// The message of a column: its bytes go to the front of `bytes`, and `size` says how many they are. Refused as
-/// `Unsupported` where there is none; answers 11, with their number and the room, where they have no room there.
+/// The message of a column: its bytes go to the front of `bytes`, and `size` says how many they are. Takes no memory.
+/// Refused as `Unsupported` where there is none; answers 11, with their number and the room, where they have no room
+/// there: `bytes` is as it was then.
 #[tactic(auto, using(crate::proofs::PartEndings::held_empty, crate::proofs::PartEndings::held_done, crate::proofs::PartEndings::held_refused))]
 #[unsafe(no_mangle)]
 pub extern "C" fn hv_write(
@@ -46,12 +47,13 @@ pub extern "C" fn hv_write(
     ensures same { column.new.column ≡ column.old.column }
     ensures told { result ≡ pos 0
         → IsSomeAnd column.old.column (λ c. IsMessageAtFront (column_of c) size.new bytes.new) }
+    ensures kept { result ≢ pos 0 → result ≢ pos 21 → bytes.new ≡ bytes.old }
     ensures ended { EndsOnHeld (MessageFault (length bytes.old)) column.old.column result error.new }
 {
     let Some(array) = column.take(alloc) else {
         return NO_COLUMN;
     };
-    let outcome = messages::put_message(alloc, &array, bytes);
+    let outcome = messages::put_message(&array, bytes);
     column.put(array);
     write_answer(outcome, size, error)
 }

@@ -1,27 +1,28 @@
 //! Texts or bytes, written.
-ghost use Rattle.std.specs.Prelude.{◌≡◌, ◌+◌, ◌^◌, ◌<◌, ◌≤◌, ◌++◌, [], length, slice_index_or, sum, vec_capacity, vec_len, OnOk, IfOk, IfErr, IsOkUnless};
+ghost use Rattle.std.specs.Prelude.{◌≡◌, ◌+◌, ◌^◌, ◌<◌, ◌++◌, [], length, slice_index_or, sum, OnOk, IfOk, IfErr, IsOkUnless};
 ghost use Rattle.column_core.specs.VarBinForm.{AreVarBins};
 ghost use Rattle.column_fields.specs.Sizes.{IsPast};
 ghost use Rattle.text_fields.specs.Texts.{AreTexts, shown_rows, sizes_bytes, text_bytes, text_fields, text_sizes};
 
+use bytes::BufMut;
 use column_base::{VortexError, VortexResult};
 use column_core::{ScalarView, VarBinViewArray};
 use column_fields::{
-    bytes_key_size, put_bytes_key, put_validity, size_of_total, validity_size, varint_size,
+    bytes_key_size, put_bytes_key, put_validity, put_varint, size_of_total, validity_size,
+    varint_size,
 };
 use std::alloc::Allocator;
-use varints::push_varint;
 
 // The most that a count tells.
 const MOST: u128 = usize::MAX as u128;
 
 /// Writes which rows are null, how many bytes each row shows, and these bytes, at the end. Refused as `OutOfMemory`
 /// alone.
-pub fn put_text_fields<A: Allocator, B: Allocator>(
-    out: &mut Vec<u8, B>,
+pub fn put_text_fields<A: Allocator, W: BufMut>(
+    out: &mut W,
     array: &VarBinViewArray<A>,
 ) -> VortexResult<()>
-    ensures ok { OnOk result (out.new.items ≡ out.old.items ++
+    ensures ok { OnOk result (W.written out.new ≡ W.written out.old ++
         text_fields array.now.validity (text_sizes array.now) (text_bytes array.now)) }
     ensures stored { OnOk result (AreTexts array.now) }
     ensures only { IsOkUnless result VortexError.OutOfMemory }
@@ -29,8 +30,7 @@ pub fn put_text_fields<A: Allocator, B: Allocator>(
     let (sizes, content) = count(array)?;
     put_validity(out, array.validity())?;
     put_bytes_key(out, 12, sizes)?;
-    out.reserve(sizes)?;
-    push_sizes(out, array);
+    put_sizes(out, array)?;
     put_bytes_key(out, 13, content)?;
     put_shown(out, array)?;
     Ok(())
@@ -91,26 +91,24 @@ fn measure<A: Allocator>(array: &VarBinViewArray<A>) -> (u128, u128)
     (sizes, content)
 }
 
-// Writes how many bytes each row shows at the end, where there is room for that.
-fn push_sizes<A: Allocator, B: Allocator>(out: &mut Vec<u8, B>, array: &VarBinViewArray<A>)
-    requires { vec_len out.old + length (sizes_bytes (text_sizes array.now)) ≤ vec_capacity out.old }
-    ensures { out.new.items ≡ out.old.items ++ sizes_bytes (text_sizes array.now) }
+// Writes how many bytes each row shows at the end.
+fn put_sizes<A: Allocator, W: BufMut>(out: &mut W, array: &VarBinViewArray<A>) -> VortexResult<()>
+    ensures ok { OnOk result (W.written out.new ≡ W.written out.old ++ sizes_bytes (text_sizes array.now)) }
+    ensures only { IsOkUnless result VortexError.OutOfMemory }
 {
     for row in 0..array.views().len() {
-        push_varint(out, shown(array, row).len() as u64);
+        put_varint(out, shown(array, row).len() as u64)?;
     }
+    Ok(())
 }
 
 // Writes the bytes that the rows show at the end.
-fn put_shown<A: Allocator, B: Allocator>(
-    out: &mut Vec<u8, B>,
-    array: &VarBinViewArray<A>,
-) -> VortexResult<()>
-    ensures ok { OnOk result (out.new.items ≡ out.old.items ++ text_bytes array.now) }
+fn put_shown<A: Allocator, W: BufMut>(out: &mut W, array: &VarBinViewArray<A>) -> VortexResult<()>
+    ensures ok { OnOk result (W.written out.new ≡ W.written out.old ++ text_bytes array.now) }
     ensures only { IsOkUnless result VortexError.OutOfMemory }
 {
     for row in 0..array.len() {
-        out.extend_from_slice(shown(array, row))?;
+        out.put_slice(shown(array, row))?;
     }
     Ok(())
 }

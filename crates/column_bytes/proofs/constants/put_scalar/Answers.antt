@@ -14,7 +14,7 @@ use Rattle.column_bytes.proofs.constants.put_scalar.Goals as goal
 pub returns-in-Null-clause-ok : goal.returns-in-Null-clause-ok
 returns-in-Null-clause-ok g c =
     let p = null_told c.args.scalar.now c.view.result c.in-Null.is c.view.ensures.value c.view.ensures.of_type in
-    subst (λ (x : List ℕ). OnOk c.put_null.result (c.put_null.new.out.items ≡ c.args.out.now.items ++ x)) p.fields_are c.put_null.ensures.ok
+    subst (λ (x : List ℕ). OnOk c.put_null.result (g.W.BufMut.written c.put_null.new.out ≡ g.W.BufMut.written c.args.out.now ++ x)) p.fields_are c.put_null.ensures.ok
 
 pub returns-in-Null-clause-typed : goal.returns-in-Null-clause-typed
 returns-in-Null-clause-typed g c = (null_told c.args.scalar.now c.view.result c.in-Null.is c.view.ensures.value c.view.ensures.of_type).typed
@@ -22,7 +22,7 @@ returns-in-Null-clause-typed g c = (null_told c.args.scalar.now c.view.result c.
 pub returns-in-Bool-clause-ok : goal.returns-in-Bool-clause-ok
 returns-in-Bool-clause-ok g c =
     let p = truth_told c.args.scalar.now c.view.result c.in-Bool.truth c.nullability.result c.in-Bool.is c.view.ensures.value c.view.ensures.of_type (c.nullability.ensures ∙ ap nullability_of c.dtype-dtype.ensures) in
-    subst (λ (x : List ℕ). OnOk c.put_truth.result (c.put_truth.new.out.items ≡ c.args.out.now.items ++ x)) p.fields_are c.put_truth.ensures.ok
+    subst (λ (x : List ℕ). OnOk c.put_truth.result (g.W.BufMut.written c.put_truth.new.out ≡ g.W.BufMut.written c.args.out.now ++ x)) p.fields_are c.put_truth.ensures.ok
 
 pub returns-in-Bool-clause-typed : goal.returns-in-Bool-clause-typed
 returns-in-Bool-clause-typed g c = (truth_told c.args.scalar.now c.view.result c.in-Bool.truth c.nullability.result c.in-Bool.is c.view.ensures.value c.view.ensures.of_type (c.nullability.ensures ∙ ap nullability_of c.dtype-dtype.ensures)).typed
@@ -35,19 +35,19 @@ pub returns-in-Utf8-clause-ok : goal.returns-in-Utf8-clause-ok
 returns-in-Utf8-clause-ok g c =
     let utf8 : IsUtf8 c.in-Utf8.text.now = subst (λ (x : List ℕ). IsUtf8 x) c.as_bytes.ensures.value c.as_bytes.ensures.utf8 in
     let p = text_told c.args.scalar.now c.view.result c.in-Utf8.text c.as_bytes.result.now c.nullability-in-Utf8.result utf8 c.as_bytes.ensures.value c.in-Utf8.is c.view.ensures.value c.view.ensures.of_type (c.nullability-in-Utf8.ensures ∙ ap nullability_of c.dtype-dtype.ensures) in
-    subst (λ (x : List ℕ). OnOk c.put_some.result (c.put_some.new.out.items ≡ c.args.out.now.items ++ x)) p.fields_are c.put_some.ensures.ok
+    subst (λ (x : List ℕ). OnOk c.put_some.result (g.W.BufMut.written c.put_some.new.out ≡ g.W.BufMut.written c.args.out.now ++ x)) p.fields_are c.put_some.ensures.ok
 
 pub returns-in-Binary-clause-ok : goal.returns-in-Binary-clause-ok
 returns-in-Binary-clause-ok g c =
     let p = bytes_told c.args.scalar.now c.view.result c.in-Binary.bytes c.nullability-in-Binary.result c.in-Binary.is c.view.ensures.value c.view.ensures.of_type (c.nullability-in-Binary.ensures ∙ ap nullability_of c.dtype-dtype.ensures) in
-    subst (λ (x : List ℕ). OnOk c.put_some-in-Binary.result (c.put_some-in-Binary.new.out.items ≡ c.args.out.now.items ++ x)) p.fields_are c.put_some-in-Binary.ensures.ok
+    subst (λ (x : List ℕ). OnOk c.put_some-in-Binary.result (g.W.BufMut.written c.put_some-in-Binary.new.out ≡ g.W.BufMut.written c.args.out.now ++ x)) p.fields_are c.put_some-in-Binary.ensures.ok
 
 pub returns-in-Decimal-clause-ok : goal.returns-in-Decimal-clause-ok
 returns-in-Decimal-clause-ok g c =
     let fits : FitsSigned w128 c.in-Decimal.number = search rules in
     let same = ap (λ (z : ℤ). flat_fields (some_validity c.nullability-in-Decimal.result) (decimal_bytes z)) (to_z-of_z w128 c.in-Decimal.number fits) in
     let p = decimal_told c.args.scalar.now c.view.result c.in-Decimal.number c.nullability-in-Decimal.result fits c.in-Decimal.is c.view.ensures.value c.view.ensures.of_type (c.nullability-in-Decimal.ensures ∙ ap nullability_of c.dtype-dtype.ensures) in
-    subst (λ (x : List ℕ). OnOk c.put_number_of.result (c.put_number_of.new.out.items ≡ c.args.out.now.items ++ x)) (same ∙ p.fields_are) c.put_number_of.ensures.ok
+    subst (λ (x : List ℕ). OnOk c.put_number_of.result (g.W.BufMut.written c.put_number_of.new.out ≡ g.W.BufMut.written c.args.out.now ++ x)) (same ∙ p.fields_are) c.put_number_of.ensures.ok
 
 pub returns-in-Decimal-clause-typed : goal.returns-in-Decimal-clause-typed
 returns-in-Decimal-clause-typed g c =

@@ -13,5 +13,5 @@ put_value-requires g c =
 pub returns-clause-ok : goal.returns-clause-ok
 returns-clause-ok g c =
     let fits : FitsSigned w128 c.args.number = search rules in
-    let told = c.in_ok-put_value-in-Primitive.ensures.ok ∙ ap (λ (z : ℤ). c.put_bytes_key.new.out.items ++ number_bytes c.in-Primitive.ptype z) (to_z-of_z w128 c.args.number fits) in
+    let told = c.in_ok-put_value-in-Primitive.ensures.ok ∙ ap (λ (z : ℤ). g.W.BufMut.written c.put_bytes_key.new.out ++ number_bytes c.in-Primitive.ptype z) (to_z-of_z w128 c.args.number fits) in
     puts_whole c.args.dtype c.in-Primitive.ptype c.in-Primitive.nullability c.args.number _ _ _ _ _ c.in-Primitive.is c.size_of_type.ensures c.in_ok-put_told-in-Primitive.ensures.ok c.in_ok-put_bytes_key-in-Primitive.ensures.ok told

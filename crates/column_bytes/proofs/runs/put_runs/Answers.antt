@@ -13,7 +13,7 @@ returns-clause-ok g c =
     let ends-are : map unsigned_abs c.in-Primitive.ends.numbers ≡ r.ends = rw c.in-Primitive.is at c.ends.ensures.numbers in
     let typed : c.in-Primitive.ends.ptype ≡ r.ends_type = rw c.in-Primitive.is at c.ends.ensures.ptype in
     let lengths = ap (λ xs. lengths_bytes 0 (map unsigned_abs xs)) c.values.ensures.shows ∙ ap (lengths_bytes 0) ends-are in
-    let header = c.in_ok-put_header.ensures.ok ∙ ap (λ (n : ℕ). c.args.out.now.items ++ header_bytes c.header_of.result.kind n c.header_of.result.rows) c.header_of.ensures.form in
+    let header = c.in_ok-put_header.ensures.ok ∙ ap (λ (n : ℕ). g.W.BufMut.written c.args.out.now ++ header_bytes c.header_of.result.kind n c.header_of.result.rows) c.header_of.ensures.form in
     puts_runs r c.ptype.result _ _ _ _ (column_bytes r.values) _ _ _ (c.ptype.ensures ∙ typed) c.header_of.ensures.kind c.header_of.ensures.rows c.offset.ensures lengths refl header (c.in_ok-put_run_fields.ensures.ok (column_bytes r.values) (sym c.requires))
 
 pub returns-clause-fit : goal.returns-clause-fit

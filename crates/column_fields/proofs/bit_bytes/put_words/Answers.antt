@@ -4,4 +4,4 @@ use Rattle.column_fields.proofs.EightLaws.{words_numbers}
 use Rattle.column_fields.proofs.bit_bytes.put_words.Goals as goal
 
 pub returns-clause-ok : goal.returns-clause-ok
-returns-clause-ok g c = on_ok_weaker c.put_all.result (λ ok. ok ∙ ap (λ (b : List ℕ). c.args.out.now.items ++ b) (words_numbers c.args.words.now)) c.put_all.ensures.ok
+returns-clause-ok g c = on_ok_weaker c.put_all.result (λ ok. ok ∙ ap (λ (b : List ℕ). g.W.BufMut.written c.args.out.now ++ b) (words_numbers c.args.words.now)) c.put_all.ensures.ok

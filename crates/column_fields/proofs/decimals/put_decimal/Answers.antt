@@ -9,4 +9,4 @@ pub returns-clause-ok : goal.returns-clause-ok
 returns-clause-ok g c =
     let fits : FitsSigned w128 c.args.number = search rules in
     let again = ap decimal_bytes (to_z-of_z w128 c.args.number fits) in
-    two_put c.args.number c.args.out.now.items _ _ _ _ (pairs_shown _ _ _ _ _ c.to_le_bytes.ensures c.to_le_bytes-2.ensures (c.words_of-low.ensures ∙ again)) c.as_flattened.ensures.value c.in_ok-extend_from_slice.ensures.items
+    two_put c.args.number (g.W.BufMut.written c.args.out.now) _ _ _ _ (pairs_shown _ _ _ _ _ c.to_le_bytes.ensures c.to_le_bytes-2.ensures (c.words_of-low.ensures ∙ again)) c.as_flattened.ensures.value c.in_ok-put_slice.ensures.ok

@@ -10,7 +10,7 @@ use Rattle.column_fields.proofs.decimals.put_decimals.Goals as goal
 
 pub loop-rest-init : goal.loop-rest-init
 loop-rest-init g c = record {
-  shows = ap (λ (b : List ℕ). b ++ decimals_bytes c.args.numbers.now) c.in_ok-reserve.ensures.items;
+  shows = ap (λ (b : List ℕ). b ++ decimals_bytes c.args.numbers.now) c.in_ok-reserve.ensures.kept;
   fits = λ h. h;
 }
 
@@ -20,7 +20,7 @@ loop-rest-preserved g c =
     let back : List ℤ = c.split_at.result.1.now in
     let parts : c.loop-rest.rest.now ≡ front ++ back = cut_items 4 c.loop-rest.rest.now front back c.split_at.ensures.front c.split_at.ensures.back in
     record {
-      shows = put_front_step c.args.out.now.items c.loop-rest.out.items _ c.args.numbers.now c.loop-rest.rest.now front back c.loop-rest.invariant.shows c.in_ok-put_four.ensures.ok parts;
+      shows = put_front_step (g.W.BufMut.written c.args.out.now) (g.W.BufMut.written c.loop-rest.out) _ c.args.numbers.now c.loop-rest.rest.now front back c.loop-rest.invariant.shows c.in_ok-put_four.ensures.ok parts;
       fits = λ left. c.loop-rest.invariant.fits (All-same (λ n. FitsSigned w128 n) _ _ parts (All-append (λ n. FitsSigned w128 n) front back c.in_ok-put_four.ensures.fits left));
     }
 

@@ -7,7 +7,7 @@ use Rattle.column_fields.proofs.decimals.put_decimals.Given as goal
 
 abbrev pub invariant-loop-rest : goal.invariant-loop-rest
 invariant-loop-rest g l = record {
-  shows : l.out.items ++ decimals_bytes l.rest ≡ l.fn.out.items ++ decimals_bytes l.numbers;
+  shows : (g.W.BufMut.written l.out) ++ decimals_bytes l.rest ≡ (g.W.BufMut.written l.fn.out) ++ decimals_bytes l.numbers;
   fits : All (λ n. FitsSigned w128 n) l.rest → All (λ n. FitsSigned w128 n) l.numbers;
 }
 

@@ -10,7 +10,7 @@ use Rattle.column_fields.proofs.decimals.put_each.Goals as goal
 
 pub loop-number-init : goal.loop-number-init
 loop-number-init g c = record {
-  shows = sym (ap (λ (t : List ℕ). c.args.out.now.items ++ t) decimals_none ∙ append-nil c.args.out.now.items);
+  shows = sym (ap (λ (t : List ℕ). (g.W.BufMut.written c.args.out.now) ++ t) decimals_none ∙ append-nil (g.W.BufMut.written c.args.out.now));
   fits = All-nil (λ n. FitsSigned w128 n);
 }
 
@@ -21,14 +21,14 @@ loop-number-preserved g c =
     let front : List ℤ = take at c.args.numbers.now in
     let fits : FitsSigned w128 number = search rules in
     let again : cast_signed w128 (cast_unsigned w128 number) ≡ number = to_z-of_z w128 number fits in
-    let ok : c.put_decimal.new.out.items ≡ c.loop-number.out.items ++ decimal_bytes number = c.in_ok-put_decimal.ensures.ok ∙ ap (λ (z : ℤ). c.loop-number.out.items ++ decimal_bytes z) again in
+    let ok : (g.W.BufMut.written c.put_decimal.new.out) ≡ (g.W.BufMut.written c.loop-number.out) ++ decimal_bytes number = c.in_ok-put_decimal.ensures.ok ∙ ap (λ (z : ℤ). (g.W.BufMut.written c.loop-number.out) ++ decimal_bytes z) again in
     record {
       shows = put_step _ _ _ front _ number c.loop-number.invariant.shows ok (take_more c.args.numbers.now at (pos 0) c.loop-number-test.true);
       fits = All-more (λ n. FitsSigned w128 n) c.args.numbers.now at (pos 0) c.loop-number-test.true c.loop-number.invariant.fits fits;
     }
 
 pub returns-clause-ok : goal.returns-clause-ok
-returns-clause-ok g c = c.loop-number.invariant.shows ∙ ap (λ xs. c.args.out.now.items ++ decimals_bytes xs) (take_all c.loop-number.number-index c.args.numbers.now (omega arith))
+returns-clause-ok g c = c.loop-number.invariant.shows ∙ ap (λ xs. (g.W.BufMut.written c.args.out.now) ++ decimals_bytes xs) (take_all c.loop-number.number-index c.args.numbers.now (omega arith))
 
 pub returns-clause-fits : goal.returns-clause-fits
 returns-clause-fits g c =

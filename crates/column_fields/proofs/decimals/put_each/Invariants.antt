@@ -7,6 +7,6 @@ use Rattle.column_fields.proofs.decimals.put_each.Given as goal
 
 abbrev pub invariant-loop-number : goal.invariant-loop-number
 invariant-loop-number g l = record {
-  shows : l.out.items ≡ l.fn.out.items ++ decimals_bytes (take l.number-index l.numbers);
+  shows : (g.W.BufMut.written l.out) ≡ (g.W.BufMut.written l.fn.out) ++ decimals_bytes (take l.number-index l.numbers);
   fits : All (λ n. FitsSigned w128 n) (take l.number-index l.numbers);
 }

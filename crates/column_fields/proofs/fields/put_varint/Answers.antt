@@ -1,11 +1,13 @@
-use Rattle.std.proofs.Common.{ap, ◌∙◌, List, ℕ, ◌++◌, arith}
+use Rattle.std.proofs.Common.{arith, refl}
 use Rattle.varints.proofs.Forms.{is_written}
-use Rattle.varints.specs.Varint.{varint}
-use Rattle.column_fields.proofs.SizeLaws.{fits_behind}
+use Rattle.varints.proofs.Shortest.{one_more, appended}
 use Rattle.column_fields.proofs.fields.put_varint.Goals as goal
 
-pub push_varint-requires : goal.push_varint-requires
-push_varint-requires g c = record { room = fits_behind _ _ c.args.number (omega (arith, c.in_ok-reserve.ensures.ok, c.varint_size.ensures.size)) }
+pub loop-rest-init : goal.loop-rest-init
+loop-rest-init g c = λ tail compact. record { bytes = tail; compact = compact; parts = refl }
+
+pub loop-rest-preserved : goal.loop-rest-preserved
+loop-rest-preserved g c = one_more _ _ _ _ _ (omega arith) c.in_ok-put_u8.ensures.ok c.loop-rest.invariant
 
 pub returns-clause-ok : goal.returns-clause-ok
-returns-clause-ok g c = is_written _ _ _ c.push_varint.ensures.written ∙ ap (λ (t : List ℕ). t ++ varint c.args.number) c.in_ok-reserve.ensures.items
+returns-clause-ok g c = is_written _ _ _ (appended _ _ _ _ _ (omega arith) (omega arith) c.in_ok-put_u8-2.ensures.ok c.loop-rest.invariant)

@@ -1,4 +1,4 @@
-use Rattle.std.proofs.Common.{◌≡◌, ℤ, pos, rules, sym, get_or, arith, ℕ}
+use Rattle.std.proofs.Common.{pos, rules, sym, get_or, arith, ℕ}
 use Rattle.std.proofs.lemmas.List.{take_all}
 use Rattle.std.proofs.lemmas.List.Elements.{All-more, All-nil, All-same}
 use Rattle.std.specs.Int.{w128}

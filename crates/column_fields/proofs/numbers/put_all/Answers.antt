@@ -10,7 +10,7 @@ use Rattle.column_fields.proofs.numbers.put_all.Goals as goal
 
 pub loop-rest-init : goal.loop-rest-init
 loop-rest-init g c = record {
-  shows = ap (λ (b : List ℕ). b ++ numbers_bytes g.T.NativePType.PTYPE (map g.T.NativePType.number c.args.items.now)) c.in_ok-reserve.ensures.items;
+  shows = ap (λ (b : List ℕ). b ++ numbers_bytes g.T.NativePType.PTYPE (map g.T.NativePType.number c.args.items.now)) c.in_ok-reserve.ensures.kept;
   fits = λ h. h;
 }
 
@@ -22,7 +22,7 @@ loop-rest-preserved g c =
     let back = c.split_at.result.1.now in
     let parts : map number c.loop-rest.rest.now ≡ map number front ++ map number back = ap (map number) (cut_items 8 c.loop-rest.rest.now front back c.split_at.ensures.front c.split_at.ensures.back) ∙ map-append number front back in
     record {
-      shows = put_front_step t c.args.out.now.items c.loop-rest.out.items _ (map number c.args.items.now) (map number c.loop-rest.rest.now) (map number front) (map number back) c.loop-rest.invariant.shows c.in_ok-put_eight.ensures.ok parts;
+      shows = put_front_step t (g.W.BufMut.written c.args.out.now) (g.W.BufMut.written c.loop-rest.out) _ (map number c.args.items.now) (map number c.loop-rest.rest.now) (map number front) (map number back) c.loop-rest.invariant.shows c.in_ok-put_eight.ensures.ok parts;
       fits = λ left. c.loop-rest.invariant.fits (All-same (λ n. HasNumber t n) _ _ parts (All-append (λ n. HasNumber t n) (map number front) (map number back) c.in_ok-put_eight.ensures.fits left));
     }
 

@@ -6,7 +6,7 @@ use Rattle.column_fields.proofs.numbers.put_all.Given as goal
 
 abbrev pub invariant-loop-rest : goal.invariant-loop-rest
 invariant-loop-rest g l = record {
-  shows : l.out.items ++ numbers_bytes g.T.NativePType.PTYPE (map g.T.NativePType.number l.rest) ≡ l.fn.out.items ++ numbers_bytes g.T.NativePType.PTYPE (map g.T.NativePType.number l.items);
+  shows : (g.W.BufMut.written l.out) ++ numbers_bytes g.T.NativePType.PTYPE (map g.T.NativePType.number l.rest) ≡ (g.W.BufMut.written l.fn.out) ++ numbers_bytes g.T.NativePType.PTYPE (map g.T.NativePType.number l.items);
   fits : All (λ n. HasNumber g.T.NativePType.PTYPE n) (map g.T.NativePType.number l.rest) → All (λ n. HasNumber g.T.NativePType.PTYPE n) (map g.T.NativePType.number l.items);
 }
 

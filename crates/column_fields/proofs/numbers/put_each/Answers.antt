@@ -8,7 +8,7 @@ use Rattle.column_fields.proofs.numbers.put_each.Goals as goal
 
 pub loop-item-init : goal.loop-item-init
 loop-item-init g c = record {
-  shows = sym (ap (λ (t : List ℕ). c.args.out.now.items ++ t) (numbers_none g.T.NativePType.PTYPE) ∙ append-nil c.args.out.now.items);
+  shows = sym (ap (λ (t : List ℕ). (g.W.BufMut.written c.args.out.now) ++ t) (numbers_none g.T.NativePType.PTYPE) ∙ append-nil (g.W.BufMut.written c.args.out.now));
   fits = All-nil (λ n. HasNumber g.T.NativePType.PTYPE n);
 }
 
@@ -24,7 +24,7 @@ loop-item-preserved g c =
     }
 
 pub returns-clause-ok : goal.returns-clause-ok
-returns-clause-ok g c = c.loop-item.invariant.shows ∙ ap (λ xs. c.args.out.now.items ++ numbers_bytes g.T.NativePType.PTYPE (map g.T.NativePType.number xs)) (take_all c.loop-item.item-index c.args.items.now (omega arith))
+returns-clause-ok g c = c.loop-item.invariant.shows ∙ ap (λ xs. (g.W.BufMut.written c.args.out.now) ++ numbers_bytes g.T.NativePType.PTYPE (map g.T.NativePType.number xs)) (take_all c.loop-item.item-index c.args.items.now (omega arith))
 
 pub returns-clause-fits : goal.returns-clause-fits
 returns-clause-fits g c =

@@ -6,6 +6,6 @@ use Rattle.column_fields.proofs.numbers.put_each.Given as goal
 
 abbrev pub invariant-loop-item : goal.invariant-loop-item
 invariant-loop-item g l = record {
-  shows : l.out.items ≡ l.fn.out.items ++ numbers_bytes g.T.NativePType.PTYPE (map g.T.NativePType.number (take l.item-index l.items));
+  shows : (g.W.BufMut.written l.out) ≡ (g.W.BufMut.written l.fn.out) ++ numbers_bytes g.T.NativePType.PTYPE (map g.T.NativePType.number (take l.item-index l.items));
   fits : All (λ n. HasNumber g.T.NativePType.PTYPE n) (map g.T.NativePType.number (take l.item-index l.items));
 }

@@ -9,4 +9,4 @@ returns-clause-ok g c =
     let t = g.T.NativePType.PTYPE in
     let fits : FitsSigned w128 c.args.number = search rules in
     let same : g.T.NativePType.number c.in-Some.item ≡ c.args.number = c.in-Some.ensures.1 ∙ to_z-of_z w128 c.args.number fits in
-    c.in_ok-put.ensures.ok ∙ ap (λ (n : ℤ). c.args.out.now.items ++ number_bytes t n) same
+    c.in_ok-put.ensures.ok ∙ ap (λ (n : ℤ). (g.W.BufMut.written c.args.out.now) ++ number_bytes t n) same

@@ -1,4 +1,4 @@
-use Rattle.std.proofs.Common.{sym, refl, arith}
+use Rattle.std.proofs.Common.{sym, refl}
 use Rattle.column_fields.proofs.SizeLaws.{varint_bytes}
 use Rattle.column_fields.proofs.sizes.varint_size.Goals as goal
 

@@ -4,4 +4,4 @@ use Rattle.text_fields.specs.Texts.{shown_rows, text_bytes}
 use Rattle.text_fields.proofs.writing.put_shown.Given as goal
 
 abbrev pub invariant-loop-row : goal.invariant-loop-row
-invariant-loop-row g l = l.out.items ++ concat (drop l.row (shown_rows l.array)) ≡ l.fn.out.items ++ text_bytes l.array
+invariant-loop-row g l = g.W.BufMut.written l.out ++ concat (drop l.row (shown_rows l.array)) ≡ g.W.BufMut.written l.fn.out ++ text_bytes l.array

@@ -20,8 +20,8 @@ returns-clause-fits g c =
     let f7 : FitsSigned w16 (get_or items 7 (pos 0)) = search rules in
     eight_all (λ n. HasNumber I16 n) (λ n. n) (pos 0) items c.requires f0 f1 f2 f3 f4 f5 f6 f7
 
-pub returns-in_err-extend_from_slice-clause-fits : goal.returns-in_err-extend_from_slice-clause-fits
-returns-in_err-extend_from_slice-clause-fits g c =
+pub returns-in_err-put_slice-clause-fits : goal.returns-in_err-put_slice-clause-fits
+returns-in_err-put_slice-clause-fits g c =
     let items = c.args.items.now in
     let f0 : FitsSigned w16 (get_or items 0 (pos 0)) = search rules in
     let f1 : FitsSigned w16 (get_or items 1 (pos 0)) = search rules in
@@ -45,7 +45,7 @@ returns-clause-ok g c =
     let f6 : FitsSigned w16 (get_or items 6 (pos 0)) = search rules in
     let f7 : FitsSigned w16 (get_or items 7 (pos 0)) = search rules in
     let again : (n : ℤ) → FitsSigned w16 n → number_bytes I16 (cast_signed w16 (cast_unsigned w16 n)) ≡ number_bytes I16 n = λ n f. ap (number_bytes I16) (to_z-of_z w16 n f) in
-    eight_put I16 (λ n. n) (number_bytes I16) (pos 0) items c.args.out.now.items _ _ _ _ _ _ _ _ _ _ (λ x. refl) c.requires
+    eight_put I16 (λ n. n) (number_bytes I16) (pos 0) items (g.W.BufMut.written c.args.out.now) _ _ _ _ _ _ _ _ _ _ (λ x. refl) c.requires
     (c.to_le_bytes.ensures ∙ again (get_or items 0 (pos 0)) f0)
     (c.to_le_bytes-2.ensures ∙ again (get_or items 1 (pos 0)) f1)
     (c.to_le_bytes-3.ensures ∙ again (get_or items 2 (pos 0)) f2)
@@ -54,4 +54,4 @@ returns-clause-ok g c =
     (c.to_le_bytes-6.ensures ∙ again (get_or items 5 (pos 0)) f5)
     (c.to_le_bytes-7.ensures ∙ again (get_or items 6 (pos 0)) f6)
     (c.to_le_bytes-8.ensures ∙ again (get_or items 7 (pos 0)) f7)
-    c.as_flattened.ensures.value c.in_ok-extend_from_slice.ensures.items
+    c.as_flattened.ensures.value c.in_ok-put_slice.ensures.ok

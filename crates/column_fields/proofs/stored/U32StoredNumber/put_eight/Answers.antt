@@ -8,11 +8,11 @@ use Rattle.column_fields.proofs.stored.U32StoredNumber.put_eight.Goals as goal
 pub returns-clause-fits : goal.returns-clause-fits
 returns-clause-fits g c = all_mapped (λ n. HasNumber U32 n) (λ n. pos n) 0 c.args.items.now (λ i lt. search rules)
 
-pub returns-in_err-extend_from_slice-clause-fits : goal.returns-in_err-extend_from_slice-clause-fits
-returns-in_err-extend_from_slice-clause-fits g c = all_mapped (λ n. HasNumber U32 n) (λ n. pos n) 0 c.args.items.now (λ i lt. search rules)
+pub returns-in_err-put_slice-clause-fits : goal.returns-in_err-put_slice-clause-fits
+returns-in_err-put_slice-clause-fits g c = all_mapped (λ n. HasNumber U32 n) (λ n. pos n) 0 c.args.items.now (λ i lt. search rules)
 
 pub returns-clause-ok : goal.returns-clause-ok
 returns-clause-ok g c =
-    eight_put U32 (λ n. pos n) (to_le_bytes w32) 0 c.args.items.now c.args.out.now.items _ _ _ _ _ _ _ _ _ _ (λ x. refl) c.requires
+    eight_put U32 (λ n. pos n) (to_le_bytes w32) 0 c.args.items.now (g.W.BufMut.written c.args.out.now) _ _ _ _ _ _ _ _ _ _ (λ x. refl) c.requires
     c.to_le_bytes.ensures c.to_le_bytes-2.ensures c.to_le_bytes-3.ensures c.to_le_bytes-4.ensures c.to_le_bytes-5.ensures c.to_le_bytes-6.ensures c.to_le_bytes-7.ensures c.to_le_bytes-8.ensures
-    c.as_flattened.ensures.value c.in_ok-extend_from_slice.ensures.items
+    c.as_flattened.ensures.value c.in_ok-put_slice.ensures.ok

@@ -7,8 +7,8 @@ use Rattle.column_fields.proofs.stored.U8StoredNumber.put_eight.Goals as goal
 pub returns-clause-fits : goal.returns-clause-fits
 returns-clause-fits g c = all_mapped (λ n. HasNumber U8 n) (λ n. pos n) 0 c.args.items.now (λ i lt. search rules)
 
-pub returns-in_err-extend_from_slice-clause-fits : goal.returns-in_err-extend_from_slice-clause-fits
-returns-in_err-extend_from_slice-clause-fits g c = all_mapped (λ n. HasNumber U8 n) (λ n. pos n) 0 c.args.items.now (λ i lt. search rules)
+pub returns-in_err-put_slice-clause-fits : goal.returns-in_err-put_slice-clause-fits
+returns-in_err-put_slice-clause-fits g c = all_mapped (λ n. HasNumber U8 n) (λ n. pos n) 0 c.args.items.now (λ i lt. search rules)
 
 pub returns-clause-ok : goal.returns-clause-ok
-returns-clause-ok g c = c.in_ok-extend_from_slice.ensures.items ∙ ap (λ (b : List ℕ). c.args.out.now.items ++ b) (u8_bytes c.args.items.now (λ i. omega (arith, c.type_inv.items i)))
+returns-clause-ok g c = c.in_ok-put_slice.ensures.ok ∙ ap (λ (b : List ℕ). (g.W.BufMut.written c.args.out.now) ++ b) (u8_bytes c.args.items.now (λ i. omega (arith, c.type_inv.items i)))

@@ -1,0 +1,6 @@
+use Rattle.std.proofs.Common.{◌≡◌, ◌++◌, drop}
+use Rattle.text_fields.specs.Texts.{sizes_bytes, text_sizes}
+use Rattle.text_fields.proofs.writing.put_sizes.Given as goal
+
+abbrev pub invariant-loop-row : goal.invariant-loop-row
+invariant-loop-row g l = g.W.BufMut.written l.out ++ sizes_bytes (drop l.row (text_sizes l.array)) ≡ g.W.BufMut.written l.fn.out ++ sizes_bytes (text_sizes l.array)
