@@ -44,6 +44,8 @@ impl BufMut for Front<'_> {
         }
     }
 
+    // Most slices are of a size that the compiler knows.
+    #[inline(always)]
     fn put_slice(&mut self, src: &[u8]) -> Result<(), AllocError> {
         if src.is_empty() {
             return Ok(());
@@ -57,6 +59,7 @@ impl BufMut for Front<'_> {
         Ok(())
     }
 
+    #[inline(always)]
     fn put_u8(&mut self, n: u8) -> Result<(), AllocError> {
         if self.count >= self.room.len() {
             return Err(AllocError);
