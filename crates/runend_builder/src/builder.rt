@@ -241,8 +241,7 @@ impl<A: Allocator + Copy> RunBuilder<A> {
         ensures encoding { IfOk result (λ parts.
             IsRowEncoding self.now.rows self.now.dtype parts.0 (leaf_of parts.1)) }
     {
-        let ends = Vec::from_slice(alloc, &self.ends)?;
-        let ends = least_ends(alloc, ends)?;
+        let ends = least_ends(alloc, &self.ends)?;
         match self.values.to_column(alloc) {
             Ok(values) => Ok((ends, values)),
             Err(error) => {

@@ -113,7 +113,7 @@ fn encode_rows<R: RowChanges<A>, A: Allocator + Copy>(
         (leaf_dtype (R.leaf column.now)) parts.0 (R.leaf parts.1)) }
 {
     let (ends, values) = runs_of(alloc, column)?;
-    let ends = least_ends(alloc, ends)?;
+    let ends = least_ends(alloc, ends.as_slice())?;
     Ok((ends, values))
 }
 
@@ -137,6 +137,6 @@ fn encode_shown<R: RowChanges<A>, A: Allocator + Copy>(
 {
     let (joined, values) = runs_of(alloc, values)?;
     let joined_ends = row_ends(alloc, ends, joined.as_slice(), offset, count)?;
-    let joined_ends = least_ends(alloc, joined_ends)?;
+    let joined_ends = least_ends(alloc, joined_ends.as_slice())?;
     Ok((joined_ends, values))
 }
