@@ -1,5 +1,5 @@
 -- Ends and starts of runs, as a walk over the rows finds them.
-use Rattle.std.proofs.Common.{◌≡◌, ◌≢◌, ◌∙◌, ◌+◌, ◌<◌, ◌^◌, ◌++◌, ℕ, List, [], ◌∷◌, Option, Some, None, length, map, refl, sym, ap, subst, arith}
+use Rattle.std.proofs.Common.{◌≡◌, ◌≢◌, ◌∙◌, ◌+◌, ◌<◌, ◌^◌, ◌++◌, ℕ, List, [], ◌∷◌, Option, Some, None, length, map, refl, take, sym, ap, subst, arith}
 use Rattle.std.specs.Prelude.{IfSome, option_map, slice_get, slice_index_or}
 use Rattle.std.proofs.lemmas.List.{length-map, map-append}
 use Rattle.std.proofs.lemmas.List.Elements.{All-cons, All-nil}
@@ -35,6 +35,11 @@ starts_from-push start (first ∷ ends) end = ap (λ starts. start ∷ starts) (
 pub start_behind-push : (start : ℕ) (ends : List ℕ) (end : ℕ) → start_behind start (ends ++ end ∷ []) ≡ end
 start_behind-push start [] end = refl
 start_behind-push start (first ∷ ends) end = start_behind-push first ends end
+
+-- each run but the first starts where the one before it ends
+pub starts_from-bounds : (start : ℕ) (ends : List ℕ) → take (length ends) (start ∷ ends) ≡ starts_from start ends
+starts_from-bounds start [] = refl
+starts_from-bounds start (end ∷ ends) = ap (λ starts. start ∷ starts) (starts_from-bounds end ends)
 
 -- the values of closed runs and of the open one
 values-push : (rows : List (Option Value)) (ends : List ℕ) (end : ℕ) (value : Option Value) → slice_index_or rows (start_behind 0 ends) None ≡ value

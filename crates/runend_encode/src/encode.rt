@@ -12,7 +12,7 @@ ghost use Rattle.runend_encode.specs.Encoding.{AreRunValues, IsRowEncoding};
 use crate::least::least_ends;
 use crate::row_changes::RowChanges;
 use crate::row_ends::row_ends;
-use crate::run_ends::{run_ends, starts_of};
+use crate::run_ends::{RunBounds, run_ends};
 use column_core::{FlatColumn, FlatView, PrimitiveArray, Validity, VortexError, VortexResult};
 use runend_windows::encode_plain;
 use std::alloc::Allocator;
@@ -88,19 +88,18 @@ pub fn encode_runs<A: Allocator + Copy>(
     }
 }
 
-// The ends and the values of the runs of a column whose rows are looked up one by one.
+// Where the runs of a column end, whose rows are looked up one by one, and their values.
 fn runs_of<R: RowChanges<A>, A: Allocator + Copy>(
     alloc: A,
     column: &R,
-) -> VortexResult<(Vec<u64, A>, R)>
+) -> VortexResult<(RunBounds<A>, R)>
     ensures only { IsOkUnless result VortexError.OutOfMemory }
     ensures runs { IfOk result (λ parts. AreRunValues (single_rows (R.leaf column.now))
-        (leaf_dtype (R.leaf column.now)) parts.0.items (R.leaf parts.1)) }
+        (leaf_dtype (R.leaf column.now)) parts.0 (R.leaf parts.1)) }
 {
-    let ends = run_ends(alloc, column)?;
-    let starts = starts_of(alloc, ends.as_slice())?;
-    let values = column.take_at(alloc, starts.as_slice(), &Validity::NonNullable)?;
-    Ok((ends, values))
+    let bounds = run_ends(alloc, column)?;
+    let values = column.take_at(alloc, bounds.starts(), &Validity::NonNullable)?;
+    Ok((bounds, values))
 }
 
 // The encoding of such a column.
@@ -112,8 +111,8 @@ fn encode_rows<R: RowChanges<A>, A: Allocator + Copy>(
     ensures encoding { IfOk result (λ parts. IsRowEncoding (single_rows (R.leaf column.now))
         (leaf_dtype (R.leaf column.now)) parts.0 (R.leaf parts.1)) }
 {
-    let (ends, values) = runs_of(alloc, column)?;
-    let ends = least_ends(alloc, ends.as_slice())?;
+    let (bounds, values) = runs_of(alloc, column)?;
+    let ends = least_ends(alloc, bounds.ends())?;
     Ok((ends, values))
 }
 
@@ -136,7 +135,7 @@ fn encode_shown<R: RowChanges<A>, A: Allocator + Copy>(
         (leaf_dtype (R.leaf values.now)) parts.0 (R.leaf parts.1)) }
 {
     let (joined, values) = runs_of(alloc, values)?;
-    let joined_ends = row_ends(alloc, ends, joined.as_slice(), offset, count)?;
+    let joined_ends = row_ends(alloc, ends, joined.ends(), offset, count)?;
     let joined_ends = least_ends(alloc, joined_ends.as_slice())?;
     Ok((joined_ends, values))
 }

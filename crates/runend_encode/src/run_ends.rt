@@ -1,5 +1,5 @@
-//! Where the runs of a flat column end, and where they start.
-ghost use Rattle.std.specs.Prelude.{◌≡◌, ◌∷◌, ◌++◌, [], IfOk, IsOkUnless, length};
+//! Where the runs of a flat column start and end.
+ghost use Rattle.std.specs.Prelude.{◌≡◌, ◌∷◌, ◌++◌, ℕ, List, [], IfOk, IsOkUnless, drop, length};
 ghost use Rattle.column_base.specs.Bits.{set_indices_of};
 ghost use Rattle.column_core.specs.Leaf.{single_rows};
 ghost use Rattle.runend_encode.specs.Starts.{AreRunEnds, starts_from};
@@ -8,48 +8,78 @@ use crate::changes::changes_of;
 use crate::row_changes::RowChanges;
 use column_core::{BitBuffer, VortexError, VortexResult};
 use std::alloc::Allocator;
+use std::marker::Model;
 
 /// The row that each longest stretch of equal rows ends before, null being equal to null: that of each row that differs
 /// from the row before, and the number of rows. Refused as `OutOfMemory` alone.
 pub(crate) fn run_ends<R: RowChanges<A>, A: Allocator + Copy>(
     alloc: A,
     column: &R,
-) -> VortexResult<Vec<u64, A>>
+) -> VortexResult<RunBounds<A>>
     ensures only { IsOkUnless result VortexError.OutOfMemory }
-    ensures ends { IfOk result (λ ends. AreRunEnds (single_rows (R.leaf column.now)) ends.items) }
+    ensures ends { IfOk result (λ bounds. AreRunEnds (single_rows (R.leaf column.now)) bounds) }
 {
     if column.row_count() == 0 {
-        return Ok(Vec::new(alloc));
+        return RunBounds::of_none(alloc);
     }
     let changes = changes_of(alloc, column)?;
-    let ends = places_and_len(alloc, &changes);
+    let bounds = RunBounds::of_changes(alloc, &changes);
     drop(changes);
-    ends
+    bounds
 }
 
-// The places of the true bits, and behind them the number of bits. All memory is taken at first.
-fn places_and_len<A: Allocator + Copy>(alloc: A, bits: &BitBuffer<A>) -> VortexResult<Vec<u64, A>>
-    ensures only { IsOkUnless result VortexError.OutOfMemory }
-    ensures places { IfOk result (λ places. places.items ≡ set_indices_of bits.now ++ length bits.now ∷ []) }
-{
-    let mut places = Vec::with_capacity(alloc, bits.true_count().saturating_add(1))?;
-    for place in bits.set_indices() {
-        places.push_reserved(place as u64);
-    }
-    places.push_reserved(bits.len() as u64);
-    Ok(places)
+/// Where runs start and end, whose first starts at row 0. In contracts it is the list of their ends.
+#[derive(Drop)]
+pub(crate) struct RunBounds<A: Allocator> {
+    /// Row 0, and the row that each run ends before, at which the next one starts.
+    rows: Vec<u64, A>,
 }
 
-/// The first row of each run with these ends. Refused as `OutOfMemory` alone.
-pub(crate) fn starts_of<A: Allocator>(alloc: A, ends: &[u64]) -> VortexResult<Vec<u64, A>>
-    ensures only { IsOkUnless result VortexError.OutOfMemory }
-    ensures starts { IfOk result (λ starts. starts.items ≡ starts_from 0 ends.now) }
-{
-    let mut starts = Vec::with_capacity(alloc, ends.len())?;
-    let mut start = 0;
-    for end in ends {
-        starts.push_reserved(start);
-        start = *end;
+impl<A: Allocator> Model for RunBounds<A> {
+    ghost Value = { List ℕ };
+
+    ghost view = { λ b. drop 1 b.rows.items };
+
+    ghost invariant = { λ b. b.rows.items ≡ 0 ∷ drop 1 b.rows.items };
+}
+
+impl<A: Allocator + Copy> RunBounds<A> {
+    /// The row that each run ends before.
+    pub(crate) fn ends(&self) -> &[u64]
+        ensures { result.now ≡ self.now }
+    {
+        &self.rows[1..]
     }
-    Ok(starts)
+
+    /// The first row of each run.
+    pub(crate) fn starts(&self) -> &[u64]
+        ensures { result.now ≡ starts_from 0 self.now }
+    {
+        &self.rows[..self.rows.len() - 1]
+    }
+
+    // Those of no run.
+    fn of_none(alloc: A) -> VortexResult<Self>
+        ensures only { IsOkUnless result VortexError.OutOfMemory }
+        ensures none { IfOk result (λ bounds. bounds ≡ []) }
+    {
+        let mut rows = Vec::with_capacity(alloc, 1)?;
+        rows.push_reserved(0);
+        Ok(RunBounds { rows })
+    }
+
+    // Those of runs of which each but the first starts where a bit is true, and the last ends behind the bits. All
+    // memory is taken at first.
+    fn of_changes(alloc: A, bits: &BitBuffer<A>) -> VortexResult<Self>
+        ensures only { IsOkUnless result VortexError.OutOfMemory }
+        ensures ends { IfOk result (λ bounds. bounds ≡ set_indices_of bits.now ++ length bits.now ∷ []) }
+    {
+        let mut rows = Vec::with_capacity(alloc, bits.true_count().saturating_add(2))?;
+        rows.push_reserved(0);
+        for place in bits.set_indices() {
+            rows.push_reserved(place as u64);
+        }
+        rows.push_reserved(bits.len() as u64);
+        Ok(RunBounds { rows })
+    }
 }

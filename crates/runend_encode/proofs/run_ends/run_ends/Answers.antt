@@ -16,5 +16,5 @@ returns-clause-ends g c =
     let some : 0 < length rows = omega (arith, c.row_count.ensures) in
     let small : length rows < 2 ^ 64 = omega (arith, c.row_count.ensures) in
     let ends = AreRunEnds-of_changes rows bits c.in_ok-changes.ensures.changes some small in
-    if_ok c.places_and_len-ends.result (λ places. places.items ≡ set_indices_of bits ++ length bits ∷ []) (λ places. AreRunEnds rows places.items)
-    (λ places are. subst (AreRunEnds rows) (sym are) ends) c.places_and_len-ends.ensures.places
+    if_ok c.of_changes-bounds.result (λ bounds. bounds ≡ set_indices_of bits ++ length bits ∷ []) (AreRunEnds rows)
+    (λ bounds are. subst (AreRunEnds rows) (sym are) ends) c.of_changes-bounds.ensures.ends
