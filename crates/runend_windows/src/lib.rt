@@ -10,6 +10,7 @@ mod trimmed;
 mod validate;
 
 pub use encode::{encode_plain, is_all_null, validity_with};
+pub use narrow::narrowed;
 pub use searches::{ended_before, first_past, first_past_four, first_past_of, last_end_of};
 pub use shown::shown_at;
 pub use trimmed::{TrimmedEnds, trimmed_ends_iter};
