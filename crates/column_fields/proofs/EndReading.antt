@@ -88,6 +88,15 @@ eight_more bytes rest after first start end ends read new h r k len last put =
     let all = more_from bytes rest after first start (get_or ends 0 0) (get_or ends 1 0 ∷ get_or ends 2 0 ∷ get_or ends 3 0 ∷ get_or ends 4 0 ∷ get_or ends 5 0 ∷ get_or ends 6 0 ∷ get_or ends 7 0 ∷ []) read h (r ∙ ap (λ (t : List ℕ). lengths_bytes start t ++ after) e) (subst (λ (t : List ℕ). Rises false start t) e k) in
     subst (λ (t : List ℕ). Progress bytes after false end t) (sym (put ∙ ap (λ (t : List ℕ). read ++ t) e)) (subst (λ (n : ℕ). Progress bytes after false n (read ++ (get_or ends 0 0 ∷ get_or ends 1 0 ∷ get_or ends 2 0 ∷ get_or ends 3 0 ∷ get_or ends 4 0 ∷ get_or ends 5 0 ∷ get_or ends 6 0 ∷ get_or ends 7 0 ∷ []))) (sym last) all)
 
+-- four ends at once
+pub four_more : (bytes rest after : List ℕ) (first : Bool) (start end : ℕ) (ends read new : List ℕ) → Progress bytes rest first start read → rest ≡ lengths_bytes start ends ++ after → Rises false start ends → length ends ≡ 4 → end ≡ get_or ends 3 0 → new ≡ read ++ ends → Progress bytes after false end new
+four_more bytes rest after first start end [] read new h r k len last put = absurd (omega (arith, len))
+four_more bytes rest after first start end (e ∷ ends) read new h r k len last put =
+    let count : length ends ≡ 3 = omega (arith, len) in
+    let all = more_from bytes rest after first start e ends read h r k in
+    let is : get_or (e ∷ ends) (length ends) 0 ≡ end = ap (λ (n : ℕ). get_or (e ∷ ends) n 0) count ∙ sym last in
+    subst (λ (t : List ℕ). Progress bytes after false end t) (sym put) (subst (λ (n : ℕ). Progress bytes after false n (read ++ e ∷ ends)) is all)
+
 pub last_end : {X : Type 0} (f : X → ℕ) (d : X) (xs : List X) → length xs ≡ 8 → get_or (map f xs) 7 0 ≡ f (get_or xs 7 d)
 last_end f d xs len = ap (λ ys. get_or (map f ys) 7 0) (eight_of d xs len)
 

@@ -14,6 +14,7 @@ pub mod LengthLaws
 pub mod LengthBytes
 pub mod OneByteLaws
 pub mod ShortLaws
+pub mod WordLaws
 pub mod ShortVarintLaws
 pub mod EndReading
 pub mod HeaderLaws

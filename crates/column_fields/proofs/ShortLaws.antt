@@ -19,7 +19,7 @@ use Rattle.column_fields.proofs.LengthBytes.{varint_one}
 
 -- ---- bytes of a word, the lowest first
 
-abbrev number_of : List ℕ → ℕ
+abbrev pub number_of : List ℕ → ℕ
 number_of [] = 0
 number_of (b ∷ bs) = number_of bs * 256 + b
 
@@ -33,7 +33,7 @@ abbrev low_bits : List ℕ → ℕ
 low_bits [] = 0
 low_bits (b ∷ bs) = low_bits bs * 256 + 127
 
-abbrev AreBytes : List ℕ → Type 0
+abbrev pub AreBytes : List ℕ → Type 0
 AreBytes [] = Unit {0}
 AreBytes (b ∷ bs) = (b < 256) × AreBytes bs
 
@@ -75,7 +75,7 @@ low_number (b ∷ bs) low = omega (arith, low.0, low_number bs low.1)
 abbrev pub eight : List ℕ → List ℕ
 eight bs = get_or bs 0 0 ∷ get_or bs 1 0 ∷ get_or bs 2 0 ∷ get_or bs 3 0 ∷ get_or bs 4 0 ∷ get_or bs 5 0 ∷ get_or bs 6 0 ∷ get_or bs 7 0 ∷ []
 
-word_number : (word : ℕ) (bs : List ℕ) → length bs ≡ 8 → word ≡ from_le_bytes w64 bs → word ≡ number_of (eight bs)
+pub word_number : (word : ℕ) (bs : List ℕ) → length bs ≡ 8 → word ≡ from_le_bytes w64 bs → word ≡ number_of (eight bs)
 word_number word bs len is =
     let whole : word ≡ from_le_bytes w64 (eight bs) = is ∙ ap (from_le_bytes w64) (eight_of 0 bs len) in
     omega (arith, whole)

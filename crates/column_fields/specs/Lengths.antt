@@ -1,5 +1,5 @@
 -- Run lengths: how many rows each run has.
-use Rattle.std.specs.Prelude.{◌≡◌, ℕ, pos, ◌-◌, ◌^◌, ◌<◌, ◌≤◌, Bool, true, false, List, [], ◌∷◌, All}
+use Rattle.std.specs.Prelude.{◌≡◌, ◌⊎◌, ℕ, pos, ◌+◌, ◌-◌, ◌*◌, ◌/◌, ◌%◌, ◌^◌, ◌<◌, ◌≤◌, Bool, true, false, List, [], ◌∷◌, All}
 use Rattle.std.specs.List.{flat_map}
 use Rattle.column_base.specs.declared.dtype.PType.{PType}
 use Rattle.column_base.specs.Types.{HasNumber, IsUnsigned}
@@ -18,6 +18,11 @@ lengths_bytes start ends = flat_map varint (lengths_from start ends)
 unfoldable pub Rises : Bool → ℕ → List ℕ → Type 0
 Rises first start [] = Unit {0}
 Rises first start (end ∷ ends) = (start ≤ end) × (end < 2 ^ 64) × (first ≡ false → start < end) × Rises false end ends
+
+-- the lowest byte of a word, or its lowest two, are the length of a run, and what stands above them is left
+pub record BeginsWithLength (word length size rest : ℕ) : Type 0 where
+  pub some : 0 < length
+  pub spelt : ((size ≡ 1) × (length < 128) × (word ≡ rest * 256 + length)) ⊎ ((size ≡ 2) × (128 ≤ length) × (length < 16384) × (word ≡ (rest * 256 + length / 128) * 256 + (length % 128 + 128)))
 
 -- an unsigned type has each of the ends
 pub record AreEndsOf (t : PType) (ends : List ℕ) : Type 0 where

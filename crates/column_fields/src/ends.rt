@@ -1,9 +1,9 @@
 //! Ends of runs, read from the lengths of these.
-ghost use Rattle.std.specs.Prelude.{◌≡◌, ◌++◌, ◌+◌, ◌^◌, ◌<◌, ◌≤◌, All, IsTrue, length, map, drop, pos, unsigned_abs, true, false, vec_len, vec_capacity, IfOk, IfErr, IfSome, IfNone, IsErrOf};
+ghost use Rattle.std.specs.Prelude.{◌≡◌, ◌++◌, ◌+◌, ◌-◌, ◌^◌, ◌<◌, ◌≤◌, All, IsTrue, length, map, drop, pos, unsigned_abs, true, false, vec_len, vec_capacity, IfOk, IfErr, IfSome, IfNone, IsErrOf};
 ghost use Rattle.column_base.specs.Number.{Narrows};
 ghost use Rattle.column_base.specs.Numbers.{numbers, ptype_of};
 ghost use Rattle.column_base.specs.Types.{HasNumber};
-ghost use Rattle.column_fields.specs.Lengths.{lengths_bytes, lengths_from, Rises, AreEndsOf, HasNoEndsOf};
+ghost use Rattle.column_fields.specs.Lengths.{lengths_bytes, lengths_from, Rises, AreEndsOf, HasNoEndsOf, BeginsWithLength};
 ghost use Rattle.column_fields.specs.Refusal.{IsBadOrMemory};
 ghost use Rattle.varints.specs.Varint.{varint, BeginsWithNoShortest};
 
@@ -58,7 +58,8 @@ fn load_as<E: StoredEnd, A: Allocator + Copy>(
     }
 }
 
-// The ends of the runs of which these are the lengths, eight in one step where each of these has one byte.
+// The ends of the runs of which these are the lengths: eight in one step where each of these has one byte, four where
+// each has one or two.
 fn load_all<E: StoredEnd, A: Allocator>(alloc: A, bytes: &[u8]) -> VortexResult<Vec<E, A>>
     ensures found { IfOk result (λ v. bytes.now ≡ lengths_bytes 0 (map E.natural v.items)) }
     ensures rises { IfOk result (λ v. Rises true 0 (map E.natural v.items)) }
@@ -77,6 +78,14 @@ fn load_all<E: StoredEnd, A: Allocator>(alloc: A, bytes: &[u8]) -> VortexResult<
             let (_lengths, after) = rest.split_at(8);
             rest = after;
             start = eight[7];
+            first = false;
+            continue;
+        }
+        if let Some(read) = four_ends::<E>(start, rest) {
+            let four = read.0;
+            push_all(&mut ends, &four);
+            rest = read.1;
+            start = four[3];
             first = false;
             continue;
         }
@@ -152,6 +161,54 @@ fn running_sums(lengths: &[u8; 8]) -> [u64; 8]
     let seventh = sixth + u64::from(lengths[6]);
     let eighth = seventh + u64::from(lengths[7]);
     [first, second, third, fourth, fifth, sixth, seventh, eighth]
+}
+
+// A run's end, what is left of the word that began with the run's length, and how many bytes that length had.
+#[derive(Clone, Copy)]
+struct WordEnd {
+    end: u64,
+    rest: u64,
+    size: usize,
+}
+
+// The ends of four runs that begin there, and the bytes after their lengths, where each of these is one byte or two and
+// none is 0, and where the type has the last of these ends. All four are read from one word.
+#[inline(always)]
+fn four_ends<E: StoredEnd>(start: u64, bytes: &[u8]) -> Option<([u64; 4], &[u8])>
+    ensures found { IfSome result (λ r. bytes.now ≡ lengths_bytes start r.0 ++ r.1.now) }
+    ensures rises { IfSome result (λ r. Rises false start r.0) }
+    ensures fit { IfSome result (λ r. All (λ end. HasNumber E.PTYPE (pos end)) r.0) }
+    ensures counted { IfSome result (λ r. length r.0 ≡ 4) }
+    ensures shorter { IfSome result (λ r. length r.1.now + 4 ≤ length bytes.now) }
+{
+    let word = u64::from_le_bytes(*bytes.first_chunk::<8>()?);
+    let first = word_end(start, word)?;
+    let second = word_end(first.end, first.rest)?;
+    let third = word_end(second.end, second.rest)?;
+    let fourth = word_end(third.end, third.rest)?;
+    E::of_end(fourth.end)?;
+    let (_lengths, after) = bytes.split_at(first.size + second.size + third.size + fourth.size);
+    Some(([first.end, second.end, third.end, fourth.end], after))
+}
+
+// The end of a run that begins there, where the word begins with its length, which is one byte or two and not 0. Which
+// of them is told without a branch: where lengths of both are mixed, a processor would guess wrongly.
+#[inline(always)]
+fn word_end(start: u64, word: u64) -> Option<WordEnd>
+    ensures { IfSome result (λ r. BeginsWithLength word (r.end - start) r.size r.rest) }
+{
+    let first = word % 256;
+    let longer = first / 128;
+    let high = longer * (word / 256 % 256);
+    let length = first % 128 + high * 128;
+    if high < longer || high >= 128 || length == 0 {
+        return None;
+    }
+    Some(WordEnd {
+        end: start.checked_add(length)?,
+        rest: word >> (8 + 8 * longer),
+        size: 1 + longer as usize,
+    })
 }
 
 // Puts the ends behind others, where there is room for them.

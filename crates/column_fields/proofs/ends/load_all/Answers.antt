@@ -4,7 +4,7 @@ use Rattle.std.proofs.lemmas.List.{map-append, nil_from_length}
 use Rattle.std.proofs.lemmas.List.Elements.{All-append, All-push, All-nil, All-same}
 use Rattle.column_base.specs.Types.{HasNumber}
 use Rattle.column_fields.specs.Lengths.{lengths_bytes, Rises}
-use Rattle.column_fields.proofs.EndReading.{started, eight_more, one_more, all_read, no_length, no_row, no_end, shorter}
+use Rattle.column_fields.proofs.EndReading.{started, eight_more, four_more, one_more, all_read, no_length, no_row, no_end, shorter}
 use Rattle.column_fields.proofs.ends.load_all.Goals as goal
 use Rattle.column_fields.proofs.ends.load_all.Goals.{else-not-first-via-then-not-first+else-length-eq0, else-not-first-via-else-not-first}
 
@@ -30,6 +30,20 @@ loop-rest-preserved-in-Some g c =
       fits = All-same has _ _ c.push_all.ensures.items (All-append has (map natural c.loop-rest.ends.items) ends c.loop-rest.invariant.fits c.in-Some.ensures.fit);
       room = omega (arith, c.loop-rest.invariant.room, c.push_all.ensures.len, c.split_at.ensures.back_len, c.in-Some.ensures.counted);
       capacity = c.push_all.ensures.capacity ∙ c.loop-rest.invariant.capacity;
+    }
+
+pub loop-rest-preserved-in-Some-four_ends : goal.loop-rest-preserved-in-Some-four_ends
+loop-rest-preserved-in-Some-four_ends g c =
+    let natural = g.E.UnsignedPType.natural in
+    let has = λ (end : ℕ). HasNumber g.E.NativePType.PTYPE (pos end) in
+    let h = c.in-Some-four_ends.ensures in
+    let ends : List ℕ = c.in-Some-four_ends.read.0 in
+    let pushed = c.push_all-in-Some-four_ends.ensures in
+    record {
+      progress = four_more c.args.bytes.now c.loop-rest.rest.now c.in-Some-four_ends.read.1.now c.loop-rest.first c.loop-rest.start (get_or ends 3 0) ends (map natural c.loop-rest.ends.items) _ c.loop-rest.invariant.progress h.found h.rises h.counted refl pushed.items;
+      fits = All-same has _ _ pushed.items (All-append has (map natural c.loop-rest.ends.items) ends c.loop-rest.invariant.fits h.fit);
+      room = omega (arith, c.loop-rest.invariant.room, pushed.len, h.shorter, h.counted);
+      capacity = pushed.capacity ∙ c.loop-rest.invariant.capacity;
     }
 
 pub returns-in_default-read_length-clause-bad : goal.returns-in_default-read_length-clause-bad
