@@ -1,4 +1,5 @@
 pub mod FieldLaws
+pub mod KeptLaws
 pub mod SizeLaws
 pub mod TypeLaws
 pub mod NumberLaws

@@ -1,5 +1,6 @@
 pub mod Field
 pub mod Sizes
+pub mod Kept
 pub mod Types
 pub mod NumberBytes
 pub mod BitBytes

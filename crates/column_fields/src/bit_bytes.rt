@@ -2,6 +2,7 @@
 ghost use Rattle.std.specs.Prelude.{◌↔◌, IsTrue, ◌≡◌, ◌+◌, ◌-◌, ◌*◌, ◌/◌, ◌^◌, ◌<◌, ◌≤◌, ◌++◌, length, replicate, OnOk, IfOk, IsOkUnless, IsErrOf, IfErr};
 ghost use Rattle.std.specs.Int.{w64, to_le_bytes};
 ghost use Rattle.column_fields.specs.BitBytes.{bit_bytes, words_bytes, IsPadded, HasNoBits};
+ghost use Rattle.column_fields.specs.Kept.{StaysInFront};
 ghost use Rattle.column_fields.specs.Refusal.{IsBadOrMemory};
 
 use crate::decimals::load_word;
@@ -24,6 +25,7 @@ pub fn bytes_for(count: usize) -> usize
 /// Writes the bits at the end. Refused as `OutOfMemory` alone.
 pub fn put_bits<A: Allocator, W: BufMut>(out: &mut W, bits: &BitBuffer<A>) -> VortexResult<()>
     ensures ok { OnOk result (W.written out.new ≡ W.written out.old ++ bit_bytes bits.now) }
+    ensures kept { StaysInFront (W.written out.old) (W.written out.new) }
     ensures only { IsOkUnless result VortexError.OutOfMemory }
 {
     let Some((last, whole)) = bits.words().split_last() else {
@@ -39,6 +41,7 @@ pub fn put_bits<A: Allocator, W: BufMut>(out: &mut W, bits: &BitBuffer<A>) -> Vo
 // Writes words at the end.
 fn put_words<W: BufMut>(out: &mut W, words: &[u64]) -> VortexResult<()>
     ensures ok { OnOk result (W.written out.new ≡ W.written out.old ++ words_bytes words.now) }
+    ensures kept { StaysInFront (W.written out.old) (W.written out.new) }
     ensures only { IsOkUnless result VortexError.OutOfMemory }
 {
     put_all(out, words)

@@ -4,6 +4,7 @@ ghost use Rattle.std.specs.Int.{w8};
 ghost use Rattle.column_base.specs.Validity.{form_of};
 ghost use Rattle.column_base.specs.ValidityForm.{HasLength};
 ghost use Rattle.column_fields.specs.DecimalFields.{decimal_fields, decimal_items, decimal_type, AreNoDecimalFields, AreNoDecimalItems, BeginsWithNoDecimalType, IsDecimalType, scale_number, HasNoScale};
+ghost use Rattle.column_fields.specs.Kept.{StaysInFront};
 ghost use Rattle.column_fields.specs.Refusal.{IsBadOrMemory};
 
 use crate::fields::{put_number, read_bytes, read_number};
@@ -16,6 +17,7 @@ use std::alloc::Allocator;
 pub fn put_decimal_type<W: BufMut>(out: &mut W, decimal: DecimalDType) -> VortexResult<()>
     ensures ok { OnOk result (W.written out.new ≡ W.written out.old ++ decimal_type decimal) }
     ensures typed { IsDecimalType decimal }
+    ensures kept { StaysInFront (W.written out.old) (W.written out.new) }
     ensures only { IsOkUnless result VortexError.OutOfMemory }
 {
     put_number(out, 14, u64::from(decimal.precision))?;

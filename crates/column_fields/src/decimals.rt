@@ -2,6 +2,7 @@
 ghost use Rattle.std.specs.Prelude.{◌≡◌, ◌*◌, ◌++◌, length, All, OnOk, IfOk, IsOkUnless, FitsSigned, vec_capacity};
 ghost use Rattle.std.specs.Int.{w64, w128, to_le_bytes};
 ghost use Rattle.column_fields.specs.DecimalBytes.{decimal_bytes, decimals_bytes};
+ghost use Rattle.column_fields.specs.Kept.{StaysInFront};
 
 use bytes::BufMut;
 use column_base::{VortexError, VortexResult};
@@ -17,6 +18,7 @@ const WORD: u128 = 1 << 64;
 pub fn put_decimals<W: BufMut>(out: &mut W, numbers: &[i128]) -> VortexResult<()>
     ensures ok { OnOk result (W.written out.new ≡ W.written out.old ++ decimals_bytes numbers.now) }
     ensures fits { OnOk result (All (λ n. FitsSigned w128 n) numbers.now) }
+    ensures kept { StaysInFront (W.written out.old) (W.written out.new) }
     ensures only { IsOkUnless result VortexError.OutOfMemory }
 {
     out.reserve(numbers.len().saturating_mul(DECIMAL_SIZE))?;
@@ -34,6 +36,7 @@ fn put_four<W: BufMut>(out: &mut W, numbers: &[i128]) -> VortexResult<()>
     requires { length numbers.now ≡ 4 }
     ensures ok { OnOk result (W.written out.new ≡ W.written out.old ++ decimals_bytes numbers.now) }
     ensures fits { All (λ n. FitsSigned w128 n) numbers.now }
+    ensures kept { StaysInFront (W.written out.old) (W.written out.new) }
     ensures only { IsOkUnless result VortexError.OutOfMemory }
 {
     let (first_low, first_high) = words_of(numbers[0]);
@@ -58,6 +61,7 @@ fn put_four<W: BufMut>(out: &mut W, numbers: &[i128]) -> VortexResult<()>
 fn put_each<W: BufMut>(out: &mut W, numbers: &[i128]) -> VortexResult<()>
     ensures ok { OnOk result (W.written out.new ≡ W.written out.old ++ decimals_bytes numbers.now) }
     ensures fits { OnOk result (All (λ n. FitsSigned w128 n) numbers.now) }
+    ensures kept { StaysInFront (W.written out.old) (W.written out.new) }
     ensures only { IsOkUnless result VortexError.OutOfMemory }
 {
     for number in numbers {
@@ -70,6 +74,7 @@ fn put_each<W: BufMut>(out: &mut W, numbers: &[i128]) -> VortexResult<()>
 pub fn put_decimal<W: BufMut>(out: &mut W, number: i128) -> VortexResult<()>
     ensures ok { OnOk result (W.written out.new ≡ W.written out.old ++ decimal_bytes number) }
     ensures fits { FitsSigned w128 number }
+    ensures kept { StaysInFront (W.written out.old) (W.written out.new) }
     ensures only { IsOkUnless result VortexError.OutOfMemory }
 {
     let (low, high) = words_of(number);

@@ -1,6 +1,7 @@
 //! What each message begins with.
 ghost use Rattle.std.specs.Prelude.{◌≡◌, ◌^◌, ◌<◌, ◌++◌, IfSome, IfNone, OnOk, IsOkUnless};
 ghost use Rattle.column_fields.specs.Header.{header_bytes, HasNoHeader};
+ghost use Rattle.column_fields.specs.Kept.{StaysInFront};
 
 use crate::fields::{put_number, read_constant, read_number};
 use bytes::BufMut;
@@ -18,6 +19,7 @@ pub struct Header {
 pub fn put_header<W: BufMut>(out: &mut W, stated: Header) -> VortexResult<()>
     ensures ok { OnOk result (W.written out.new ≡
         W.written out.old ++ header_bytes stated.kind stated.form stated.rows) }
+    ensures kept { StaysInFront (W.written out.old) (W.written out.new) }
     ensures only { IsOkUnless result VortexError.OutOfMemory }
 {
     put_number(out, 1, 1)?;

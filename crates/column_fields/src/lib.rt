@@ -1,5 +1,6 @@
 //! The fields of a message that holds a column, each in its one spelling: numbers, bytes, native numbers, bits,
-//! decimals, run lengths, and which rows are null.
+//! decimals, run lengths, and which rows are null. What stands in a buffer stays in front of what a writer puts at its
+//! end, also where the writer is refused.
 #![tactic(auto)]
 
 mod bit_bytes;

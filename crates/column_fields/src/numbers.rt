@@ -3,6 +3,7 @@ ghost use Rattle.std.specs.Prelude.{◌≡◌, ◌+◌, ◌*◌, ◌++◌, lengt
 ghost use Rattle.column_base.specs.Types.{HasNumber};
 ghost use Rattle.column_base.specs.declared.dtype.PType.TheVariants.{U8};
 ghost use Rattle.column_base.specs.Numbers.{numbers, ptype_of};
+ghost use Rattle.column_fields.specs.Kept.{StaysInFront};
 ghost use Rattle.column_fields.specs.NumberBytes.{number_bytes, numbers_bytes, size_of};
 
 use crate::stored::StoredNumber;
@@ -26,6 +27,7 @@ pub fn size_of_type(ptype: PType) -> usize
 pub fn put_value<W: BufMut>(out: &mut W, ptype: PType, number: i128) -> VortexResult<()>
     requires { HasNumber ptype number }
     ensures ok { OnOk result (W.written out.new ≡ W.written out.old ++ number_bytes ptype number) }
+    ensures kept { StaysInFront (W.written out.old) (W.written out.new) }
     ensures only { IsOkUnless result VortexError.OutOfMemory }
 {
     match ptype {
@@ -43,6 +45,7 @@ pub fn put_value<W: BufMut>(out: &mut W, ptype: PType, number: i128) -> VortexRe
 fn put_one<T: StoredNumber, W: BufMut>(out: &mut W, number: i128) -> VortexResult<()>
     requires { HasNumber T.PTYPE number }
     ensures ok { OnOk result (W.written out.new ≡ W.written out.old ++ number_bytes T.PTYPE number) }
+    ensures kept { StaysInFront (W.written out.old) (W.written out.new) }
     ensures only { IsOkUnless result VortexError.OutOfMemory }
 {
     let Some(item) = T::narrow(number) else {
@@ -83,6 +86,7 @@ pub(crate) fn put_all<T: StoredNumber, W: BufMut>(out: &mut W, items: &[T]) -> V
     ensures ok { OnOk result
         (W.written out.new ≡ W.written out.old ++ numbers_bytes T.PTYPE (map T.number items.now)) }
     ensures fits { OnOk result (All (λ n. HasNumber T.PTYPE n) (map T.number items.now)) }
+    ensures kept { StaysInFront (W.written out.old) (W.written out.new) }
     ensures only { IsOkUnless result VortexError.OutOfMemory }
 {
     out.reserve(items.len().saturating_mul(T::size()))?;
@@ -100,6 +104,7 @@ fn put_each<T: StoredNumber, W: BufMut>(out: &mut W, items: &[T]) -> VortexResul
     ensures ok { OnOk result
         (W.written out.new ≡ W.written out.old ++ numbers_bytes T.PTYPE (map T.number items.now)) }
     ensures fits { OnOk result (All (λ n. HasNumber T.PTYPE n) (map T.number items.now)) }
+    ensures kept { StaysInFront (W.written out.old) (W.written out.new) }
     ensures only { IsOkUnless result VortexError.OutOfMemory }
 {
     for item in items {
@@ -112,6 +117,7 @@ fn put_each<T: StoredNumber, W: BufMut>(out: &mut W, items: &[T]) -> VortexResul
 fn put_u8<W: BufMut>(out: &mut W, items: &[u8]) -> VortexResult<()>
     ensures ok { OnOk result (W.written out.new ≡ W.written out.old ++ numbers_bytes U8 (map (λ n. pos n) items.now)) }
     ensures fits { OnOk result (All (λ n. HasNumber U8 n) (map (λ n. pos n) items.now)) }
+    ensures kept { StaysInFront (W.written out.old) (W.written out.new) }
     ensures only { IsOkUnless result VortexError.OutOfMemory }
 {
     out.put_slice(items)?;
@@ -126,6 +132,7 @@ pub fn put_values<A: Allocator, W: BufMut>(
     ensures ok { OnOk result (W.written out.new ≡ W.written out.old ++ numbers_bytes (ptype_of values.now)
         (numbers values.now)) }
     ensures fits { OnOk result (All (λ n. HasNumber (ptype_of values.now) n) (numbers values.now)) }
+    ensures kept { StaysInFront (W.written out.old) (W.written out.new) }
     ensures only { IsOkUnless result VortexError.OutOfMemory }
 {
     match values {

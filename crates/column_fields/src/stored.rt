@@ -1,5 +1,6 @@
 //! Native numbers as bytes, the lowest first.
 ghost use Rattle.std.specs.Prelude.{◌≡◌, ◌++◌, ◌+◌, ◌-◌, ◌≤◌, length, map, pos, All, OnOk, IsOkUnless};
+ghost use Rattle.column_fields.specs.Kept.{StaysInFront};
 ghost use Rattle.column_fields.specs.NumberBytes.{number_bytes, numbers_bytes, size_of};
 ghost use Rattle.column_base.specs.Number.{Narrows};
 ghost use Rattle.column_base.specs.Types.{HasNumber};
@@ -19,6 +20,7 @@ pub(crate) trait StoredNumber: NativePType {
         ensures fits { HasNumber Self.PTYPE (Self.number self) }
         ensures ok { OnOk result
             (W.written out.new ≡ W.written out.old ++ number_bytes Self.PTYPE (Self.number self)) }
+        ensures kept { StaysInFront (W.written out.old) (W.written out.new) }
         ensures only { IsOkUnless result VortexError.OutOfMemory };
 
     /// Writes eight of them at the end, in one step.
@@ -27,6 +29,7 @@ pub(crate) trait StoredNumber: NativePType {
         ensures fits { All (λ n. HasNumber Self.PTYPE n) (map Self.number items.now) }
         ensures ok { OnOk result
             (W.written out.new ≡ W.written out.old ++ numbers_bytes Self.PTYPE (map Self.number items.now)) }
+        ensures kept { StaysInFront (W.written out.old) (W.written out.new) }
         ensures only { IsOkUnless result VortexError.OutOfMemory };
 
     /// The number of these bytes.

@@ -2,6 +2,7 @@
 ghost use Rattle.std.specs.Prelude.{◌≡◌, ◌++◌, OnOk, IfOk, IfErr, IsErrOf, IsOkUnless};
 ghost use Rattle.column_base.specs.Validity.{form_of};
 ghost use Rattle.column_base.specs.ValidityForm.{HasLength, ByBits};
+ghost use Rattle.column_fields.specs.Kept.{StaysInFront};
 ghost use Rattle.column_fields.specs.Validity.{validity_field, HasNoValidity};
 ghost use Rattle.column_fields.specs.Refusal.{IsBadOrMemory};
 
@@ -18,6 +19,7 @@ pub fn put_validity<A: Allocator, W: BufMut>(
     validity: &Validity<A>,
 ) -> VortexResult<()>
     ensures ok { OnOk result (W.written out.new ≡ W.written out.old ++ validity_field (form_of validity.now)) }
+    ensures kept { StaysInFront (W.written out.old) (W.written out.new) }
     ensures only { IsOkUnless result VortexError.OutOfMemory }
 {
     match validity {
@@ -34,6 +36,7 @@ pub fn put_bit_validity<A: Allocator, W: BufMut>(
     bits: &BitBuffer<A>,
 ) -> VortexResult<()>
     ensures ok { OnOk result (W.written out.new ≡ W.written out.old ++ validity_field (ByBits bits.now)) }
+    ensures kept { StaysInFront (W.written out.old) (W.written out.new) }
     ensures only { IsOkUnless result VortexError.OutOfMemory }
 {
     let count = bytes_for(bits.len());

@@ -1,4 +1,4 @@
-use Rattle.std.proofs.Common.{◌≡◌, ℤ, pos, rules, ap, ◌∙◌, sym, get_or, take, arith, List, ℕ, ◌++◌}
+use Rattle.std.proofs.Common.{◌≡◌, refl, ℤ, pos, rules, ap, ◌∙◌, sym, get_or, take, arith, List, ℕ, ◌++◌}
 use Rattle.std.proofs.lemmas.List.{take_more, take_all, append-nil}
 use Rattle.std.proofs.lemmas.List.Elements.{All-more, All-nil, All-same}
 use Rattle.std.specs.Int.{w128, cast_signed, cast_unsigned}
@@ -6,12 +6,14 @@ use Rattle.std.proofs.lemmas.Int.{to_z-of_z}
 use Rattle.std.specs.Int.RustNames.{FitsSigned}
 use Rattle.column_fields.specs.DecimalBytes.{decimal_bytes, decimals_bytes}
 use Rattle.column_fields.proofs.DecimalLaws.{put_step, decimals_none}
+use Rattle.column_fields.proofs.KeptLaws.{kept_same, kept_on}
 use Rattle.column_fields.proofs.decimals.put_each.Goals as goal
 
 pub loop-number-init : goal.loop-number-init
 loop-number-init g c = record {
   shows = sym (ap (λ (t : List ℕ). (g.W.BufMut.written c.args.out.now) ++ t) decimals_none ∙ append-nil (g.W.BufMut.written c.args.out.now));
   fits = All-nil (λ n. FitsSigned w128 n);
+  kept = kept_same _ _ refl;
 }
 
 pub loop-number-preserved : goal.loop-number-preserved
@@ -25,6 +27,7 @@ loop-number-preserved g c =
     record {
       shows = put_step _ _ _ front _ number c.loop-number.invariant.shows ok (take_more c.args.numbers.now at (pos 0) c.loop-number-test.true);
       fits = All-more (λ n. FitsSigned w128 n) c.args.numbers.now at (pos 0) c.loop-number-test.true c.loop-number.invariant.fits fits;
+      kept = kept_on _ _ _ c.loop-number.invariant.kept c.in_ok-put_decimal.ensures.kept;
     }
 
 pub returns-clause-ok : goal.returns-clause-ok

@@ -1,13 +1,26 @@
 use Rattle.std.proofs.Common.{arith, refl}
 use Rattle.varints.proofs.Forms.{is_written}
 use Rattle.varints.proofs.Shortest.{one_more, appended}
+use Rattle.column_fields.proofs.KeptLaws.{kept_same, kept_behind, kept_on}
 use Rattle.column_fields.proofs.fields.put_varint.Goals as goal
 
 pub loop-rest-init : goal.loop-rest-init
-loop-rest-init g c = λ tail compact. record { bytes = tail; compact = compact; parts = refl }
+loop-rest-init g c = record {
+  shows = λ tail compact. record { bytes = tail; compact = compact; parts = refl };
+  kept = kept_same _ _ refl;
+}
 
 pub loop-rest-preserved : goal.loop-rest-preserved
-loop-rest-preserved g c = one_more _ _ _ _ _ (omega arith) c.in_ok-put_u8.ensures.ok c.loop-rest.invariant
+loop-rest-preserved g c = record {
+  shows = one_more _ _ _ _ _ (omega arith) c.in_ok-put_u8.ensures.ok c.loop-rest.invariant.shows;
+  kept = kept_on _ _ _ c.loop-rest.invariant.kept (kept_behind _ _ _ c.in_ok-put_u8.ensures.ok);
+}
+
+pub returns-in_err-put_u8-clause-kept : goal.returns-in_err-put_u8-clause-kept
+returns-in_err-put_u8-clause-kept g c = kept_on _ _ _ c.loop-rest.invariant.kept (kept_same _ _ c.in_err-put_u8.ensures.err)
+
+pub returns-in_err-put_u8-2-clause-kept : goal.returns-in_err-put_u8-2-clause-kept
+returns-in_err-put_u8-2-clause-kept g c = kept_on _ _ _ c.loop-rest.invariant.kept (kept_same _ _ c.in_err-put_u8-2.ensures.err)
 
 pub returns-clause-ok : goal.returns-clause-ok
-returns-clause-ok g c = is_written _ _ _ (appended _ _ _ _ _ (omega arith) (omega arith) c.in_ok-put_u8-2.ensures.ok c.loop-rest.invariant)
+returns-clause-ok g c = is_written _ _ _ (appended _ _ _ _ _ (omega arith) (omega arith) c.in_ok-put_u8-2.ensures.ok c.loop-rest.invariant.shows)

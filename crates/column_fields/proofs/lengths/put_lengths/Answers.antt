@@ -2,6 +2,7 @@ use Rattle.std.proofs.Common.{◌≡◌, ap, ◌∙◌, map, ◌++◌}
 use Rattle.std.proofs.lemmas.Result.{on_ok_weaker}
 use Rattle.column_fields.specs.Lengths.{lengths_bytes}
 use Rattle.column_fields.proofs.OneByteLaws.{runs_ahead, put_ahead}
+use Rattle.column_fields.proofs.KeptLaws.{kept_on}
 use Rattle.column_fields.proofs.lengths.put_lengths.Goals as goal
 
 pub loop-rest-preserved : goal.loop-rest-preserved
@@ -12,7 +13,10 @@ loop-rest-preserved g c =
     let start = c.loop-rest.start in
     let parts : lengths_bytes start (map natural c.loop-rest.rest.now) ≡ lengths_bytes start (map natural front) ++ lengths_bytes c.end-start.result (map natural back) =
     runs_ahead natural c.index-front-7.result start c.end-start.result 7 c.loop-rest.rest.now front back c.split_at.ensures.front c.split_at.ensures.back c.split_at.ensures.front_len (c.end-start.ensures.value ∙ ap natural c.index-front-7.is) in
-    record { shows = put_ahead (g.W.BufMut.written c.loop-rest.out) _ _ _ _ _ c.loop-rest.invariant.shows c.in_ok-put_eight.ensures.ok parts }
+    record {
+      shows = put_ahead (g.W.BufMut.written c.loop-rest.out) _ _ _ _ _ c.loop-rest.invariant.shows c.in_ok-put_eight.ensures.ok parts;
+      kept = kept_on _ _ _ c.loop-rest.invariant.kept c.in_ok-put_eight.ensures.kept;
+    }
 
 pub returns-clause-ok : goal.returns-clause-ok
 returns-clause-ok g c = on_ok_weaker c.put_each.result (λ ok. ok ∙ c.loop-rest.invariant.shows) c.put_each.ensures.ok

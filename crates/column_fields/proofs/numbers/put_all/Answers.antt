@@ -6,12 +6,14 @@ use Rattle.column_base.specs.Types.{HasNumber}
 use Rattle.column_fields.specs.NumberBytes.{numbers_bytes}
 use Rattle.column_fields.proofs.EightLaws.{cut_items}
 use Rattle.column_fields.proofs.NumberLaws.{put_front_step}
+use Rattle.column_fields.proofs.KeptLaws.{kept_same, kept_on}
 use Rattle.column_fields.proofs.numbers.put_all.Goals as goal
 
 pub loop-rest-init : goal.loop-rest-init
 loop-rest-init g c = record {
   shows = ap (λ (b : List ℕ). b ++ numbers_bytes g.T.NativePType.PTYPE (map g.T.NativePType.number c.args.items.now)) c.in_ok-reserve.ensures.kept;
   fits = λ h. h;
+  kept = kept_same _ _ c.in_ok-reserve.ensures.kept;
 }
 
 pub loop-rest-preserved : goal.loop-rest-preserved
@@ -24,6 +26,7 @@ loop-rest-preserved g c =
     record {
       shows = put_front_step t (g.W.BufMut.written c.args.out.now) (g.W.BufMut.written c.loop-rest.out) _ (map number c.args.items.now) (map number c.loop-rest.rest.now) (map number front) (map number back) c.loop-rest.invariant.shows c.in_ok-put_eight.ensures.ok parts;
       fits = λ left. c.loop-rest.invariant.fits (All-same (λ n. HasNumber t n) _ _ parts (All-append (λ n. HasNumber t n) (map number front) (map number back) c.in_ok-put_eight.ensures.fits left));
+      kept = kept_on _ _ _ c.loop-rest.invariant.kept c.in_ok-put_eight.ensures.kept;
     }
 
 pub returns-clause-ok : goal.returns-clause-ok

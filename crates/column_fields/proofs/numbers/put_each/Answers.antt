@@ -1,15 +1,17 @@
-use Rattle.std.proofs.Common.{◌≡◌, ◌+◌, ap, ◌∙◌, sym, map, take, arith, List, ℕ, ◌++◌, [], ◌∷◌}
+use Rattle.std.proofs.Common.{◌≡◌, refl, ◌+◌, ap, ◌∙◌, sym, map, take, arith, List, ℕ, ◌++◌, [], ◌∷◌}
 use Rattle.std.proofs.lemmas.List.{map_more, take_all, append-nil}
 use Rattle.std.proofs.lemmas.List.Elements.{All-push, All-nil, All-same}
 use Rattle.column_base.specs.Types.{HasNumber}
 use Rattle.column_fields.specs.NumberBytes.{numbers_bytes}
 use Rattle.column_fields.proofs.NumberLaws.{put_step, numbers_none}
+use Rattle.column_fields.proofs.KeptLaws.{kept_same, kept_on}
 use Rattle.column_fields.proofs.numbers.put_each.Goals as goal
 
 pub loop-item-init : goal.loop-item-init
 loop-item-init g c = record {
   shows = sym (ap (λ (t : List ℕ). (g.W.BufMut.written c.args.out.now) ++ t) (numbers_none g.T.NativePType.PTYPE) ∙ append-nil (g.W.BufMut.written c.args.out.now));
   fits = All-nil (λ n. HasNumber g.T.NativePType.PTYPE n);
+  kept = kept_same _ _ refl;
 }
 
 pub loop-item-preserved : goal.loop-item-preserved
@@ -21,6 +23,7 @@ loop-item-preserved g c =
     record {
       shows = put_step t _ _ _ front _ (number c.item-item.result) c.loop-item.invariant.shows c.in_ok-put.ensures.ok more;
       fits = All-same (λ n. HasNumber t n) _ _ more (All-push (λ n. HasNumber t n) front (number c.item-item.result) c.loop-item.invariant.fits c.in_ok-put.ensures.fits);
+      kept = kept_on _ _ _ c.loop-item.invariant.kept c.in_ok-put.ensures.kept;
     }
 
 pub returns-clause-ok : goal.returns-clause-ok
