@@ -3,6 +3,7 @@ use Rattle.std.proofs.Common.{◌≡◌, ◌∙◌, ℕ, ℤ, List, [], ◌∷�
 use Rattle.std.specs.Prelude.{All, Err, IfOk, Ok, OnOk, Result, is_err}
 use Rattle.std.proofs.lemmas.List.{length-append, length-drop, length-map}
 use Rattle.std.proofs.lemmas.List.Elements.{All-append, All-drop, All-head, All-nil, All-replicate, All-tail, All-weaker}
+use Rattle.column_base.specs.declared.dtype.DType.{DType}
 use Rattle.column_base.specs.declared.dtype.DType.TheVariants as column
 use Rattle.column_base.specs.declared.dtype.Nullability.{Nullability}
 use Rattle.column_base.specs.declared.dtype.Nullability.TheVariants.{NonNullable}
@@ -218,6 +219,14 @@ grown_none leaf n none sound = (
   },
   no_rows leaf none,
 )
+
+-- a builder whose items have been taken
+pub taken_grown : (own left : Leaf) (bits : List Bool) (n : Nullability) → leaf_count left ≡ 0 → AreSound left → leaf_dtype left ≡ leaf_dtype own → bits ≡ []
+    → IsGrown left bits n × (single_rows (with_validity left (ByBits bits)) ≡ []) × (type_with left n ≡ type_with own n)
+taken_grown own left bits n none sound typed no_flags =
+    let empty = grown_none left n none sound in
+    subst (λ (bs : List Bool). IsGrown left bs n × (single_rows (with_validity left (ByBits bs)) ≡ []) × (type_with left n ≡ type_with own n)) (sym no_flags)
+    (empty.0, empty.1, ap (λ (dtype : DType). with_nullability dtype n) typed)
 
 -- as a column
 marks_of : {X : Type 0} (xs : List X) (bits : List Bool) (form : ValidityForm) → length bits ≡ length xs → flags form (length bits) ≡ bits → flags form (length xs) ≡ bits

@@ -9,9 +9,11 @@ ghost use Rattle.column_core.specs.Value.{IsLists};
 use crate::bits::append_flags;
 use crate::columns::column_of;
 use crate::items::{Items, append_items, no_items};
+use crate::taken::taken_column;
 use column_core::{DType, FlatColumn, FlatView, Nullability, VortexError, VortexResult};
 use std::alloc::Allocator;
 use std::marker::Model;
+use std::mem::replace;
 
 /// The rows of a flat column of any type but lists, which grows at its end. Items are held as a column stores them,
 /// texts and bytes one behind the other in one buffer, and a flag of a byte for each row.
@@ -79,5 +81,22 @@ impl<A: Allocator + Copy> FlatBuilder<A> {
         ensures computed { IfOk result (λ column. IsComputedLeaf (leaf_of column)) }
     {
         column_of(alloc, &self.items, &self.flags, self.nullability)
+    }
+
+    /// The same column, made of the builder's own memory: numbers, views and bytes of texts are moved to it, with the
+    /// room that they had in reserve, and bits and flags are packed. The builder has no rows after, holds no memory and
+    /// takes rows of its type again. Refused as `OutOfMemory` alone, and then the rows stay.
+    pub fn take_column(&mut self, alloc: A) -> VortexResult<FlatColumn<A>>
+        ensures only { IsOkUnless result VortexError.OutOfMemory }
+        ensures rows { IfOk result (λ column. single_rows (leaf_of column) ≡ self.old.rows) }
+        ensures dtype { IfOk result (λ column. leaf_dtype (leaf_of column) ≡ self.old.dtype) }
+        ensures computed { IfOk result (λ column. IsComputedLeaf (leaf_of column)) }
+        ensures empty { OnOk result (self.new.rows ≡ []) }
+        ensures kept { OnErr result (self.new.rows ≡ self.old.rows) }
+        ensures same_type { self.new.dtype ≡ self.old.dtype }
+    {
+        let column = taken_column(alloc, &mut self.items, &self.flags, self.nullability)?;
+        drop(replace(&mut self.flags, Vec::new(alloc)));
+        Ok(column)
     }
 }

@@ -39,8 +39,8 @@ pub(crate) fn column_of<A: Allocator + Copy>(
     column_with(alloc, items, validity)
 }
 
-// The validity of these flags. Refused as `OutOfMemory` alone.
-fn validity_of<A: Allocator + Copy>(
+/// The validity of these flags. Refused as `OutOfMemory` alone.
+pub(crate) fn validity_of<A: Allocator + Copy>(
     alloc: A,
     flags: &[bool],
     nullability: Nullability,

@@ -7,6 +7,7 @@ mod columns;
 mod items;
 mod numbers;
 mod spans;
+mod taken;
 mod texts;
 
 pub use builder::FlatBuilder;

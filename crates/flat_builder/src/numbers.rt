@@ -5,6 +5,7 @@ ghost use Rattle.flat_builder.specs.Items.{numbers_in, ptype_in};
 
 use column_core::{NativePType, PType, PrimitiveValues, VortexError, VortexResult};
 use std::alloc::Allocator;
+use std::mem::replace;
 
 /// Integers of one native type, in order, as they are stored.
 #[derive(Drop)]
@@ -83,6 +84,28 @@ pub(crate) fn copied_numbers<A: Allocator + Copy>(
     }
 }
 
+/// The numbers themselves as a column stores them: none is copied, and none stays. Want of memory refuses nothing.
+pub(crate) fn taken_numbers<A: Allocator + Copy>(
+    alloc: A,
+    items: &mut NumberItems<A>,
+) -> PrimitiveValues<A>
+    ensures numbers { numbers result ≡ numbers_in items.old }
+    ensures typed { ptype_of result ≡ ptype_in items.old }
+    ensures none { numbers_in items.new ≡ [] }
+    ensures same_type { ptype_in items.new ≡ ptype_in items.old }
+{
+    match items {
+        NumberItems::U8(items) => taken(alloc, items),
+        NumberItems::U16(items) => taken(alloc, items),
+        NumberItems::U32(items) => taken(alloc, items),
+        NumberItems::U64(items) => taken(alloc, items),
+        NumberItems::I8(items) => taken(alloc, items),
+        NumberItems::I16(items) => taken(alloc, items),
+        NumberItems::I32(items) => taken(alloc, items),
+        NumberItems::I64(items) => taken(alloc, items),
+    }
+}
+
 // Puts the numbers of the type from number `start` on behind the others.
 fn append_part<T: NativePType, A: Allocator>(
     items: &mut Vec<T, A>,
@@ -112,4 +135,12 @@ fn copied<T: NativePType, A: Allocator + Copy>(
     ensures typed { IfOk result (λ values. ptype_of values ≡ T.PTYPE) }
 {
     Ok(T::wrap(Vec::from_slice(alloc, items)?))
+}
+
+fn taken<T: NativePType, A: Allocator + Copy>(alloc: A, items: &mut Vec<T, A>) -> PrimitiveValues<A>
+    ensures numbers { numbers result ≡ map T.number items.old.items }
+    ensures typed { ptype_of result ≡ T.PTYPE }
+    ensures none { items.new.items ≡ [] }
+{
+    T::wrap(replace(items, Vec::new(alloc)))
 }
