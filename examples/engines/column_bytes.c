@@ -20,6 +20,17 @@ int32_t column_is_null_alone(const hv_column *column, uint8_t *is_null, hv_error
     return answer;
 }
 
+int32_t column_cast(const hv_column *column, const hv_kind *kind, hv_column *out, hv_error *error) {
+    hv_column runs = HV_EMPTY;
+    hv_session session;
+    int32_t answer = HV_OK;
+    hv_session_initial(&session);
+    if (hv_form(column) == HV_FORM_CONSTANT) answer = hv_encode_rows(column, &runs, error), column = &runs;
+    if (!answer) answer = hv_cast(&session, column, kind, out, error);
+    hv_free(&runs);
+    return answer;
+}
+
 /* The rows of an encoding of null alone as numbers, which are null by bits. */
 static int32_t null_numbers(const hv_column *runs, hv_column *out, hv_error *error) {
     const int64_t under_null = 0;
@@ -38,11 +49,9 @@ static int32_t null_numbers(const hv_column *runs, hv_column *out, hv_error *err
 /* The rows of an encoding in a type without null, where none is null; else the encoding itself. */
 static int32_t least_type(hv_column *runs, hv_column *out, hv_error *error) {
     hv_kind kind = hv_kind_of(runs);
-    hv_session session;
-    hv_session_initial(&session);
     if (kind.nullable) {
         kind.nullable = 0;
-        const int32_t answer = hv_cast(&session, runs, &kind, out, error);
+        const int32_t answer = column_cast(runs, &kind, out, error);
         if (answer != HV_NULL_NOT_ALLOWED) return answer;
     }
     hv_put(out, runs);
@@ -85,10 +94,8 @@ int32_t column_bytes_read(const uint8_t *bytes, size_t size, hv_column *out, hv_
         return HV_OK;
     }
     if (kind.number < HV_I64) {
-        hv_session session;
-        hv_session_initial(&session);
         kind.number = HV_I64;
-        answer = hv_cast(&session, &column, &kind, out, error);
+        answer = column_cast(&column, &kind, out, error);
     } else {
         answer = HV_UNSUPPORTED;
     }

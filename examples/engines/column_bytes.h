@@ -16,6 +16,10 @@ int32_t encoding_bytes_write(hv_column *runs, uint8_t **bytes, size_t *size, hv_
  * number past 2^63, 21. */
 int32_t column_bytes_read(const uint8_t *bytes, size_t size, hv_column *out, hv_error *error);
 
+/* The column as one of another type, as hv_cast, in memory by runs: a constant becomes one run before, since a constant
+ * that is cast has each row written out. */
+int32_t column_cast(const hv_column *column, const hv_kind *kind, hv_column *out, hv_error *error);
+
 /* Is no row other than null? Such a column goes with columns of every type. 13 for lists, 21. */
 int32_t column_is_null_alone(const hv_column *column, uint8_t *is_null, hv_error *error);
 

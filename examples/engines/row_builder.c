@@ -130,11 +130,9 @@ int32_t row_builder_add(row_builder *rows, const row_value *value, hv_error *err
 static int32_t append_column(row_builder *rows, const hv_column *column, hv_error *error) {
     hv_kind kind = hv_kind_of(column);
     hv_column with_null = HV_EMPTY;
-    hv_session session;
     if (kind.nullable) return hv_append(&rows->joined, column, error);
     kind.nullable = 1;
-    hv_session_initial(&session);
-    int32_t answer = hv_cast(&session, column, &kind, &with_null, error);
+    int32_t answer = column_cast(column, &kind, &with_null, error);
     if (!answer) answer = hv_append(&rows->joined, &with_null, error);
     hv_free(&with_null);
     return answer;

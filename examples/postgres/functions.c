@@ -14,6 +14,7 @@ static int error_code(int32_t answer) {
     case HV_OUT_OF_MEMORY: return ERRCODE_OUT_OF_MEMORY;
     case HV_BAD_METADATA: return ERRCODE_DATA_CORRUPTED;
     case HV_WINDOW_OVERFLOW: return ERRCODE_PROGRAM_LIMIT_EXCEEDED;
+    case HV_CAST_OUT_OF_RANGE: return ERRCODE_NUMERIC_VALUE_OUT_OF_RANGE;
     case HV_BAD_RANGE: return ERRCODE_ARRAY_SUBSCRIPT_ERROR;
     case HV_TYPE_MISMATCH: return ERRCODE_DATATYPE_MISMATCH;
     default: return ERRCODE_FEATURE_NOT_SUPPORTED;
@@ -26,6 +27,7 @@ void hv_raise(const char *function, int32_t answer, const hv_error *error) {
     const char *why = hv_error_text(answer, error, text);
     if (answer == HV_BAD_METADATA) why = "the bytes are no column";
     if (answer == HV_WINDOW_OVERFLOW) why = "a column of 2^63 rows or more";
+    if (answer == HV_CAST_OUT_OF_RANGE) why = "a number of the column is 2^63 or more";
     if (answer == HV_TYPE_MISMATCH) why = "numbers, texts and bytes do not go together";
     ereport(ERROR, (errcode(error_code(answer)), errmsg("%s: %s", function, why)));
 }

@@ -29,7 +29,7 @@ static const char *kind_in_words(uint8_t kind) {
     return kind == HV_TEXT || kind == HV_UTF8 ? "texts" : kind == HV_BYTES || kind == HV_BINARY ? "blobs" : "integers";
 }
 
-static const char too_long[] = "a column of 2^63 rows or more";
+static const char too_long[] = "a column of 2^63 rows or more", not_utf8[] = "a text is not UTF-8";
 
 char *refusal(const char *function, int32_t answer, const hv_error *error) {
     char text[HV_ERROR_TEXT];
@@ -37,6 +37,7 @@ char *refusal(const char *function, int32_t answer, const hv_error *error) {
     if (answer == HV_OUT_OF_MEMORY) return NULL;
     if (answer == HV_BAD_METADATA) why = "the blob is no column";
     if (answer == HV_WINDOW_OVERFLOW) why = too_long;
+    if (answer == HV_CAST_OUT_OF_RANGE) why = "a number of the column is 2^63 or more";
     return sqlite3_mprintf("%s: %s", function, why);
 }
 
@@ -145,7 +146,7 @@ static bool is_asked(sqlite3_context *context, const row_builder *rows, int coun
 
 /* Ends the call where rows were refused that are of one type: then a text is meant. */
 static void refuse_rows(sqlite3_context *context, const char *function, int32_t answer, const hv_error *error) {
-    if (answer == HV_TYPE_MISMATCH) fail(context, sqlite3_mprintf("%s: a text is not UTF-8", function));
+    if (answer == HV_TYPE_MISMATCH) fail(context, sqlite3_mprintf("%s: %s", function, not_utf8));
     else refuse(context, function, answer, error);
 }
 
@@ -324,6 +325,14 @@ static int32_t ask_slice(question *asked) {
     return answer;
 }
 
+/* The refusal of a value that is none of the column's type. */
+static int32_t say_not_compared(question *asked, const row_value *value) {
+    const uint8_t kind = hv_kind_of(asked->column).number;
+    if (kind == HV_UTF8 && value->kind == HV_TEXT) return say(asked, sqlite3_mprintf("hv_filter: %s", not_utf8));
+    return say(asked, sqlite3_mprintf("hv_filter: a column of %s is not compared with %s", kind_in_words(kind),
+                                      type_in_words(sqlite3_value_type(asked->values[2]))));
+}
+
 static int32_t ask_filter(question *asked) {
     const uint8_t operator_ = operator_number((const char *)sqlite3_value_text(asked->values[1]));
     hv_column kept = HV_EMPTY;
@@ -332,10 +341,7 @@ static int32_t ask_filter(question *asked) {
     int32_t answer = row_value_of(asked->values[2], &value) ? HV_OK : HV_TYPE_MISMATCH;
     if (!answer) answer = column_filter(asked->column, operator_, &value, &kept, &asked->error);
     if (!answer) answer_column(asked->context, "hv_filter", &kept);
-    if (answer == HV_TYPE_MISMATCH)
-        answer = say(asked, sqlite3_mprintf("hv_filter: a column of %s is not compared with %s",
-                                            kind_in_words(hv_kind_of(asked->column).number),
-                                            type_in_words(sqlite3_value_type(asked->values[2]))));
+    if (answer == HV_TYPE_MISMATCH) answer = say_not_compared(asked, &value);
     hv_free(&kept);
     return answer;
 }

@@ -58,6 +58,7 @@ int main(void) {
         "SELECT length(hv_slice(c, 3, 4)) FROM p",
         "SELECT sum(stop * length(value)) FROM p, hv_runs(w)",
         "SELECT sum(hv_count(c)) FROM (SELECT hv_concat(x'0801100B180120022803620200006A00') AS c)",
+        "SELECT hv_sum(hv_concat(x'080110011803200528013A0107'))",
     };
     long all = 0;
     CHECK(sqlite3_open(":memory:", &db) == SQLITE_OK);

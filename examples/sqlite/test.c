@@ -160,6 +160,24 @@ static void check_bytes(void) {
               "4611686018427387904|1|1");
 }
 
+/* One value in 2^60 rows, a constant, which costs a run in each function: 1 as i64 without null, 7 as u8, and, in two
+ * rows, 2^63 as u64, which is no number of SQLite's. */
+static void check_constants(void) {
+    ask("CREATE TABLE x AS SELECT x'0801100818032080808080808080801028013A080100000000000000' AS ones, "
+        "x'0801100118032080808080808080801028013A0107' AS sevens, "
+        "x'080110041803200228013A080000000000000080' AS past");
+    CHECK_SQL("SELECT hv_rows(ones), hv_sum(ones), hv_count(ones), hv_at(ones, 5) FROM x",
+              "1152921504606846976|1152921504606846976|1152921504606846976|1");
+    CHECK_SQL("SELECT start, stop, value FROM x, hv_runs(sevens)", "0|1152921504606846976|7");
+    CHECK_SQL("SELECT hv_rows(c), hv_max(c), hv_at(c, 0), hv_at(c, 1152921504606846976) FROM (SELECT hv_concat(c) AS c "
+              "FROM (SELECT ones AS c FROM x UNION ALL SELECT sevens FROM x UNION ALL SELECT hv_column(NULL)))",
+              "2305843009213693953|7|1|7");
+    CHECK_SQL("SELECT hv_rows(hv_slice(sevens, 5, 1152921504606846976)), hv_rows(hv_filter(sevens, '>', 6)) FROM x",
+              "1152921504606846971|1152921504606846976");
+    CHECK_SQL("SELECT hv_sum(sevens) FROM x", "8070450532247928832");
+    CHECK_SQL("SELECT hv_rows(past) FROM x", "error: hv_rows: a number of the column is 2^63 or more");
+}
+
 static void check_refusals(void) {
     CHECK_SQL("SELECT hv_sum(x'00')", "error: hv_sum: the blob is no column");
     CHECK_SQL("SELECT hv_sum(x'')", "error: hv_sum: the blob is no column");
@@ -185,6 +203,9 @@ static void check_refusals(void) {
     CHECK_SQL("SELECT hv_filter(c, '~', 2) FROM p", "error: hv_filter: an operator is one of = <> > >= < <=");
     CHECK_SQL("SELECT hv_filter(c, NULL, 2) FROM p", "error: hv_filter: an operator is one of = <> > >= < <=");
     CHECK_SQL("SELECT hv_filter(c, '=', 'a') FROM p",
+              "error: hv_filter: a column of integers is not compared with a text");
+    CHECK_SQL("SELECT hv_filter(c, '=', CAST(x'C328' AS TEXT)) FROM q", "error: hv_filter: a text is not UTF-8");
+    CHECK_SQL("SELECT hv_filter(c, '=', CAST(x'C328' AS TEXT)) FROM p",
               "error: hv_filter: a column of integers is not compared with a text");
     CHECK_SQL("SELECT hv_filter(c, '=', 0.5) FROM p",
               "error: hv_filter: a column of integers is not compared with a real number");
@@ -347,6 +368,7 @@ int main(int count, char **words) {
     check_bytes();
     check_many();
     check_others();
+    check_constants();
     check_refusals();
     ask("CREATE TABLE r(v)");
     ask("CREATE TABLE k AS SELECT 0 AS first, 0 AS stop");
