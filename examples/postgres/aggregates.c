@@ -3,6 +3,9 @@
  * that of both. */
 #include "pg_column.h"
 
+#include "nodes/primnodes.h"
+#include "utils/lsyscache.h"
+
 typedef struct held_rows {
     MemoryContextCallback freed;
     row_builder rows;
@@ -23,6 +26,13 @@ static row_builder *state(FunctionCallInfo fcinfo) {
     MemoryContext context;
     if (!AggCheckCallContext(fcinfo, &context)) elog(ERROR, "hv_column: called by no aggregate");
     return PG_ARGISNULL(0) ? rows_in(context) : (row_builder *)PG_GETARG_POINTER(0);
+}
+
+/* What the aggregate is called, for a refusal; of a window function it is not told. */
+static const char *aggregate_name(FunctionCallInfo fcinfo) {
+    const Aggref *called = AggGetAggref(fcinfo);
+    const char *name = called ? get_func_name(called->aggfnoid) : NULL;
+    return name ? name : "hv_column";
 }
 
 static Datum added(FunctionCallInfo fcinfo, const row_value *value) {
@@ -69,30 +79,31 @@ HV_FUNCTION(pg_hv_combine) {
     row_builder *rows = state(fcinfo);
     if (!PG_ARGISNULL(1)) {
         const int32_t answer = row_builder_append(rows, (row_builder *)PG_GETARG_POINTER(1), &error);
-        hv_raise("hv_column", answer, &error);
+        hv_raise(aggregate_name(fcinfo), answer, &error);
     }
     PG_RETURN_POINTER(rows);
 }
 
 /* The bytes of all rows. */
-static bytea *bytes_of(row_builder *rows) {
+static bytea *bytes_of(FunctionCallInfo fcinfo, row_builder *rows) {
+    const char *name = aggregate_name(fcinfo);
     hv_error error = {0, 0, 0};
     hv_column runs = HV_EMPTY;
     const int32_t answer = rows->rows > PG_INT64_MAX ? HV_WINDOW_OVERFLOW : row_builder_encoding(rows, &runs, &error);
-    hv_raise("hv_column", answer, &error);
-    return hv_bytes_of_encoding("hv_column", &runs);
+    hv_raise(name, answer, &error);
+    return hv_bytes_of_encoding(name, &runs);
 }
 
-HV_FUNCTION(pg_hv_serial) { PG_RETURN_BYTEA_P(bytes_of((row_builder *)PG_GETARG_POINTER(0))); }
+HV_FUNCTION(pg_hv_serial) { PG_RETURN_BYTEA_P(bytes_of(fcinfo, (row_builder *)PG_GETARG_POINTER(0))); }
 
 /* The state is copied out of this memory by the next pg_hv_combine. */
 HV_FUNCTION(pg_hv_deserial) {
     row_builder *rows = rows_in(CurrentMemoryContext);
-    add_bytes("hv_column", rows, PG_GETARG_BYTEA_PP(0));
+    add_bytes(aggregate_name(fcinfo), rows, PG_GETARG_BYTEA_PP(0));
     PG_RETURN_POINTER(rows);
 }
 
 HV_FUNCTION(pg_hv_final) {
     row_builder nothing = ROW_BUILDER_EMPTY;
-    PG_RETURN_BYTEA_P(bytes_of(PG_ARGISNULL(0) ? &nothing : (row_builder *)PG_GETARG_POINTER(0)));
+    PG_RETURN_BYTEA_P(bytes_of(fcinfo, PG_ARGISNULL(0) ? &nothing : (row_builder *)PG_GETARG_POINTER(0)));
 }

@@ -54,4 +54,15 @@ server -w -l "$work/server.log" \
     -o "-k $work/socket -c listen_addresses= -c fsync=off -c max_parallel_workers=8 -c max_worker_processes=16" start \
     >"$work/log" 2>&1 || fail "no server: $(cat "$work/log" "$work/server.log")"
 ask() { $as env LC_ALL=C.UTF-8 "$bin/psql" -X -q -h "$work/socket" -U tester -d postgres -v ON_ERROR_STOP=1 "$@"; }
+# a database that was dumped and restored answers as it did
+restored() {
+    answers="SELECT c::text FROM p UNION ALL SELECT c::text FROM q UNION ALL SELECT hv_sum(c)::text FROM p"
+    ask -c "CREATE DATABASE restored"
+    $as "$bin/pg_dump" -h "$work/socket" -U tester postgres >"$work/dump" || fail "no dump"
+    $as env LC_ALL=C.UTF-8 "$bin/psql" -X -q -h "$work/socket" -U tester -d restored -v ON_ERROR_STOP=1 <"$work/dump" \
+        >"$work/log" 2>&1 || fail "not restored: $(cat "$work/log")"
+    ask -At -c "$answers" >"$work/before"
+    ask -At -d restored -c "$answers" | cmp - "$work/before" >&2 || fail "a column is another after it was restored"
+}
 ask ${count:+-v "count=$count"} -v "folder=$work/socket" -At -f "$work/build/examples/postgres/$file"
+[ "$file" = figures.sql ] || restored

@@ -52,7 +52,12 @@ SELECT same('SELECT hv_rows(c), hv_count(c), hv_sum(c), hv_min(c), hv_max(c) FRO
     same($$SELECT hv_rows(c), hv_at(c, 4611686018427387903), hv_rows(hv_filter(c, '=', 1)) FROM
           (SELECT ('\x08011008180220' || '808080808080808040' || '400048045209' || '808080808080808040' ||
                    '5A14080110081801200128013A080100000000000000')::hvcolumn AS c) x$$,
-         'SELECT 4611686018427387904, 1, 4611686018427387904')
+         'SELECT 4611686018427387904, 1, 4611686018427387904'),
+    -- 7 as u8 in each of 2^60 rows, a constant, and two of these: 14 * 2^60 is past a bigint
+    same($$SELECT hv_rows(c), hv_sum(c) FROM (SELECT '\x0801100118032080808080808080801028013A0107'::hvcolumn AS c) x$$,
+         'SELECT 1152921504606846976, 8070450532247928832'),
+    same($$SELECT r.* FROM (SELECT hv_concat('\x0801100118032080808080808080801028013A0107'::hvcolumn) AS c
+           FROM generate_series(1, 2)) x, hv_runs(c) r$$, 'SELECT 0, 2305843009213693952, 7')
 \g /dev/null
 
 -- ---- Refusals ----
@@ -72,6 +77,13 @@ SELECT refused($$SELECT '\x00'::hvcolumn$$, 'hvcolumn: the bytes are no column')
     refused('SELECT r.* FROM p, hv_text_runs(c) r', 'hv_text_runs: this is no column of texts'),
     refused('SELECT hv_concat(c) FROM (SELECT c FROM p UNION ALL SELECT c FROM q) x',
             'hv_concat: numbers, texts and bytes do not go together'),
+    -- eight columns of 2^60 rows are one of 2^63; and two rows of 2^63 as u64
+    refused($$SELECT hv_concat('\x0801100118032080808080808080801028013A0107'::hvcolumn) FROM generate_series(1, 8)$$,
+            'hv_concat: a column of 2^63 rows or more'),
+    refused($$SELECT '\x080110041803200228013A080000000000000080'::hvcolumn$$,
+            'hvcolumn: a number of the column is 2^63 or more'),
+    refused('SELECT DISTINCT c FROM p', 'could not identify an equality operator for type hvcolumn'),
+    refused('SELECT c FROM p ORDER BY c', 'could not identify an ordering operator for type hvcolumn'),
     refused('SELECT hv_sum(hv_column(v)) FROM (VALUES (9223372036854775807), (1)) x(v)', 'hv_sum: bigint out of range')
 \g /dev/null
 -- what has bytes and is no hvcolumn: true, 1.50, [7], three rows of it in one run, and null of lists
