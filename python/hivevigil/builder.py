@@ -7,6 +7,7 @@ from ._library import BuilderHandle, ask, calls
 from ._types import kind_of, text_of
 from ._values import Scalar, passed, size_of
 from .column import Column
+from .errors import TypeMismatch
 
 
 class Builder:
@@ -30,7 +31,12 @@ class Builder:
     def append(self, batch: Any) -> None:
         """The rows of a batch of the builder's type go behind its rows."""
         column = batch if isinstance(batch, Column) else Column.of(batch, self.type)
-        ask(calls.hv_append, self._handle, column)
+        try:
+            ask(calls.hv_append, self._handle, column)
+        except TypeMismatch as refused:
+            refused.call = "append"
+            refused.columns = (f"{self.type} (builder)", f"{column.type} ({column.form})")
+            raise
 
     def append_value(self, value: Scalar, count: int = 1) -> None:
         """So many rows of one value, or of None, go behind the rows."""

@@ -161,14 +161,14 @@ class Column:
     @classmethod
     def from_record(cls, type: Any, rows: int, record: bytes, ends: Column, values: Column) -> Column:
         """The run column of this many rows that a metadata record describes, over copies of ends and values."""
-        count, data = size_of(rows, "the number of rows"), bytes(record)
+        count, data = size_of(rows, "the number of rows"), bytes(memoryview(record))
         passed_record = (kind_of(type), count, data or b"\0", len(data))
         return cls._made(calls.hv_deserialize, *passed_record, _column(ends), ends._beside(values))
 
     @classmethod
     def from_bytes(cls, message: bytes) -> Column:
         """The column that `to_bytes` wrote, in the form that it had. `BadMetadata` for bytes that are no message."""
-        data = bytes(message)
+        data = bytes(memoryview(message))  # of a number bytes() would make as many bytes
         return cls._made(calls.hv_read_column, data or b"\0", len(data))
 
     @classmethod

@@ -75,8 +75,9 @@ def test_many_rows_take_no_memory():
 def test_refused_batches_change_nothing():
     builder = Builder("i32")
     builder.append([1, 1, 2])
-    with pytest.raises(errors.TypeMismatch):
+    with pytest.raises(errors.TypeMismatch) as refused:
         builder.append(Column.of([1, None], "i32?"))
+    assert str(refused.value) == "append: columns of i32 (builder) and of i32? (flat) do not go together"
     with pytest.raises(errors.NullNotAllowed):
         builder.append_value(None)
     with pytest.raises(OverflowError):

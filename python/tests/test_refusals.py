@@ -288,3 +288,11 @@ def test_freed_while_it_is_iterated():
     column.free()
     with pytest.raises(errors.NoColumn):
         list(rows)
+
+
+@pytest.mark.parametrize("message", [5, 2**62, None, "text", [8, 1]])
+def test_what_is_no_bytes_is_no_message(message):
+    with pytest.raises(TypeError, match="bytes-like"):
+        Column.from_bytes(message)
+    with pytest.raises(TypeError, match="bytes-like"):
+        Column.from_record("i32", 1, message, Column.of([1], "u8"), Column.of([1], "i32"))

@@ -87,8 +87,9 @@ def test_more_levels_of_runs_than_bytes_have_are_pickled():
     column = Column.of(["a", None])
     for _ in range(40):
         column = Column.from_runs([1, 2], column)
-    with pytest.raises(errors.Unsupported):
+    with pytest.raises(errors.Unsupported) as refused:
         column.to_bytes()
+    assert str(refused.value) == "to_bytes (at most 16 levels of runs) does not serve columns of utf8? (runs)"
     again, levels = pickle.loads(pickle.dumps(column)), 0
     assert again.to_list() == ["a", None]
     while again.form == "runs":
