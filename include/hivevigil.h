@@ -81,7 +81,7 @@ enum {
     HV_NO_RUNS_WINDOW = 3,          /* offset, length: there is no run, yet a window; no offset of texts: 0, 0 */
     HV_ENDS_NOT_STRICT = 4,         /* run: its end is not above the end before; of offsets of texts, the row whose stop
                                        is below its start, or whose offset is negative */
-    HV_WINDOW_OVERFLOW = 5,         /* offset and length add up to 2^64 or more */
+    HV_WINDOW_OVERFLOW = 5,         /* offset and length, or all rows together, are 2^64 or more */
     HV_FIRST_END_BELOW_OFFSET = 6,  /* end, offset */
     HV_LAST_END_BELOW_WINDOW = 7,   /* end, required */
     HV_OUT_OF_BOUNDS = 8,           /* index (2^64 - 1 for one that no uint64_t has), length */

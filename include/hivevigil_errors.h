@@ -19,7 +19,7 @@ extern "C" {
     X(HV_LENGTHS_DIFFER, "%1 ends and %2 values: each run has one of both") \
     X(HV_NO_RUNS_WINDOW, "there is no run, yet a window of %2 rows from row %1 on") \
     X(HV_ENDS_NOT_STRICT, "the end of run %1 is not above the end before it") \
-    X(HV_WINDOW_OVERFLOW, "offset %1 and length %2 add up to 2^64 or more") \
+    X(HV_WINDOW_OVERFLOW, "offset and length, or all rows together, are 2^64 or more") \
     X(HV_FIRST_END_BELOW_OFFSET, "the first run ends before row %1, below the offset %2") \
     X(HV_LAST_END_BELOW_WINDOW, "the last run ends before row %1, the window before row %2") \
     X(HV_OUT_OF_BOUNDS, "row %1 is not among %2 rows") \

@@ -126,6 +126,10 @@ class Lists:
         last = self.errors["OUT_OF_MEMORY"]
         expected = {camel(name): number for name, number in self.errors.items() if 0 < number <= last}
         self.same("errors of docs/ERRORS.md", {name: int(number) for number, name in lines}, expected)
+        fields = re.findall(r"^\| \d+ \| `(\w+)` \| ([^|]*)\|", text_of("docs/ERRORS.md"), re.M)
+        told = {name: len(re.findall(r"\w+", words)) for name, words in fields}
+        said = {camel(name): len(set(re.findall(r"%\d", text))) for name, text in sentences().items()}
+        self.same("fields in the sentences of errors", {name: said[name] for name in told if name in said}, told)
 
     def check_python(self) -> None:
         sys.path.insert(0, str(ROOT / "python"))

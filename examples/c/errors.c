@@ -9,7 +9,7 @@ static void check_sentences(void) {
     CHECK(strcmp(hv_error_text(HV_NO_RUNS_WINDOW, &error, text),
                  "there is no run, yet a window of 11 rows from row 5 on") == 0);
     CHECK(strcmp(hv_error_text(HV_WINDOW_OVERFLOW, &error, text),
-                 "offset 5 and length 11 add up to 2^64 or more") == 0);
+                 "offset and length, or all rows together, are 2^64 or more") == 0);
     CHECK(strcmp(hv_error_text(HV_NULL_FILL, &error, text), "nulls are filled by a value, and null is none") == 0);
     CHECK(strcmp(hv_error_text(-7, &error, text), "error -7 (5, 11, 10)") == 0);
     CHECK(strcmp(hv_error_name(HV_BAD_RANGE), "HV_BAD_RANGE") == 0 && strcmp(hv_error_name(99), "unknown") == 0);

@@ -46,7 +46,7 @@ class EndsNotStrict(HivevigilError, ValueError):
 
 
 class WindowOverflow(HivevigilError, OverflowError):
-    number, sentence = 5, "offset {0} and length {1} add up to 2**64 or more"
+    number, sentence = 5, "offset and length, or all rows together, are 2**64 or more"
 
 
 class FirstEndBelowOffset(HivevigilError, ValueError):

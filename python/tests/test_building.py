@@ -82,7 +82,7 @@ def test_refused_batches_change_nothing():
         builder.append_value(None)
     with pytest.raises(OverflowError):
         builder.append_value(2**31)
-    with pytest.raises(errors.WindowOverflow):
+    with pytest.raises(errors.WindowOverflow, match="all rows together, are 2\\*\\*64 or more"):
         builder.append_value(2, 2**64 - 3)
     check_encoding(builder.encoding(), [1, 1, 2])
     with pytest.raises(errors.Unsupported):

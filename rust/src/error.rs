@@ -58,7 +58,7 @@ errors! {
     LengthsDiffer = 2, "%1 ends and %2 values: each run has one of both";
     NoRunsWindow = 3, "there is no run, yet a window of %2 rows from row %1 on";
     EndsNotStrict = 4, "the end of run %1 is not above the end before it";
-    WindowOverflow = 5, "offset %1 and length %2 add up to 2^64 or more";
+    WindowOverflow = 5, "offset and length, or all rows together, are 2^64 or more";
     FirstEndBelowOffset = 6, "the first run ends before row %1, below the offset %2";
     LastEndBelowWindow = 7, "the last run ends before row %1, the window before row %2";
     OutOfBounds = 8, "row %1 is not among %2 rows";
