@@ -1,0 +1,53 @@
+"""The examples of docs/BYTES.md, byte by byte: what the page writes is read as the rows that it names, and written
+again as these bytes."""
+import re
+from decimal import Decimal
+from pathlib import Path
+
+import pytest
+
+from hivevigil import Column
+
+PAGE = Path(__file__).resolve().parents[2] / "docs" / "BYTES.md"
+# the type and the rows of each example, in the page's order; of 2**60 rows the first, and how many
+EXAMPLES = [
+    ("i16?", [7, 7, 7, None, None]),
+    ("decimal(5, 2)?", [Decimal("1.50"), None]),
+    ("utf8?", ["ab", None, "", "c"]),
+    ("utf8", ("ab", 2**60)),
+    ("list?", [[7, 8], [8, 9], None]),
+    ("decimal(5, 2)?", [None, None, None]),
+    ("list?", (None, 2**60)),
+    ("list?", [None]),
+]
+
+
+def line_bytes(line: str, width: int) -> bytes:
+    """The bytes at the front of a line; of "96 00 .. 00" as many as its number has."""
+    front = re.match(r"( +([0-9a-f]{2}|\.\.)\b| +\.\.)+", line)[0]
+    first, dots, last = front.partition("..")
+    between = bytes(width - len(bytes.fromhex(first + last))) if dots else b""
+    return bytes.fromhex(first) + between + bytes.fromhex(last)
+
+
+def messages() -> list[bytes]:
+    page = PAGE.read_text(encoding="utf-8")
+    part = page[page.index("## An example, byte by byte") : page.index("## What is refused")]
+    blocks = [block for block in part.split("\n\n") if block.startswith("    ")]
+    return [b"".join(line_bytes(line, 16 if "decimal" in block else 8) for line in block.splitlines())
+            for block in blocks]
+
+
+def test_the_page_has_these_examples():
+    assert len(messages()) == len(EXAMPLES)
+
+
+@pytest.mark.parametrize("at", range(len(EXAMPLES)))
+def test_an_example_is_read_and_written(at):
+    message, (type_of_rows, rows) = messages()[at], EXAMPLES[at]
+    column = Column.from_bytes(message)
+    assert column.type == type_of_rows and column.to_bytes() == message
+    if isinstance(rows, list):
+        assert column.to_list() == rows
+    else:
+        assert (len(column), column[0], column[-1]) == (rows[1], rows[0], rows[0])
