@@ -305,6 +305,10 @@ HV_ANSWER hv_encoding(const hv_builder *builder, hv_column *out, hv_error *error
     hv_error ignored;
     return (hv_encoding)(hv_lent_builder(builder), out, HV_FIELDS);
 }
+HV_ANSWER hv_finish(hv_builder *builder, hv_column *out, hv_error *error) {
+    hv_error ignored;
+    return (hv_finish)(builder, out, HV_FIELDS);
+}
 HV_CALL size_t hv_builder_rows(const hv_builder *builder) { return (hv_builder_rows)(hv_lent_builder(builder)); }
 HV_CALL size_t hv_builder_runs(const hv_builder *builder) { return (hv_builder_runs)(hv_lent_builder(builder)); }
 HV_CALL void hv_builder_free(hv_builder *builder) {

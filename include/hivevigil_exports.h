@@ -146,6 +146,7 @@ HV_EXPORT int32_t hv_append(hv_builder *builder, hv_column *column, hv_error *er
 HV_EXPORT int32_t hv_append_value(hv_builder *builder, const hv_value *value, const uint8_t *text, size_t text_len,
                                   size_t count, hv_error *error);
 HV_EXPORT int32_t hv_encoding(hv_builder *builder, hv_column *out, hv_error *error);
+HV_EXPORT int32_t hv_finish(hv_builder *builder, hv_column *out, hv_error *error);
 HV_EXPORT size_t hv_builder_rows(hv_builder *builder);
 HV_EXPORT size_t hv_builder_runs(hv_builder *builder);
 HV_EXPORT void hv_builder_free(hv_builder *builder);
@@ -223,6 +224,7 @@ HV_EXPORT void hv_builder_free(hv_builder *builder);
 #define hv_append(...) hv_call_append(__VA_ARGS__)
 #define hv_append_value(...) hv_call_append_value(__VA_ARGS__)
 #define hv_encoding(...) hv_call_encoding(__VA_ARGS__)
+#define hv_finish(...) hv_call_finish(__VA_ARGS__)
 #define hv_builder_rows(...) hv_call_builder_rows(__VA_ARGS__)
 #define hv_builder_runs(...) hv_call_builder_runs(__VA_ARGS__)
 #define hv_builder_free(...) hv_call_builder_free(__VA_ARGS__)

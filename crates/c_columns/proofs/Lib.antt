@@ -20,3 +20,4 @@ pub mod TextRows
 pub mod Told
 pub mod TwoColumns
 pub mod MessageEndings
+mod NoRuns

@@ -1,5 +1,5 @@
 -- Builders in handles, and columns of encodings.
-use Rattle.std.specs.Prelude.{◌≡◌, ◌⊎◌, ◌++◌, ℕ, ℤ, pos, List, length, Option, Some, None, option_map}
+use Rattle.std.specs.Prelude.{◌≡◌, ◌⊎◌, ◌++◌, [], ℕ, ℤ, pos, List, length, Option, Some, None, option_map}
 use Rattle.std.specs.Global.{Global}
 use Rattle.std.specs.Coded.{Coded, coded_option}
 use base.Fml.{Fml, feq}
@@ -57,6 +57,10 @@ encoding_fault c = list_fault (column_dtype c)
 -- the builder with these rows behind its own
 abbrev pub with_rows : Built → List (Option Value) → Built
 with_rows built more = built_with built.dtype (built.rows ++ more)
+
+-- the builder of its type, without rows
+abbrev pub IsEmptied : Built → Built → Type 0
+IsEmptied built after = after ≡ built_with built.dtype []
 
 -- the row of a value that is passed
 abbrev pub passed_row : RowValue → List ℕ → Option Value

@@ -4,18 +4,21 @@ ghost use Rattle.column_core.specs.Kinds.{list_fault};
 ghost use Rattle.column_core.specs.Refusal.{IsRefusedBy};
 ghost use Rattle.runend_array.specs.Array.{column_of, rows};
 ghost use Rattle.runend_builder.specs.Builder.{built_with};
+ghost use Rattle.runend_encode_rows.specs.Encoded.{IsEncodedRows};
+ghost use Rattle.std_alloc.specs.Arc.{arc_value};
 ghost use Rattle.c_columns.specs.Builders.{AreBuilt, AreEncoded, PassedAppendFault, column_append_fault, encoding_fault, passed_row, with_rows};
 ghost use Rattle.c_columns.specs.Ending.{IsShortOr};
 
-use crate::flat::Boxed;
+use crate::flat::{Boxed, boxed};
 use crate::row_value::{RowValue, scalar_of_type};
-use crate::runs::boxed_runs;
+use crate::runs::{boxed_runs, no_ends, no_runs};
 use crate::sessions::plain_context;
 use column_core::{DType, VortexError, VortexResult};
-use runend_array::ArrayRef;
+use runend_array::{ArrayRef, RunEndArray};
 use runend_builder::RunBuilder;
 use runend_encode_rows::encode_rows;
 use std::alloc::Global;
+use std::sync::Arc;
 
 /// A builder on the heap.
 pub type BoxedBuilder = Box<RunBuilder<Global>>;
@@ -84,4 +87,39 @@ pub fn encoding_of(alloc: Global, builder: &RunBuilder<Global>) -> VortexResult<
 {
     let runs = builder.encoding(&mut plain_context(alloc))?;
     boxed_runs(alloc, runs)
+}
+
+/// The run column of the encoding of all rows so far, which leave the builder; it has no rows after, and its type
+/// stays. Refused for want of memory alone, and then the builder stays as it is: the blocks of the answer are taken
+/// before the rows leave.
+pub fn finished(alloc: Global, builder: &mut RunBuilder<Global>) -> VortexResult<Boxed>
+    ensures made { IfOk result (λ made. AreBuilt builder.old made.value) }
+    ensures only { IsOkUnless result VortexError.OutOfMemory }
+    ensures empty { OnOk result (builder.new ≡ built_with builder.old.dtype []) }
+    ensures kept { OnErr result (builder.new ≡ builder.old) }
+{
+    let mut runs = Arc::new(alloc, no_runs(alloc))?;
+    let mut place = boxed(alloc, no_ends(alloc))?;
+    finish_into(alloc, builder, &mut runs)?;
+    *place = ArrayRef::RunEnd(runs);
+    Ok(place)
+}
+
+// The encoding of all rows, which leave the builder, is put in the place of other runs. Refused for want of memory
+// alone, and then the builder stays as it is; nothing else holds the runs, so that they are never refused as shared.
+fn finish_into(
+    alloc: Global,
+    builder: &mut RunBuilder<Global>,
+    runs: &mut Arc<RunEndArray<Global>, Global>,
+) -> VortexResult<()>
+    ensures made { OnOk result (IsEncodedRows builder.old.rows builder.old.dtype (arc_value runs.new)) }
+    ensures only { IsOkUnless result VortexError.OutOfMemory }
+    ensures empty { OnOk result (builder.new ≡ built_with builder.old.dtype []) }
+    ensures kept { OnErr result (builder.new ≡ builder.old) }
+{
+    let Some(own) = Arc::get_mut(runs) else {
+        return Err(VortexError::OutOfMemory);
+    };
+    *own = builder.finish(&mut plain_context(alloc))?;
+    Ok(())
 }

@@ -1,7 +1,11 @@
 //! Run columns of what other handles hold, and what run columns consist of.
-ghost use Rattle.std.specs.Prelude.{◌≡◌, length, IfOk, IfErr, IsOkUnless};
+ghost use Rattle.std.specs.Prelude.{◌≡◌, [], length, IfOk, IfErr, IsOkUnless};
+ghost use Rattle.column_base.specs.ValidityForm.{NeverNull};
+ghost use Rattle.column_base.specs.declared.dtype.PType.TheVariants.{U8};
+ghost use Rattle.column_core.specs.Leaf.{OfNumbers};
+ghost use Rattle.column_core.specs.PrimitiveForm.{primitive_with};
 ghost use Rattle.runend_array.specs.Array.{column_of};
-ghost use Rattle.runend_array.specs.Column.{column_of_runs};
+ghost use Rattle.runend_array.specs.Column.{OfLeaf, column_of_runs};
 ghost use Rattle.column_core.specs.Refusal.{IsRefusedBy};
 ghost use Rattle.c_columns.specs.Makers.{AreRecordedRuns, AreRunsOf, IsCopyOf};
 ghost use Rattle.c_columns.specs.Ending.{IsShortOr};
@@ -11,7 +15,7 @@ ghost use Rattle.c_columns.specs.RunParts.{AreEndsOf, IsRecordAtFront, RecordedF
 use crate::flat::{Boxed, boxed};
 use crate::row_value::put_bytes;
 use crate::sessions::plain_context;
-use column_core::{DType, VortexError, VortexResult};
+use column_core::{DType, NativePType, PrimitiveArray, Validity, VortexError, VortexResult};
 use runend_array::{ArrayRef, RunEnd, RunEndArray, RunEndArrayExt, RunEndArraySlotsExt};
 use runend_column::{deserialize, serialize};
 use std::alloc::Global;
@@ -174,4 +178,17 @@ pub(crate) fn boxed_runs(alloc: Global, runs: RunEndArray<Global>) -> VortexResu
     ensures only { IsOkUnless result VortexError.OutOfMemory }
 {
     boxed(alloc, ArrayRef::of_runs(alloc, runs)?)
+}
+
+/// A run column without rows, which holds no memory: it stands where another is put later.
+#[tactic(auto, using(crate::proofs::NoRuns::no_parts))]
+pub(crate) fn no_runs(alloc: Global) -> RunEndArray<Global> {
+    RunEnd::new_unchecked(no_ends(alloc), no_ends(alloc), 0, 0)
+}
+
+/// A column of ends, or of other bytes, without rows, which holds no memory.
+pub(crate) fn no_ends(alloc: Global) -> ArrayRef<Global>
+    ensures { column_of result ≡ OfLeaf (OfNumbers (primitive_with U8 [] NeverNull)) }
+{
+    ArrayRef::Primitive(PrimitiveArray::new_unchecked(u8::empty(alloc), Validity::NonNullable))
 }

@@ -4,7 +4,7 @@ ghost use Rattle.column_base.specs.Error.{number_of};
 ghost use Rattle.column_core.specs.Kinds.{list_fault};
 ghost use Rattle.runend_array.specs.Array.{rows};
 ghost use Rattle.runend_builder.specs.Builder.{HasRuns, built_with};
-ghost use Rattle.c_columns.specs.Builders.{AreBuilt, AreEncoded, EndsOnAppend, EndsOnBuilder, EndsOnBuilt, PassedAppendFault, encoding_fault, passed_row, with_rows};
+ghost use Rattle.c_columns.specs.Builders.{AreBuilt, AreEncoded, EndsOnAppend, EndsOnBuilder, EndsOnBuilt, IsEmptied, PassedAppendFault, encoding_fault, passed_row, with_rows};
 ghost use Rattle.c_columns.specs.Ending.{EndsBy, HasFields, WhereAll, WhereBoth};
 ghost use Rattle.c_columns.specs.Kinds.{dtype_by};
 ghost use Rattle.c_columns.specs.ReadFaults.{EndsOnWindow};
@@ -135,6 +135,30 @@ pub extern "C" fn hv_encoding(
         return NO_COLUMN;
     };
     let outcome = builders::encoding_of(alloc, &built);
+    builder.put(built);
+    answer(outcome, out, error)
+}
+
+/// The encoding of all rows of the builder, which leave it: it has none after, and its type stays. Refused for want of
+/// memory alone, and then the builder stays as it is.
+#[tactic(auto, using(crate::proofs::BuilderEndings::built_empty, crate::proofs::BuilderEndings::built_done, crate::proofs::BuilderEndings::built_short))]
+#[unsafe(no_mangle)]
+pub extern "C" fn hv_finish(
+    alloc: Global,
+    builder: &mut BuilderHandle,
+    out: &mut Handle,
+    error: &mut ErrorFields,
+) -> i32
+    ensures made { result ≡ pos 0 → WhereBoth AreBuilt builder.old.built out.new.column }
+    ensures empty { result ≡ pos 0 → WhereBoth IsEmptied builder.old.built builder.new.built }
+    ensures kept { result ≢ pos 0 → out.new.column ≡ out.old.column }
+    ensures same { result ≢ pos 0 → builder.new.built ≡ builder.old.built }
+    ensures ended { EndsOnBuilt builder.old.built result error.new }
+{
+    let Some(mut built) = builder.take(alloc) else {
+        return NO_COLUMN;
+    };
+    let outcome = builders::finished(alloc, &mut built);
     builder.put(built);
     answer(outcome, out, error)
 }
