@@ -3,7 +3,7 @@
 //     hv::Builder builder({HV_I64, 0, 0, 0});
 //     for (const hv::Column &batch : batches) builder.append(batch);
 //     builder.append(7, 1000);
-//     hv::Column runs = builder.encoding();
+//     hv::Column runs = builder.finish();
 #ifndef HIVEVIGIL_BUILDER_HPP
 #define HIVEVIGIL_BUILDER_HPP
 #include "hivevigil.hpp"
@@ -54,6 +54,12 @@ public:
     Column encoding() const {
         Column out;
         detail::ask([&](auto *error) { return hv_encoding(&handle, out.raw(), error); });
+        return out;
+    }
+    // The same, made of what the builder holds, and not of a copy; it has no rows after, and takes others.
+    Column finish() {
+        Column out;
+        detail::ask([&](auto *error) { return hv_finish(&handle, out.raw(), error); });
         return out;
     }
 

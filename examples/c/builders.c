@@ -102,6 +102,83 @@ static void batches(void) {
     CHECK(!builder.at && hv_builder_rows(&builder) == 0 && hv_builder_runs(&builder) == 0);
 }
 
+/* a builder that is finished begins anew: the run of its last rows does not go on */
+static void finished(void) {
+    const int32_t first[3] = {7, 7, 9}, last[3] = {9, 4, 4};
+    const uint8_t but_two[1] = {0x03}, but_zero[1] = {0x06};
+    const hv_value null = {.kind = HV_NULL};
+    hv_builder builder = HV_EMPTY;
+    hv_column column = HV_EMPTY, kept = HV_EMPTY;
+    CHECK(!hv_builder_new(&i32_or_null, &builder, &error) && !hv_finish(&builder, &out, &error));
+    check_encoding(&out, "", "", "");
+    CHECK(!hv_i32(first, 3, NULLS_BY(but_two, 0), &column, &error) && !hv_append(&builder, &column, &error));
+    CHECK(!hv_encoding(&builder, &kept, &error) && hv_builder_rows(&builder) == 3 && hv_builder_runs(&builder) == 2);
+    CHECK(!hv_finish(&builder, &out, &error) && hv_builder_rows(&builder) == 0 && hv_builder_runs(&builder) == 0);
+    check_encoding(&out, "7 7 null", "2 3", "7 null");
+    check_encoding(&kept, "7 7 null", "2 3", "7 null");
+    CHECK(!hv_finish(&builder, &kept, &error)); /* of no rows again */
+    check_encoding(&kept, "", "", "");
+    put_value(&builder, null, 2);
+    CHECK(!hv_i32(last, 3, NULLS_BY(but_zero, 0), &column, &error) && !hv_append(&builder, &column, &error));
+    CHECK(hv_builder_rows(&builder) == 5 && hv_builder_runs(&builder) == 2);
+    CHECK(!hv_finish(&builder, &kept, &error) && hv_builder_rows(&builder) == 0);
+    check_encoding(&kept, "null null null 4 4", "3 5", "null 4");
+    check_encoding(&out, "7 7 null", "2 3", "7 null"); /* the first column is its own */
+    put_value(&builder, null, 1);
+    hv_builder_free(&builder);
+    check_encoding(&kept, "null null null 4 4", "3 5", "null 4");
+    hv_free(&column), hv_free(&kept);
+}
+
+/* what hv_finish makes has the bytes of what hv_encoding made before, twice in turn */
+static void finish_as_encoding(const hv_column *batch) {
+    const hv_kind kind = hv_kind_of(batch);
+    uint8_t due[256], found[256];
+    size_t due_size = 0, size = 0;
+    hv_builder builder = HV_EMPTY;
+    CHECK(!hv_builder_new(&kind, &builder, &error));
+    for (int turn = 0; turn < 2; turn++) {
+        CHECK(!hv_append(&builder, batch, &error) && !hv_append(&builder, batch, &error));
+        CHECK(!hv_encoding(&builder, &out, &error) && !hv_write(&out, due, sizeof due, &due_size, &error));
+        CHECK(hv_length(&out) == 2 * hv_length(batch) && hv_builder_rows(&builder) == hv_length(&out));
+        CHECK(!hv_finish(&builder, &out, &error) && !hv_write(&out, found, sizeof found, &size, &error));
+        CHECK(size == due_size && memcmp(found, due, size) == 0);
+        CHECK(hv_builder_rows(&builder) == 0 && hv_builder_runs(&builder) == 0);
+    }
+    hv_builder_free(&builder);
+}
+
+/* of each kind, without null, with none and with some */
+static void finished_kinds(void) {
+    static const uint8_t bits[1] = {0x0B}, small[4] = {3, 3, 250, 7};
+    static const uint16_t medium[4] = {3, 3, 65530, 7};
+    static const uint32_t large[4] = {3, 3, UINT32_MAX, 7};
+    static const uint64_t largest[4] = {3, 3, UINT64_MAX, 7};
+    static const hv_pair pairs[4] = {{3, 0}, {3, 0}, {UINT64_MAX, -1}, {7, 0}};
+    static const int32_t cuts[5] = {0, 3, 6, 6, 22};
+    static const uint8_t letters[] = "oakoakhornbeam and elm";
+    hv_column column = HV_EMPTY;
+    const hv_validity validities[3] = {NOT_NULLABLE, NO_NULLS, NULLS_BY(bits, 0)};
+    for (size_t i = 0; i < COUNT(validities); i++) {
+        const hv_validity validity = validities[i];
+#define FINISHED(make) (CHECK(!make), finish_as_encoding(&column))
+        FINISHED(hv_u8(small, 4, validity, &column, &error));
+        FINISHED(hv_u16(medium, 4, validity, &column, &error));
+        FINISHED(hv_u32(large, 4, validity, &column, &error));
+        FINISHED(hv_u64(largest, 4, validity, &column, &error));
+        FINISHED(hv_i8((const int8_t *)small, 4, validity, &column, &error));
+        FINISHED(hv_i16((const int16_t *)medium, 4, validity, &column, &error));
+        FINISHED(hv_i32((const int32_t *)large, 4, validity, &column, &error));
+        FINISHED(hv_i64((const int64_t *)largest, 4, validity, &column, &error));
+        FINISHED(hv_bools(bits, sizeof bits, 0, 4, validity, &column, &error));
+        FINISHED(hv_decimals(pairs, 4, 5, 2, validity, &column, &error));
+        FINISHED(hv_texts(0, cuts, 5, letters, 22, validity, &column, &error));
+        FINISHED(hv_texts(1, cuts, 5, letters, 22, validity, &column, &error));
+#undef FINISHED
+    }
+    hv_free(&column);
+}
+
 static void texts(void) {
     const hv_kind kind = {HV_UTF8, 0, 0, 0};
     const hv_value passed = {.kind = HV_TEXT}, null = {.kind = HV_NULL};
@@ -137,7 +214,7 @@ static void refusals(void) {
     CHECK_REFUSED(hv_append_value(&builder, &wide, NO_TEXT, 1, &error), HV_TYPE_MISMATCH, 0, 0, 0);
     CHECK(hv_append(&builder, &empty, &error) == HV_NO_COLUMN && hv_append(&none, &column, &error) == HV_NO_COLUMN);
     CHECK(hv_append_value(&none, &five, NO_TEXT, 1, &error) == HV_NO_COLUMN);
-    CHECK(hv_encoding(&none, &out, &error) == HV_NO_COLUMN);
+    CHECK(hv_encoding(&none, &out, &error) == HV_NO_COLUMN && hv_finish(&none, &out, &error) == HV_NO_COLUMN);
     CHECK(hv_builder_rows(&builder) == 0);
     put_value(&builder, five, 1);
     put_value(&builder, five, SIZE_MAX - 1);
@@ -178,6 +255,8 @@ int main(void) {
     kinds();
     forms();
     batches();
+    finished();
+    finished_kinds();
     texts();
     refusals();
     concat();

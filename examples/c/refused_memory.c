@@ -221,24 +221,73 @@ STEP(export_dictionary, hv_arrow_export_dictionary(&session, &places, &texts, "c
 STEP(import_texts, hv_arrow_import(&session, &texts_schema, &texts_array, &out, &error))
 STEP(import_dictionary, hv_arrow_import(&session, &codes_schema, &codes_array, &out, &error))
 
-/* Batches and a value, built as one step: a builder that is refused memory has the rows that it had. */
-static int32_t built(const hv_kind *kind, hv_column *first, hv_column *second, const hv_value *passed) {
-    hv_builder builder = HV_EMPTY;
-    hv_column *const batches[2] = {first, second};
-    int32_t answer = hv_builder_new(kind, &builder, &error);
+/* Batches and a value three times behind each, built as one step, and the rows that are due. */
+typedef struct built_rows {
+    const hv_kind *kind;
+    hv_column *batches[2];
+    const hv_value *passed;
+    const char *shown;
+} built_rows;
+static const built_rows of_numbers = {&i64_or_null, {&flat, &part}, &five, "5"};
+static const built_rows of_texts = {&text_or_null, {&texts, &text_runs}, &letter, "\"aaaa\""};
+static char due[16384];
+
+static void write_due(const built_rows *it) {
+    size_t used = 0;
+    for (int i = 0; i < 2; i++)
+        used += (size_t)snprintf(due + used, sizeof due - used, "%s%s %s %s %s", i ? " " : "", rows_of(it->batches[i]),
+                                 it->shown, it->shown, it->shown);
+}
+
+/* A builder that is refused memory has the rows that it had. */
+static int32_t put_batches(hv_builder *builder, const built_rows *it) {
+    int32_t answer = hv_builder_new(it->kind, builder, &error);
     for (int i = 0; i < 4 && !answer; i++) {
-        const size_t rows = hv_builder_rows(&builder), runs = hv_builder_runs(&builder);
-        answer = i % 2 ? hv_append_value(&builder, passed, letters, 4, 3, &error)
-                       : hv_append(&builder, batches[i / 2], &error);
-        if (answer) CHECK(hv_builder_rows(&builder) == rows && hv_builder_runs(&builder) == runs);
+        const size_t rows = hv_builder_rows(builder), runs = hv_builder_runs(builder);
+        answer = i % 2 ? hv_append_value(builder, it->passed, letters, 4, 3, &error)
+                       : hv_append(builder, it->batches[i / 2], &error);
+        if (answer) CHECK(hv_builder_rows(builder) == rows && hv_builder_runs(builder) == runs);
     }
+    return answer;
+}
+
+static int32_t built(const built_rows *it) {
+    hv_builder builder = HV_EMPTY;
+    int32_t answer = put_batches(&builder, it);
+    const size_t rows = hv_builder_rows(&builder);
     if (!answer) answer = hv_encoding(&builder, &out, &error);
-    if (!answer) CHECK(hv_length(&out) == hv_builder_rows(&builder));
+    write_due(it);
+    if (!answer) CHECK_ROWS(&out, due);
+    CHECK(hv_builder_rows(&builder) == rows);
     hv_builder_free(&builder);
     return answer;
 }
-static int32_t build_numbers(void) { return built(&i64_or_null, &flat, &part, &five); }
-static int32_t build_texts(void) { return built(&text_or_null, &texts, &text_runs, &letter); }
+static int32_t build_numbers(void) { return built(&of_numbers); }
+static int32_t build_texts(void) { return built(&of_texts); }
+
+/* The same, ended by hv_finish, after which the builder has no rows. Where that is refused memory, the next call of it
+ * makes the column. */
+static int32_t finished(const built_rows *it) {
+    hv_builder builder = HV_EMPTY;
+    int32_t answer = put_batches(&builder, it);
+    const size_t rows = hv_builder_rows(&builder), runs = hv_builder_runs(&builder);
+    const bool filled = !answer;
+    if (filled) answer = hv_finish(&builder, &out, &error);
+    write_due(it);
+    if (filled && answer) {
+        hv_column again = HV_EMPTY;
+        CHECK(hv_builder_rows(&builder) == rows && hv_builder_runs(&builder) == runs);
+        refuse_at = -1;
+        CHECK(!hv_finish(&builder, &again, &error));
+        CHECK_ROWS(&again, due);
+        hv_free(&again);
+    } else if (filled) CHECK_ROWS(&out, due);
+    if (filled) CHECK(hv_builder_rows(&builder) == 0 && hv_builder_runs(&builder) == 0);
+    hv_builder_free(&builder);
+    return answer;
+}
+static int32_t finish_numbers(void) { return finished(&of_numbers); }
+static int32_t finish_texts(void) { return finished(&of_texts); }
 
 /* what is exported and imported again, as one step */
 static int32_t export_and_import(void) {
@@ -259,6 +308,7 @@ static const step steps[] = {
     NAMED(make_i32), NAMED(make_i64), NAMED(make_bools), NAMED(make_decimals), NAMED(make_texts),
     NAMED(make_large_texts), NAMED(make_runs), NAMED(clone_runs), NAMED(clone_texts), NAMED(encode), NAMED(decode),
     NAMED(encode_rows), NAMED(encode_texts), NAMED(encode_part), NAMED(build_numbers), NAMED(build_texts),
+    NAMED(finish_numbers), NAMED(finish_texts),
     NAMED(compact_runs), NAMED(compact_texts),
     NAMED(slice_runs), NAMED(slice_texts), NAMED(cast), NAMED(take), NAMED(take_texts), NAMED(filter),
     NAMED(filter_texts), NAMED(filter_by_runs), NAMED(take_by_runs), NAMED(take_from), NAMED(compare), NAMED(compare_scalar), NAMED(compare_text), NAMED(fill),

@@ -266,6 +266,15 @@ static void check_builders() {
     hv::Builder texts({HV_UTF8, 0, 0, 0});
     texts.append("oak", 2), texts.append(Column::of({"oak", "elm"}));
     CHECK(texts.runs() == 2 && texts.encoding().at(3) == Value(std::string("elm")));
+    const Column finished = moved.finish();
+    CHECK(finished.to_bytes() == built.to_bytes() && moved.empty() && moved.runs() == 0);
+    moved.append(Value(Null{}), 2), moved.append(4);
+    CHECK(moved.runs() == 2 && rows_of(moved.finish()) == (std::vector<Value>{Null{}, Null{}, number(4)}));
+    CHECK(moved.finish().empty() && finished.size() == 7 && texts.finish().at(0) == Value(std::string("oak")));
+    try {
+        builder.finish();
+        CHECK(!"refused");
+    } catch (const hv::Error &error) { CHECK(error.number == HV_NO_COLUMN); }
     const Column truths = Column::of({true, true, false}).encode_rows();
     CHECK(truths.ends().numbers<uint8_t>() == (std::vector<uint8_t>{2, 3}));
 }

@@ -91,6 +91,7 @@ _MAKERS: dict[str, list[Any]] = {
     "hv_encode": _COMMAND,
     "hv_encode_rows": [_HANDLE],
     "hv_encoding": [_BUILDER],
+    "hv_finish": [_BUILDER],
     "hv_decode": _COMMAND,
     "hv_slice": [*_COMMAND, c_size_t, c_size_t],
     "hv_cast": [*_COMMAND, POINTER(Kind)],

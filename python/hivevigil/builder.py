@@ -18,7 +18,7 @@ class Builder:
         for batch in batches:
             builder.append(batch)           # a column in any form, or what Column.of takes
         builder.append_value(None, 1000)
-        runs = builder.encoding()           # as few runs as there can be; the builder keeps its rows
+        runs = builder.finish()             # as few runs as there can be; the builder has no rows after
     """
 
     __slots__ = ("_handle", "_kind")
@@ -44,8 +44,12 @@ class Builder:
         ask(calls.hv_append_value, self._handle, *passed(self._kind, value), size)
 
     def encoding(self) -> Column:
-        """All rows so far as runs, as few as there can be."""
+        """All rows so far as runs, as few as there can be; the builder keeps its rows."""
         return Column._made(calls.hv_encoding, self._handle)
+
+    def finish(self) -> Column:
+        """The same, made of what the builder holds, and not of a copy; it has no rows after, and takes others."""
+        return Column._made(calls.hv_finish, self._handle)
 
     @property
     def type(self) -> str:

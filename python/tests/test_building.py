@@ -57,9 +57,30 @@ def test_batches(typed, data):
         builder.append(in_form(column, data.draw(st.integers(0, 2))) if part else column)
         rows += part
         assert (len(builder), builder.runs) == (len(rows), len(runs_of(rows)))
-    check_encoding(builder.encoding(), rows)
+    encoding = builder.encoding()
+    check_encoding(encoding, rows)
     check_encoding(Column.of(rows, type_of_rows).to_runs(), rows)
-    assert builder.encoding().type == builder.type == type_of_rows
+    assert encoding.type == builder.type == type_of_rows
+    finished = builder.finish()
+    assert (builder.rows, builder.runs, builder.type) == (0, 0, type_of_rows)
+    assert finished.to_bytes() == encoding.to_bytes()
+    for part in reversed(parts):
+        builder.append(Column.of(part, type_of_rows))
+    check_encoding(builder.finish(), [row for part in reversed(parts) for row in part])
+    check_encoding(finished, rows)
+
+
+def test_a_finished_builder_begins_anew():
+    builder = Builder("i64?")
+    builder.append([7, 7, None])
+    first = builder.finish()
+    assert (len(builder), builder.runs, repr(builder)) == (0, 0, "<Builder i64?: 0 rows in 0 runs>")
+    check_encoding(builder.finish(), [])
+    builder.append_value(None, 2)
+    builder.append([4])
+    check_encoding(builder.finish(), [None, None, 4])
+    del builder
+    check_encoding(first, [7, 7, None])
 
 
 def test_many_rows_take_no_memory():

@@ -15,7 +15,7 @@ use std::ptr;
 /// builder.append(&Column::try_from(&[Some(7i64), Some(7), None])?)?;
 /// builder.append_value(Value::Null, 1_000)?;
 /// assert_eq!((builder.len(), builder.runs()), (1_003, 2));
-/// let runs = builder.encoding()?;
+/// let runs = builder.finish()?;
 /// assert_eq!(runs.at(2)?, Value::Null);
 /// # Ok::<(), hivevigil::Error>(())
 /// ```
@@ -62,6 +62,11 @@ impl Builder {
     /// All rows so far as runs, as few as there can be. The builder keeps its rows.
     pub fn encoding(&self) -> Result<Column, Error> {
         Column::made(|out, fields| unsafe { raw::hv_encoding(self.handle.get(), out, fields) })
+    }
+
+    /// The same, made of what the builder holds, and not of a copy. The builder has no rows after, and takes others.
+    pub fn finish(&mut self) -> Result<Column, Error> {
+        Column::made(|out, fields| unsafe { raw::hv_finish(self.handle.get(), out, fields) })
     }
 
     /// The type of the rows.

@@ -321,6 +321,7 @@ extern "C" {
         error: *mut Fields,
     ) -> i32;
     pub fn hv_encoding(builder: *mut BuilderHandle, out: *mut Handle, error: *mut Fields) -> i32;
+    pub fn hv_finish(builder: *mut BuilderHandle, out: *mut Handle, error: *mut Fields) -> i32;
     pub fn hv_builder_rows(builder: *mut BuilderHandle) -> usize;
     pub fn hv_builder_runs(builder: *mut BuilderHandle) -> usize;
     pub fn hv_builder_free(builder: *mut BuilderHandle);

@@ -43,6 +43,24 @@ fn batches_join_across_their_seams() -> Result<(), Error> {
 }
 
 #[test]
+fn a_finished_builder_begins_anew() -> Result<(), Error> {
+    let mut builder = Builder::new(Kind::I64.nullable())?;
+    builder.append(&Column::try_from(&[Some(7i64), Some(7), None])?)?;
+    let due = vec![(2, Value::Signed(7)), (3, Value::Null)];
+    let encoding = builder.encoding()?;
+    let first = builder.finish()?;
+    assert_eq!((builder.len(), builder.runs()), (0, 0));
+    assert_eq!(first.to_bytes()?, encoding.to_bytes()?);
+    builder.append_value(Value::Null, 2)?;
+    builder.append_value(4, 1)?;
+    let second = vec![(2, Value::Null), (3, Value::Signed(4))];
+    assert_eq!(runs(&builder.finish()?)?, second);
+    assert_eq!(runs(&first)?, due);
+    assert!(builder.finish()?.is_empty() && builder.kind() == Kind::I64.nullable());
+    Ok(())
+}
+
+#[test]
 fn texts_and_truths_are_built() -> Result<(), Error> {
     let mut builder = Builder::new(Kind::UTF8)?;
     builder.append_value("oak", 2)?;
