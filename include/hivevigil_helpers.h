@@ -83,7 +83,7 @@ HV_ANSWER hv_concat(const hv_column *columns, size_t count, hv_column *out, hv_e
                                         : hv_builder_new(&kind, &builder, error);
     }
     for (size_t i = 0; i < count && !answer; i++) answer = hv_append(&builder, columns + i, error);
-    if (!answer) answer = hv_encoding(&builder, out, error);
+    if (!answer) answer = hv_finish(&builder, out, error);
     hv_builder_free(&builder);
     return answer;
 }

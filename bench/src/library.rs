@@ -256,7 +256,7 @@ impl Column {
         for batch in batches {
             done(|fields| unsafe { raw::hv_append(&mut builder, batch.0.get(), fields) });
         }
-        let encoding = made(|out, fields| unsafe { raw::hv_encoding(&mut builder, out, fields) });
+        let encoding = made(|out, fields| unsafe { raw::hv_finish(&mut builder, out, fields) });
         unsafe { raw::hv_builder_free(&mut builder) };
         encoding
     }

@@ -156,24 +156,32 @@ int32_t row_builder_add_column(row_builder *rows, const hv_column *column, hv_er
 
 int32_t row_builder_append(row_builder *rows, row_builder *others, hv_error *error) {
     hv_column column = HV_EMPTY;
-    int32_t answer = row_builder_encoding(others, &column, error);
+    int32_t answer = row_builder_finish(others, &column, error);
     if (!answer) answer = row_builder_add_column(rows, &column, error);
     hv_free(&column);
     return answer;
 }
 
-int32_t row_builder_encoding(row_builder *rows, hv_column *out, hv_error *error) {
+/* The encoding of rows of which each is null. */
+static int32_t encoding_of_nulls(uint64_t count, hv_column *out, hv_error *error) {
     const hv_kind numbers = {HV_I64, 1, 0, 0};
     hv_column nulls = HV_EMPTY;
-    int32_t answer;
-    if (rows->kind == HV_NULL) {
-        answer = hv_constant(&numbers, &null_value, NULL, 0, rows->rows, &nulls, error);
-        if (!answer) answer = hv_encode_rows(&nulls, out, error);
-    } else {
-        answer = flush(rows, error);
-        if (!answer) answer = hv_encoding(&rows->joined, out, error);
-    }
+    int32_t answer = hv_constant(&numbers, &null_value, NULL, 0, count, &nulls, error);
+    if (!answer) answer = hv_encode_rows(&nulls, out, error);
     hv_free(&nulls);
+    return answer;
+}
+
+int32_t row_builder_encoding(row_builder *rows, hv_column *out, hv_error *error) {
+    if (rows->kind == HV_NULL) return encoding_of_nulls(rows->rows, out, error);
+    const int32_t answer = flush(rows, error);
+    return answer ? answer : hv_encoding(&rows->joined, out, error);
+}
+
+int32_t row_builder_finish(row_builder *rows, hv_column *out, hv_error *error) {
+    int32_t answer = rows->kind == HV_NULL ? encoding_of_nulls(rows->rows, out, error) : flush(rows, error);
+    if (!answer && rows->kind != HV_NULL) answer = hv_finish(&rows->joined, out, error);
+    if (!answer) rows->rows = 0;
     return answer;
 }
 

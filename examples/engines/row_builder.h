@@ -38,11 +38,14 @@ int32_t row_builder_add(row_builder *rows, const row_value *value, hv_error *err
  * unless the column is one of signed numbers of 64 bits, texts or bytes. */
 int32_t row_builder_add_column(row_builder *rows, const hv_column *column, hv_error *error);
 
-/* Adds all rows of another builder, which keeps them. */
+/* Adds all rows of another builder, which has none after; where it is refused, the other may have none too. */
 int32_t row_builder_append(row_builder *rows, row_builder *others, hv_error *error);
 
 /* The encoding of all rows, which are kept. Rows of null alone are numbers. */
 int32_t row_builder_encoding(row_builder *rows, hv_column *out, hv_error *error);
+
+/* The same, made of what the builder holds, and not of a copy: there are no rows after. */
+int32_t row_builder_finish(row_builder *rows, hv_column *out, hv_error *error);
 
 void row_builder_free(row_builder *rows);
 

@@ -84,7 +84,8 @@ HV_FUNCTION(pg_hv_combine) {
     PG_RETURN_POINTER(rows);
 }
 
-/* The bytes of all rows. */
+/* The bytes of all rows, which stay: over a window more are added after, and a plan that is run again may ask the same
+ * state again. */
 static bytea *bytes_of(FunctionCallInfo fcinfo, row_builder *rows) {
     const char *name = aggregate_name(fcinfo);
     hv_error error = {0, 0, 0};
@@ -96,7 +97,7 @@ static bytea *bytes_of(FunctionCallInfo fcinfo, row_builder *rows) {
 
 HV_FUNCTION(pg_hv_serial) { PG_RETURN_BYTEA_P(bytes_of(fcinfo, (row_builder *)PG_GETARG_POINTER(0))); }
 
-/* The state is copied out of this memory by the next pg_hv_combine. */
+/* The next pg_hv_combine takes the rows out of this state, which nothing asks again. */
 HV_FUNCTION(pg_hv_deserial) {
     row_builder *rows = rows_in(CurrentMemoryContext);
     add_bytes(aggregate_name(fcinfo), rows, PG_GETARG_BYTEA_PP(0));

@@ -201,7 +201,7 @@ static void finish(sqlite3_context *context) {
     hv_error error = {0, 0, 0};
     hv_column runs = HV_EMPTY;
     if (!rows) rows = &nothing;
-    const int32_t answer = rows->rows > INT64_MAX ? HV_WINDOW_OVERFLOW : row_builder_encoding(rows, &runs, &error);
+    const int32_t answer = rows->rows > INT64_MAX ? HV_WINDOW_OVERFLOW : row_builder_finish(rows, &runs, &error);
     row_builder_free(rows);
     if (answer) refuse_rows(context, sqlite3_user_data(context), answer, &error);
     else answer_encoding(context, sqlite3_user_data(context), &runs);
