@@ -4,6 +4,7 @@ ghost use Rattle.runend_array.specs.Array.{column_of};
 ghost use Rattle.runend_array.specs.Column.{depth};
 ghost use Rattle.column_bytes.specs.Bytes.{column_bytes};
 ghost use Rattle.column_bytes.specs.Read.{IsMessage, IsNoMessage, IsWritable, IsUnsupportedOrMemory};
+ghost use Rattle.column_fields.specs.Kept.{StaysInFront};
 ghost use Rattle.column_fields.specs.Refusal.{IsBadOrMemory};
 
 use crate::constants::{put_constant, read_constant};
@@ -42,8 +43,9 @@ pub fn write_column<A: Allocator + Copy, B: Allocator + Copy>(
 
 /// Writes the message of a column to the end of a buffer: a vector, or any other of the crate `bytes`. Takes no memory
 /// but what the buffer takes for these bytes. Refused as `Unsupported` exactly where there are more than 16 levels of
-/// runs, else as `OutOfMemory` alone, as where the buffer has no room; an `Err` may leave a part of the message at its
-/// end. `message_size` tells how much room that is.
+/// runs, else as `OutOfMemory` alone, as where the buffer has no room; `message_size` tells how much room that is. An
+/// `Err` may leave a part of the message at the end. What stood in the buffer stays in front all the same: cut to its
+/// old length, the buffer is as it was.
 pub fn put_message<A: Allocator + Copy, W: BufMut>(
     out: &mut W,
     array: &ArrayRef<A>,
@@ -52,6 +54,7 @@ pub fn put_message<A: Allocator + Copy, W: BufMut>(
     ensures deep { IsErrOf result VortexError.Unsupported → 16 < depth (column_of array.now) }
     ensures refused { IsErrOf result VortexError.Unsupported → ¬ IsWritable 16 (column_of array.now) }
     ensures writable { OnOk result (IsWritable 16 (column_of array.now)) }
+    ensures kept { StaysInFront (W.written out.old) (W.written out.new) }
     ensures only { IfErr result IsUnsupportedOrMemory }
 {
     put_column(out, array, MOST_LEVELS)
@@ -77,6 +80,7 @@ fn put_column<A: Allocator + Copy, W: BufMut>(
     ensures writable { OnOk result (IsWritable levels (column_of array.now)) }
     ensures deep { IsErrOf result VortexError.Unsupported → levels < depth (column_of array.now) }
     ensures refused { IsErrOf result VortexError.Unsupported → ¬ IsWritable levels (column_of array.now) }
+    ensures kept { StaysInFront (W.written out.old) (W.written out.new) }
     ensures only { IfErr result IsUnsupportedOrMemory }
 {
     match array {

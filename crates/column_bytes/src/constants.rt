@@ -11,6 +11,7 @@ ghost use Rattle.runend_array.specs.Array.{column_of};
 ghost use Rattle.runend_array.specs.Column.{OfConstant};
 ghost use Rattle.column_fields.specs.DecimalBytes.{decimal_bytes};
 ghost use Rattle.column_fields.specs.FlatFields.{flat_fields};
+ghost use Rattle.column_fields.specs.Kept.{StaysInFront};
 ghost use Rattle.column_fields.specs.NumberBytes.{number_bytes};
 ghost use Rattle.column_fields.specs.Validity.{validity_field};
 ghost use Rattle.column_fields.specs.Refusal.{IsBadOrMemory};
@@ -41,6 +42,7 @@ pub(crate) fn put_constant<A: Allocator, W: BufMut>(
 ) -> VortexResult<()>
     ensures ok { OnOk result (W.written out.new ≡ W.written out.old ++ column_bytes (OfConstant array.now)) }
     ensures stored { OnOk result (IsStoredConstant array.now) }
+    ensures kept { StaysInFront (W.written out.old) (W.written out.new) }
     ensures only { IsOkUnless result VortexError.OutOfMemory }
 {
     let dtype = array.dtype();
@@ -61,6 +63,7 @@ pub(crate) fn put_constant<A: Allocator, W: BufMut>(
 fn put_type<W: BufMut>(out: &mut W, dtype: DType) -> VortexResult<()>
     ensures ok { OnOk result (W.written out.new ≡ W.written out.old ++ type_fields dtype) }
     ensures stored { OnOk result (IsStoredType dtype) }
+    ensures kept { StaysInFront (W.written out.old) (W.written out.new) }
     ensures only { IsOkUnless result VortexError.OutOfMemory }
 {
     match dtype {
@@ -74,6 +77,7 @@ fn put_type<W: BufMut>(out: &mut W, dtype: DType) -> VortexResult<()>
 fn put_scalar<A: Allocator, W: BufMut>(out: &mut W, scalar: &Scalar<A>) -> VortexResult<()>
     ensures ok { OnOk result (W.written out.new ≡ W.written out.old ++ value_fields scalar.now.dtype scalar.now.value) }
     ensures typed { IsRowOf scalar.now.dtype (option_map Single scalar.now.value) }
+    ensures kept { StaysInFront (W.written out.old) (W.written out.new) }
     ensures only { IsOkUnless result VortexError.OutOfMemory }
 {
     let dtype = scalar.dtype();
@@ -92,6 +96,7 @@ fn put_scalar<A: Allocator, W: BufMut>(out: &mut W, scalar: &Scalar<A>) -> Vorte
 // Writes that the value is null.
 fn put_null<W: BufMut>(out: &mut W) -> VortexResult<()>
     ensures ok { OnOk result (W.written out.new ≡ W.written out.old ++ flat_fields AllNull []) }
+    ensures kept { StaysInFront (W.written out.old) (W.written out.new) }
     ensures only { IsOkUnless result VortexError.OutOfMemory }
 {
     put_number(out, 5, 3)?;
@@ -103,6 +108,7 @@ fn put_null<W: BufMut>(out: &mut W) -> VortexResult<()>
 fn put_some<W: BufMut>(out: &mut W, nullability: Nullability, bytes: &[u8]) -> VortexResult<()>
     ensures ok { OnOk result (W.written out.new ≡ W.written out.old ++
         flat_fields (some_validity nullability) bytes.now) }
+    ensures kept { StaysInFront (W.written out.old) (W.written out.new) }
     ensures only { IsOkUnless result VortexError.OutOfMemory }
 {
     put_told(out, nullability)?;
@@ -114,6 +120,7 @@ fn put_some<W: BufMut>(out: &mut W, nullability: Nullability, bytes: &[u8]) -> V
 fn put_truth<W: BufMut>(out: &mut W, nullability: Nullability, truth: bool) -> VortexResult<()>
     ensures ok { OnOk result (W.written out.new ≡ W.written out.old ++
         flat_fields (some_validity nullability) (one_if truth ∷ [])) }
+    ensures kept { StaysInFront (W.written out.old) (W.written out.new) }
     ensures only { IsOkUnless result VortexError.OutOfMemory }
 {
     put_told(out, nullability)?;
@@ -125,6 +132,7 @@ fn put_truth<W: BufMut>(out: &mut W, nullability: Nullability, truth: bool) -> V
 fn put_number_of<W: BufMut>(out: &mut W, nullability: Nullability, number: i128) -> VortexResult<()>
     ensures ok { OnOk result (W.written out.new ≡ W.written out.old ++
         flat_fields (some_validity nullability) (decimal_bytes number)) }
+    ensures kept { StaysInFront (W.written out.old) (W.written out.new) }
     ensures only { IsOkUnless result VortexError.OutOfMemory }
 {
     put_told(out, nullability)?;
@@ -138,6 +146,7 @@ fn put_whole<W: BufMut>(out: &mut W, dtype: DType, number: i128) -> VortexResult
     requires { IsNumberIn dtype number }
     ensures ok { OnOk result (W.written out.new ≡ W.written out.old ++
         flat_fields (some_validity (nullability_of dtype)) (some_bytes dtype (Number number))) }
+    ensures kept { StaysInFront (W.written out.old) (W.written out.new) }
     ensures only { IsOkUnless result VortexError.OutOfMemory }
 {
     match dtype {
@@ -155,6 +164,7 @@ fn put_whole<W: BufMut>(out: &mut W, dtype: DType, number: i128) -> VortexResult
 #[tactic(auto, unfolding(column_fields::specs::Validity::validity_field))]
 fn put_told<W: BufMut>(out: &mut W, nullability: Nullability) -> VortexResult<()>
     ensures ok { OnOk result (W.written out.new ≡ W.written out.old ++ validity_field (some_validity nullability)) }
+    ensures kept { StaysInFront (W.written out.old) (W.written out.new) }
     ensures only { IsOkUnless result VortexError.OutOfMemory }
 {
     match nullability {

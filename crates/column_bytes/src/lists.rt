@@ -2,6 +2,7 @@
 ghost use Rattle.std.specs.Prelude.{◌≡◌, ◌<◌, ◌⊎◌, ◌++◌, IsTrue, OnOk, IfErr, IsErrOf, IsOkUnless};
 ghost use Rattle.column_core.specs.FlatColumn.{leaf_of};
 ghost use Rattle.column_fields.specs.Field.{bytes_field};
+ghost use Rattle.column_fields.specs.Kept.{StaysInFront};
 ghost use Rattle.column_fields.specs.ListFields.{list_fields};
 ghost use Rattle.runend_array.specs.Array.{column_of, validity_of, IsRowValidity};
 ghost use Rattle.runend_array.specs.Column.{OfLeaf, OfLists, IsIndex, IsPlainIndex, IsPlainTruths, index_of, column_of_runs, runs_validity};
@@ -35,6 +36,7 @@ pub(crate) fn put_lists<A: Allocator + Copy, W: BufMut>(
     ensures writable { OnOk result (IsWritable levels (OfLists lists.now)) }
     ensures deep { IsErrOf result VortexError.Unsupported → levels < lists_depth lists.now }
     ensures refused { IsErrOf result VortexError.Unsupported → ¬ IsWritable levels (OfLists lists.now) }
+    ensures kept { StaysInFront (W.written out.old) (W.written out.new) }
     ensures only { IfErr result IsUnsupportedOrMemory }
 {
     if levels_of(lists) > levels {
@@ -86,6 +88,7 @@ fn put_row_validity<A: Allocator + Copy, W: BufMut>(
     requires { IsRowValidity validity.now }
     ensures ok { OnOk result (W.written out.new ≡ W.written out.old ++ row_validity_field (validity_of validity.now)) }
     ensures stored { OnOk result (IsStoredValidity (validity_of validity.now)) }
+    ensures kept { StaysInFront (W.written out.old) (W.written out.new) }
     ensures only { IsOkUnless result VortexError.OutOfMemory }
 {
     match validity {
@@ -105,6 +108,7 @@ fn put_run_validity<A: Allocator + Copy, W: BufMut>(
     requires { IsPlainTruths runs.now.values }
     ensures ok { OnOk result (W.written out.new ≡ W.written out.old ++ row_validity_field (runs_validity runs.now)) }
     ensures stored { OnOk result (IsStoredValidity (runs_validity runs.now)) }
+    ensures kept { StaysInFront (W.written out.old) (W.written out.new) }
     ensures only { IsOkUnless result VortexError.OutOfMemory }
 {
     let flags = flat_runs_size(runs)?;
@@ -124,6 +128,7 @@ fn put_parts<A: Allocator + Copy, W: BufMut>(
     ensures elements { OnOk result (IsStoredLeaf lists.now.elements) }
     ensures offsets { OnOk result (IsStoredIndex lists.now.offsets) }
     ensures sizes { OnOk result (IsStoredIndex lists.now.sizes) }
+    ensures kept { StaysInFront (W.written out.old) (W.written out.new) }
     ensures only { IsOkUnless result VortexError.OutOfMemory }
 {
     let elements = elements_size(lists.elements())?;
@@ -138,6 +143,7 @@ fn put_parts<A: Allocator + Copy, W: BufMut>(
 fn put_elements<A: Allocator, W: BufMut>(out: &mut W, column: &FlatColumn<A>) -> VortexResult<()>
     ensures ok { OnOk result (W.written out.new ≡ W.written out.old ++ column_bytes (OfLeaf (leaf_of column.now))) }
     ensures stored { OnOk result (IsStoredLeaf (leaf_of column.now)) }
+    ensures kept { StaysInFront (W.written out.old) (W.written out.new) }
     ensures only { IsOkUnless result VortexError.OutOfMemory }
 {
     match column {
@@ -159,6 +165,7 @@ fn put_index_field<A: Allocator + Copy, W: BufMut>(
     ensures ok { OnOk result (W.written out.new ≡ W.written out.old ++
         bytes_field field (column_bytes (column_of index.now))) }
     ensures stored { OnOk result (IsStored (column_of index.now)) }
+    ensures kept { StaysInFront (W.written out.old) (W.written out.new) }
     ensures only { IsOkUnless result VortexError.OutOfMemory }
 {
     let count = index_size(index)?;
@@ -171,6 +178,7 @@ fn put_index_field<A: Allocator + Copy, W: BufMut>(
 fn put_index<A: Allocator + Copy, W: BufMut>(out: &mut W, index: &ArrayRef<A>) -> VortexResult<()>
     requires { IsIndex (column_of index.now) }
     ensures ok { OnOk result (W.written out.new ≡ W.written out.old ++ column_bytes (column_of index.now)) }
+    ensures kept { StaysInFront (W.written out.old) (W.written out.new) }
     ensures only { IsOkUnless result VortexError.OutOfMemory }
 {
     match index {
@@ -187,6 +195,7 @@ fn put_flat_runs<A: Allocator + Copy, W: BufMut>(
 ) -> VortexResult<()>
     requires { IsPlainIndex runs.now.values ⊎ IsPlainTruths runs.now.values }
     ensures ok { OnOk result (W.written out.new ≡ W.written out.old ++ column_bytes (column_of_runs runs.now)) }
+    ensures kept { StaysInFront (W.written out.old) (W.written out.new) }
     ensures only { IsOkUnless result VortexError.OutOfMemory }
 {
     let values = run_values_size(runs.values())?;
@@ -202,6 +211,7 @@ fn put_run_values<A: Allocator + Copy, W: BufMut>(
 ) -> VortexResult<()>
     requires { IsPlainIndex (column_of values.now) ⊎ IsPlainTruths (column_of values.now) }
     ensures ok { OnOk result (W.written out.new ≡ W.written out.old ++ column_bytes (column_of values.now)) }
+    ensures kept { StaysInFront (W.written out.old) (W.written out.new) }
     ensures only { IsOkUnless result VortexError.OutOfMemory }
 {
     match values {

@@ -5,6 +5,7 @@ ghost use Rattle.runend_windows.specs.Ends.{IsEndsType, ends_of};
 ghost use Rattle.runend_array.specs.Array.{column_of, dtype_of};
 ghost use Rattle.runend_array.specs.Column.{OfRuns, AreRuns, column_dtype, column_of_runs, runs_with};
 ghost use Rattle.runend_windows.specs.Window.{IsWindow};
+ghost use Rattle.column_fields.specs.Kept.{StaysInFront};
 ghost use Rattle.column_fields.specs.Lengths.{AreEndsOf, HasNoEndsOf, Rises};
 ghost use Rattle.column_fields.specs.Refusal.{IsBadOrMemory};
 ghost use Rattle.column_fields.specs.Sizes.{IsPast};
@@ -35,6 +36,7 @@ pub(crate) fn put_runs<A: Allocator + Copy, W: BufMut>(
         W.written out.old ++ column_bytes (column_of_runs runs.now)) }
     ensures fit { OnOk result (AreEndsOf runs.now.ends_type runs.now.ends) }
     ensures runs { AreRuns runs.now }
+    ensures kept { StaysInFront (W.written out.old) (W.written out.new) }
     ensures only { IsOkUnless result VortexError.OutOfMemory }
 {
     let ArrayRef::Primitive(ends) = runs.ends() else {
