@@ -142,16 +142,21 @@ impl<A: Allocator + Copy> RunBuilder<A> {
         Ok(RunEnd::new_unchecked(ArrayRef::Primitive(ends), array_of(values), 0, self.len()))
     }
 
-    /// The encoding of all rows. Refused as `OutOfMemory` alone, and then the rows are gone: where they are wanted
-    /// still, `encoding` is called first.
-    pub fn finish(self, ctx: &mut ExecutionCtx<A>) -> VortexResult<RunEndArray<A>>
+    /// The encoding of all rows, as `encoding` answers it, made of the builder's own memory where that can be; the
+    /// builder has no rows after, holds no memory and takes rows of its type again. Ends are narrowed to their least
+    /// type, the values' bits and flags packed, and all else is moved, with the room that it had in reserve. Refused as
+    /// `OutOfMemory` alone, and then the rows stay.
+    pub fn finish(&mut self, ctx: &mut ExecutionCtx<A>) -> VortexResult<RunEndArray<A>>
         ensures only { IsOkUnless result VortexError.OutOfMemory }
-        ensures encoded { IfOk result (λ runs. IsEncodedRows self.rows self.dtype runs) }
+        ensures encoded { IfOk result (λ runs. IsEncodedRows self.old.rows self.old.dtype runs) }
+        ensures empty { OnOk result (self.new.rows ≡ []) }
+        ensures kept { OnErr result (self.new.rows ≡ self.old.rows) }
+        ensures dtype { self.new.dtype ≡ self.old.dtype }
         ensures session { ctx.new ≡ ctx.old }
     {
-        let runs = self.encoding(ctx);
-        drop(self);
-        runs
+        let count = self.len();
+        let (ends, values) = self.take_parts(*ctx.allocator())?;
+        Ok(RunEnd::new_unchecked(ArrayRef::Primitive(ends), array_of(values), 0, count))
     }
 }
 
@@ -244,6 +249,30 @@ impl<A: Allocator + Copy> RunBuilder<A> {
         let ends = least_ends(alloc, &self.ends)?;
         match self.values.to_column(alloc) {
             Ok(values) => Ok((ends, values)),
+            Err(error) => {
+                drop(ends);
+                Err(error)
+            }
+        }
+    }
+
+    // The same, made of the builder's own memory, which has no rows after. Refused as `OutOfMemory` alone, and then the
+    // rows stay.
+    fn take_parts(&mut self, alloc: A) -> VortexResult<(PrimitiveArray<A>, FlatColumn<A>)>
+        ensures only { IsOkUnless result VortexError.OutOfMemory }
+        ensures encoding { IfOk result (λ parts.
+            IsRowEncoding self.old.rows self.old.dtype parts.0 (leaf_of parts.1)) }
+        ensures empty { OnOk result (self.new.rows ≡ []) }
+        ensures kept { OnErr result (self.new.rows ≡ self.old.rows) }
+        ensures dtype { self.new.dtype ≡ self.old.dtype }
+    {
+        let ends = least_ends(alloc, &self.ends)?;
+        match self.values.take_column(alloc) {
+            Ok(values) => {
+                drop(replace(&mut self.ends, Vec::new(alloc)));
+                drop(replace(&mut self.last, None));
+                Ok((ends, values))
+            }
             Err(error) => {
                 drop(ends);
                 Err(error)
