@@ -86,13 +86,15 @@ fn builder_of<A: Allocator + Copy>(
 // The encoding of the rows of a builder. Refused as `OutOfMemory` alone.
 #[tactic(auto, using(crate::proofs::RowsBehind::encoding_as))]
 fn finished<A: Allocator + Copy>(
-    builder: RunBuilder<A>,
+    mut builder: RunBuilder<A>,
     ctx: &mut ExecutionCtx<A>,
 ) -> VortexResult<ArrayRef<A>>
     ensures only { IsOkUnless result VortexError.OutOfMemory }
     ensures encoded { IfOk result (IsEncodingOf builder.rows builder.dtype) }
     ensures session { ctx.new ≡ ctx.old }
 {
-    let runs = builder.finish(ctx)?;
+    let finished = builder.finish(ctx);
+    drop(builder);
+    let runs = finished?;
     ArrayRef::of_runs(*ctx.allocator(), runs)
 }

@@ -211,13 +211,12 @@ fn encoding_of_parts<A: Allocator + Copy>(
     ctx: &mut ExecutionCtx<A>,
 ) -> VortexResult<RunEndArray<A>> {
     let mut builder = RunBuilder::new(*ctx.allocator(), dtype)?;
-    match append_all(&mut builder, parts, ctx) {
+    let runs = match append_all(&mut builder, parts, ctx) {
         Ok(()) => builder.finish(ctx),
-        Err(error) => {
-            drop(builder);
-            Err(error)
-        }
-    }
+        Err(error) => Err(error),
+    };
+    drop(builder);
+    runs
 }
 
 fn append_all<A: Allocator + Copy>(
