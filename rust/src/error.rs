@@ -13,16 +13,19 @@ pub struct Fields {
     pub third: u64,
 }
 
-/// A refusal: its number, as in `hivevigil.h`, and its fields. `Display` is a sentence.
+/// A refusal: its number, as in `hivevigil.h`, and its fields. `Display` is a sentence, and `Debug`, which `unwrap`
+/// shows, has the kind and the sentence.
 ///
 /// ```
 /// use hivevigil::{Column, ErrorKind};
 /// let error = Column::new(&[4i64, 4, 7])?.at(9).unwrap_err();
 /// assert_eq!(error.kind(), Some(ErrorKind::OutOfBounds));
 /// assert_eq!(error.to_string(), "row 9 is not among 3 rows");
+/// let shown = format!("{error:?}");
+/// assert_eq!(shown, r#"Error { kind: OutOfBounds, message: "row 9 is not among 3 rows" }"#);
 /// # Ok::<(), hivevigil::Error>(())
 /// ```
-#[derive(Clone, Copy, Debug, PartialEq, Eq)]
+#[derive(Clone, Copy, PartialEq, Eq)]
 pub struct Error {
     /// As in `hivevigil.h`.
     pub number: i32,
@@ -126,6 +129,17 @@ impl fmt::Display for Error {
         let text = kind.sentence().replace("%1", &first.to_string());
         let text = text.replace("%2", &second.to_string());
         formatter.write_str(&text.replace("%3", &third.to_string()))
+    }
+}
+
+impl fmt::Debug for Error {
+    fn fmt(&self, formatter: &mut fmt::Formatter<'_>) -> fmt::Result {
+        let mut shown = formatter.debug_struct("Error");
+        match self.kind() {
+            Some(kind) => shown.field("kind", &kind),
+            None => shown.field("number", &self.number),
+        };
+        shown.field("message", &self.to_string()).finish()
     }
 }
 

@@ -87,7 +87,10 @@ fn refused_batches_change_nothing() -> Result<(), Error> {
     assert_eq!(null.kind(), Some(ErrorKind::NullNotAllowed));
     let many = builder.append_value(1, usize::MAX).unwrap_err();
     assert_eq!(many.kind(), Some(ErrorKind::WindowOverflow));
-    assert_eq!(many.to_string(), "offset and length, or all rows together, are 2^64 or more");
+    assert_eq!(
+        many.to_string(),
+        "offset and length, or all rows together, are 2^64 or more"
+    );
     assert_eq!((builder.len(), builder.runs()), (2, 1));
     Ok(())
 }

@@ -186,6 +186,14 @@ fn shown_in_words() -> Result<(), Error> {
     let error = column.at(10).unwrap_err();
     assert_eq!(error.kind(), Some(ErrorKind::OutOfBounds));
     assert_eq!(error.to_string(), "row 10 is not among 10 rows");
+    let shown = r#"Error { kind: OutOfBounds, message: "row 10 is not among 10 rows" }"#;
+    assert_eq!(format!("{error:?}"), shown);
+    let unlisted = Error {
+        number: 99,
+        ..error
+    };
+    let shown = r#"Error { number: 99, message: "error 99 (10, 10, 0)" }"#;
+    assert_eq!(format!("{unlisted:?}"), shown);
     let refused: Box<dyn std::error::Error> = Box::new(column.slice(5..11).unwrap_err());
     assert_eq!(refused.to_string(), "rows 5 to 11 are not among 10 rows");
     assert_eq!(Value::Bytes(vec![255]).to_string(), "b\"\\xff\"");
