@@ -385,7 +385,7 @@ HV_ANSWER hv_append_value(hv_builder *builder, const hv_value *value, const uint
 /* The encoding of all rows so far, which the builder keeps. */
 HV_ANSWER hv_encoding(const hv_builder *builder, hv_column *out, hv_error *error);
 /* The encoding of all rows so far, which leave the builder: it has none after, and takes rows of its type again. Made of
- * the builder's own memory where that can be, and not a copy of it. */
+ * the builder's own memory where that can be: ends are narrowed, bits packed, all else is moved. */
 HV_ANSWER hv_finish(hv_builder *builder, hv_column *out, hv_error *error);
 HV_CALL size_t hv_builder_rows(const hv_builder *builder);  /* 0 of no builder */
 HV_CALL size_t hv_builder_runs(const hv_builder *builder);  /* as many as the encoding has; 0 of no builder */

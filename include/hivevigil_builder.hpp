@@ -56,7 +56,7 @@ public:
         detail::ask([&](auto *error) { return hv_encoding(&handle, out.raw(), error); });
         return out;
     }
-    // The same, made of what the builder holds, and not of a copy; it has no rows after, and takes others.
+    // The same, made of the builder's own memory where that can be; it has no rows after, and takes others.
     Column finish() {
         Column out;
         detail::ask([&](auto *error) { return hv_finish(&handle, out.raw(), error); });

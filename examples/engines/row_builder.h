@@ -44,7 +44,7 @@ int32_t row_builder_append(row_builder *rows, row_builder *others, hv_error *err
 /* The encoding of all rows, which are kept. Rows of null alone are numbers. */
 int32_t row_builder_encoding(row_builder *rows, hv_column *out, hv_error *error);
 
-/* The same, made of what the builder holds, and not of a copy: there are no rows after. */
+/* The same, made of the builder's own memory where that can be: there are no rows after. */
 int32_t row_builder_finish(row_builder *rows, hv_column *out, hv_error *error);
 
 void row_builder_free(row_builder *rows);

@@ -48,7 +48,7 @@ class Builder:
         return Column._made(calls.hv_encoding, self._handle)
 
     def finish(self) -> Column:
-        """The same, made of what the builder holds, and not of a copy; it has no rows after, and takes others."""
+        """The same, made of the builder's own memory where that can be; it has no rows after, and takes others."""
         return Column._made(calls.hv_finish, self._handle)
 
     @property

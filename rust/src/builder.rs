@@ -64,7 +64,8 @@ impl Builder {
         Column::made(|out, fields| unsafe { raw::hv_encoding(self.handle.get(), out, fields) })
     }
 
-    /// The same, made of what the builder holds, and not of a copy. The builder has no rows after, and takes others.
+    /// The same, made of the builder's own memory where that can be. The builder has no rows after, and takes others;
+    /// where the call is refused, it is as it was.
     pub fn finish(&mut self) -> Result<Column, Error> {
         Column::made(|out, fields| unsafe { raw::hv_finish(self.handle.get(), out, fields) })
     }
