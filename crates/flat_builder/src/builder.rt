@@ -50,9 +50,14 @@ impl<A: Allocator + Copy> FlatBuilder<A> {
         }
     }
 
-    /// Puts the rows of a column of the same type from row `start` on behind the rows, in memory of their own. The
-    /// column stores 0, false or the view of nothing under null. Refused as `OutOfMemory` alone, and then the rows
-    /// stay.
+    /// Puts the rows of a column of the same type from row `start` on behind the rows, in memory of their own. Refused
+    /// as `OutOfMemory` alone, and then the rows stay.
+    ///
+    /// The column has the form that calls compute (`IsComputedLeaf`): it stores 0, false or the view of nothing under
+    /// null, has bits of validity only for rows of both kinds, and is `AllInvalid` only where it has a row.
+    /// `to_column` and `take_column` here answer such columns, so do `take`, `filter`, `fill_null` and `cast` of
+    /// `column_ops`, and the values of an encoding are one. Any other flat column becomes one by a `cast` to its own
+    /// type.
     pub fn append(&mut self, column: FlatView<'_, A>, start: usize) -> VortexResult<()>
         requires typed { leaf_dtype (leaf_in column) ≡ self.old.dtype }
         requires computed { IsComputedLeaf (leaf_in column) }
