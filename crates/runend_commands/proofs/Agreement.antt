@@ -121,14 +121,14 @@ step_agrees first second first_after second_after command answer other same step
       ]
     ]
 
-pub executions_agree : {A : Type 0} → RunsAgree A
-executions_agree first second first_after second_after [] [] [] same run run' long long' = (refl, ap plain run ∙ same ∙ sym (ap plain run'))
-executions_agree first second first_after second_after [] [] (b ∷ others) same run run' long long' = absurd run'
-executions_agree first second first_after second_after [] (a ∷ answers) others same run run' long long' = absurd run
-executions_agree first second first_after second_after (q ∷ commands) [] others same run run' long long' = absurd run
-executions_agree first second first_after second_after (q ∷ commands) (a ∷ answers) [] same run run' long long' = absurd run'
-executions_agree first second first_after second_after (q ∷ commands) (a ∷ answers) (b ∷ others) same run run' long long' =
+pub runs_agree : {A : Type 0} → RunsAgree A
+runs_agree first second first_after second_after [] [] [] same run run' long long' = (refl, ap plain run ∙ same ∙ sym (ap plain run'))
+runs_agree first second first_after second_after [] [] (b ∷ others) same run run' long long' = absurd run'
+runs_agree first second first_after second_after [] (a ∷ answers) others same run run' long long' = absurd run
+runs_agree first second first_after second_after (q ∷ commands) [] others same run run' long long' = absurd run
+runs_agree first second first_after second_after (q ∷ commands) (a ∷ answers) [] same run run' long long' = absurd run'
+runs_agree first second first_after second_after (q ∷ commands) (a ∷ answers) (b ∷ others) same run run' long long' =
     let short = λ (answer : Answer _). answer ≢ Refused OutOfMemory in
     let here = step_agrees first second run.0 run'.0 q a b same run.1 run'.1 (All-head short a answers long) (All-head short b others long') in
-    let rest = executions_agree run.0 run'.0 first_after second_after commands answers others here.1 run.2 run'.2 (All-tail short a answers long) (All-tail short b others long') in
+    let rest = runs_agree run.0 run'.0 first_after second_after commands answers others here.1 run.2 run'.2 (All-tail short a answers long) (All-tail short b others long') in
     (λ i. here.0 i ∷ rest.0 i, rest.1)

@@ -20,7 +20,7 @@ pub use chunk_laws::{
 pub use runend_aggregate::laws::{sum_in_four_runs, sum_of_four_runs};
 pub use runend_aggregate::{sum_signed_runs, sum_unsigned_runs};
 use runend_array::{ArrayRef, ExecutionCtx, RunEnd, VortexError, VortexResult};
-pub use runend_commands::laws::executions_agree;
+pub use runend_commands::laws::runs_agree;
 pub use runend_indices::laws::{
     merge_of_six_indices, physical_indices_by_halves, physical_indices_by_table,
     search_of_four_indices, search_of_six_indices, sort_of_four_indices, strategies_agree,
