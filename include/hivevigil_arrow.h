@@ -7,14 +7,19 @@
  * to a depth of HV_ARROW_DEPTH. Only the rows that an array shows are copied; the array stays the producer's.
  *
  * OUT goes a flat column as a flat array, runs as "+r" with ends that count from the first row shown, a constant as one
- * run, lists as lists, whose items are flat and stand one row behind the other. What goes out is memory of malloc, which
+ * run, lists as lists, whose items are flat and follow one another row by row. What goes out is memory of malloc, which
  * the release callbacks free on any thread; a child that was moved out is the mover's.
  *
  * NEITHER in nor out go lists of lists, views of lists, structs (but as batches), maps, unions, the null type, intervals
- * of more than months, and decimals of 256 bits: HV_UNSUPPORTED; nor do lists that lie flat as runs. Floating-point numbers are no values of this library. They come in by
- * hv_arrow_import_bits alone, as integers without sign of the same bits, and go out by hv_arrow_export_bits: equal
- * bits are equal rows (so 0.0 and -0.0 differ, and a NaN equals the same NaN), while sums, order, least and greatest of
- * such a column are those of the integers and say nothing of the floats.
+ * of more than months, and decimals of 256 bits: HV_UNSUPPORTED; nor do lists that lie flat go out as runs.
+ *
+ * DECIMALS are not tested against their precision, here as in every call of hivevigil.h: 123.45 in an array of
+ * "d:4,2", which Arrow does not allow, comes in and goes out as the number that it is.
+ *
+ * FLOATING-POINT numbers are not values of this library. Only hv_arrow_import_bits takes them, as integers without sign
+ * of the same bits, and hv_arrow_export_bits gives them back: equal bits are equal rows (so 0.0 and -0.0 differ, and a
+ * NaN equals the same NaN), while sums, order, least and greatest of such a column are those of the integers and say
+ * nothing of the floats.
  *
  * Columns that are lent in an array may be lent by copies of their handles, which are not used after the call.
  *
@@ -190,8 +195,8 @@ static inline int32_t hv_arrow_concat(const hv_session *session, hv_column *colu
  * The columns as a stream of chunks of `chunk_rows` rows, the last one of what is left; of all rows where it is 0.
  * Batches with these names, or, where `names` is null, arrays of the one column. All is copied now, so that the stream
  * is free of the columns and their thread. Every chunk has the schema of the first: options (one for each column, or
- * null) that are 0 are of 32 bits here, and a column that lies as runs or a constant goes out as runs over flat values.
- * 11 (rows of the first, rows) where columns differ in their number of rows; 13 for no columns, or for arrays of more
+ * null) that are 0 are of 32 bits here, a column that lies as runs or a constant goes out as runs over flat values, and
+ * one of lists as lists. 11 (rows of the first, rows) where columns differ in their number of rows; 13 for no columns, or for arrays of more
  * than one; else as hv_arrow_export_with. A dictionary goes out once, and the chunks share it. */
 static inline int32_t hv_arrow_export_stream(const hv_session *session, hv_column *columns, const char *const *names,
                                              size_t count, size_t chunk_rows, const hv_arrow_options *options,

@@ -6,10 +6,11 @@
 
 /* ---- A dictionary that chunks share ---- */
 
-/* Flat, so that it has no child that one chunk could move out of the others. */
+/* The array that owns the buffers. Each chunk has structs of its own over them, also of children, so that what one
+ * consumer moves out is there for the others. */
 typedef struct hv_arrow_shared {
     struct ArrowArray array;
-    size_t users; /* chunks may be released on any thread: counted with atomics */
+    size_t users; /* structs may be released on any thread: counted with atomics */
 } hv_arrow_shared;
 
 static inline void hv_arrow_leave_shared(hv_arrow_shared *shared) {
@@ -19,19 +20,39 @@ static inline void hv_arrow_leave_shared(hv_arrow_shared *shared) {
 }
 
 static inline void hv_arrow_release_shared(struct ArrowArray *array) {
+    for (int64_t i = 0; i < array->n_children; i++) {
+        if (array->children[i]->release) array->children[i]->release(array->children[i]);
+        free(array->children[i]);
+    }
+    free(array->children);
     hv_arrow_leave_shared((hv_arrow_shared *)array->private_data);
     array->release = NULL;
 }
 
-/* One more array over the same buffers; NULL where memory is refused. */
-static inline struct ArrowArray *hv_arrow_share(hv_arrow_shared *shared) {
+/* One more array over the same buffers, which `from` has: the shared array, or a child of it. A dictionary is written
+ * without one of its own. NULL where memory is refused. */
+static inline struct ArrowArray *hv_arrow_share_part(hv_arrow_shared *shared, const struct ArrowArray *from) {
+    const int64_t children = from->n_children;
     struct ArrowArray *array = (struct ArrowArray *)malloc(sizeof *array);
     if (!array) return NULL;
-    *array = shared->array;
+    *array = *from;
+    array->n_children = 0;
+    array->children = children ? (struct ArrowArray **)calloc((size_t)children, sizeof *array->children) : NULL;
     array->private_data = shared;
     array->release = hv_arrow_release_shared;
     __atomic_add_fetch(&shared->users, 1, __ATOMIC_RELAXED);
-    return array;
+    for (int64_t i = 0; array->children && i < children; i++, array->n_children++) {
+        array->children[i] = hv_arrow_share_part(shared, from->children[i]);
+        if (!array->children[i]) break;
+    }
+    if (array->n_children == children) return array;
+    array->release(array);
+    free(array);
+    return NULL;
+}
+
+static inline struct ArrowArray *hv_arrow_share(hv_arrow_shared *shared) {
+    return hv_arrow_share_part(shared, &shared->array);
 }
 
 /* ---- The stream that is made ---- */
@@ -103,7 +124,9 @@ typedef struct hv_arrow_field {
 static inline hv_arrow_options hv_arrow_settled(hv_column *column, const hv_arrow_options *options) {
     const hv_arrow_options none = {0, 0, 0, 0, NULL, NULL};
     hv_arrow_options settled = options ? *options : none;
-    uint8_t as_it_lies = hv_form(column) == HV_ARROW_FLAT ? HV_ARROW_AS_FLAT : HV_ARROW_AS_RUNS;
+    const uint8_t form = hv_form(column);
+    const bool flat = form == HV_ARROW_FLAT || form == HV_ARROW_OF_LISTS; /* lists stay lists in every chunk */
+    uint8_t as_it_lies = flat ? HV_ARROW_AS_FLAT : HV_ARROW_AS_RUNS;
     if (settled.form == HV_ARROW_AS_IT_LIES) settled.form = as_it_lies;
     if (settled.end_bits == 0) settled.end_bits = 32;
     if (settled.offset_bits == 0) settled.offset_bits = 32;
@@ -145,12 +168,15 @@ static inline int32_t hv_arrow_attach(const hv_arrow_field *field, struct ArrowS
     return hv_arrow_refuse(HV_OUT_OF_MEMORY, 0, 0, error);
 }
 
-/* Rows `start` to `stop - 1` of one column. */
+/* Rows `start` to `stop - 1` of one column, which stay in runs whichever kernels the session has: lists that were written
+ * flat would not go out as runs. */
 static inline int32_t hv_arrow_write_field(const hv_session *session, const hv_arrow_field *field, size_t start,
                                            size_t stop, struct ArrowSchema *schema, struct ArrowArray *array,
                                            hv_error *error) {
+    hv_session slices;
     hv_column part = HV_EMPTY;
-    int32_t answer = hv_slice(session, field->column, start, stop, &part, error);
+    hv_session_initial(&slices);
+    int32_t answer = hv_slice(&slices, field->column, start, stop, &part, error);
     if (!answer) answer = hv_arrow_export_with(session, &part, field->name, &field->options, schema, array, error);
     if (!answer) answer = hv_arrow_attach(field, schema, array, error);
     hv_free(&part);

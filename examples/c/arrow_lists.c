@@ -1,6 +1,7 @@
 /* Random legal arrays of lists ("+l", "+L"), flat and as values of runs, come in, go out and come in again, and are
  * written as bytes and read, as they lie and decoded; every item of every row is compared: with the rows that were laid
- * out, by a reader of the two structs alone where they went out. Then what is refused. arrow_lists [COUNT [SEED]]
+ * out, by a reader of the two structs where they went out. So are those of a stream. Then what is refused, and streams
+ * by hand. arrow_lists [COUNT [SEED]]
  */
 #include "arrow_columns.h"
 #include "arrow_list_layouts.h"
@@ -103,11 +104,39 @@ static void check_out_and_in(hv_column *from, const lists *values, const size_t 
     check_lists(from, values, due, count, "a row that came in");
     if (hv_arrow_export_with(&session, from, "x", &options, &schema, &array, &error)) stop("does not go out", 0);
     if (strcmp(schema.format, "+r") != 0) check_array(&schema, &array, values, due, count);
-    if (strcmp(schema.format, "+r") != 0 && options.offset_bits && (schema.format[1] == 'L') != (options.offset_bits == 64))
+    if (strcmp(schema.format, "+r") != 0 && options.offset_bits &&
+        (schema.format[1] == 'L') != (options.offset_bits == 64))
         stop("the width of offsets", 0);
     if (hv_arrow_import(&session, &schema, &array, &again, &error)) stop("does not come in again", 0);
     check_lists(&again, values, due, count, "a row that came in again");
     hv_arrow_release(&schema, &array);
+}
+
+/* The rows go out as a stream of chunks, of which each is lists, or runs over lists, as the column lies. */
+static void check_stream(hv_column *from, const lists *values, const size_t *due, size_t count) {
+    const size_t step = below(8);
+    const hv_session none = {0};
+    struct ArrowArrayStream stream;
+    struct ArrowSchema schema;
+    struct ArrowArray array;
+    size_t *places = (size_t *)kept((count + 1) * sizeof *places), at = 0;
+    for (size_t row = 0; row < count; row++) places[row] = due ? due[row] : row;
+    if (hv_arrow_export_stream(one_in(4) ? &none : &session, from, NULL, 1, step, NULL, &stream, &error))
+        stop("does not go out as a stream", 0);
+    if (stream.get_schema(&stream, &schema)) stop("no schema", 0);
+    if ((strcmp(schema.format, "+r") == 0) != (hv_form(from) != HV_FORM_LISTS)) stop("the format of chunks", 0);
+    while (!stream.get_next(&stream, &array) && array.release) {
+        const size_t more = (size_t)array.length;
+        if (more > count - at || (step && more > step)) stop("rows of a chunk", at);
+        if (strcmp(schema.format, "+r") != 0) check_array(&schema, &array, values, places + at, more);
+        if (hv_arrow_import(&session, &schema, &array, &again, &error)) stop("a chunk does not come in", at);
+        check_lists(&again, values, places + at, more, "a row of a chunk");
+        array.release(&array);
+        at += more;
+    }
+    if (at != count) stop("rows of all chunks", at);
+    schema.release(&schema);
+    stream.release(&stream);
 }
 
 static void check_bytes(hv_column *from, const lists *values, const size_t *due, size_t count) {
@@ -134,6 +163,7 @@ static void check_one(void) {
     const int32_t answer = hv_arrow_import(&session, &schema, &array, &came, &error);
     if (answer) fprintf(stderr, "%s: refused as %" PRId32 "\n", of->format, answer), stop("a legal array", 0);
     check_out_and_in(&came, &values, runs ? due : NULL, count);
+    check_stream(&came, &values, runs ? due : NULL, count);
     check_bytes(&came, &values, runs ? due : NULL, count);
     hv_free(&came);
 }
@@ -172,6 +202,64 @@ static void check_refusals(void) {
     CHECK_REFUSED(hv_arrow_export_with(&session, &column, "x", &as_runs, &out_schema, &out_array, &error), HV_UNSUPPORTED, 0, 0, 0);
     CHECK_REFUSED(hv_arrow_export_with(&session, &column, "x", &as_int, &out_schema, &out_array, &error), HV_TYPE_MISMATCH, 0, 0, 0);
     CHECK(!out_schema.release && !out_array.release);
+    struct ArrowArrayStream stream;
+    CHECK_REFUSED(hv_arrow_export_stream(&session, &column, NULL, 1, 1, &as_runs, &stream, &error), HV_UNSUPPORTED, 0, 0, 0);
+    CHECK_REFUSED(hv_arrow_export_stream(&session, &column, NULL, 1, 1, &as_int, &stream, &error), HV_TYPE_MISMATCH, 0, 0, 0);
+    CHECK(!stream.release);
+}
+
+/* ---- Streams ---- */
+
+/* [7] and [8 9], as the only column of `out`, and beside numbers as batches. */
+static void check_batches_of_lists(void) {
+    const int32_t items[3] = {7, 8, 9};
+    const uint64_t offsets[2] = {0, 1}, sizes[2] = {1, 2};
+    const char *const names[2] = {"list", "number"};
+    hv_column both[2] = {HV_EMPTY, HV_EMPTY}, elements = HV_EMPTY;
+    struct ArrowArrayStream stream;
+    struct ArrowSchema schema;
+    struct ArrowArray array;
+    CHECK(!hv_i32(items, 3, NOT_NULLABLE, &elements, &error) && !hv_i32(items, 2, NOT_NULLABLE, &both[1], &error));
+    CHECK(!hv_lists(&elements, offsets, 2, sizes, 2, NOT_NULLABLE, &both[0], &error));
+    CHECK(!hv_arrow_export_stream(&session, both, names, 2, 1, NULL, &stream, &error));
+    CHECK(!stream.get_schema(&stream, &schema) && strcmp(schema.children[0]->format, "+l") == 0);
+    CHECK(strcmp(schema.children[0]->name, "list") == 0 && strcmp(schema.children[0]->children[0]->format, "i") == 0);
+    CHECK(!stream.get_next(&stream, &array));
+    array.release(&array);
+    CHECK(!stream.get_next(&stream, &array) && array.length == 1);
+    CHECK(!hv_arrow_import_child(&session, &schema, &array, 0, &again, &error) && hv_length(&again) == 1);
+    CHECK(!hv_list_elements(&again, &column, &error));
+    CHECK_ROWS(&column, "8 9");
+    array.release(&array), schema.release(&schema), stream.release(&stream);
+    hv_free(&both[0]), hv_free(&both[1]), hv_free(&elements);
+}
+
+/* Chunks of codes share a dictionary of lists. The items of one are moved out, and the others have theirs. */
+static void check_dictionary_of_lists(void) {
+    const int32_t items[3] = {7, 8, 9};
+    const uint64_t offsets[2] = {0, 1}, sizes[2] = {1, 2};
+    const uint8_t codes[2] = {1, 0};
+    hv_column elements = HV_EMPTY, dictionary = HV_EMPTY, coded = HV_EMPTY;
+    struct ArrowArrayStream stream;
+    struct ArrowSchema schema;
+    struct ArrowArray chunks[2];
+    CHECK(!hv_i32(items, 3, NOT_NULLABLE, &elements, &error) && !hv_u8(codes, 2, NOT_NULLABLE, &coded, &error));
+    CHECK(!hv_lists(&elements, offsets, 2, sizes, 2, NOT_NULLABLE, &dictionary, &error));
+    const hv_arrow_options options = {0, 0, 0, 0, NULL, &dictionary};
+    CHECK(!hv_arrow_export_stream(&session, &coded, NULL, 1, 1, &options, &stream, &error));
+    CHECK(!stream.get_schema(&stream, &schema) && strcmp(schema.dictionary->format, "+l") == 0);
+    CHECK(!stream.get_next(&stream, &chunks[0]) && !stream.get_next(&stream, &chunks[1]));
+    struct ArrowArray moved = *chunks[0].dictionary->children[0];
+    chunks[0].dictionary->children[0]->release = NULL;
+    stream.release(&stream), chunks[0].release(&chunks[0]);
+    CHECK(!hv_arrow_import(&session, schema.dictionary->children[0], &moved, &column, &error));
+    CHECK_ROWS(&column, "7 8 9");
+    moved.release(&moved);
+    CHECK(!hv_arrow_import(&session, &schema, &chunks[1], &again, &error) && hv_length(&again) == 1);
+    CHECK(!hv_decode(&session, &again, &column, &error) && !hv_list_elements(&column, &again, &error));
+    CHECK_ROWS(&again, "7 8 9");
+    chunks[1].release(&chunks[1]), schema.release(&schema);
+    hv_free(&elements), hv_free(&dictionary), hv_free(&coded);
 }
 
 int main(int arguments, char **given) {
@@ -185,7 +273,9 @@ int main(int arguments, char **given) {
         free_kept();
     }
     check_refusals();
+    check_batches_of_lists();
+    check_dictionary_of_lists();
     hv_free(&column), hv_free(&again);
-    printf("%" PRIu64 " random arrays of lists came in, went out and came in again, and as bytes\n", count);
+    printf("%" PRIu64 " random arrays of lists came in, went out and came in again, as streams and as bytes\n", count);
     return 0;
 }

@@ -158,6 +158,18 @@ static int32_t lists_out_and_in(void) {
 }
 STEP(export_stream, hv_arrow_export_stream(&session, &runs, NULL, 1, 9, NULL, &stream, &error))
 STEP(export_coded_stream, hv_arrow_export_stream(&session, &codes, NULL, 1, 30, &coded_runs, &stream, &error))
+STEP(export_list_stream, hv_arrow_export_stream(&session, &lists, NULL, 1, 1, NULL, &stream, &error))
+STEP(export_list_run_stream, hv_arrow_export_stream(&session, &list_runs, NULL, 1, 2, NULL, &stream, &error))
+/* each row is list 0, of a dictionary that the chunks share */
+static int32_t export_coded_list_stream(void) {
+    static const uint8_t first[3];
+    const hv_arrow_options options = {.dictionary = &lists};
+    hv_column own = HV_EMPTY;
+    int32_t answer = hv_u8(first, 3, NOT_NULLABLE, &own, &error);
+    if (!answer) answer = hv_arrow_export_stream(&session, &own, NULL, 1, 2, &options, &stream, &error);
+    hv_free(&own);
+    return answer;
+}
 static int32_t export_batches(void) {
     hv_column both[2] = {numbers, texts}; /* lent as an array, and not freed */
     return hv_arrow_export_stream(&session, both, names, 2, 40, NULL, &stream, &error);
@@ -183,6 +195,7 @@ static const struct {
     NAMED(export_nested),    NAMED(export_one_level), NAMED(export_codes),        NAMED(export_coded_runs),
     NAMED(export_stream),    NAMED(export_batches),   NAMED(export_coded_stream), NAMED(concat),
     NAMED(concat_runs),      NAMED(export_lists),     NAMED(export_list_runs),    NAMED(lists_out_and_in),
+    NAMED(export_list_stream), NAMED(export_list_run_stream), NAMED(export_coded_list_stream),
 };
 
 static void release_all(void) {

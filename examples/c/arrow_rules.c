@@ -293,6 +293,15 @@ static void check_decimals(void) {
         CHECK(strcmp(out_schema.format, i == 2 ? "d:7,-2" : "d:7,2") == 0);
         hv_arrow_release(&out_schema, &out_array);
     }
+    /* precision is not tested: 123.45 and the least number of 128 bits come in as decimal(4, 2), and go out again */
+    const hv_pair past[2] = {{12345, 0}, {0, INT64_MIN}};
+    struct ArrowSchema narrow_schema = schema_of("d:4,2");
+    struct ArrowArray past_array = array_of(2, 0, 2, BUFFERS(NULL, past));
+    CHECK(!IMPORT(&narrow_schema, &past_array) && hv_kind_of(&column).precision == 4);
+    CHECK_ROWS(&column, "0:12345 -9223372036854775808:0");
+    CHECK(!hv_arrow_export(&session, &column, "x", &out_schema, &out_array, &error));
+    CHECK(strcmp(out_schema.format, "d:4,2") == 0 && memcmp(out_array.buffers[1], past, sizeof past) == 0);
+    hv_arrow_release(&out_schema, &out_array);
     const uint8_t precisions[] = {0, 39, 255};
     for (size_t i = 0; i < COUNT(precisions); i++) {
         CHECK(!hv_decimals(pairs, 2, precisions[i], 0, NOT_NULLABLE, &column, &error));
