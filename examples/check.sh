@@ -83,7 +83,9 @@ if $cc $watched "$work/empty.c" -o "$work/empty" 2>/dev/null && "$work/empty"; t
     for test in errors answers refusals forms lists builders messages arrow_arrays; do
         run "c/$test.c under sanitizers" built "$cc" "$c_flags $watched" "examples/c/$test.c"
     done
-    has "$cxx" && run "cpp/demo.cpp under sanitizers" built "$cxx" "$cxx_flags $watched" examples/cpp/demo.cpp
+    for test in demo numbers; do
+        has "$cxx" && run "cpp/$test.cpp under sanitizers" built "$cxx" "$cxx_flags $watched" "examples/cpp/$test.cpp"
+    done
     arrow_flags=$watched arrow_how=" under sanitizers"
 else
     skip "the address and undefined-behaviour sanitizers" "-fsanitize of $cc"
@@ -119,11 +121,12 @@ headers_alone() {
         cp "$work/alone.c" "$work/alone.cpp"
         $cc -std=c99 $warned "$work/alone.c" && $cxx -std=c++17 $warned "$work/alone.cpp" || return 1
     done
-    $cxx -std=c++17 $warned examples/cpp/demo.cpp && echo "those of C and C++, and what is made of their templates"
+    $cxx -std=c++17 $warned examples/cpp/demo.cpp && $cxx -std=c++17 $warned examples/cpp/numbers.cpp &&
+        echo "those of C and C++, and what is made of their templates"
 }
 if has "$cxx"; then
     run "headers alone, with every warning" headers_alone
-    run "cpp/demo.cpp" built "$cxx" "$cxx_flags -O2" examples/cpp/demo.cpp
+    for test in demo numbers; do run "cpp/$test.cpp" built "$cxx" "$cxx_flags -O2" "examples/cpp/$test.cpp"; done
 else
     skip "cpp/demo.cpp" "$cxx"
 fi

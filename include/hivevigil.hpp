@@ -1,5 +1,5 @@
 // Columns as C++17 values, over hivevigil.h: made by a call, moved and never copied unawares, freed by scope.
-// A refusal is thrown as hv::Error. Header alone; nothing here is proved.
+// A refusal is thrown as hv::Error. Headers only; nothing here is proved.
 //
 //     hv::Column runs = hv::Column::of(std::vector<int64_t>{4, 4, 4, 7, 7, 9}).encode();
 //     for (const hv::Run &run : runs.runs()) use(run.start, run.stop, run.value);
@@ -9,8 +9,7 @@
 // for lists.
 #ifndef HIVEVIGIL_HPP
 #define HIVEVIGIL_HPP
-#include "hivevigil_values.hpp"
-#include <algorithm>
+#include "hivevigil_fits.hpp"
 #include <cstddef>
 #include <initializer_list>
 #include <string_view>
@@ -37,7 +36,8 @@ public:
     // ---- Made of rows ----
 
     // Integers, of which none is null: of a vector, an array, a view or a span.
-    template <class Items, class T = detail::Item<Items>, class = std::enable_if_t<detail::is_number<T>>>
+    template <class Items, class T = detail::Item<Items>,
+              class = std::enable_if_t<detail::is_number<T> && !detail::is_text<Items>>>
     static Column of(const Items &items) {
         return of(std::data(items), std::size(items), nullptr);
     }
@@ -48,7 +48,8 @@ public:
         else return of_rows(items);
     }
     // Integers, null where the flag is false.
-    template <class Items, class T = detail::Item<Items>, class = std::enable_if_t<detail::is_number<T>>>
+    template <class Items, class T = detail::Item<Items>,
+              class = std::enable_if_t<detail::is_number<T> && !detail::is_text<Items>>>
     static Column of(const Items &items, const std::vector<bool> &valid) {
         return of(std::data(items), std::size(items), &valid);
     }
@@ -67,15 +68,23 @@ public:
             return hv_bools(bits.data(), bits.size(), 0, rows.size(), validity, out, error);
         });
     }
+    // Decimals, each as it is at this scale; refused as HV_CAST_OUT_OF_RANGE where one has more digits after the point.
+    // Their number of digits is not tested against the precision.
     static Column decimals(const std::vector<Decimal> &rows, uint8_t precision, int8_t scale,
                            const std::vector<bool> *valid = nullptr) {
+        const hv_kind kind = kinds::decimal(precision, scale);
         std::vector<hv_pair> pairs(rows.size());
-        for (size_t row = 0; row < rows.size(); row++) pairs[row] = {rows[row].low, rows[row].high};
-        return with_nulls(rows.size(), valid, [&](auto validity, auto *out, auto *error) {
+        for (size_t row = 0; row < rows.size(); row++) pairs[row] = detail::pair_at(rows[row], kind, row);
+        return decimals(pairs, precision, scale, valid);
+    }
+    // The same of numbers that are at this scale: {1050, 0} of scale 2 is 10.50.
+    static Column decimals(const std::vector<hv_pair> &pairs, uint8_t precision, int8_t scale,
+                           const std::vector<bool> *valid = nullptr) {
+        return with_nulls(pairs.size(), valid, [&](auto validity, auto *out, auto *error) {
             return hv_decimals(pairs.data(), pairs.size(), precision, scale, validity, out, error);
         });
     }
-    // Texts, which are refused where one is not UTF-8.
+    // Texts; refused as HV_TYPE_MISMATCH where one is not UTF-8.
     static Column texts(const std::vector<std::string_view> &rows, const std::vector<bool> *valid = nullptr) {
         return cut(false, rows, valid);
     }
@@ -103,16 +112,19 @@ public:
             return hv_deserialize(&kind, rows, record.data(), record.size(), &ends.handle, other, out, error);
         });
     }
-    // The value in each of `rows` rows of a type, in memory for one; of an integer or a text as it is written.
+    // The value in each of `rows` rows of a type, in memory for one: a Value, or an integer or a text as it is written.
     template <class T, class = std::enable_if_t<detail::is_number<T> || detail::is_text<T>>>
     static Column constant(hv_kind kind, const T &value, size_t rows) {
         return constant(kind, detail::written(value, kind), rows);
     }
     static Column constant(hv_kind kind, const Value &value, size_t rows) {
-        const detail::Passed passed(value);
-        return made([&](auto *out, auto *error) {
-            return hv_constant(&kind, &passed.value, passed.text, passed.size, rows, out, error);
-        });
+        const Value row = detail::fitted(value, kind);
+        const detail::Passed passed(row);
+        return made(
+            [&](auto *out, auto *error) {
+                return hv_constant(&kind, &passed.value, passed.text, passed.size, rows, out, error);
+            },
+            detail::words_of_value(row, kind));
     }
     // The column that to_bytes wrote.
     static Column from_bytes(const Bytes &message) {
@@ -123,7 +135,7 @@ public:
     Column clone() const {
         return made([&](auto *out, auto *error) { return hv_clone(&handle, out, error); });
     }
-    // A copy that shares no buffer but the bytes of texts: a small slice keeps the whole column's.
+    // A copy that shares no buffer except the bytes of texts: a small slice keeps the whole column's.
     Column compact() const {
         return made([&](auto *out, auto *error) { return hv_compact(&handle, out, error); });
     }
@@ -141,37 +153,49 @@ public:
     Column slice(size_t start, size_t stop, const hv_session &session = initial_session()) const {
         return made([&](auto *out, auto *error) { return hv_slice(&session, &handle, start, stop, out, error); });
     }
+    // Each row as the same value of a type. The sentence of a refusal names the first row that does not fit.
     Column cast(hv_kind kind, const hv_session &session = initial_session()) const {
-        return made([&](auto *out, auto *error) { return hv_cast(&session, &handle, &kind, out, error); });
+        return made([&](auto *out, auto *error) { return hv_cast(&session, &handle, &kind, out, error); },
+                    [&](int32_t answer) { return words_of_cast(answer, kind); });
     }
     Column take(const Column &indices, const hv_session &session = initial_session()) const {
-        return beside(indices, [&](auto *other, auto *out, auto *error) {
-            return hv_take(&session, &handle, other, out, error);
-        });
+        return beside(
+            indices,
+            [&](auto *other, auto *out, auto *error) { return hv_take(&session, &handle, other, out, error); },
+            detail::words_of_other("indices are integers, not ", indices.kind()));
     }
     Column filter(const Column &mask, const hv_session &session = initial_session()) const {
         return beside(
-            mask, [&](auto *other, auto *out, auto *error) { return hv_filter(&session, &handle, other, out, error); });
+            mask, [&](auto *other, auto *out, auto *error) { return hv_filter(&session, &handle, other, out, error); },
+            detail::words_of_other("a mask is of type bool, not ", mask.kind()));
     }
     // The rows of the dictionary that these codes name.
     Column take_from(const Column &dictionary, const hv_session &session = initial_session()) const {
-        return beside(dictionary, [&](auto *other, auto *out, auto *error) {
-            return hv_take_from(&session, &handle, other, out, error);
-        });
+        return beside(
+            dictionary,
+            [&](auto *other, auto *out, auto *error) { return hv_take_from(&session, &handle, other, out, error); },
+            detail::words_of_other("codes are integers, not ", kind()));
     }
     Column compare(Operator by, const Column &right, const hv_session &session = initial_session()) const {
-        return beside(right, [&](auto *other, auto *out, auto *error) {
-            return hv_compare(&session, &handle, static_cast<uint8_t>(by), other, out, error);
-        });
+        return beside(
+            right,
+            [&](auto *other, auto *out, auto *error) {
+                return hv_compare(&session, &handle, static_cast<uint8_t>(by), other, out, error);
+            },
+            detail::words_of_two(kind(), " is not compared with ", right.kind()));
     }
+    // The same with one value. Any number is compared with integers and decimals: each i8 is less than 300.
     Column compare(Operator by, const Value &right, const hv_session &session = initial_session()) const {
-        const detail::Passed passed(right);
-        return made([&](auto *out, auto *error) {
-            return hv_compare_scalar(&session, &handle, static_cast<uint8_t>(by), &passed.value, passed.text,
-                                     passed.size, out, error);
-        });
+        const detail::Comparison asked = detail::comparison(by, right, kind());
+        const detail::Passed passed(asked.right);
+        return made(
+            [&](auto *out, auto *error) {
+                return hv_compare_scalar(&session, &handle, static_cast<uint8_t>(asked.by), &passed.value, passed.text,
+                                         passed.size, out, error);
+            },
+            detail::words_of_compared(right, kind()));
     }
-    // The same beside an integer or a text as it is written: column.compare(hv::Operator::less, 4).
+    // The same with an integer or a text as it is written: column.compare(hv::Operator::less, 4).
     template <class T, class = std::enable_if_t<detail::is_number<T> || detail::is_text<T>>>
     Column compare(Operator by, const T &right, const hv_session &session = initial_session()) const {
         return compare(by, detail::written(right, kind()), session);
@@ -180,11 +204,15 @@ public:
     Column fill(const T &value, const hv_session &session = initial_session()) const {
         return fill(detail::written(value, kind()), session);
     }
+    // A value in place of each null, after which the type has no null.
     Column fill(const Value &value, const hv_session &session = initial_session()) const {
-        const detail::Passed passed(value);
-        return made([&](auto *out, auto *error) {
-            return hv_fill(&session, &handle, &passed.value, passed.text, passed.size, out, error);
-        });
+        const Value row = detail::fitted(value, kind());
+        const detail::Passed passed(row);
+        return made(
+            [&](auto *out, auto *error) {
+                return hv_fill(&session, &handle, &passed.value, passed.text, passed.size, out, error);
+            },
+            detail::words_of_value(row, kind()));
     }
 
     // ---- Questions ----
@@ -205,8 +233,9 @@ public:
         });
     }
     Value operator[](size_t row) const { return at(row); }
-    // The row as T (an integer of the column's sign, bool, Decimal, std::string, Bytes), none where it is null.
-    template <class T> std::optional<T> get(size_t row) const { return detail::optional_of<T>(at(row)); }
+    // The row as T (any integer, bool, Decimal, std::string, Bytes), none where it is null. Refused as
+    // HV_CAST_OUT_OF_RANGE where T does not have the integer, and as HV_TYPE_MISMATCH where the row is of another sort.
+    template <class T> std::optional<T> get(size_t row) const { return detail::optional_of<T>(at(row), row); }
 
     // ---- Iterated ----
 
@@ -243,17 +272,20 @@ public:
             hv_value least{}, greatest{};
             const int32_t answer = hv_min_max(&session, &handle, &least, low.data(), low.size(), &greatest, high.data(),
                                               high.size(), &fields);
-            if (!answer) return {detail::value_of(least, low), detail::value_of(greatest, high)};
+            if (!answer) return {detail::value_of(least, low, kind()), detail::value_of(greatest, high, kind())};
             if (answer != HV_COLUMN_LENGTH) throw Error(answer, fields);
         }
     }
+    // The rows that are not null, added one at a time. Refused as HV_CAST_OUT_OF_RANGE where the sum leaves the range of
+    // 64 bits; the first field is the row with which it does.
     Sum sum(const hv_session &session = initial_session()) const {
         hv_total total{};
-        detail::ask([&](auto *error) { return hv_sum(&session, &handle, &total, error); });
+        detail::ask([&](auto *error) { return hv_sum(&session, &handle, &total, error); },
+                    detail::words_of_type(kind(), " has no sum"));
         const bool empty = total.empty != 0;
         if (total.kind == HV_UNSIGNED) return {total.as_unsigned, empty};
         if (total.kind == HV_SIGNED) return {total.as_signed, empty};
-        return {Null{}, empty};
+        throw overflow();
     }
     bool is_constant(const hv_session &session = initial_session()) const {
         uint8_t truth = 0;
@@ -268,7 +300,7 @@ public:
 
     // ---- Read out ----
 
-    // The numbers of all rows, in any form; where a row is null any number may stand.
+    // The numbers of all rows, in any form, as the column's own integers; where a row is null it may be any number.
     template <class T> std::vector<T> numbers() const {
         if (!*this) return {};
         std::vector<T> items(size());
@@ -277,13 +309,15 @@ public:
     }
     // As many of them as there is room for, from row `start` on; refused as HV_BAD_RANGE past the end.
     template <class T> void read(size_t start, T *items, size_t count) const {
-        detail::ask([&](auto *error) { return detail::Native<T>::read(&handle, start, items, count, error); });
+        using Native = detail::Native<T>;
+        detail::ask([&](auto *error) { return Native::read(&handle, start, items, count, error); },
+                    detail::words_of_read(kind(), Native::kind));
     }
     // The rows as T (as get has them), none where a row is null; integers by one call for all.
     template <class T> std::vector<std::optional<T>> optionals() const {
         if constexpr (detail::is_number<T>) return number_optionals<T>();
         std::vector<std::optional<T>> rows;
-        for (const Value &row : *this) rows.push_back(detail::optional_of<T>(row));
+        for (const Value &row : *this) rows.push_back(detail::optional_of<T>(row, rows.size()));
         return rows;
     }
     std::vector<bool> truths() const { return flags(hv_call_read_bools_from); }
@@ -323,26 +357,25 @@ public:
 private:
     mutable hv_column handle = HV_EMPTY; // a call that reads takes the column out and puts it back
 
-    template <class Call> static Column made(Call call) {
+    template <class Call, class... Words> static Column made(Call call, Words... words) {
         Column out;
-        detail::ask([&](auto *error) { return call(&out.handle, error); });
+        detail::ask([&](auto *error) { return call(&out.handle, error); }, words...);
         return out;
     }
     template <class Call> Column part(Call call) const {
         return made([&](auto *out, auto *error) { return call(&handle, out, error); });
     }
-    // Two handles of one call are two: a column beside itself is cloned first.
-    template <class Call> Column beside(const Column &other, Call call) const {
-        if (&other == this) return beside(clone(), call);
-        return made([&](auto *out, auto *error) { return call(&other.handle, out, error); });
+    // Two handles of one call are two: a column that is lent next to itself is cloned first.
+    template <class Call, class... Words> Column beside(const Column &other, Call call, Words... words) const {
+        if (&other == this) return beside(clone(), call, words...);
+        return made([&](auto *out, auto *error) { return call(&other.handle, out, error); }, words...);
     }
-    template <class Call> static Column with_nulls(size_t rows, const std::vector<bool> *valid, Call call) {
+    template <class Call, class... Words>
+    static Column with_nulls(size_t rows, const std::vector<bool> *valid, Call call, Words... words) {
         if (valid && valid->size() != rows) throw Error(HV_COLUMN_LENGTH, {rows, valid->size(), 0});
-        if (!valid) return made([&](auto *out, auto *error) { return call(hv_not_nullable(), out, error); });
-        const Bytes bits = detail::bits_of(*valid);
-        return made([&](auto *out, auto *error) {
-            return call(hv_valid_bits(bits.data(), bits.size(), 0), out, error);
-        });
+        const Bytes bits = valid ? detail::bits_of(*valid) : Bytes();
+        const hv_validity validity = valid ? hv_valid_bits(bits.data(), bits.size(), 0) : hv_not_nullable();
+        return made([&](auto *out, auto *error) { return call(validity, out, error); }, words...);
     }
     template <class T> static Column of(const T *items, size_t rows, const std::vector<bool> *valid) {
         return with_nulls(rows, valid, [&](auto validity, auto *out, auto *error) {
@@ -377,13 +410,18 @@ private:
         std::string all;
         std::vector<int64_t> offsets{0};
         for (std::string_view row : rows) all += row, offsets.push_back(static_cast<int64_t>(all.size()));
-        return with_nulls(rows.size(), valid, [&](auto validity, auto *out, auto *error) {
-            return hv_large_texts(binary, offsets.data(), offsets.size(), reinterpret_cast<const uint8_t *>(all.data()),
-                                  all.size(), validity, out, error);
-        });
+        return with_nulls(
+            rows.size(), valid,
+            [&](auto validity, auto *out, auto *error) {
+                return hv_large_texts(binary, offsets.data(), offsets.size(),
+                                      reinterpret_cast<const uint8_t *>(all.data()), all.size(), validity, out, error);
+            },
+            detail::words_of_texts(rows));
     }
+    std::string words_of_cast(int32_t answer, hv_kind kind) const;
+    Error overflow() const;
     // A row, asked for again with more room where its text has none.
-    template <class Call> static Value shown(Call call) {
+    template <class Call> Value shown(Call call) const {
         Bytes text(64);
         hv_value value{};
         hv_error fields{};
@@ -393,7 +431,7 @@ private:
             answer = call(&value, text.data(), text.size(), &fields);
         }
         if (answer) throw Error(answer, fields);
-        return detail::value_of(value, text);
+        return detail::value_of(value, text, value.kind == HV_DECIMAL_VALUE ? kind() : hv_kind{});
     }
     Value extreme(uint8_t greatest, const hv_session &session) const {
         return shown([&](auto *value, auto *text, size_t room, auto *error) {
@@ -409,47 +447,7 @@ private:
     }
 };
 
-// The runs of a column, each cut to the window, and looked up where they are.
-class Runs {
-public:
-    explicit Runs(const Column &column) : borrowed(&column) { count_runs(); }
-    explicit Runs(Column &&column) : owned(std::move(column)) { count_runs(); }
-    size_t size() const { return count; }
-    bool empty() const { return count == 0; }
-    detail::Walk<Runs> begin() const { return {this, 0}; }
-    detail::Walk<Runs> end() const { return {this, count}; }
-    // Run `index` of those that the window shows; refused as HV_OUT_OF_BOUNDS past the last.
-    Run at(size_t index) const {
-        if (index >= count) throw Error(HV_OUT_OF_BOUNDS, {index, count, 0});
-        return item(index);
-    }
-    Run operator[](size_t index) const { return at(index); }
-    Run item(size_t index) const {
-        if (form == Form::runs) return column().run(first + index);
-        if (form == Form::constant) return {0, column().size(), column().at(0)};
-        return {index, index + 1, column().at(index)};
-    }
-
-private:
-    Column owned;
-    const Column *borrowed = nullptr;
-    size_t first = 0, count = 0;
-    Form form = Form::none;
-
-    const Column &column() const { return borrowed ? *borrowed : owned; }
-    void count_runs() {
-        const size_t rows = column().size();
-        form = column().form();
-        count = form == Form::constant && rows ? 1 : rows;
-        if (form != Form::runs || !rows) return;
-        first = column().run_of(0);
-        count = column().run_of(rows - 1) + 1 - first;
-    }
-};
-
-inline Runs Column::runs() const & { return Runs(*this); }
-inline Runs Column::runs() && { return Runs(std::move(*this)); }
-
 } // namespace hv
+#include "hivevigil_runs.hpp"
 #include "hivevigil_builder.hpp"
 #endif

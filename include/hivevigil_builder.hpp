@@ -29,16 +29,21 @@ public:
     Builder &operator=(const Builder &) = delete;
     ~Builder() { hv_builder_free(&handle); }
 
-    // The rows of a column of the builder's type, in any form, behind the rows.
+    // The rows of a column of the builder's type, in any form, after the rows. Refused as HV_TYPE_MISMATCH where the
+    // types differ, also where only one of them has null.
     void append(const Column &batch) {
-        detail::ask([&](auto *error) { return hv_append(&handle, batch.raw(), error); });
+        detail::ask([&](auto *error) { return hv_append(&handle, batch.raw(), error); },
+                    detail::words_of_two(batch.kind(), " does not go into a builder of ", type));
     }
     // `count` rows of one value, or of an integer or a text as it is written.
     void append(const Value &value, size_t count = 1) {
-        const detail::Passed passed(value);
-        detail::ask([&](auto *error) {
-            return hv_append_value(&handle, &passed.value, passed.text, passed.size, count, error);
-        });
+        const Value row = detail::fitted(value, type);
+        const detail::Passed passed(row);
+        detail::ask(
+            [&](auto *error) {
+                return hv_append_value(&handle, &passed.value, passed.text, passed.size, count, error);
+            },
+            detail::words_of_value(row, type));
     }
     template <class T, class = std::enable_if_t<detail::is_number<T> || detail::is_text<T>>>
     void append(const T &value, size_t count = 1) {

@@ -1,4 +1,4 @@
-/* The refusals of hivevigil.h in words: a name and a sentence for each number. Header alone, C11 and C++17.
+/* The refusals of hivevigil.h in words: a name and a sentence for each number. A header only, C11 and C++17.
  *
  *     char text[HV_ERROR_TEXT];
  *     fprintf(stderr, "%s: %s\n", hv_error_name(answer), hv_error_text(answer, &error, text));
@@ -25,19 +25,19 @@ extern "C" {
     X(HV_OUT_OF_BOUNDS, "row %1 is not among %2 rows") \
     X(HV_BAD_RANGE, "rows %1 to %2 are not among %3 rows") \
     X(HV_MASK_LENGTH, "a mask of %1 rows over %2 rows") \
-    X(HV_COLUMN_LENGTH, "a length of %1 where %2 is there") \
-    X(HV_TYPE_MISMATCH, "the types do not go together") \
+    X(HV_COLUMN_LENGTH, "a length of %1 next to one of %2") \
+    X(HV_TYPE_MISMATCH, "the types do not match") \
     X(HV_UNSUPPORTED, "the call does not serve columns of this type or form") \
-    X(HV_CAST_OUT_OF_RANGE, "a row is no value of the type") \
+    X(HV_CAST_OUT_OF_RANGE, "a row does not fit the type") \
     X(HV_NULL_NOT_ALLOWED, "a row is null, and the type has no null") \
-    X(HV_NULL_FILL, "nulls are filled by a value, and null is none") \
-    X(HV_BAD_METADATA, "the bytes are no metadata record, or no column") \
-    X(HV_ENDS_TYPE_NUMBER, "%1 is the number of no type of ends") \
+    X(HV_NULL_FILL, "nulls are filled with a value, and null is not one") \
+    X(HV_BAD_METADATA, "the bytes are not a metadata record, or not a column") \
+    X(HV_ENDS_TYPE_NUMBER, "%1 is not the number of a type of ends") \
     X(HV_RUN_COUNT, "the record says %1 runs, and there are %2") \
-    X(HV_ONLY_PRIMITIVE, "integers alone are encoded") \
+    X(HV_ONLY_PRIMITIVE, "only integers are encoded by this call") \
     X(HV_OUT_OF_MEMORY, "a request for memory was refused") \
-    X(HV_NO_COLUMN, "there is no column: it was never made, freed or moved away") \
-    X(HV_BAD_NUMBER, "the number stands for no type, or for no operator")
+    X(HV_NO_COLUMN, "there is no column: it was never made, freed, moved away, or lent twice to one call") \
+    X(HV_BAD_NUMBER, "the number is not that of a type, or of an operator")
 
 /* Room for every sentence: the longest, with three numbers of 20 digits. */
 enum { HV_ERROR_TEXT = 160 };
@@ -65,11 +65,14 @@ static inline const char *hv_error_sentence(int32_t number) {
 }
 
 /* Writes the refusal as a sentence with its fields into `text`, which has room for HV_ERROR_TEXT bytes, and returns
- * `text`. A number that is not of hivevigil.h is written with its fields. */
+ * `text`. A number that is not of hivevigil.h is written with its fields. An index of 2^64 - 1, which stands for one that
+ * no uint64_t has, is written in words. */
 static inline char *hv_error_text(int32_t number, const hv_error *error, char *text) {
     const uint64_t fields[] = {error->first, error->second, error->third};
     const char *sentence = hv_error_sentence(number);
     size_t used = 0;
+    if (number == HV_OUT_OF_BOUNDS && fields[0] == UINT64_MAX)
+        sentence = "an index that is negative, or past 64 bits, is not among %2 rows";
     if (!sentence) {
         snprintf(text, HV_ERROR_TEXT, "error %" PRId32 " (%" PRIu64 ", %" PRIu64 ", %" PRIu64 ")", number, fields[0],
                  fields[1], fields[2]);

@@ -1,10 +1,12 @@
-// What hivevigil.hpp speaks of: refusals, rows, sums, runs, views. Part of hivevigil.hpp, which includes it.
+// What hivevigil.hpp speaks of: refusals, rows, sums, runs, views, and what fits a type. Part of hivevigil.hpp, which
+// includes it.
 #ifndef HIVEVIGIL_VALUES_HPP
 #define HIVEVIGIL_VALUES_HPP
+#include "hivevigil_decimal.hpp"
 #include "hivevigil_errors.h"
-#include <algorithm>
 #include <cstdint>
 #include <iterator>
+#include <limits>
 #include <optional>
 #include <stdexcept>
 #include <string>
@@ -19,8 +21,9 @@ namespace hv {
 // What a call refused: its number, as HV_OUT_OF_BOUNDS, its fields in the order of hivevigil.h, and a sentence.
 class Error : public std::runtime_error {
 public:
-    Error(int32_t answer, hv_error of_answer)
-        : std::runtime_error(text_of(answer, of_answer)), number(answer), fields(of_answer) {}
+    Error(int32_t answer, hv_error of_answer) : Error(answer, of_answer, text_of(answer, of_answer)) {}
+    Error(int32_t answer, hv_error of_answer, const std::string &sentence)
+        : std::runtime_error(sentence), number(answer), fields(of_answer) {}
     const int32_t number;
     const hv_error fields;
     // "HV_OUT_OF_BOUNDS"
@@ -33,25 +36,17 @@ private:
     }
 };
 
-// 128 bits: high * 2^64 + low.
-struct Decimal {
-    uint64_t low;
-    int64_t high;
-    friend bool operator==(Decimal left, Decimal right) { return left.low == right.low && left.high == right.high; }
-    friend bool operator!=(Decimal left, Decimal right) { return !(left == right); }
-};
-
 using Null = std::monostate;
 using Bytes = std::vector<uint8_t>;
 
 // A row: null, an integer, a boolean, a decimal, a text or bytes.
 using Value = std::variant<Null, uint64_t, int64_t, bool, Decimal, std::string, Bytes>;
 
-// A sum: the number, or Null where it left the range of 64 bits. `empty`: no row is valid, and the sum is 0.
+// A sum, a uint64_t of rows without sign, else an int64_t. `empty`: no row is valid, and the sum is 0.
 struct Sum {
-    std::variant<Null, uint64_t, int64_t> total;
+    std::variant<uint64_t, int64_t> total;
     bool empty;
-    // The number as T, int64_t or uint64_t; none where it left the range of 64 bits, or is no T.
+    // The number as T, int64_t or uint64_t; none where T does not have it.
     template <class T> std::optional<T> get() const {
         static_assert(std::is_same_v<T, int64_t> || std::is_same_v<T, uint64_t>, "a sum has 64 bits");
         if (auto *item = std::get_if<T>(&total)) return *item;
@@ -114,7 +109,7 @@ private:
     size_t count = 0;
 };
 
-// "i64", "decimal(10, 2)", and a "?" behind where rows may be null
+// "i64", "decimal(10, 2)", and "?" after it where rows may be null
 inline std::string to_string(hv_kind kind) {
     static constexpr const char *names[] = {"u8",  "u16",  "u32",     "u64",  "i8",     "i16", "i32",
                                             "i64", "bool", "decimal", "utf8", "binary", "list"};
@@ -124,30 +119,7 @@ inline std::string to_string(hv_kind kind) {
     return text + (kind.nullable ? "?" : "");
 }
 
-// The number with `scale` digits behind the point.
-inline std::string to_string(Decimal number, int scale = 0) {
-    const bool negative = number.high < 0;
-    uint64_t high = static_cast<uint64_t>(number.high), low = number.low;
-    if (negative) low = ~low + 1, high = ~high + (low == 0);
-    uint64_t parts[] = {high >> 32, high & UINT32_MAX, low >> 32, low & UINT32_MAX};
-    std::string digits(scale < 0 ? static_cast<size_t>(-scale) : 0, '0'); // the last one first
-    for (bool some = true; some;) {
-        uint64_t rest = 0;
-        some = false;
-        for (uint64_t &part : parts) {
-            const uint64_t all = rest << 32 | part;
-            part = all / 10, rest = all % 10, some |= part != 0;
-        }
-        digits.push_back(static_cast<char>('0' + rest));
-    }
-    while (static_cast<int>(digits.size()) <= scale) digits.push_back('0');
-    if (scale > 0) digits.insert(static_cast<size_t>(scale), ".");
-    if (negative) digits.push_back('-');
-    std::reverse(digits.begin(), digits.end());
-    return digits;
-}
-
-// A row to look at: "null", numbers, "true", a text as it is, bytes in hexadecimal; a decimal is its digits alone.
+// A row to look at: "null", numbers, "true", a text as it is, bytes in hexadecimal.
 inline std::string to_string(const Value &value) {
     if (auto *item = std::get_if<uint64_t>(&value)) return std::to_string(*item);
     if (auto *item = std::get_if<int64_t>(&value)) return std::to_string(*item);
@@ -172,22 +144,41 @@ inline const hv_session &initial_session() {
 
 namespace detail {
 
-// The calls of one native type.
-template <class T> struct Native;
-#define HV_NATIVE(type, suffix) \
-    template <> struct Native<type> { \
+template <class T>
+inline constexpr bool is_number = std::is_integral_v<T> && !std::is_same_v<T, bool> && sizeof(T) <= sizeof(int64_t);
+
+// The calls that serve integers of a width and sign, and the type of their columns.
+template <size_t width, bool with_sign> struct NativeOf;
+#define HV_NATIVE(type, suffix, named) \
+    template <> struct NativeOf<sizeof(type), std::is_signed_v<type>> { \
+        using Item = type; \
+        static constexpr hv_kind kind{named, 0, 0, 0}; \
         static constexpr auto make = hv_call_##suffix; \
         static constexpr auto read = hv_call_read_##suffix; \
     };
-HV_NATIVE(uint8_t, u8)
-HV_NATIVE(uint16_t, u16)
-HV_NATIVE(uint32_t, u32)
-HV_NATIVE(uint64_t, u64)
-HV_NATIVE(int8_t, i8)
-HV_NATIVE(int16_t, i16)
-HV_NATIVE(int32_t, i32)
-HV_NATIVE(int64_t, i64)
+HV_NATIVE(uint8_t, u8, HV_U8)
+HV_NATIVE(uint16_t, u16, HV_U16)
+HV_NATIVE(uint32_t, u32, HV_U32)
+HV_NATIVE(uint64_t, u64, HV_U64)
+HV_NATIVE(int8_t, i8, HV_I8)
+HV_NATIVE(int16_t, i16, HV_I16)
+HV_NATIVE(int32_t, i32, HV_I32)
+HV_NATIVE(int64_t, i64, HV_I64)
 #undef HV_NATIVE
+
+// Those of any integer of C++: long long and char are passed as the type of their width and sign.
+template <class T> struct Native {
+    static_assert(is_number<T>, "columns hold integers of 8 to 64 bits");
+    using Calls = NativeOf<sizeof(T), std::is_signed_v<T>>;
+    using Item = typename Calls::Item;
+    static constexpr hv_kind kind = Calls::kind;
+    static int32_t make(const T *items, size_t count, hv_validity validity, hv_column *out, hv_error *error) {
+        return Calls::make(reinterpret_cast<const Item *>(items), count, validity, out, error);
+    }
+    static int32_t read(const hv_column *column, size_t start, T *items, size_t count, hv_error *error) {
+        return Calls::read(column, start, reinterpret_cast<Item *>(items), count, error);
+    }
+};
 
 // The flags as bits, 8 to a byte.
 inline Bytes bits_of(const std::vector<bool> &flags) {
@@ -203,7 +194,7 @@ inline std::vector<bool> flags_of(const std::vector<uint64_t> &words, size_t row
     return flags;
 }
 
-// A value as C passes it, with the bytes of a text beside it.
+// A value as C passes it, with the bytes of a text next to it.
 class Passed {
 public:
     explicit Passed(const Value &row) {
@@ -226,13 +217,14 @@ private:
     }
 };
 
-inline Value value_of(const hv_value &value, const Bytes &text) {
+// What a call answered of a column of this type, with the buffer that it was given for a text.
+inline Value value_of(const hv_value &value, const Bytes &text, hv_kind kind) {
     auto end = text.begin() + static_cast<std::ptrdiff_t>(value.kind >= HV_TEXT ? value.as_unsigned : 0);
     switch (value.kind) {
     case HV_UNSIGNED: return value.as_unsigned;
     case HV_SIGNED: return value.as_signed;
     case HV_TRUTH: return value.truth != 0;
-    case HV_DECIMAL_VALUE: return Decimal{value.as_unsigned, value.as_signed};
+    case HV_DECIMAL_VALUE: return Decimal{value.as_unsigned, value.as_signed, kind.scale};
     case HV_TEXT: return std::string(text.begin(), end);
     case HV_BYTES: return Bytes(text.begin(), end);
     default: return Null{};
@@ -244,12 +236,19 @@ template <class Call> void ask(Call call) {
     hv_error fields{};
     if (int32_t answer = call(&fields)) throw Error(answer, fields);
 }
+// The same, in the sentence that `words` has for the number; an empty one leaves that of hivevigil_errors.h.
+template <class Call, class Words> void ask(Call call, Words words) {
+    hv_error fields{};
+    const int32_t answer = call(&fields);
+    if (!answer) return;
+    const std::string sentence = words(answer);
+    if (sentence.empty()) throw Error(answer, fields);
+    throw Error(answer, fields, sentence);
+}
 
 // The item type of a vector, an array or a span.
 template <class Items>
 using Item = std::remove_cv_t<std::remove_pointer_t<decltype(std::data(std::declval<const Items &>()))>>;
-template <class T> inline constexpr bool is_number = std::is_integral_v<T> && !std::is_same_v<T, bool>;
-
 template <class T> inline constexpr bool is_text = std::is_convertible_v<const T &, std::string_view>;
 
 // A row as it stands in a container, and what it is where it is not null.
@@ -267,30 +266,16 @@ template <class T> inline constexpr bool is_optional = !std::is_same_v<T, InnerO
 template <class T>
 inline constexpr bool is_row = is_number<InnerOf<T>> || is_text<InnerOf<T>> || std::is_same_v<InnerOf<T>, bool>;
 
-// An integer or a text as a value of the column's type, or of its own where it is none of that.
+// An integer or a text of C++ as a value, bytes next to a column of bytes.
 template <class T> Value written(const T &item, hv_kind kind) {
     if constexpr (is_text<T>) {
         const std::string_view text = item;
         return kind.number == HV_BINARY ? Value(Bytes(text.begin(), text.end())) : Value(std::string(text));
     } else if constexpr (std::is_signed_v<T>) {
-        if (kind.number <= HV_U64 && item >= 0) return static_cast<uint64_t>(item);
         return static_cast<int64_t>(item);
     } else {
-        if (kind.number > HV_U64 && item <= static_cast<uint64_t>(INT64_MAX)) return static_cast<int64_t>(item);
         return static_cast<uint64_t>(item);
     }
-}
-
-// A row as T, null as none; refused as 12 where the row is of another type.
-template <class T> std::optional<T> optional_of(const Value &value) {
-    if (std::holds_alternative<Null>(value)) return std::nullopt;
-    if constexpr (is_number<T>) {
-        if (auto *item = std::get_if<int64_t>(&value); item && std::is_signed_v<T>) return static_cast<T>(*item);
-        if (auto *item = std::get_if<uint64_t>(&value); item && !std::is_signed_v<T>) return static_cast<T>(*item);
-    } else if (auto *item = std::get_if<T>(&value)) {
-        return *item;
-    }
-    throw Error(HV_TYPE_MISMATCH, {});
 }
 
 // Walks positions of a Source, each answered by source.item(position). It refers to the source, which has to live on.

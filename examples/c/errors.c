@@ -10,7 +10,10 @@ static void check_sentences(void) {
                  "there is no run, yet a window of 11 rows from row 5 on") == 0);
     CHECK(strcmp(hv_error_text(HV_WINDOW_OVERFLOW, &error, text),
                  "offset and length, or all rows together, are 2^64 or more") == 0);
-    CHECK(strcmp(hv_error_text(HV_NULL_FILL, &error, text), "nulls are filled by a value, and null is none") == 0);
+    CHECK(strcmp(hv_error_text(HV_NULL_FILL, &error, text), "nulls are filled with a value, and null is not one") == 0);
+    const hv_error negative = {UINT64_MAX, 3, 0};
+    CHECK(strcmp(hv_error_text(HV_OUT_OF_BOUNDS, &negative, text),
+                 "an index that is negative, or past 64 bits, is not among 3 rows") == 0);
     CHECK(strcmp(hv_error_text(-7, &error, text), "error -7 (5, 11, 10)") == 0);
     CHECK(strcmp(hv_error_name(HV_BAD_RANGE), "HV_BAD_RANGE") == 0 && strcmp(hv_error_name(99), "unknown") == 0);
 }

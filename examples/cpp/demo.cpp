@@ -73,7 +73,7 @@ static void check_other_types() {
     CHECK(texts.compare(Operator::equal, Value(std::string("one"))).at(0) == Value(true));
     CHECK(Column::bytes({"a"}).at(0) == Value(hv::Bytes{'a'}));
     CHECK(Column::truths({true, false}).truths() == (std::vector<bool>{true, false}));
-    CHECK(Column::decimals({{5, 0}}, 10, 2).at(0) == Value(hv::Decimal{5, 0}));
+    CHECK(Column::decimals({{5, 0}}, 10, 2).at(0) == Value(hv::Decimal{5, 0, 2}));
     CHECK(Column::of<uint64_t>({}).sum().empty);
 }
 
@@ -207,10 +207,6 @@ static void check_values_as_they_are_written() {
     CHECK(Column::of({"b", "c"}).compare(Operator::less, "c").truths() == (std::vector<bool>{true, false}));
     CHECK(Column::bytes({"b"}).compare(Operator::equal, std::string("b")).at(0) == Value(true));
     CHECK(texts_with_null().fill("none").at(1) == Value(std::string("none")));
-    try {
-        wide.compare(Operator::equal, -1);
-        CHECK(!"refused");
-    } catch (const hv::Error &error) { CHECK(error.number == HV_TYPE_MISMATCH); }
 }
 
 static void check_words() {
@@ -220,14 +216,16 @@ static void check_words() {
     CHECK(hv::to_string(number(-7)) == "-7" && hv::to_string(Value(UINT64_MAX)) == "18446744073709551615");
     CHECK(hv::to_string(Value(Null{})) == "null" && hv::to_string(Value(true)) == "true");
     CHECK(hv::to_string(Value(std::string("a b"))) == "a b" && hv::to_string(Value(hv::Bytes{0, 255})) == "00ff");
-    CHECK(hv::to_string(hv::Decimal{1250, 0}, 2) == "12.50" && hv::to_string(hv::Decimal{5, 0}, 3) == "0.005");
-    CHECK(hv::to_string(hv::Decimal{UINT64_MAX, -1}) == "-1" && hv::to_string(hv::Decimal{12, 0}, -2) == "1200");
-    CHECK(hv::to_string(hv::Decimal{0, 1}) == "18446744073709551616");
-    CHECK(hv::to_string(hv::Decimal{0, INT64_MIN}) == "-170141183460469231731687303715884105728");
+    CHECK(hv::to_string(hv::Decimal::of(0, 0), 2) == "0.00" && hv::to_string(hv::Decimal::of(5, 0), 3) == "0.005");
+    CHECK(hv::to_string(hv::Decimal{UINT64_MAX, -1, 0}) == "-1" && hv::to_string(hv::Decimal::of(12, -2)) == "1200");
+    CHECK(hv::to_string(hv::Decimal::of(0, -2)) == "0" && hv::to_string(hv::Decimal::of(-1050, 2)) == "-10.50");
+    CHECK(hv::to_string(hv::Decimal::of(-7, 4)) == "-0.0007" && hv::to_string(hv::Decimal::of(1050, 4)) == "0.1050");
+    CHECK(hv::to_string(hv::Decimal{0, 1, 0}) == "18446744073709551616");
+    CHECK(hv::to_string(hv::Decimal{0, INT64_MIN, 0}) == "-170141183460469231731687303715884105728");
+    CHECK(hv::to_string(hv::Decimal{0, INT64_MIN, 38}) == "-1.70141183460469231731687303715884105728");
     CHECK(made().sum().get<int64_t>() == 9 + 4 && made().sum().get<uint64_t>() == 13u);
     CHECK(!Column::of<int64_t>({-1}).sum().get<uint64_t>() && Column::of<int64_t>({-1}).sum().get<int64_t>() == -1);
     CHECK(!Column::of<uint64_t>({UINT64_MAX}).sum().get<int64_t>());
-    CHECK(!Column::of<uint64_t>({UINT64_MAX, 1}).sum().get<uint64_t>());
 }
 
 static void check_moves() {

@@ -1,6 +1,6 @@
 //! Rows that come batch by batch, encoded.
 use crate::raw::{self, BuilderHandle};
-use crate::{ask, Column, Error, Kind, Value};
+use crate::{ask, Column, Error, ErrorKind, Kind, Value};
 use std::cell::UnsafeCell;
 use std::fmt;
 use std::ptr;
@@ -34,7 +34,7 @@ impl Drop for Builder {
 }
 
 impl Builder {
-    /// Of rows of this type, which is none of lists, without rows.
+    /// A builder of rows of this type, which is not one of lists. It has no rows.
     pub fn new(kind: Kind) -> Result<Builder, Error> {
         let at = ptr::null_mut();
         let handle = UnsafeCell::new(BuilderHandle { at });
@@ -43,20 +43,31 @@ impl Builder {
         Ok(builder)
     }
 
-    /// The rows of a column, in any form, behind the rows; refused as `TypeMismatch` unless it is of the builder's type.
+    /// Appends the rows of a column, in any form; refused as `TypeMismatch` unless it is of the builder's type, also
+    /// where only one of the two types has null.
     pub fn append(&mut self, batch: &Column) -> Result<(), Error> {
+        let (kind, other) = (self.kind, batch.kind());
         ask(|fields| unsafe { raw::hv_append(self.handle.get(), batch.handle.get(), fields) })
+            .map_err(|error| {
+                error.about(
+                    ErrorKind::TypeMismatch,
+                    other,
+                    "does not go into a builder of",
+                    Some(kind),
+                )
+            })
     }
 
-    /// `count` rows of one value; refused as `TypeMismatch` where it is none of the type, and as `NullNotAllowed` for
-    /// null in a type without null.
+    /// Appends `count` rows of one value; refused as `CastOutOfRange` for a number that the type does not have, as
+    /// `TypeMismatch` for a value of another sort, and as `NullNotAllowed` for null in a type without null.
     pub fn append_value(&mut self, value: impl Into<Value>, count: usize) -> Result<(), Error> {
-        let value = value.into().beside(self.kind);
+        let value = value.into().fitted(self.kind)?;
         let (passed, text) = value.passed();
         let (handle, bytes) = (self.handle.get(), text.as_ptr());
         ask(|fields| unsafe {
             raw::hv_append_value(handle, &passed, bytes, text.len(), count, fields)
         })
+        .map_err(|error| error.of_null(self.kind))
     }
 
     /// All rows so far as runs, as few as there can be. The builder keeps its rows.

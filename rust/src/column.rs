@@ -84,7 +84,7 @@ impl Column {
         Column::made(|out, fields| call(self.handle.get(), out, fields))
     }
 
-    /// A call on this column and another: two handles, so that a column beside itself is cloned first.
+    /// A call on this column and another: two handles, so that a column that is lent twice is cloned first.
     pub(crate) fn beside(
         &self,
         other: &Column,
@@ -131,7 +131,8 @@ impl Column {
         })
     }
 
-    /// Numbers of `precision` digits, `scale` of them behind the point: 12 with scale 1 is 1.2.
+    /// Numbers of `precision` digits, `scale` of them after the point: 12 with scale 1 is 1.2. How many digits they have
+    /// is not tested.
     pub fn decimals(
         rows: &[i128],
         precision: u8,
@@ -198,7 +199,8 @@ impl Column {
     }
 
     /// The value in each of `rows` rows of a type, in memory for one; refused as `NullNotAllowed` for null in a type
-    /// without null, and as `TypeMismatch` for a value of another type.
+    /// without null, as `CastOutOfRange` for a number that the type does not have, and as `TypeMismatch` for a value of
+    /// another sort.
     ///
     /// ```
     /// use hivevigil::{Column, Kind, Value};
@@ -207,11 +209,12 @@ impl Column {
     /// # Ok::<(), hivevigil::Error>(())
     /// ```
     pub fn constant(kind: Kind, value: impl Into<Value>, rows: usize) -> Result<Column, Error> {
-        let value = value.into().beside(kind);
+        let value = value.into().fitted(kind)?;
         let (passed, text) = value.passed();
         Column::made(|out, fields| unsafe {
             raw::hv_constant(&kind, &passed, text.as_ptr(), text.len(), rows, out, fields)
         })
+        .map_err(|error| error.of_null(kind))
     }
 
     /// Runs of these ends and values, of which `rows` rows from row `offset` on are shown. Both are copied.
@@ -260,7 +263,7 @@ impl Column {
         self.part(|column, out, fields| unsafe { raw::hv_clone(column, out, fields) })
     }
 
-    /// The same column in the same form, in buffers that no other column shares but for the bytes of texts. A slice of
+    /// The same column in the same form, in buffers that no other column shares except the bytes of texts. A slice of
     /// a few rows keeps the whole buffers that it is a part of; of its compact copy they may be freed.
     pub fn try_compact(&self) -> Result<Column, Error> {
         self.part(|column, out, fields| unsafe { raw::hv_compact(column, out, fields) })

@@ -1,7 +1,7 @@
 //! Commands on columns.
 use crate::raw::{self, Handle};
-use crate::{Column, Error, Fields, Kind, Operator, Session, Value};
-use std::ops::Range;
+use crate::{fits, Column, Error, ErrorKind, Fields, Kind, Operator, Session, Value};
+use std::ops::{Bound, RangeBounds};
 
 /// Commands, each of which makes a column.
 impl Column {
@@ -32,20 +32,81 @@ impl Column {
         })
     }
 
-    /// The rows of a range, refused as `BadRange` where they are not all there.
-    pub fn slice(&self, rows: Range<usize>) -> Result<Column, Error> {
-        let Range { start, end } = rows;
+    /// The rows of a range of any kind, refused as `BadRange` where they are not all there.
+    ///
+    /// ```
+    /// let column = hivevigil::Column::try_from([4i64, 5, 6, 7])?;
+    /// assert_eq!(column.slice(2..)?.numbers::<i64>()?, [6, 7]);
+    /// assert_eq!(column.slice(..=1)?.numbers::<i64>()?, [4, 5]);
+    /// # Ok::<(), hivevigil::Error>(())
+    /// ```
+    pub fn slice(&self, rows: impl RangeBounds<usize>) -> Result<Column, Error> {
+        let (start, end) = self.ends_of(rows)?;
         self.command(|session, column, out, fields| unsafe {
             raw::hv_slice(session, column, start, end, out, fields)
         })
     }
 
+    /// Where a range starts and ends, refused as `BadRange` where one of these is past 64 bits.
+    fn ends_of(&self, rows: impl RangeBounds<usize>) -> Result<(usize, usize), Error> {
+        let start = match rows.start_bound() {
+            Bound::Included(start) => Some(*start),
+            Bound::Excluded(before) => before.checked_add(1),
+            Bound::Unbounded => Some(0),
+        };
+        let end = match rows.end_bound() {
+            Bound::Included(last) => last.checked_add(1),
+            Bound::Excluded(end) => Some(*end),
+            Bound::Unbounded => Some(self.len()),
+        };
+        start.zip(end).ok_or_else(|| {
+            let of = |end: Option<usize>| end.map_or(u64::MAX, |end| end as u64);
+            let (first, second, third) = (of(start), of(end), self.len() as u64);
+            let fields = Fields {
+                first,
+                second,
+                third,
+            };
+            Error::new(ErrorKind::BadRange as i32, fields)
+        })
+    }
+
     /// Each row as the same value of another type; refused as `CastOutOfRange` or `NullNotAllowed` at the first row
-    /// that is none, and as `Unsupported` unless both types are of integers or of one kind that is no list.
+    /// that does not fit, which the sentence names, and as `Unsupported` unless both types are of integers or of one
+    /// kind that is not lists.
     pub fn cast(&self, kind: Kind) -> Result<Column, Error> {
         self.command(|session, column, out, fields| unsafe {
             raw::hv_cast(session, column, &kind, out, fields)
         })
+        .map_err(|error| match error.kind() {
+            Some(ErrorKind::CastOutOfRange | ErrorKind::NullNotAllowed) => {
+                self.first_misfit(kind).unwrap_or(error)
+            }
+            _ => error.about(
+                ErrorKind::Unsupported,
+                self.kind(),
+                "is not cast to",
+                Some(kind),
+            ),
+        })
+    }
+
+    /// The refusal of the first row that a cast does not serve.
+    fn first_misfit(&self, kind: Kind) -> Option<Error> {
+        for run in self.runs().ok()? {
+            let run = run.ok()?;
+            let refused = match run.value {
+                Value::Null if !kind.is_nullable() => {
+                    Some(Error::of(ErrorKind::NullNotAllowed).with_sort("null", kind))
+                }
+                Value::Null => None,
+                value => value.fitted(kind).err(),
+            };
+            if let Some(error) = refused {
+                return Some(error.at_row(run.rows.start));
+            }
+        }
+        None
     }
 
     /// The rows at the indices, integers in any form: null at a null index; refused as `OutOfBounds`.
@@ -54,6 +115,7 @@ impl Column {
         self.beside(indices, |indices, out, fields| unsafe {
             raw::hv_take(&session, column, indices, out, fields)
         })
+        .map_err(|error| error.of_other("indices are integers, not", indices.kind()))
     }
 
     /// The rows at which the mask, booleans in any form, is true: a null in the mask selects nothing.
@@ -62,6 +124,7 @@ impl Column {
         self.beside(mask, |mask, out, fields| unsafe {
             raw::hv_filter(&session, column, mask, out, fields)
         })
+        .map_err(|error| error.of_other("a mask is of type bool, not", mask.kind()))
     }
 
     /// The rows of the dictionary that these codes name.
@@ -70,22 +133,31 @@ impl Column {
         self.beside(dictionary, |rows, out, fields| unsafe {
             raw::hv_take_from(&session, codes, rows, out, fields)
         })
+        .map_err(|error| error.of_other("codes are integers, not", self.kind()))
     }
 
     /// Row by row whether `left operator right`, null where either is null.
     pub fn compare(&self, operator: Operator, right: &Column) -> Result<Column, Error> {
         let (session, left, operator) = (Session::initial(), self.handle.get(), operator as u8);
+        let (kind, other) = (self.kind(), right.kind());
         self.beside(right, |right, out, fields| unsafe {
             raw::hv_compare(&session, left, operator, right, out, fields)
         })
+        .map_err(|error| {
+            let words = "is not compared with";
+            error.about(ErrorKind::TypeMismatch, kind, words, Some(other))
+        })
     }
 
-    /// The same against one value, of the column's type or null. An integer is passed as the column's type has it.
+    /// The same with one value, of the column's sort or null. Any number is compared with integers and decimals: each
+    /// row of `i8` is less than 300, and 0.51 is greater than 0.505.
     ///
     /// ```
     /// use hivevigil::{Column, Operator, Value};
     /// let above = Column::new(&[4u64, 7])?.compare_value(Operator::Greater, 4)?;
     /// assert_eq!((above.at(0)?, above.at(1)?), (Value::Truth(false), Value::Truth(true)));
+    /// let all = Column::new(&[4i8, 7])?.compare_value(Operator::Less, 300)?;
+    /// assert_eq!((all.at(0)?, all.at(1)?), (Value::Truth(true), Value::Truth(true)));
     /// # Ok::<(), hivevigil::Error>(())
     /// ```
     pub fn compare_value(
@@ -93,7 +165,7 @@ impl Column {
         operator: Operator,
         value: impl Into<Value>,
     ) -> Result<Column, Error> {
-        let value = value.into().beside(self.kind());
+        let (operator, value) = fits::comparison(operator, value.into(), self.kind());
         let (passed, text) = value.passed();
         self.command(|session, column, out, fields| unsafe {
             let (some, count) = (text.as_ptr(), text.len());
@@ -108,11 +180,13 @@ impl Column {
                 fields,
             )
         })
+        .map_err(|error| error.not_compared(self.kind(), value.sort()))
     }
 
-    /// A value in place of each null, after which the type has no null; refused as `NullFill` for null.
+    /// A value in place of each null, after which the type has no null; refused as `NullFill` for null, as
+    /// `CastOutOfRange` for a number that the type does not have, and as `TypeMismatch` for a value of another sort.
     pub fn fill(&self, value: impl Into<Value>) -> Result<Column, Error> {
-        let value = value.into().beside(self.kind());
+        let value = value.into().fitted(self.kind())?;
         let (passed, text) = value.passed();
         self.command(|session, column, out, fields| unsafe {
             raw::hv_fill(

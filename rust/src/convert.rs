@@ -1,5 +1,5 @@
-//! Columns made of slices by `try_from`, and rows as values of Rust's own types.
-use crate::{Column, Error, ErrorKind, Native, Value};
+//! Columns made of slices, arrays and vectors by `try_from`, and rows as values of Rust's own types.
+use crate::{Column, Decimal, Error, Native, Value};
 
 /// What a row may be in a slice, an array or a vector of which a column is made: an integer, a boolean, a text,
 /// bytes, or an `Option` of these, of which `None` is null.
@@ -8,8 +8,9 @@ use crate::{Column, Error, ErrorKind, Native, Value};
 /// use hivevigil::{Column, Kind, Value};
 /// let column = Column::try_from(&[Some(1u8), None])?;
 /// assert_eq!((column.kind(), column.at(1)?), (Kind::U8.nullable(), Value::Null));
-/// let names: Vec<String> = vec!["Oslo".to_string(), "Bergen".to_string()];
+/// let names = vec!["Oslo".to_string(), "Bergen".to_string()];
 /// assert_eq!(Column::try_from(&names)?.get::<String>(0)?.as_deref(), Some("Oslo"));
+/// assert_eq!(Column::try_from(vec![7usize, 8])?.kind(), Kind::U64);
 /// # Ok::<(), hivevigil::Error>(())
 /// ```
 pub trait Row: Sized {
@@ -38,6 +39,22 @@ impl<R: Row> TryFrom<&Vec<R>> for Column {
 
     fn try_from(rows: &Vec<R>) -> Result<Column, Error> {
         R::column(rows)
+    }
+}
+
+impl<R: Row, const N: usize> TryFrom<[R; N]> for Column {
+    type Error = Error;
+
+    fn try_from(rows: [R; N]) -> Result<Column, Error> {
+        R::column(&rows)
+    }
+}
+
+impl<R: Row> TryFrom<Vec<R>> for Column {
+    type Error = Error;
+
+    fn try_from(rows: Vec<R>) -> Result<Column, Error> {
+        R::column(&rows)
     }
 }
 
@@ -106,21 +123,23 @@ macro_rules! wholes {
     ($($type:ty, $sort:ident, $wide:ty;)*) => { $(
         impl From<$type> for Value {
             fn from(item: $type) -> Value {
-                Value::$sort(<$wide>::from(item))
+                Value::$sort(item as $wide)
             }
         }
 
-        /// Of the same number in any type of integers; refused as `TypeMismatch` where this one does not have it.
+        /// The same number, of any type of integers; refused as `CastOutOfRange` where this one does not have it, and as
+        /// `TypeMismatch` where the value is of another sort.
         impl TryFrom<Value> for $type {
             type Error = Error;
 
             fn try_from(value: Value) -> Result<$type, Error> {
-                let item = match value {
-                    Value::Unsigned(item) => item.try_into().ok(),
-                    Value::Signed(item) => item.try_into().ok(),
-                    _ => None,
+                let item: i128 = match value {
+                    Value::Unsigned(item) => item.into(),
+                    Value::Signed(item) => item.into(),
+                    other => return Err(Error::sort(other.sort(), "an integer")),
                 };
-                item.ok_or(Error::of(ErrorKind::TypeMismatch))
+                let misfit = Error::misfit(Decimal::new(item, 0), <$type as Native>::KIND);
+                item.try_into().map_err(|_| misfit)
             }
         }
     )* };
@@ -135,10 +154,12 @@ wholes! {
     i16, Signed, i64;
     i32, Signed, i64;
     i64, Signed, i64;
+    usize, Unsigned, u64;
+    isize, Signed, i64;
 }
 
 macro_rules! others {
-    ($($type:ty, $sort:ident;)*) => { $(
+    ($($type:ty, $sort:ident, $words:literal;)*) => { $(
         impl From<$type> for Value {
             fn from(item: $type) -> Value {
                 Value::$sort(item)
@@ -152,7 +173,7 @@ macro_rules! others {
             fn try_from(value: Value) -> Result<$type, Error> {
                 match value {
                     Value::$sort(item) => Ok(item),
-                    _ => Err(Error::of(ErrorKind::TypeMismatch)),
+                    other => Err(Error::sort(other.sort(), $words)),
                 }
             }
         }
@@ -160,9 +181,10 @@ macro_rules! others {
 }
 
 others! {
-    bool, Truth;
-    String, Text;
-    Vec<u8>, Bytes;
+    bool, Truth, "a boolean";
+    Decimal, Decimal, "a decimal";
+    String, Text, "a text";
+    Vec<u8>, Bytes, "bytes";
 }
 
 impl From<&str> for Value {

@@ -1,4 +1,5 @@
 //! Refusals.
+use crate::{Decimal, Kind};
 use std::fmt;
 
 /// The fields of an error, in the order of `hivevigil.h`; 0 where it has fewer.
@@ -13,8 +14,9 @@ pub struct Fields {
     pub third: u64,
 }
 
-/// A refusal: its number, as in `hivevigil.h`, and its fields. `Display` is a sentence, and `Debug`, which `unwrap`
-/// shows, has the kind and the sentence.
+/// A refusal: its number, as in `hivevigil.h`, and its fields. `Display` is a sentence, with the row, the value and the
+/// types where these are known, and `Debug`, which `unwrap` shows, has the kind and the sentence. Two are equal where
+/// number and fields are.
 ///
 /// ```
 /// use hivevigil::{Column, ErrorKind};
@@ -23,14 +25,67 @@ pub struct Fields {
 /// assert_eq!(error.to_string(), "row 9 is not among 3 rows");
 /// let shown = format!("{error:?}");
 /// assert_eq!(shown, r#"Error { kind: OutOfBounds, message: "row 9 is not among 3 rows" }"#);
+/// let error = Column::new(&[7i64, 300])?.get::<u8>(1).unwrap_err();
+/// assert_eq!(error.to_string(), "row 1 is 300, which does not fit u8");
 /// # Ok::<(), hivevigil::Error>(())
 /// ```
-#[derive(Clone, Copy, PartialEq, Eq)]
+#[derive(Clone, Copy)]
 pub struct Error {
     /// As in `hivevigil.h`.
     pub number: i32,
     /// In its order.
     pub fields: Fields,
+    detail: Detail,
+}
+
+/// What the sentence says beyond the number's own.
+#[derive(Clone, Copy)]
+enum Detail {
+    None,
+    /// A number, or null or a value of another sort, that a type does not have.
+    Misfit {
+        row: Option<usize>,
+        what: What,
+        kind: Kind,
+    },
+    /// A row of another sort than is asked for.
+    Sort {
+        row: Option<usize>,
+        found: &'static str,
+        asked: &'static str,
+    },
+    /// Words about a type, or about a type and another.
+    Words(Kind, &'static str, Option<Kind>),
+    /// Words that end in a type.
+    Ends(&'static str, Kind),
+    /// A comparison with a value of another sort.
+    NotCompared(Kind, &'static str),
+    /// The sum leaves the range of a type with this row.
+    Overflow(usize, Kind),
+}
+
+#[derive(Clone, Copy)]
+enum What {
+    Number(Decimal),
+    Sort(&'static str),
+}
+
+impl PartialEq for Error {
+    fn eq(&self, other: &Error) -> bool {
+        (self.number, self.fields) == (other.number, other.fields)
+    }
+}
+
+impl Eq for Error {}
+
+impl fmt::Display for Fields {
+    fn fmt(&self, formatter: &mut fmt::Formatter<'_>) -> fmt::Result {
+        write!(
+            formatter,
+            "({}, {}, {})",
+            self.first, self.second, self.third
+        )
+    }
 }
 
 macro_rules! errors {
@@ -67,19 +122,19 @@ errors! {
     OutOfBounds = 8, "row %1 is not among %2 rows";
     BadRange = 9, "rows %1 to %2 are not among %3 rows";
     MaskLength = 10, "a mask of %1 rows over %2 rows";
-    ColumnLength = 11, "a length of %1 where %2 is there";
-    TypeMismatch = 12, "the types do not go together";
+    ColumnLength = 11, "a length of %1 next to one of %2";
+    TypeMismatch = 12, "the types do not match";
     Unsupported = 13, "the call does not serve columns of this type or form";
-    CastOutOfRange = 14, "a row is no value of the type";
+    CastOutOfRange = 14, "a row does not fit the type";
     NullNotAllowed = 15, "a row is null, and the type has no null";
-    NullFill = 16, "nulls are filled by a value, and null is none";
-    BadMetadata = 17, "the bytes are no metadata record, or no column";
-    EndsTypeNumber = 18, "%1 is the number of no type of ends";
+    NullFill = 16, "nulls are filled with a value, and null is not one";
+    BadMetadata = 17, "the bytes are not a metadata record, or not a column";
+    EndsTypeNumber = 18, "%1 is not the number of a type of ends";
     RunCount = 19, "the record says %1 runs, and there are %2";
-    OnlyPrimitive = 20, "integers alone are encoded";
+    OnlyPrimitive = 20, "only integers are encoded by this call";
     OutOfMemory = 21, "a request for memory was refused";
-    NoColumn = 22, "there is no column: it was never made, freed or moved away";
-    BadNumber = 23, "the number stands for no type, or for no operator";
+    NoColumn = 22, "there is no column: it was never made, freed, moved away, or lent twice to one call";
+    BadNumber = 23, "the number is not that of a type, or of an operator";
 }
 
 impl Error {
@@ -91,44 +146,173 @@ impl Error {
             .find(|kind| *kind as i32 == self.number)
     }
 
+    /// The refusal that a call of `hivevigil.h` answered by this number and these fields.
+    pub const fn new(number: i32, fields: Fields) -> Error {
+        Error {
+            number,
+            fields,
+            detail: Detail::None,
+        }
+    }
+
     /// A refusal without fields.
     pub(crate) fn of(kind: ErrorKind) -> Error {
-        Error {
-            number: kind as i32,
-            fields: Fields::default(),
-        }
+        Error::new(kind as i32, Fields::default())
+    }
+
+    fn with(self, detail: Detail) -> Error {
+        Error { detail, ..self }
     }
 
     /// Two lengths that belong together differ.
     pub(crate) fn lengths(left: usize, right: usize) -> Error {
-        Error {
-            number: ErrorKind::ColumnLength as i32,
-            fields: Fields {
-                first: left as u64,
-                second: right as u64,
-                third: 0,
-            },
+        let (first, second, third) = (left as u64, right as u64, 0);
+        let fields = Fields {
+            first,
+            second,
+            third,
+        };
+        Error::new(ErrorKind::ColumnLength as i32, fields)
+    }
+
+    /// A number that a type does not have.
+    pub(crate) fn misfit(number: Decimal, kind: Kind) -> Error {
+        let what = What::Number(number);
+        Error::of(ErrorKind::CastOutOfRange).with(Detail::Misfit {
+            row: None,
+            what,
+            kind,
+        })
+    }
+
+    /// The same refusal of a value of this sort, which the type does not have.
+    pub(crate) fn with_sort(self, sort: &'static str, kind: Kind) -> Error {
+        let what = What::Sort(sort);
+        self.with(Detail::Misfit {
+            row: None,
+            what,
+            kind,
+        })
+    }
+
+    /// A value that is of another sort than is asked for.
+    pub(crate) fn sort(found: &'static str, asked: &'static str) -> Error {
+        let row = None;
+        Error::of(ErrorKind::TypeMismatch).with(Detail::Sort { row, found, asked })
+    }
+
+    /// The sum leaves the range of this type with this row, which is the first field.
+    pub(crate) fn overflow(row: usize, kind: Kind) -> Error {
+        let first = row as u64;
+        let fields = Fields {
+            first,
+            ..Fields::default()
+        };
+        Error::new(ErrorKind::CastOutOfRange as i32, fields).with(Detail::Overflow(row, kind))
+    }
+
+    /// The same refusal of the value of a row.
+    pub(crate) fn at_row(self, at: usize) -> Error {
+        let row = Some(at);
+        match self.detail {
+            Detail::Misfit { what, kind, .. } => self.with(Detail::Misfit { row, what, kind }),
+            Detail::Sort { found, asked, .. } => self.with(Detail::Sort { row, found, asked }),
+            _ => self,
+        }
+    }
+
+    /// Where it is of this kind, the same refusal in words about a type, or about a type and another.
+    pub(crate) fn about(
+        self,
+        kind: ErrorKind,
+        left: Kind,
+        words: &'static str,
+        right: Option<Kind>,
+    ) -> Error {
+        if self.kind() == Some(kind) {
+            return self.with(Detail::Words(left, words, right));
+        }
+        self
+    }
+
+    /// Where the types do not match, the same refusal in words that end in a type.
+    pub(crate) fn of_other(self, words: &'static str, other: Kind) -> Error {
+        if self.kind() == Some(ErrorKind::TypeMismatch) {
+            return self.with(Detail::Ends(words, other));
+        }
+        self
+    }
+
+    /// Where a column of this type is not compared with a value of this sort.
+    pub(crate) fn not_compared(self, kind: Kind, sort: &'static str) -> Error {
+        if self.kind() == Some(ErrorKind::TypeMismatch) {
+            return self.with(Detail::NotCompared(kind, sort));
+        }
+        self
+    }
+
+    /// Where the type has no null, the same refusal of null.
+    pub(crate) fn of_null(self, kind: Kind) -> Error {
+        if self.kind() == Some(ErrorKind::NullNotAllowed) {
+            return self.with_sort("null", kind);
+        }
+        self
+    }
+
+    /// The sentence that `hivevigil_errors.h` has for the number.
+    fn sentence(&self, kind: ErrorKind) -> String {
+        let Fields {
+            first,
+            second,
+            third,
+        } = self.fields;
+        let sentence = match kind {
+            ErrorKind::OutOfBounds if first == u64::MAX => {
+                "an index that is negative, or past 64 bits, is not among %2 rows"
+            }
+            _ => kind.sentence(),
+        };
+        let text = sentence.replace("%1", &first.to_string());
+        let text = text.replace("%2", &second.to_string());
+        text.replace("%3", &third.to_string())
+    }
+}
+
+impl fmt::Display for What {
+    fn fmt(&self, formatter: &mut fmt::Formatter<'_>) -> fmt::Result {
+        match self {
+            What::Number(number) => number.fmt(formatter),
+            What::Sort(sort) => formatter.write_str(sort),
         }
     }
 }
 
 impl fmt::Display for Error {
     fn fmt(&self, formatter: &mut fmt::Formatter<'_>) -> fmt::Result {
-        let Fields {
-            first,
-            second,
-            third,
-        } = self.fields;
-        let Some(kind) = self.kind() else {
-            return write!(
+        match self.detail {
+            Detail::None => match self.kind() {
+                Some(kind) => formatter.write_str(&self.sentence(kind)),
+                None => write!(formatter, "error {} {}", self.number, self.fields),
+            },
+            Detail::Misfit { row, what, kind } => match row {
+                Some(row) => write!(formatter, "row {row} is {what}, which does not fit {kind}"),
+                None => write!(formatter, "{what} does not fit {kind}"),
+            },
+            Detail::Sort { row, found, asked } => match row {
+                Some(row) => write!(formatter, "row {row} is {found}, not {asked}"),
+                None => write!(formatter, "{found} is not {asked}"),
+            },
+            Detail::Words(left, words, Some(right)) => write!(formatter, "{left} {words} {right}"),
+            Detail::Words(left, words, None) => write!(formatter, "{left} {words}"),
+            Detail::Ends(words, kind) => write!(formatter, "{words} {kind}"),
+            Detail::NotCompared(kind, sort) => {
+                write!(formatter, "{kind} is not compared with {sort}")
+            }
+            Detail::Overflow(row, kind) => write!(
                 formatter,
-                "error {} ({first}, {second}, {third})",
-                self.number
-            );
-        };
-        let text = kind.sentence().replace("%1", &first.to_string());
-        let text = text.replace("%2", &second.to_string());
-        formatter.write_str(&text.replace("%3", &third.to_string()))
+                "integer overflow: with row {row} the sum leaves the range of {kind}"
+            ),
+        }
     }
 }
 

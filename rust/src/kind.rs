@@ -18,7 +18,7 @@ pub struct Kind {
     pub nullable: u8,
     /// Of decimals: digits.
     pub precision: u8,
-    /// Of decimals: digits behind the point.
+    /// Of decimals: digits after the point.
     pub scale: i8,
 }
 
@@ -69,7 +69,7 @@ impl Kind {
         }
     }
 
-    /// Numbers of `precision` digits, `scale` of them behind the point, without null.
+    /// Numbers of `precision` digits, `scale` of them after the point, without null.
     pub const fn decimal(precision: u8, scale: i8) -> Kind {
         Kind {
             number: DECIMAL,
@@ -100,6 +100,19 @@ impl Kind {
     /// Are the rows integers that may be negative?
     pub const fn is_signed(self) -> bool {
         Kind::I8.number <= self.number && self.number <= Kind::I64.number
+    }
+
+    /// Are the rows decimals?
+    pub const fn is_decimal(self) -> bool {
+        self.number == DECIMAL
+    }
+
+    /// The same type, in which no row is null.
+    pub const fn not_nullable(self) -> Kind {
+        Kind {
+            nullable: 0,
+            ..self
+        }
     }
 
     /// Are the rows lists? A list type is only named, and cannot be asked for.

@@ -6,7 +6,7 @@
 //!
 //! let rows = [Some(4i64), Some(4), None, None, Some(9)];
 //! let runs = Column::try_from(&rows)?.encode()?;
-//! assert_eq!(runs.sum()?, Sum { total: Some(17), empty: false });
+//! assert_eq!(runs.sum()?, Sum { total: 17, empty: false });
 //! for run in runs.runs()? {
 //!     let run = run?;
 //!     println!("rows {:?}: {}", run.rows, run.value);
@@ -21,7 +21,9 @@ mod builder;
 mod column;
 mod commands;
 mod convert;
+mod decimal;
 mod error;
+mod fits;
 mod iterate;
 mod kind;
 mod native;
@@ -33,6 +35,7 @@ mod value;
 pub use builder::Builder;
 pub use column::Column;
 pub use convert::Row;
+pub use decimal::Decimal;
 pub use error::{Error, ErrorKind, Fields};
 pub use iterate::{Rows, Run, Runs};
 pub use kind::{Form, Kind};
@@ -74,6 +77,6 @@ pub(crate) fn ask(call: impl FnOnce(*mut Fields) -> i32) -> Result<(), Error> {
     let mut fields = Fields::default();
     match call(&mut fields) {
         0 => Ok(()),
-        number => Err(Error { number, fields }),
+        number => Err(Error::new(number, fields)),
     }
 }

@@ -2,7 +2,10 @@
 use crate::raw::{self, Handle};
 use crate::{Fields, Kind};
 
-/// An integer of 8 to 64 bits.
+// hivevigil.h is for machines of 64 bits, where `usize` is `u64` and `isize` is `i64`.
+const _: () = assert!(usize::BITS == 64);
+
+/// An integer of 8 to 64 bits, or of the machine's size, which is 64 bits.
 pub trait Native: Copy + Default + sealed::Calls {
     /// Its type in columns, without null.
     const KIND: Kind;
@@ -41,10 +44,10 @@ macro_rules! native {
         }
         impl sealed::Calls for $type {
             unsafe fn make(items: &[$type], nulls: u8, bits: &[u8], out: *mut Handle, fields: *mut Fields) -> i32 {
-                raw::$make(items.as_ptr(), items.len(), nulls, bits.as_ptr(), bits.len(), 0, out, fields)
+                raw::$make(items.as_ptr().cast(), items.len(), nulls, bits.as_ptr(), bits.len(), 0, out, fields)
             }
             unsafe fn read(column: *mut Handle, start: usize, items: &mut [$type], fields: *mut Fields) -> i32 {
-                raw::$read(column, start, items.as_mut_ptr(), items.len(), fields)
+                raw::$read(column, start, items.as_mut_ptr().cast(), items.len(), fields)
             }
         }
     )* };
@@ -59,4 +62,6 @@ native! {
     i16, I16, hv_i16, hv_read_i16;
     i32, I32, hv_i32, hv_read_i32;
     i64, I64, hv_i64, hv_read_i64;
+    usize, U64, hv_u64, hv_read_u64;
+    isize, I64, hv_i64, hv_read_i64;
 }

@@ -47,19 +47,56 @@ impl Column {
         unsafe { raw::hv_offset(self.handle.get()) }
     }
 
-    /// The sum of the rows that are not null; refused as `Unsupported` unless they are integers.
+    /// The sum of the rows that are not null, added one at a time; refused as `Unsupported` unless they are integers, and
+    /// as `CastOutOfRange` where the sum leaves the range of 64 bits: the first field is the row with which it does.
+    ///
+    /// ```
+    /// let refused = hivevigil::Column::new(&[i64::MAX, 0, 1])?.sum().unwrap_err();
+    /// let sentence = "integer overflow: with row 2 the sum leaves the range of i64";
+    /// assert_eq!((refused.fields.first, refused.to_string().as_str()), (2, sentence));
+    /// # Ok::<(), hivevigil::Error>(())
+    /// ```
     pub fn sum(&self) -> Result<Sum, Error> {
         let (session, mut total) = (Session::initial(), RawTotal::default());
-        ask(|fields| unsafe { raw::hv_sum(&session, self.handle.get(), &mut total, fields) })?;
+        ask(|fields| unsafe { raw::hv_sum(&session, self.handle.get(), &mut total, fields) })
+            .map_err(|error| {
+                error.about(ErrorKind::Unsupported, self.kind(), "has no sum", None)
+            })?;
         let number = match total.kind {
-            0 => None,
-            1 => Some(i128::from(total.as_unsigned)),
-            _ => Some(i128::from(total.as_signed)),
+            0 => return Err(self.overflow()?),
+            1 => i128::from(total.as_unsigned),
+            _ => i128::from(total.as_signed),
         };
         Ok(Sum {
             total: number,
             empty: total.empty != 0,
         })
+    }
+
+    /// The refusal of a sum, with the row with which it leaves the range of 64 bits.
+    fn overflow(&self) -> Result<Error, Error> {
+        let wide = match self.kind().is_signed() {
+            true => Kind::I64,
+            false => Kind::U64,
+        };
+        let (range, mut sum) = (wide.range(), 0);
+        for run in self.runs()? {
+            let run = run?;
+            let step = run.value.number().map_or(0, |number| number.digits);
+            let room = match step > 0 {
+                true => range.end() - sum,
+                false => sum - range.start(),
+            };
+            let rows_that_fit = room.checked_div(step.abs()).unwrap_or(i128::MAX);
+            if rows_that_fit < run.rows.len() as i128 {
+                return Ok(Error::overflow(
+                    run.rows.start + rows_that_fit as usize,
+                    wide,
+                ));
+            }
+            sum += step * run.rows.len() as i128;
+        }
+        Ok(Error::overflow(self.len(), wide))
     }
 
     /// Are all rows equal, null equal to null?
@@ -118,7 +155,9 @@ impl Column {
                 )
             });
             match answer {
-                Ok(()) => return Ok((Value::of(least, low), Value::of(greatest, high))),
+                Ok(()) => {
+                    return Ok((Value::of(least, low, self), Value::of(greatest, high, self)))
+                }
                 Err(error) if error.kind() == Some(ErrorKind::ColumnLength) => {
                     room = error.fields.first as usize
                 }
@@ -129,7 +168,7 @@ impl Column {
 
     fn extreme(&self, greatest: u8) -> Result<Value, Error> {
         let session = Session::initial();
-        shown(|value, text, fields| unsafe {
+        shown(self, |value, text, fields| unsafe {
             raw::hv_extreme(
                 &session,
                 self.handle.get(),
@@ -144,7 +183,7 @@ impl Column {
 
     /// Row `row`, refused as `OutOfBounds` past the end.
     pub fn at(&self, row: usize) -> Result<Value, Error> {
-        shown(|value, text, fields| unsafe {
+        shown(self, |value, text, fields| unsafe {
             raw::hv_at(
                 self.handle.get(),
                 row,
@@ -159,8 +198,8 @@ impl Column {
 
 /// Rows and parts read out.
 impl Column {
-    /// Row `row` as `T`, `None` where it is null: an integer, `bool`, `String` or `Vec<u8>`; refused as
-    /// `TypeMismatch` where it is none.
+    /// Row `row` as `T`, `None` where it is null: an integer, `bool`, `Decimal`, `String` or `Vec<u8>`; refused as
+    /// `CastOutOfRange` where `T` does not have the integer, and as `TypeMismatch` where the row is of another sort.
     ///
     /// ```
     /// let column = hivevigil::Column::try_from(&[Some(4i64), None])?;
@@ -171,11 +210,13 @@ impl Column {
     pub fn get<T: TryFrom<Value, Error = Error>>(&self, row: usize) -> Result<Option<T>, Error> {
         match self.at(row)? {
             Value::Null => Ok(None),
-            value => T::try_from(value).map(Some),
+            value => T::try_from(value)
+                .map(Some)
+                .map_err(|error| error.at_row(row)),
         }
     }
 
-    /// The numbers of all rows, in any form; where a row is null any number may stand.
+    /// The numbers of all rows, in any form, as the column's own integers; where a row is null it may be any number.
     pub fn numbers<T: Native>(&self) -> Result<Vec<T>, Error> {
         let mut items = vec![T::default(); self.len()];
         self.read(0, &mut items)?;
@@ -184,7 +225,11 @@ impl Column {
 
     /// The same into room of the caller's, as many as it has, from row `start` on; refused as `BadRange` past the end.
     pub fn read<T: Native>(&self, start: usize, items: &mut [T]) -> Result<(), Error> {
-        ask(|fields| unsafe { T::read(self.handle.get(), start, items, fields) })
+        ask(|fields| unsafe { T::read(self.handle.get(), start, items, fields) }).map_err(|error| {
+            let (kind, words) = (self.kind().not_nullable(), "rows are not read as");
+            let error = error.about(ErrorKind::TypeMismatch, kind, words, Some(T::KIND));
+            error.about(ErrorKind::Unsupported, kind, words, Some(T::KIND))
+        })
     }
 
     /// The rows of a column of integers, `None` where a row is null.
@@ -232,7 +277,7 @@ impl Column {
     }
 
     /// The column as bytes, in the form that it has, to keep or to send: a message of the Protocol Buffers encoding.
-    /// `Unsupported` for more than 16 levels of runs alone.
+    /// Refused only as `Unsupported`, for more than 16 levels of runs.
     pub fn to_bytes(&self) -> Result<Vec<u8>, Error> {
         let _turn = turn_of(&[self]);
         let mut size = 0;
@@ -263,7 +308,7 @@ impl Column {
     /// The rows of a run, none where the window does not reach it, and their value.
     pub fn run(&self, run: usize) -> Result<Run, Error> {
         let (mut start, mut stop) = (0, 0);
-        let value = shown(|value, text, fields| unsafe {
+        let value = shown(self, |value, text, fields| unsafe {
             let (room, len) = (text.as_mut_ptr(), text.len());
             raw::hv_run(
                 self.handle.get(),
@@ -283,15 +328,16 @@ impl Column {
     }
 }
 
-/// A row, asked for again with more room where its text has none.
+/// A row of a column, asked for again with more room where its text has none.
 fn shown(
+    column: &Column,
     mut call: impl FnMut(&mut RawValue, &mut [u8], *mut Fields) -> i32,
 ) -> Result<Value, Error> {
     let mut text = vec![0u8; 64];
     loop {
         let mut value = RawValue::default();
         match ask(|fields| call(&mut value, &mut text, fields)) {
-            Ok(()) => return Ok(Value::of(value, text)),
+            Ok(()) => return Ok(Value::of(value, text, column)),
             Err(error) if error.kind() == Some(ErrorKind::ColumnLength) => {
                 text.resize(error.fields.first as usize, 0)
             }

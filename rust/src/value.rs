@@ -1,6 +1,6 @@
 //! Rows and sums.
 use crate::raw::RawValue;
-use crate::Kind;
+use crate::{Column, Decimal};
 use std::fmt;
 
 /// A row.
@@ -14,16 +14,15 @@ pub enum Value {
     Signed(i64),
     /// A boolean.
     Truth(bool),
-    /// The digits of a decimal, whose scale is the column's.
-    Decimal(i128),
+    /// A decimal, of the column's scale.
+    Decimal(Decimal),
     /// A text.
     Text(String),
     /// Bytes.
     Bytes(Vec<u8>),
 }
 
-/// Numbers and booleans as Rust writes them, texts and bytes quoted, `null`. A decimal is its digits alone: its scale
-/// is the column's.
+/// Numbers and booleans as Rust writes them, decimals as "10.50", texts and bytes quoted, `null`.
 impl fmt::Display for Value {
     fn fmt(&self, formatter: &mut fmt::Formatter<'_>) -> fmt::Result {
         match self {
@@ -38,11 +37,11 @@ impl fmt::Display for Value {
     }
 }
 
-/// A sum: `total` is `None` where it left the range of 64 bits; `empty`: no row is valid, and the sum is 0.
+/// A sum, which is within the range of 64 bits; `empty`: no row is valid, and the sum is 0.
 #[derive(Clone, Copy, Debug, PartialEq, Eq)]
 pub struct Sum {
     /// Of the rows that are not null.
-    pub total: Option<i128>,
+    pub total: i128,
     /// Is every row null, or none there?
     pub empty: bool,
 }
@@ -66,13 +65,16 @@ pub enum Operator {
 }
 
 impl Value {
-    /// What a call showed, with the room that it was given for a text.
-    pub(crate) fn of(raw: RawValue, mut text: Vec<u8>) -> Value {
+    /// What a call showed of a column, with the room that it was given for a text.
+    pub(crate) fn of(raw: RawValue, mut text: Vec<u8>, column: &Column) -> Value {
         match raw.kind {
             1 => Value::Unsigned(raw.as_unsigned),
             2 => Value::Signed(raw.as_signed),
             3 => Value::Truth(raw.truth != 0),
-            4 => Value::Decimal((i128::from(raw.as_signed) << 64) | i128::from(raw.as_unsigned)),
+            4 => {
+                let digits = (i128::from(raw.as_signed) << 64) | i128::from(raw.as_unsigned);
+                Value::Decimal(Decimal::new(digits, column.kind().scale))
+            }
             5 => {
                 text.truncate(raw.as_unsigned as usize);
                 Value::Text(String::from_utf8(text).expect("texts are UTF-8"))
@@ -85,20 +87,7 @@ impl Value {
         }
     }
 
-    /// An integer as one of the sign of a column's type, where that has it.
-    pub(crate) fn beside(self, kind: Kind) -> Value {
-        match self {
-            Value::Signed(item) if kind.is_unsigned() => {
-                u64::try_from(item).map_or(self, Value::Unsigned)
-            }
-            Value::Unsigned(item) if kind.is_signed() => {
-                i64::try_from(item).map_or(self, Value::Signed)
-            }
-            other => other,
-        }
-    }
-
-    /// The value as C passes it, with the bytes of a text beside it.
+    /// The value as C passes it, with the bytes of a text next to it.
     pub(crate) fn passed(&self) -> (RawValue, &[u8]) {
         let raw = |kind, as_unsigned, as_signed, truth| RawValue {
             as_unsigned,
@@ -111,7 +100,10 @@ impl Value {
             Value::Unsigned(item) => (raw(1, *item, 0, 0), &[]),
             Value::Signed(item) => (raw(2, 0, *item, 0), &[]),
             Value::Truth(item) => (raw(3, 0, 0, u8::from(*item)), &[]),
-            Value::Decimal(item) => (raw(4, *item as u64, (*item >> 64) as i64, 0), &[]),
+            Value::Decimal(item) => {
+                let (low, high) = (item.digits as u64, (item.digits >> 64) as i64);
+                (raw(4, low, high, 0), &[])
+            }
             Value::Text(text) => (raw(5, text.len() as u64, 0, 0), text.as_bytes()),
             Value::Bytes(bytes) => (raw(6, bytes.len() as u64, 0, 0), bytes),
         }

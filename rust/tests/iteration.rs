@@ -188,10 +188,7 @@ fn shown_in_words() -> Result<(), Error> {
     assert_eq!(error.to_string(), "row 10 is not among 10 rows");
     let shown = r#"Error { kind: OutOfBounds, message: "row 10 is not among 10 rows" }"#;
     assert_eq!(format!("{error:?}"), shown);
-    let unlisted = Error {
-        number: 99,
-        ..error
-    };
+    let unlisted = Error::new(99, error.fields);
     let shown = r#"Error { number: 99, message: "error 99 (10, 10, 0)" }"#;
     assert_eq!(format!("{unlisted:?}"), shown);
     let refused: Box<dyn std::error::Error> = Box::new(column.slice(5..11).unwrap_err());

@@ -1,0 +1,230 @@
+// Numbers of every type of C++ next to columns: what fits, what is shown, how any number is compared, and what refusals
+// say. Answers were worked out by hand; those of comparisons also row by row.
+#include "hivevigil.hpp"
+#include <array>
+#include <cstdlib>
+#include <iostream>
+
+using hv::Column;
+using hv::Decimal;
+using hv::Null;
+using hv::Operator;
+using hv::Value;
+
+static void check(bool holds, const char *what) {
+    if (holds) return;
+    std::cerr << "does not hold: " << what << "\n";
+    std::exit(1);
+}
+#define CHECK(what) check((what), #what)
+
+// The call is refused by this number, in this sentence.
+template <class Call> static void check_refused(int32_t number, const std::string &sentence, Call call) {
+    try {
+        call();
+    } catch (const hv::Error &error) {
+        if (error.number == number && sentence == error.what()) return;
+        std::cerr << error.number << ": " << error.what() << "\nand not\n" << number << ": " << sentence << "\n";
+        std::exit(1);
+    }
+    std::cerr << "not refused: " << sentence << "\n";
+    std::exit(1);
+}
+
+static std::vector<Value> rows_of(const Column &column) { return {column.begin(), column.end()}; }
+
+// ---- Types of integers ----
+
+template <class T> static void check_type(uint8_t number) {
+    const T least = std::numeric_limits<T>::min(), greatest = std::numeric_limits<T>::max();
+    const Column column = Column::of(std::vector<T>{least, 7, greatest});
+    CHECK(column.kind().number == number && !column.kind().nullable);
+    CHECK(column.numbers<T>() == (std::vector<T>{least, 7, greatest}));
+    CHECK(column.get<T>(0) == least && column.get<T>(2) == greatest);
+    const std::array<T, 2> items = {7, 8};
+    const std::vector<std::optional<T>> maybe = {7, std::nullopt};
+    const Column two = Column::of(items), one = Column::of<T>({7}), some = Column::of(maybe), filled = some.fill(T{9});
+    const Column same = Column::constant(column.kind(), greatest, 3);
+    CHECK(two.get<T>(1) == T{8} && one.get<T>(0) == T{7} && same.get<T>(2) == greatest);
+    CHECK(some.optionals<T>() == maybe && some.kind().nullable && filled.get<T>(1) == T{9});
+    CHECK(rows_of(column.compare(Operator::equal, T{7})) == (std::vector<Value>{false, true, false}));
+    hv::Builder builder(column.kind());
+    builder.append(least, 2);
+    CHECK(builder.finish().get<T>(1) == least);
+    std::vector<T> part(2);
+    column.read(1, part.data(), part.size());
+    CHECK(part == (std::vector<T>{7, greatest}));
+}
+
+static void check_types() {
+    check_type<long long>(HV_I64);
+    check_type<unsigned long long>(HV_U64);
+    check_type<long>(HV_I64);
+    check_type<unsigned long>(HV_U64);
+    check_type<int>(HV_I32);
+    check_type<unsigned short>(HV_U16);
+    check_type<signed char>(HV_I8);
+    check_type<unsigned char>(HV_U8);
+    check_type<char>(std::is_signed_v<char> ? HV_I8 : HV_U8);
+}
+
+// ---- Decimals ----
+
+static void check_decimals() {
+    const Column prices = Column::decimals({{1050, 0, 2}, {5, 0, 1}, {static_cast<uint64_t>(-3), -1, 0}}, 10, 2);
+    CHECK(rows_of(prices) == (std::vector<Value>{Decimal::of(1050, 2), Decimal::of(50, 2), Decimal::of(-300, 2)}));
+    CHECK(hv::to_string(prices.at(0)) == "10.50" && hv::to_string(prices[1]) == "0.50");
+    CHECK(hv::to_string(prices[2]) == "-3.00" && prices.get<Decimal>(2) == Decimal::of(-3, 0));
+    CHECK(hv::to_string(prices.encode_rows().runs().at(0).value) == "10.50");
+    CHECK(hv::to_string(prices.least()) == "-3.00" && hv::to_string(prices.least_and_greatest().second) == "10.50");
+    CHECK(hv::to_string(Column::decimals({{12, 0}}, 4, -2)[0]) == "1200");
+    CHECK(hv::to_string(Column::decimals({{0, 0}, {7, 0}}, 4, -2)[0]) == "0");
+    CHECK(hv::to_string(Column::decimals({{1050, 0}}, 4, 6)[0]) == "0.001050");
+    CHECK(hv::to_string(Column::decimals({{static_cast<uint64_t>(-1), -1}}, 4, 4)[0]) == "-0.0001");
+    const std::vector<bool> valid{true, false};
+    const Column some = Column::decimals({{1050, 0}, {0, 0}}, 10, 2, &valid);
+    CHECK(hv::to_string(some.fill(7).at(1)) == "7.00" && hv::to_string(some.fill(Decimal::of(75, 1)).at(1)) == "7.50");
+    CHECK(hv::to_string(Column::constant(hv::kinds::decimal(10, 2), Decimal::of(5, 1), 2).at(1)) == "0.50");
+    hv::Builder builder(hv::kinds::decimal(10, 2));
+    builder.append(Decimal::of(105, 1), 2), builder.append(7);
+    CHECK(builder.runs() == 2 && hv::to_string(builder.finish().at(2)) == "7.00");
+    check_refused(HV_CAST_OUT_OF_RANGE, "10.505 does not fit decimal(10, 2)",
+                  [&] { some.fill(Decimal::of(10505, 3)); });
+    check_refused(HV_CAST_OUT_OF_RANGE, "row 1 is 0.005, which does not fit decimal(10, 2)", [] {
+        Column::decimals({Decimal::of(1, 0), Decimal::of(5, 3)}, 10, 2);
+    });
+    CHECK(Decimal::of(1050, 2) == Decimal::of(105, 1) && Decimal::of(1050, 2) != Decimal::of(1050, 1));
+    CHECK(Decimal::of(0, 100) == Decimal::of(0, -100) && Decimal::of(1, 100) != Decimal::of(1, -100));
+}
+
+// ---- Comparisons with any number ----
+
+// Is `row by value`, of decimals with one digit after the point, where the row has none?
+static bool holds(Operator by, int row, int tenths) {
+    switch (by) {
+    case Operator::equal: return row * 10 == tenths;
+    case Operator::not_equal: return row * 10 != tenths;
+    case Operator::greater: return row * 10 > tenths;
+    case Operator::greater_or_equal: return row * 10 >= tenths;
+    case Operator::less: return row * 10 < tenths;
+    default: return row * 10 <= tenths;
+    }
+}
+
+static constexpr Operator operators[] = {Operator::equal,           Operator::not_equal, Operator::greater,
+                                         Operator::greater_or_equal, Operator::less,      Operator::less_or_equal};
+
+// Each operator with numbers in and past the type, in steps of a half; null stays null.
+static void check_all(const Column &column, const std::vector<int> &rows) {
+    for (Operator by : operators)
+        for (int tenths = -3000; tenths <= 3000; tenths += 5) {
+            const Column answers = column.compare(by, Decimal::of(tenths, 1));
+            CHECK(answers.size() == rows.size() + 1 && answers.at(rows.size()) == Value(Null{}));
+            for (size_t row = 0; row < rows.size(); row++)
+                CHECK(answers.at(row) == Value(holds(by, rows[row], tenths)));
+            if (tenths % 10 == 0) CHECK(rows_of(column.compare(by, tenths / 10)) == rows_of(answers));
+        }
+}
+
+static void check_comparisons() {
+    const Column bytes = Column::of<int8_t>({-128, -1, 0, 7, 127, 0}, {true, true, true, true, true, false});
+    check_all(bytes, {-128, -1, 0, 7, 127});
+    check_all(bytes.encode(), {-128, -1, 0, 7, 127});
+    check_all(Column::of<uint8_t>({0, 7, 255, 0}, {true, true, true, false}), {0, 7, 255});
+    const std::vector<bool> valid{true, true, true, false};
+    const std::vector<Decimal> prices{Decimal::of(-5, 0), Decimal::of(0, 0), Decimal::of(12, 0), Decimal()};
+    check_all(Column::decimals(prices, 10, 2, &valid), {-5, 0, 12});
+    const Column wide = Column::of<uint64_t>({0, UINT64_MAX});
+    CHECK(rows_of(wide.compare(Operator::greater, -1)) == (std::vector<Value>{true, true}));
+    CHECK(rows_of(wide.compare(Operator::equal, -1)) == (std::vector<Value>{false, false}));
+    const Column low = Column::of<int64_t>({INT64_MIN, INT64_MAX});
+    CHECK(rows_of(low.compare(Operator::less, UINT64_MAX)) == (std::vector<Value>{true, true}));
+    CHECK(rows_of(low.compare(Operator::not_equal, UINT64_MAX)) == (std::vector<Value>{true, true}));
+    // 0.505 lies between two numbers of scale 2, and 10^100 past all of 128 bits
+    const Column cents = Column::decimals({{50, 0}, {51, 0}, {UINT64_MAX, INT64_MAX}}, 38, 2);
+    CHECK(rows_of(cents.compare(Operator::greater, Decimal::of(505, 3))) == (std::vector<Value>{false, true, true}));
+    CHECK(rows_of(cents.compare(Operator::less_or_equal, Decimal::of(505, 3))) ==
+          (std::vector<Value>{true, false, false}));
+    CHECK(rows_of(cents.compare(Operator::equal, Decimal::of(505, 3))) == (std::vector<Value>{false, false, false}));
+    CHECK(rows_of(cents.compare(Operator::less, Decimal::of(1, -100))) == (std::vector<Value>{true, true, true}));
+    CHECK(rows_of(cents.compare(Operator::less, Decimal::of(-1, -100))) == (std::vector<Value>{false, false, false}));
+    check_refused(HV_TYPE_MISMATCH, "i8? is not compared with a text",
+                  [&] { bytes.compare(Operator::less, "seven"); });
+    check_refused(HV_TYPE_MISMATCH, "utf8 is not compared with an integer",
+                  [] { Column::of({"a"}).compare(Operator::less, 7); });
+}
+
+// ---- Sums ----
+
+static void check_sums() {
+    const char *const words = "integer overflow: with row 2 the sum leaves the range of i64";
+    const Column top = Column::of<int64_t>({INT64_MAX - 1, 0, 2, -5}, {true, false, true, true});
+    check_refused(HV_CAST_OUT_OF_RANGE, words, [&] { top.sum(); });
+    check_refused(HV_CAST_OUT_OF_RANGE, words, [&] { top.encode().sum(); });
+    check_refused(HV_CAST_OUT_OF_RANGE, "integer overflow: with row 1 the sum leaves the range of i64",
+                  [] { Column::of<int64_t>({INT64_MIN, -1, 5}).sum(); });
+    check_refused(HV_CAST_OUT_OF_RANGE, "integer overflow: with row 1 the sum leaves the range of u64",
+                  [] { Column::of<uint64_t>({UINT64_MAX, 1}).sum(); });
+    // 2^55 + 1 rows of -256 sum to less than -2^63
+    const Column same = Column::constant(hv::kinds::i16, -256, (size_t{1} << 55) + 1);
+    try {
+        same.sum();
+        CHECK(!"refused");
+    } catch (const hv::Error &error) { CHECK(error.fields.first == size_t{1} << 55); }
+    CHECK(Column::constant(hv::kinds::i16, -256, size_t{1} << 55).sum().get<int64_t>() == INT64_MIN);
+    CHECK(Column::of<uint64_t>({UINT64_MAX - 1, 1}).sum().get<uint64_t>() == UINT64_MAX);
+    check_refused(HV_UNSUPPORTED, "utf8 has no sum", [] { Column::of({"a"}).sum(); });
+}
+
+// ---- Refusals in words ----
+
+static void check_rows_in_words() {
+    const Column column = Column::of<int64_t>({7, 300, 0}, {true, true, false});
+    CHECK(column.get<uint16_t>(1) == uint16_t{300} && column.get<char>(0) == char{7} && !column.get<int8_t>(2));
+    check_refused(HV_CAST_OUT_OF_RANGE, "row 1 is 300, which does not fit i8", [&] { column.get<int8_t>(1); });
+    check_refused(HV_TYPE_MISMATCH, "row 1 is an integer, not a text", [&] { column.get<std::string>(1); });
+    check_refused(HV_TYPE_MISMATCH, "row 0 is a text, not an integer", [] { Column::of({"a"}).get<int>(0); });
+    check_refused(HV_TYPE_MISMATCH, "i64 rows are not read as i32", [&] { column.numbers<int32_t>(); });
+    check_refused(HV_UNSUPPORTED, "utf8 rows are not read as i32", [] { Column::of({"a"}).numbers<int32_t>(); });
+    check_refused(HV_CAST_OUT_OF_RANGE, "row 1 is 300, which does not fit u8",
+                  [&] { column.cast(hv::nullable(hv::kinds::u8)); });
+    check_refused(HV_CAST_OUT_OF_RANGE, "row 1 is 300, which does not fit u8",
+                  [&] { column.encode().cast(hv::kinds::u8); });
+    check_refused(HV_NULL_NOT_ALLOWED, "row 2 is null, which does not fit i16",
+                  [&] { column.cast(hv::kinds::i16); });
+    CHECK(column.slice(0, 2).cast(hv::kinds::i16).kind().nullable == 0);
+    check_refused(HV_UNSUPPORTED, "i64? is not cast to utf8", [&] { column.cast(hv::kinds::utf8); });
+    check_refused(HV_TYPE_MISMATCH, "row 1 is not UTF-8", [] { Column::texts({"a", "\xff", "\xfe"}); });
+    CHECK(Column::bytes({"\xff"}).size() == 1);
+}
+
+static void check_values_in_words() {
+    const Column column = Column::of<int8_t>({7, 0}, {true, false}), texts = Column::of({"a", "b"});
+    check_refused(HV_CAST_OUT_OF_RANGE, "300 does not fit i8", [&] { column.fill(300); });
+    check_refused(HV_CAST_OUT_OF_RANGE, "-1 does not fit u8", [] { Column::constant(hv::kinds::u8, -1, 2); });
+    check_refused(HV_CAST_OUT_OF_RANGE, "0.5 does not fit i8", [&] { column.fill(Decimal::of(5, 1)); });
+    check_refused(HV_TYPE_MISMATCH, "a text does not fit i8", [&] { column.fill("seven"); });
+    check_refused(HV_TYPE_MISMATCH, "an integer does not fit utf8", [&] { texts.fill(7); });
+    check_refused(HV_TYPE_MISMATCH, "the text is not UTF-8", [&] { texts.fill("\xff"); });
+    check_refused(HV_TYPE_MISMATCH, "the text is not UTF-8", [&] { texts.compare(Operator::less, "\xff"); });
+    check_refused(HV_NULL_NOT_ALLOWED, "null does not fit i64", [] { Column::constant(hv::kinds::i64, Null{}, 2); });
+    check_refused(HV_TYPE_MISMATCH, "i8? is not compared with utf8", [&] { column.compare(Operator::less, texts); });
+    check_refused(HV_TYPE_MISMATCH, "a mask is of type bool, not i8?", [&] { column.filter(column); });
+    check_refused(HV_TYPE_MISMATCH, "indices are integers, not utf8", [&] { column.take(texts); });
+    check_refused(HV_TYPE_MISMATCH, "codes are integers, not utf8", [&] { texts.take_from(column); });
+    hv::Builder builder(hv::kinds::i8);
+    check_refused(HV_TYPE_MISMATCH, "i8? does not go into a builder of i8", [&] { builder.append(column); });
+    check_refused(HV_NULL_NOT_ALLOWED, "null does not fit i8", [&] { builder.append(Value(Null{})); });
+    check_refused(HV_CAST_OUT_OF_RANGE, "300 does not fit i8", [&] { builder.append(300, 2); });
+    CHECK(builder.empty());
+}
+
+int main() {
+    check_types();
+    check_decimals();
+    check_comparisons();
+    check_sums();
+    check_rows_in_words();
+    check_values_in_words();
+    std::cout << "numbers of every type are read, shown, compared and refused by their values\n";
+}

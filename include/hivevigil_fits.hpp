@@ -1,0 +1,199 @@
+// Which values fit a type, and how a column is compared with a number that its type does not have. Part of
+// hivevigil.hpp, which includes it.
+#ifndef HIVEVIGIL_FITS_HPP
+#define HIVEVIGIL_FITS_HPP
+#include "hivevigil_values.hpp"
+
+namespace hv {
+
+namespace detail {
+
+// ---- Types ----
+
+constexpr hv_kind not_nullable(hv_kind kind) { return {kind.number, 0, kind.precision, kind.scale}; }
+inline bool is_signed(hv_kind kind) { return HV_I8 <= kind.number && kind.number <= HV_I64; }
+inline bool is_integer(hv_kind kind) { return kind.number <= HV_I64; }
+inline int scale_of(hv_kind kind) { return kind.number == HV_DECIMAL ? kind.scale : 0; }
+
+struct Range {
+    Wide least, greatest;
+    bool has(Wide number) const { return least <= number && number <= greatest; }
+};
+
+// The numbers of a numeric type, without their scale. Precision is not tested, as in C.
+inline Range range_of(hv_kind kind) {
+    if (kind.number == HV_DECIMAL) return {wide_least, wide_greatest};
+    const int bits = 8 << kind.number % 4;
+    if (!is_signed(kind)) return {0, (Wide(1) << bits) - 1};
+    return {-(Wide(1) << (bits - 1)), (Wide(1) << (bits - 1)) - 1};
+}
+
+// ---- Values ----
+
+inline const char *sort_of(const Value &value) {
+    static constexpr const char *sorts[] = {"null", "an integer", "an integer", "a boolean", "a decimal", "a text",
+                                            "bytes"};
+    return sorts[value.index()];
+}
+
+// A number without its scale, and its scale.
+struct Number {
+    Wide digits;
+    int scale;
+};
+
+inline std::optional<Number> number_of(const Value &value) {
+    if (auto *item = std::get_if<uint64_t>(&value)) return Number{*item, 0};
+    if (auto *item = std::get_if<int64_t>(&value)) return Number{*item, 0};
+    if (auto *item = std::get_if<Decimal>(&value)) return Number{item->digits(), item->scale};
+    return std::nullopt;
+}
+
+// A number that a type has, as a value of the type.
+inline Value value_of(Wide digits, hv_kind kind) {
+    if (kind.number == HV_DECIMAL)
+        return Decimal(static_cast<uint64_t>(digits), static_cast<int64_t>(digits >> 64), kind.scale);
+    if (is_signed(kind)) return static_cast<int64_t>(digits);
+    return static_cast<uint64_t>(digits);
+}
+
+// May a value be of a type, by its sort? Lists, and what is no type, are left to the call to refuse.
+inline bool may_be(const Value &value, hv_kind kind) {
+    switch (kind.number) {
+    case HV_BOOL: return std::holds_alternative<bool>(value);
+    case HV_UTF8: return std::holds_alternative<std::string>(value);
+    case HV_BINARY: return std::holds_alternative<Bytes>(value);
+    default: return kind.number >= HV_LIST || number_of(value).has_value();
+    }
+}
+
+// The value as a row of the type: 7 is 7.00 in decimals of scale 2. Refused as 12 where it is of another sort, and as 14
+// where it is a number that the type does not have. Null is left to the call.
+inline Value fitted(const Value &value, hv_kind kind) {
+    if (std::holds_alternative<Null>(value) || kind.number >= HV_LIST) return value;
+    const auto refuse = [kind](int32_t number, const std::string &what) {
+        throw Error(number, {}, what + " does not fit " + to_string(not_nullable(kind)));
+    };
+    if (!may_be(value, kind)) refuse(HV_TYPE_MISMATCH, sort_of(value));
+    const std::optional<Number> number = number_of(value);
+    if (!number) return value;
+    const AtScale at = at_scale(number->digits, number->scale, scale_of(kind));
+    if (at.past || at.rest || !range_of(kind).has(at.floor)) refuse(HV_CAST_OUT_OF_RANGE, to_string(value));
+    return value_of(at.floor, kind);
+}
+
+// A decimal as C has it in a column of this type; refused as 14 where it has more digits after the point.
+inline hv_pair pair_at(Decimal number, hv_kind kind, size_t row) {
+    const AtScale at = at_scale(number.digits(), number.scale, kind.scale);
+    if (at.past || at.rest)
+        throw Error(HV_CAST_OUT_OF_RANGE, {},
+                    "row " + std::to_string(row) + " is " + to_string(number) + ", which does not fit " + to_string(kind));
+    const Decimal same = std::get<Decimal>(value_of(at.floor, kind));
+    return {same.low, same.high};
+}
+
+// A row as T, null as none. Refused as 12 where it is of another sort, and as 14 where T does not have the number.
+template <class T> std::optional<T> optional_of(const Value &value, size_t row) {
+    if (std::holds_alternative<Null>(value)) return std::nullopt;
+    const std::string before = "row " + std::to_string(row) + " is ";
+    if constexpr (is_number<T>) {
+        const std::optional<Number> number = number_of(value);
+        if (!number || std::holds_alternative<Decimal>(value))
+            throw Error(HV_TYPE_MISMATCH, {}, before + sort_of(value) + ", not an integer");
+        if (range_of(Native<T>::kind).has(number->digits)) return static_cast<T>(number->digits);
+        throw Error(HV_CAST_OUT_OF_RANGE, {},
+                    before + to_string(value) + ", which does not fit " + to_string(Native<T>::kind));
+    } else {
+        if (auto *item = std::get_if<T>(&value)) return *item;
+        throw Error(HV_TYPE_MISMATCH, {}, before + sort_of(value) + ", not " + sort_of(Value(T{})));
+    }
+}
+
+// ---- What a call refused, in words ----
+
+// Of a value of the column's sort.
+inline auto words_of_value(const Value &value, hv_kind kind) {
+    return [&value, kind](int32_t answer) -> std::string {
+        if (answer == HV_TYPE_MISMATCH && std::holds_alternative<std::string>(value)) return "the text is not UTF-8";
+        if (answer == HV_NULL_NOT_ALLOWED) return "null does not fit " + to_string(kind);
+        return "";
+    };
+}
+
+inline auto words_of_compared(const Value &value, hv_kind kind) {
+    return [&value, kind](int32_t answer) -> std::string {
+        if (answer != HV_TYPE_MISMATCH) return "";
+        const bool are_texts = kind.number == HV_UTF8 && std::holds_alternative<std::string>(value);
+        return are_texts ? "the text is not UTF-8" : to_string(kind) + " is not compared with " + sort_of(value);
+    };
+}
+
+// Of a column of another type than the call takes.
+inline auto words_of_other(const char *before, hv_kind kind) {
+    return [=](int32_t answer) { return answer == HV_TYPE_MISMATCH ? before + to_string(kind) : std::string(); };
+}
+
+// Of two types that differ.
+inline auto words_of_two(hv_kind left, const char *between, hv_kind right) {
+    return [=](int32_t answer) {
+        return answer == HV_TYPE_MISMATCH ? to_string(left) + between + to_string(right) : std::string();
+    };
+}
+
+// Of a type that the call does not serve.
+inline auto words_of_type(hv_kind kind, const char *after) {
+    return [=](int32_t answer) { return answer == HV_UNSUPPORTED ? to_string(kind) + after : std::string(); };
+}
+
+inline auto words_of_read(hv_kind kind, hv_kind asked) {
+    return [=](int32_t answer) -> std::string {
+        if (answer != HV_TYPE_MISMATCH && answer != HV_UNSUPPORTED) return "";
+        return to_string(not_nullable(kind)) + " rows are not read as " + to_string(asked);
+    };
+}
+
+// Of texts, the first of which that is not UTF-8 is looked for by asking for each by itself.
+inline auto words_of_texts(const std::vector<std::string_view> &rows) {
+    return [&rows](int32_t answer) -> std::string {
+        for (size_t row = 0; answer == HV_TYPE_MISMATCH && row < rows.size(); row++) {
+            hv_column column = HV_EMPTY;
+            const int64_t offsets[] = {0, static_cast<int64_t>(rows[row].size())};
+            const int32_t alone = hv_large_texts(0, offsets, 2, reinterpret_cast<const uint8_t *>(rows[row].data()),
+                                                 rows[row].size(), hv_not_nullable(), &column, nullptr);
+            hv_free(&column);
+            if (alone == HV_TYPE_MISMATCH) return "row " + std::to_string(row) + " is not UTF-8";
+        }
+        return "";
+    };
+}
+
+// ---- Comparisons ----
+
+// A comparison with a value of the column's type that answers what one with any other number would.
+struct Comparison {
+    Operator by;
+    Value right;
+};
+
+// `row by value` for rows of a type. A number that lies past the type, or between two of its numbers, is decided by a
+// number that the type has: each row is below 300 where each is at most 127, and above 0.505 where it is above 0.50.
+inline Comparison comparison(Operator by, const Value &value, hv_kind kind) {
+    const std::optional<Number> number = number_of(value);
+    if (!number || !(is_integer(kind) || kind.number == HV_DECIMAL)) return {by, value};
+    const AtScale at = at_scale(number->digits, number->scale, scale_of(kind));
+    const Range range = range_of(kind);
+    const bool below = by == Operator::less || by == Operator::less_or_equal;
+    const bool above = by == Operator::greater || by == Operator::greater_or_equal;
+    const bool is_past = at.past > 0 || (!at.past && at.floor > range.greatest);
+    const bool is_before = at.past < 0 || (!at.past && at.floor < range.least);
+    if (!is_past && !is_before && (below || above) && at.rest)
+        return {below ? Operator::less_or_equal : Operator::greater, value_of(at.floor, kind)};
+    if (!is_past && !is_before && !at.rest) return {by, value_of(at.floor, kind)};
+    const bool holds = by == Operator::not_equal || (is_past && below) || (is_before && above);
+    return {holds ? Operator::less_or_equal : Operator::greater, value_of(range.greatest, kind)};
+}
+
+} // namespace detail
+
+} // namespace hv
+#endif

@@ -1,0 +1,103 @@
+// The runs of a column, and what is looked for in them where a call was refused: a part of hivevigil.hpp, which includes
+// it.
+#ifndef HIVEVIGIL_RUNS_HPP
+#define HIVEVIGIL_RUNS_HPP
+#include "hivevigil.hpp"
+
+namespace hv {
+
+// The runs of a column, each cut to the window, and looked up where they are.
+class Runs {
+public:
+    explicit Runs(const Column &column) : borrowed(&column) { count_runs(); }
+    explicit Runs(Column &&column) : owned(std::move(column)) { count_runs(); }
+    size_t size() const { return count; }
+    bool empty() const { return count == 0; }
+    detail::Walk<Runs> begin() const { return {this, 0}; }
+    detail::Walk<Runs> end() const { return {this, count}; }
+    // Run `index` of those that the window shows; refused as HV_OUT_OF_BOUNDS past the last.
+    Run at(size_t index) const {
+        if (index >= count) throw Error(HV_OUT_OF_BOUNDS, {index, count, 0});
+        return item(index);
+    }
+    Run operator[](size_t index) const { return at(index); }
+    Run item(size_t index) const {
+        if (form == Form::runs) return column().run(first + index);
+        if (form == Form::constant) return {0, column().size(), column().at(0)};
+        return {index, index + 1, column().at(index)};
+    }
+
+private:
+    Column owned;
+    const Column *borrowed = nullptr;
+    size_t first = 0, count = 0;
+    Form form = Form::none;
+
+    const Column &column() const { return borrowed ? *borrowed : owned; }
+    void count_runs() {
+        const size_t rows = column().size();
+        form = column().form();
+        count = form == Form::constant && rows ? 1 : rows;
+        if (form != Form::runs || !rows) return;
+        first = column().run_of(0);
+        count = column().run_of(rows - 1) + 1 - first;
+    }
+};
+
+inline Runs Column::runs() const & { return Runs(*this); }
+inline Runs Column::runs() && { return Runs(std::move(*this)); }
+
+namespace detail {
+
+// The row with which the sum of the rows before it and of it leaves the range of 64 bits; the number of rows where none
+// does.
+inline size_t overflowing_row(const Column &column) {
+    const Range range = range_of(is_signed(column.kind()) ? kinds::i64 : kinds::u64);
+    Wide sum = 0;
+    for (const Run &run : column.runs()) {
+        const std::optional<Number> number = number_of(run.value);
+        if (!number || number->digits == 0) continue;
+        const Wide step = number->digits, room = step > 0 ? range.greatest - sum : sum - range.least;
+        const Wide rows_that_fit = room / (step > 0 ? step : -step);
+        if (rows_that_fit < Wide(run.size())) return run.start + static_cast<size_t>(rows_that_fit);
+        sum += step * Wide(run.size());
+    }
+    return column.size();
+}
+
+inline Error overflow(const Column &column) {
+    const size_t row = overflowing_row(column);
+    const char *const type = is_signed(column.kind()) ? "i64" : "u64";
+    return {HV_CAST_OUT_OF_RANGE,
+            {row, 0, 0},
+            "integer overflow: with row " + std::to_string(row) + " the sum leaves the range of " + type};
+}
+
+// The first row that a cast does not serve, in words; empty where there is none.
+inline std::string words_of_misfit(const Column &column, hv_kind kind) {
+    for (const Run &run : column.runs()) {
+        const std::string row = "row " + std::to_string(run.start) + " is ";
+        if (std::holds_alternative<Null>(run.value)) {
+            if (!kind.nullable) return row + "null, which does not fit " + to_string(kind);
+        } else if (is_integer(kind) && !range_of(kind).has(number_of(run.value)->digits)) {
+            return row + to_string(run.value) + ", which does not fit " + to_string(not_nullable(kind));
+        }
+    }
+    return "";
+}
+
+inline std::string words_of_cast(const Column &column, hv_kind kind, int32_t answer) {
+    if (answer == HV_UNSUPPORTED) return to_string(column.kind()) + " is not cast to " + to_string(kind);
+    const bool is_row = answer == HV_CAST_OUT_OF_RANGE || answer == HV_NULL_NOT_ALLOWED;
+    return is_row ? words_of_misfit(column, kind) : "";
+}
+
+} // namespace detail
+
+inline std::string Column::words_of_cast(int32_t answer, hv_kind kind) const {
+    return detail::words_of_cast(*this, kind, answer);
+}
+inline Error Column::overflow() const { return detail::overflow(*this); }
+
+} // namespace hv
+#endif

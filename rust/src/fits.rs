@@ -1,0 +1,129 @@
+//! Which values fit a type, and how a column is compared with a number that its type does not have.
+use crate::decimal::AtScale;
+use crate::{Decimal, Error, ErrorKind, Kind, Operator, Value};
+use std::cmp::Ordering;
+use std::ops::RangeInclusive;
+
+impl Kind {
+    fn is_numeric(self) -> bool {
+        self.is_unsigned() || self.is_signed() || self.is_decimal()
+    }
+
+    /// The numbers of a numeric type, without their scale. Precision is not tested, as in C.
+    pub(crate) fn range(self) -> RangeInclusive<i128> {
+        let bits = 8 << (self.number % 4);
+        if self.is_decimal() {
+            i128::MIN..=i128::MAX
+        } else if self.is_unsigned() {
+            0..=(1 << bits) - 1
+        } else {
+            -(1 << (bits - 1))..=(1 << (bits - 1)) - 1
+        }
+    }
+
+    /// Digits after the point.
+    fn places(self) -> i8 {
+        if self.is_decimal() {
+            self.scale
+        } else {
+            0
+        }
+    }
+}
+
+impl Value {
+    /// "an integer", "a text" ..
+    pub(crate) fn sort(&self) -> &'static str {
+        match self {
+            Value::Null => "null",
+            Value::Unsigned(_) | Value::Signed(_) => "an integer",
+            Value::Truth(_) => "a boolean",
+            Value::Decimal(_) => "a decimal",
+            Value::Text(_) => "a text",
+            Value::Bytes(_) => "bytes",
+        }
+    }
+
+    pub(crate) fn number(&self) -> Option<Decimal> {
+        match self {
+            Value::Unsigned(item) => Some(Decimal::new(i128::from(*item), 0)),
+            Value::Signed(item) => Some(Decimal::new(i128::from(*item), 0)),
+            Value::Decimal(item) => Some(*item),
+            _ => None,
+        }
+    }
+
+    /// A number that a type has.
+    fn of_digits(digits: i128, kind: Kind) -> Value {
+        if kind.is_decimal() {
+            Value::Decimal(Decimal::new(digits, kind.scale))
+        } else if kind.is_unsigned() {
+            Value::Unsigned(digits as u64)
+        } else {
+            Value::Signed(digits as i64)
+        }
+    }
+
+    /// Whether a value may be of a type, by its sort. Lists are left to the call to refuse.
+    fn may_be(&self, kind: Kind) -> bool {
+        match self {
+            Value::Null => true,
+            Value::Truth(_) => kind.is_list() || kind.number == Kind::BOOL.number,
+            Value::Text(_) => kind.is_list() || kind.number == Kind::UTF8.number,
+            Value::Bytes(_) => kind.is_list() || kind.number == Kind::BINARY.number,
+            _ => kind.is_list() || kind.is_numeric(),
+        }
+    }
+
+    /// The value as a row of the type: 7 is 7.00 in decimals of scale 2. Refused as `TypeMismatch` where it is of another
+    /// sort, and as `CastOutOfRange` where it is a number that the type does not have. Null is left to the call.
+    pub(crate) fn fitted(self, kind: Kind) -> Result<Value, Error> {
+        let kind = kind.not_nullable();
+        if !self.may_be(kind) {
+            return Err(Error::of(ErrorKind::TypeMismatch).with_sort(self.sort(), kind));
+        }
+        let Some(number) = self.number().filter(|_| kind.is_numeric()) else {
+            return Ok(self);
+        };
+        match number.at_scale(kind.places()) {
+            AtScale::Exact(digits) if kind.range().contains(&digits) => {
+                Ok(Value::of_digits(digits, kind))
+            }
+            _ => Err(Error::misfit(number, kind)),
+        }
+    }
+}
+
+/// The comparison with a number that the type has which answers what `row operator value` does for rows of the type. A
+/// number that lies past the type, or between two of its numbers, is decided by one that the type has: each row is below
+/// 300 where each is at most 127, and above 0.505 where it is above 0.50.
+pub(crate) fn comparison(operator: Operator, value: Value, kind: Kind) -> (Operator, Value) {
+    use Operator::{Greater, GreaterOrEqual, Less, LessOrEqual, NotEqual};
+    let Some(number) = value.number().filter(|_| kind.is_numeric()) else {
+        return (operator, value);
+    };
+    let below = matches!(operator, Less | LessOrEqual);
+    let above = matches!(operator, Greater | GreaterOrEqual);
+    let at = number.at_scale(kind.places());
+    let side = match at {
+        AtScale::Outside(side) => side,
+        AtScale::Exact(digits) | AtScale::Above(digits) if kind.range().contains(&digits) => {
+            Ordering::Equal
+        }
+        AtScale::Exact(digits) | AtScale::Above(digits) => digits.cmp(&0),
+    };
+    match at {
+        AtScale::Exact(digits) if side.is_eq() => (operator, Value::of_digits(digits, kind)),
+        AtScale::Above(digits) if side.is_eq() && below => {
+            (LessOrEqual, Value::of_digits(digits, kind))
+        }
+        AtScale::Above(digits) if side.is_eq() && above => {
+            (Greater, Value::of_digits(digits, kind))
+        }
+        _ => {
+            let holds = operator == NotEqual || (side.is_gt() && below) || (side.is_lt() && above);
+            let decided = if holds { LessOrEqual } else { Greater };
+            (decided, Value::of_digits(*kind.range().end(), kind))
+        }
+    }
+}
