@@ -40,7 +40,7 @@ CASES = [
     Case("a line that is too short", b"a,b\n1,2\n3\n", 2, "line 3 has 1 fields, the first 2"),
     Case("a line that is too long", b"a,b\n1,2,3\n", 2, "line 2 has 3 fields, the first 2"),
     Case("a quote that is not closed", b'a,b\n1,"2\n3,4\n', 2, "unexpected end of data"),
-    Case("bytes that are no text", b"a,b\n1,\xff\xfe\n", 2, "no UTF-8: invalid start byte 0xff"),
+    Case("bytes that are no text", b"a,b\n1,\xff\xfe\n", 2, "line 2: not UTF-8: invalid start byte 0xff"),
     Case("two columns of one name", b"a,a\n1,2\n", 2, "two columns have one name"),
     Case("a filter that keeps no row", b"a,b\n1,2\n3,4\n", 0, "b 2 2 2 8 10 6 2 4 0 0", ("--where", "a", ">", "5")),
     Case("a filter by no column", b"a,b\n1,2\n", 2, "--where takes a column of a, b", ("--where", "c", "=", "1")),

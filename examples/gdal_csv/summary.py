@@ -138,11 +138,8 @@ def add_batch(schema, batch, places, served, where):
 
 def rows_in(path):
     """How many rows there are. GDAL fills a line that is too short and cuts one that is too long: here both are refused,
-    and so is what is no UTF-8 or has two columns of one name."""
-    try:
-        return sum(1 for _ in lines_of(path)) - 1
-    except UnicodeDecodeError as error:
-        raise BadFile(f"{path}: no UTF-8: {error.reason} 0x{error.object[error.start]:02x}") from None
+    and so are bytes that are not UTF-8, and two columns of one name."""
+    return sum(1 for _ in lines_of(path)) - 1
 
 
 def as_written(summary, value):

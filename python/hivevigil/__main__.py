@@ -45,8 +45,6 @@ def main() -> int:
         if save:
             save(found, chosen.plot)
         return 0
-    except UnicodeDecodeError as error:
-        print(f"{chosen.file}: no UTF-8: {error}", file=sys.stderr)
     except OSError as error:
         print(f"{error.filename}: {error.strerror}" if error.filename else error, file=sys.stderr)
     except (BadFile, csv.Error, HivevigilError, ImportError, ValueError) as error:

@@ -25,7 +25,7 @@ _DATE = re.compile(r"\d{4}-\d\d-\d\d", re.ASCII)
 
 
 class BadFile(Exception):
-    """A file that is no CSV, by a sentence."""
+    """A file that is not a CSV, in a sentence."""
 
 
 def _is_date(text: str) -> bool:
@@ -48,7 +48,7 @@ class Guess:
     least: int = 0
     greatest: int = 0
     digits: int = 1  # before the point
-    places: int = 0  # behind it
+    places: int = 0  # after it
     seen: bool = False
 
     def add(self, texts: set[str]) -> None:
@@ -61,7 +61,7 @@ class Guess:
         if "decimal" in self.could_be:
             parts = [text.lstrip("-").partition(".") for text in texts]
             self.digits = max([self.digits, *(len(before) for before, _, _ in parts)])
-            self.places = max([self.places, *(len(behind) for _, _, behind in parts)])
+            self.places = max([self.places, *(len(after) for _, _, after in parts)])
 
     def type(self) -> str:
         """The type of the column; texts where no row says more."""
@@ -91,9 +91,9 @@ def _reader_of(type: str) -> Callable[[str], Any]:
 def lines_of(path: str) -> Iterator[list[str]]:
     """The names, then the fields of each row, as many as there are names; lines without a field are skipped."""
     with open(path, newline="", encoding="utf-8-sig") as file:
-        reader = csv.reader(file, delimiter=_separator(file.readline()), strict=True)
-        file.seek(0)
         try:
+            reader = csv.reader(file, delimiter=_separator(file.readline()), strict=True)
+            file.seek(0)
             names: list[str] = next(reader, [])
             if not names:
                 raise BadFile(f"{path}: no line of names")
@@ -106,10 +106,23 @@ def lines_of(path: str) -> Iterator[list[str]]:
                 yield fields
         except csv.Error as error:
             raise BadFile(f"{path}: line {reader.line_num}: {error}") from None
+        except UnicodeDecodeError:
+            raise BadFile(f"{path}: {_not_utf8(path)}") from None
+
+
+def _not_utf8(path: str) -> str:
+    """The first line whose bytes are not UTF-8, and the byte."""
+    with open(path, "rb") as file:
+        for number, line in enumerate(file, 1):
+            try:
+                line.decode()
+            except UnicodeDecodeError as error:
+                return f"line {number}: not UTF-8: {error.reason} 0x{line[error.start]:02x}"
+    return "not UTF-8"
 
 
 def _separator(names: str) -> str:
-    """What stands between the names: a comma where there is one."""
+    """The mark between the names: a comma where there is one."""
     return next((mark for mark in ",;\t|" if mark in names), ",")
 
 
@@ -130,7 +143,8 @@ class CsvFile:
             yield [[row[place] for row in batch] for place in self.kept]
 
     def batches(self, advance: Callable[[int], None]) -> Iterator[dict[str, Column]]:
-        """The columns of each batch; `advance` is told how many rows were read, in each of the two passes."""
+        """The columns of each batch; `advance` is called with the number of rows that were read, in each of the two
+        passes."""
         guesses = [Guess() for _ in self.kept]
         for fields in self._batches():
             for guess, texts in zip(guesses, fields):

@@ -20,7 +20,7 @@ PATIENCE = 1.0  # seconds before a progress bar is drawn
 
 @dataclass
 class Summary:
-    """What is known of one column so far. A run that the next batch may go on is not yet counted in `run_lengths`."""
+    """What is known of one column so far. A run that may go on in the next batch is not yet counted in `run_lengths`."""
 
     name: str
     rows: int = 0
@@ -70,30 +70,42 @@ class Report:
 
 def read(path: str, batch_rows: int, reader: Optional[str] = None) -> Report:
     """Reads a file by GDAL where it is there, else by Python's csv module. Columns in which GDAL sees floating-point
-    numbers, or times, are read by the csv module; so is all of a file of which GDAL changes a value or a name."""
-    chosen = reader or ("gdal" if gdal_files.available() else "csv")
-    if chosen == "csv":
-        return _summed(CsvFile(path, batch_rows), _rows_about(path), "the csv module")
-    rows = sum(1 for _ in lines_of(path)) - 1  # a broken file is refused here, where GDAL would guess
+    numbers, or times, are read by the csv module; so is all of a file that GDAL does not read, or of which it changes a
+    value or a name."""
+    by_gdal = gdal_files.available() if reader is None else reader == "gdal"
+    # a broken file is refused here, where GDAL would guess
+    rows = sum(1 for _ in lines_of(path)) - 1 if by_gdal else _rows_about(path)
+    progress = Progress(rows, "rows", PATIENCE)
+    report = _by_gdal(path, batch_rows, progress) if by_gdal else _by_csv(path, batch_rows, progress, "the csv module")
+    progress.end()
+    return report
+
+
+def _by_gdal(path: str, batch_rows: int, progress: Progress) -> Report:
     try:
-        gdal_file = GdalFile(path, batch_rows)
-        report = _summed(gdal_file, rows, "GDAL")
+        file = GdalFile(path, batch_rows)
+        progress.restart(file.passes + 2 * bool(file.left_out))
+        report = _summed(file, progress, "GDAL")
     except Inexact as error:
-        return _summed(CsvFile(path, batch_rows), rows, f"the csv module (GDAL: {error})")
-    if not gdal_file.left_out:
+        return _by_csv(path, batch_rows, progress, f"the csv module (GDAL: {error})")
+    if not file.left_out:
         return report
-    others = _summed(CsvFile(path, batch_rows, gdal_file.left_out), rows, "the csv module")
-    return _joined(report, others, list(gdal_file.places))
+    others = _summed(CsvFile(path, batch_rows, file.left_out), progress, "the csv module")
+    return _joined(report, others, list(file.places))
 
 
-def _summed(file: Union[CsvFile, GdalFile], rows: int, reader: str) -> Report:
-    progress = Progress(rows * file.passes, "rows", PATIENCE)
+def _by_csv(path: str, batch_rows: int, progress: Progress, reader: str) -> Report:
+    file = CsvFile(path, batch_rows)
+    progress.restart(file.passes)
+    return _summed(file, progress, reader)
+
+
+def _summed(file: Union[CsvFile, GdalFile], progress: Progress, reader: str) -> Report:
     summaries: dict[str, Summary] = {}
     for columns in file.batches(progress.advance):
         for name, column in columns.items():
             with column:
                 summaries.setdefault(name, Summary(name)).add(column)
-    progress.end()
     for name in file.types:
         summaries.setdefault(name, Summary(name)).close()
     return Report(list(summaries.values()), file.types, reader)
@@ -109,7 +121,7 @@ def _joined(by_gdal: Report, by_csv: Report, names: list[str]) -> Report:
 
 
 def _rows_about(path: str) -> int:
-    """How many lines there are behind the first, for the progress bar; a field of several lines counts as them."""
+    """How many lines follow the first, for the progress bar; a field of several lines counts as these."""
     with Path(path).open("rb") as file:
         return max(0, sum(block.count(b"\n") for block in iter(lambda: file.read(1 << 20), b"")) - 1)
 

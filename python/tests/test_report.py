@@ -76,11 +76,13 @@ def test_runs_go_on_over_batches(file, reader, batch):
         ("a,b\n1,2,3\n", "line 2 has 3 fields, the first 2"),
         ("a,b\n1,2\n\n3\n", "line 4 has 1 fields, the first 2"),
         ('a,b\n"1,2\n', "line 2: unexpected end"),
+        ("a,b\n1,2\n1,\xff\n", "line 3: not UTF-8: invalid start byte 0xff"),
+        ("a\xe9,b\n1,2\n", "line 1: not UTF-8: invalid continuation byte 0xe9"),
     ],
 )
 def test_bad_files(tmp_path, reader, text, words):
     path = tmp_path / "bad.csv"
-    path.write_text(text)
+    path.write_text(text, encoding="latin-1")
     with pytest.raises(BadFile, match=words):
         report.read(str(path), 10, reader)
     ended = run(path, "--reader", reader)
@@ -95,6 +97,52 @@ def test_files_that_are_not_there_and_not_texts(tmp_path, reader):
         ended = run(given, "--reader", reader)
         assert (ended.returncode, ended.stdout, len(ended.stderr.splitlines())) == (1, "", 1)
     assert run(path, "--batch", 0).returncode == 2
+
+
+@pytest.mark.parametrize("reader", [None, *READERS])
+@pytest.mark.parametrize("fields, type, runs", [(["7", "7", "9"], "i32?", 2), (["two words", "one"], "utf8?", 2)])
+def test_one_column(tmp_path, reader, fields, type, runs):
+    """GDAL does not take it for a CSV; it is read by the csv module then."""
+    path = tmp_path / "one.csv"
+    path.write_text("\n".join(["only", *fields]) + "\n")
+    found = report.read(str(path), 2, reader)
+    assert [(it.name, it.rows, it.runs) for it in found.summaries] == [("only", len(fields), runs)]
+    assert found.types == {"only": type} and "the csv module" in found.reader
+    ended = run(path, *(["--reader", reader] if reader else []))
+    assert ended.returncode == 0 and ended.stdout.splitlines()[1].startswith(f"only    {type}")
+
+
+@pytest.mark.parametrize(
+    "reader, text, passes",
+    [
+        ("csv", "a,b\n1,2.5\n2,3.5\n3,4.5\n4,5.5\n", 2),
+        pytest.param("gdal", "a,b\n1,2\n2,3\n3,4\n4,5\n", 1, marks=READERS[1].marks),
+        pytest.param("gdal", "a,b\n1,2.5\n2,3.5\n3,4.5\n4,5.5\n", 3, marks=READERS[1].marks),
+        pytest.param("gdal", "a\n1\n2\n3\n4\n", 2, marks=READERS[1].marks),
+    ],
+)
+def test_progress_counts_each_row_once(tmp_path, monkeypatch, capsys, reader, text, passes):
+    path = tmp_path / "rows.csv"
+    path.write_text(text)
+    monkeypatch.setattr(report, "PATIENCE", 0.0)
+    report.read(str(path), 1, reader)
+    counted = [line.split(" %  ")[1].split(" rows")[0] for line in capsys.readouterr().err.splitlines()]
+    first = ["0 of 4"] if passes > 1 else []
+    assert counted == first + ["1 of 4", "2 of 4", "3 of 4", "4 of 4"]
+
+
+@pytest.mark.skipif(not gdal_files.available(), reason="no GDAL 3.6")
+def test_a_file_that_gdal_fails_to_read_on(tmp_path, monkeypatch):
+    path = tmp_path / "small.csv"
+    path.write_text(CSV)
+
+    def fails(_):
+        with gdal_files._Quiet():
+            raise RuntimeError("the disk is gone.")
+
+    monkeypatch.setattr(gdal_files.GdalFile, "_next", fails)
+    found = report.read(str(path), 2)
+    assert found.reader == "the csv module (GDAL: the disk is gone)" and len(found.summaries) == 5
 
 
 @pytest.mark.parametrize("reader", READERS)
@@ -185,6 +233,13 @@ def test_progress(capsys):
     half, whole = capsys.readouterr().err.splitlines()
     assert half.startswith("[####################....................]  50 %  100 of 200 rows, ")
     assert whole.startswith("[########################################] 100 %  200 of 200 rows, ")
+    twice = Progress(200, "rows", passes=2)
+    twice.advance(150)
+    twice.restart(3)
+    twice.advance(301)
+    assert [line.split(" %  ")[1].split(",")[0] for line in capsys.readouterr().err.splitlines()] == [
+        "75 of 200 rows", "100 of 200 rows",
+    ]
     quiet = Progress(200, "rows", patience=60)
     quiet.end()
     assert capsys.readouterr().err == ""
