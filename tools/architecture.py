@@ -1,11 +1,13 @@
 #!/usr/bin/env python3
-"""The table of docs/ARCHITECTURE.md, held against the crates: each crate has one row, and each file a name in it.
+"""The page of each crate, crates/NAME/README.md, held against the crate: what it has to say, and each file by name.
 
-    python3 tools/architecture.py        names what is missing or gone; ends in 'N passed, M failed', N the crates
+    python3 tools/architecture.py        names what is missing or gone; ends in 'N passed, M failed', N the pages
 
-Of a row the fourth cell names the files of `src/`, the fifth those of `specs/`. A file in a folder may be left out
-where the folder is named, and so are `lib`, `main` and `Lib`. Crates of tests alone have no row. Any other word in
-backquotes has to stand somewhere in the crate's sources.
+A page is one screen: its title is the crate's name, then come the idea in a line of its own, what is proved, and the
+files. The item `src/` of "Files" names the files of `src/`, the item `specs/` those of `specs/`. A file in a folder may
+be left out where the folder is named, and so are `lib`, `main` and `Lib`. Crates of tests only name no files. Any other
+word in backquotes of these two items has to be somewhere in the crate's sources. Pages of the repository have their
+own limits (PAGES).
 """
 
 import re
@@ -13,20 +15,18 @@ import sys
 from pathlib import Path
 
 ROOT = Path(__file__).resolve().parent.parent
-PAGE = "docs/ARCHITECTURE.md"
-WITHOUT_ROW = {"column_tests", "conformance", "refusing", "script_tests"}
+SCREEN = 72
+PAGES = {"docs/PROVED.md": 160}
+TESTS = {"column_tests", "conformance", "script_tests"}
 LEFT_OUT = {"lib", "main", "Lib"}
 
 
-def rows_of(page: str) -> dict[str, tuple[set[str], set[str]]]:
-    """Each crate of the table, with the names that its row has for files of src/ and of specs/."""
-    rows = {}
-    for line in page.split("\n"):
-        cells = [re.findall(r"`([\w/]+)`", cell) for cell in line.split("|")]
-        if len(cells) == 7 and len(cells[2]) == 1:
-            files, definitions = (set(name.strip("/") for name in cells[place]) for place in (4, 5))
-            rows[cells[2][0]] = (files, definitions)
-    return rows
+def items_of(page: str) -> tuple[set[str], set[str]]:
+    """The names that the items `src/` and `specs/` of a page have."""
+    files = page.split("\n## Files\n", 1)[1] if "\n## Files\n" in page else ""
+    items = dict(re.findall(r"^- `(src|specs)/`:(.*?)(?=^- `|\Z)", files, re.M | re.S))
+    names = lambda text: {name.strip("/") for name in re.findall(r"`([\w/]+)`", text)}
+    return names(items.get("src", "")), names(items.get("specs", ""))
 
 
 def files_of(folder: Path, ending: str) -> set[str]:
@@ -40,32 +40,47 @@ def unnamed(files: set[str], names: set[str]) -> set[str]:
     return {path for path in files if not {path, *path.split("/")} & names}
 
 
-def faults_of(root: Path, crate: str, files: set[str], definitions: set[str]) -> list[str]:
-    """What one crate's row lacks, and what it names that is gone."""
+def faults_of_files(root: Path, crate: str, files: set[str], definitions: set[str]) -> list[str]:
+    """What the page's list of files lacks, and what it names that is gone."""
     sources, specs = root / "crates" / crate / "src", root / "crates" / crate / "specs"
-    said = [f"{crate}: no name for {path}.rt" for path in sorted(unnamed(files_of(sources, ".rt"), files))]
-    said += [f"{crate}: no name for {path}.antt" for path in sorted(unnamed(files_of(specs, ".antt"), definitions))]
+    said = [f"no name for {path}.rt" for path in sorted(unnamed(files_of(sources, ".rt"), files))]
+    said += [f"no name for {path}.antt" for path in sorted(unnamed(files_of(specs, ".antt"), definitions))]
     paths = {part for path in files_of(sources, ".rt") for part in (path, *path.split("/"))}
     texts = " ".join(path.read_text(encoding="utf-8") for path in sorted(sources.rglob("*.rt")))
     known = paths | set(re.findall(r"\w+", texts))
-    said += [f"{crate}: {name} is no file" for name in sorted(files - known)]
-    return said + [f"{crate}: {name} is no definition" for name in sorted(definitions - files_of(specs, ".antt"))]
+    said += [f"{name} is not a file" for name in sorted(files - known)]
+    return said + [f"{name} is not a definition" for name in sorted(definitions - files_of(specs, ".antt"))]
+
+
+def faults_of_page(crate: str, page: str) -> list[str]:
+    """What a page has to say and does not, and that it is longer than a screen."""
+    said = [] if page.startswith(f"# `{crate}`\n") else ["its title is not the crate's name"]
+    said += [f"no {part.strip()!r}" for part in ("\n**Idea.** ", "\n## What is proved\n") if part not in page]
+    lines = page.count("\n")
+    return said + ([f"{lines} lines, and a screen has {SCREEN}"] if lines > SCREEN else [])
+
+
+def faults_of(root: Path, crate: str) -> list[str]:
+    """What is wrong with the page of one crate."""
+    path = root / "crates" / crate / "README.md"
+    if not path.exists():
+        return ["there is no such page"]
+    page = path.read_text(encoding="utf-8")
+    return faults_of_page(crate, page) + ([] if crate in TESTS else faults_of_files(root, crate, *items_of(page)))
 
 
 def main() -> int:
-    rows = rows_of((ROOT / PAGE).read_text(encoding="utf-8"))
-    crates = re.findall(r"^(\w+):", (ROOT / "crates.txt").read_text(encoding="utf-8"), re.M)
-    faults = {name: ["no row"] for name in crates if name not in rows and name not in WITHOUT_ROW}
-    for crate, (files, definitions) in rows.items():
-        if (ROOT / "crates" / crate).is_dir():
-            found = faults_of(ROOT, crate, files, definitions)
-        else:
-            found = [f"{crate}: there is no such crate"]
-        faults.update({crate: found} if found else {})
-    for said in faults.values():
-        print(*(f"{PAGE}: {line}" for line in said), sep="\n")
-    print(f"{len(rows) - sum(crate in rows for crate in faults)} passed, {len(faults)} failed")
-    return 1 if faults else 0
+    crates = re.findall(r"^(\w+)(?: staticlib)?:", (ROOT / "crates.txt").read_text(encoding="utf-8"), re.M)
+    found = {f"crates/{crate}/README.md": faults_of(ROOT, crate) for crate in crates}
+    for page, most in PAGES.items():
+        lines = (ROOT / page).read_text(encoding="utf-8").count("\n")
+        found[page] = [f"{lines} lines, and {most} may be"] if lines > most else []
+    for page, faults in found.items():
+        for fault in faults:
+            print(f"{page}: {fault}")
+    failed = sum(bool(faults) for faults in found.values())
+    print(f"{len(found) - failed} passed, {failed} failed")
+    return 1 if failed else 0
 
 
 if __name__ == "__main__":

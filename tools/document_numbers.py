@@ -17,7 +17,7 @@ ROOT = Path(__file__).resolve().parent.parent
 SENTENCES = {
     "calls": [
         ("README.md", r"each of the (\d+) calls"),
-        ("docs/PROVED.md", r"a static library of (\d+) calls"),
+        ("crates/hivevigil/README.md", r"a static library of (\d+) calls"),
         ("examples/README.md", r"the library as (\d+) calls of C"),
     ],
     "errors": [
