@@ -1,12 +1,14 @@
 #!/usr/bin/env python3
-"""Puts tables that bench/run.sh printed into docs/PERFORMANCE.md.
+"""Puts tables that bench/run.sh printed into the newest page of bench/results/, and its means into docs/PERFORMANCE.md.
 
     CORE=3 sh bench/run.sh --rounds 3 --only compare,take,filter,slice,clone,sum >tables.md
     python3 tools/bench_page.py tables.md
+    python3 tools/bench_page.py                  only the means
 
-A row takes the place of the page's row of the same call and size or kind; one that the page lacks stands behind the row
-that it follows in tables.md. Rows that were not measured again stay. Of the table of ratios and that of single lines
-it says how many lines the page has now, their geometric mean, and how many are above 1.15, for the page's text.
+A row takes the place of the page's row of the same call and size or kind; one that the page lacks comes after the row
+that it follows in tables.md. Rows that were not measured again stay. The table of docs/PERFORMANCE.md has a row for
+each line, with its mean without and with null for each kind of rows; the last cell, which says why it is above 1.15,
+stays. It prints how many lines there are now, their geometric mean, and how many are above 1.15, for that page's text.
 """
 
 import math
@@ -14,11 +16,20 @@ import re
 import sys
 from pathlib import Path
 
-PAGE = Path(__file__).resolve().parent.parent / "docs/PERFORMANCE.md"
+ROOT = Path(__file__).resolve().parent.parent
+PAGE = ROOT / "docs/PERFORMANCE.md"
 GOAL = 1.15
 RATIOS = "| Call | 3 rows | 16 rows | 200 rows | Geometric mean |"
 SINGLE = "| Call | Of | Ours | Rust | Ours / Rust |"
 MEMORY = "| Greatest bytes held | Of | Ours | Rust | Requests a call, ours | Rust |"
+KINDS = ("integers", "decimals", "booleans", "texts", "nested runs")
+MEANS = "| Line | Integers | Decimals | Booleans | Texts | Nested runs | Why above 1.15 |"
+WITH_NULL = ", with null"
+
+
+def results() -> Path:
+    """The newest page of results: pages are named by their dates."""
+    return max((ROOT / "bench/results").glob("*.md"))
 
 
 def cells(row: str) -> list[str]:
@@ -26,7 +37,7 @@ def cells(row: str) -> list[str]:
 
 
 def table_at(lines: list[str], head: str) -> tuple[int, int]:
-    """The first row of a table and the line behind its last, of the first table with this head."""
+    """The first row of a table and the line after its last, of the first table with this head."""
     start = lines.index(head) + 2
     stop = next((at for at in range(start, len(lines)) if not lines[at].startswith("|")), len(lines))
     return start, stop
@@ -38,7 +49,7 @@ def key_of(head: str, row: str) -> tuple[str, ...]:
 
 
 def merged(head: str, old: list[str], new: list[str]) -> list[str]:
-    """The old rows with the new ones in their place, or behind the row that they follow."""
+    """The old rows with the new ones in their place, or after the row that they follow."""
     rows = {key_of(head, row): row for row in old}
     order = list(rows)
     before = -1
@@ -61,7 +72,7 @@ def ratios_of(head: str, row: str) -> list[float]:
 
 
 def with_tables(page: str, tables: str) -> tuple[str, list[float]]:
-    """The page with the measured rows, and the ratios of all its lines."""
+    """The page of results with the measured rows, and the ratios of all its lines."""
     lines, measured, ratios = page.split("\n"), tables.split("\n"), []
     for head in (RATIOS, SINGLE, MEMORY):
         if head in measured:
@@ -74,16 +85,44 @@ def with_tables(page: str, tables: str) -> tuple[str, list[float]]:
     return "\n".join(lines), ratios
 
 
+def place_of(name: str) -> tuple[str, int, int]:
+    """The line, the kind of its rows and whether they may be null, of the name of a row of ratios."""
+    null = name.endswith(WITH_NULL)
+    name = name.removesuffix(WITH_NULL)
+    kind = next((at for at, kind in enumerate(KINDS) if name.endswith(" of " + kind)), 0)
+    line = name.removesuffix(" of " + KINDS[kind]).removesuffix(",")
+    return line, kind, int(null)
+
+
+def with_means(page: str, found: str) -> str:
+    """The page on performance with the means of these results, without and with null for each kind."""
+    lines, raw = page.split("\n"), found.split("\n")
+    first, last = table_at(raw, RATIOS)
+    start, stop = table_at(lines, MEANS)
+    why = {cells(row)[0]: cells(row)[-1] for row in lines[start:stop]}
+    means: dict[str, list[list[str]]] = {}
+    for row in raw[first:last]:
+        line, kind, null = place_of(cells(row)[0])
+        means.setdefault(line, [["", ""] for _ in KINDS])[kind][null] = cells(row)[4]
+    shown = lambda pair: " / ".join(mean or "-" for mean in pair) if any(pair) else ""
+    lines[start:stop] = [
+        f"| {' | '.join([line, *map(shown, kinds), why.get(line, '')])} |".replace("|  |", "| |").replace("|  |", "| |")
+        for line, kinds in means.items()
+    ]
+    return "\n".join(lines)
+
+
 def main() -> int:
-    if len(sys.argv) != 2:
+    if len(sys.argv) > 2:
         print(__doc__, file=sys.stderr)
         return 2
-    tables = Path(sys.argv[1]).read_text(encoding="utf-8")
+    tables = Path(sys.argv[1]).read_text(encoding="utf-8") if sys.argv[1:] else ""
     if "DIFFERS" in tables:
         print("the two sides of some line answered differently", file=sys.stderr)
         return 1
-    page, ratios = with_tables(PAGE.read_text(encoding="utf-8"), tables)
-    PAGE.write_text(page, encoding="utf-8")
+    page, ratios = with_tables(results().read_text(encoding="utf-8"), tables)
+    results().write_text(page, encoding="utf-8")
+    PAGE.write_text(with_means(PAGE.read_text(encoding="utf-8"), page), encoding="utf-8")
     mean = math.exp(sum(math.log(ratio) for ratio in ratios if ratio) / len(ratios))
     above = sum(ratio > GOAL for ratio in ratios)
     print(f"{len(ratios)} lines, geometric mean {mean:.2f}, {above} above {GOAL}")

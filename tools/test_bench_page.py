@@ -2,7 +2,7 @@
 
 import unittest
 
-from bench_page import MEMORY, RATIOS, SINGLE, merged, ratios_of, with_tables
+from bench_page import MEANS, MEMORY, PAGE, RATIOS, SINGLE, merged, place_of, ratios_of, results, with_means, with_tables
 
 
 def table(head: str, *rows: str) -> str:
@@ -27,12 +27,12 @@ class BenchPage(unittest.TestCase):
         page, _ = with_tables(OLD, table(SINGLE, "| slice | 1 run | 2.0 ns a call | 4.0 | 0.50 |"))
         self.assertEqual(page, OLD.replace("1.0 ns a call | 4.0 | 0.25", "2.0 ns a call | 4.0 | 0.50"))
 
-    def test_a_new_row_stands_behind_the_one_before_it(self) -> None:
+    def test_a_new_row_comes_after_the_one_before_it(self) -> None:
         old = ["| a | 1 | 1 | 1 | 1 |", "| b | 1 | 1 | 1 | 1 |"]
         new = ["| a | 2 | 2 | 2 | 2 |", "| c | 2 | 2 | 2 | 2 |"]
         self.assertEqual(merged(RATIOS, old, new), [new[0], new[1], old[1]])
 
-    def test_a_new_row_that_follows_none_stands_first(self) -> None:
+    def test_a_new_row_that_follows_none_is_first(self) -> None:
         self.assertEqual(merged(RATIOS, ["| a | 1 | 1 | 1 | 1 |"], ["| c | 2 | 2 | 2 | 2 |"])[0], "| c | 2 | 2 | 2 | 2 |")
 
     def test_ratios_are_those_of_cells_and_of_times(self) -> None:
@@ -43,6 +43,20 @@ class BenchPage(unittest.TestCase):
     def test_all_lines_count(self) -> None:
         _, ratios = with_tables(OLD, table(RATIOS, "| take | 3.00 | 1.00 | 1.00 | 1.44 |"))
         self.assertEqual(ratios, [2.0, 4.0, 1.0, 1.0, 3.0, 1.0, 1.0, 2.0, 0.25])
+
+    def test_a_row_has_a_line_a_kind_and_null_or_not(self) -> None:
+        self.assertEqual(place_of("sum"), ("sum", 0, 0))
+        self.assertEqual(place_of("encode rows, beside words, of booleans, with null"), ("encode rows, beside words", 2, 1))
+        self.assertEqual(place_of("built of a hundred batches of nested runs"), ("built of a hundred batches", 4, 0))
+
+    def test_means_take_their_places_and_causes_stay(self) -> None:
+        raw = table(RATIOS, "| sum | 2.00 | 1.00 | 1.00 | 1.26 |", "| sum of texts, with null | 1.00 | 1.00 | 1.00 | 1.00 |")
+        page = table(MEANS, "| sum | 9.99 / - | | | | | tested |") + "\ntext"
+        self.assertEqual(with_means(page, raw), table(MEANS, "| sum | 1.26 / - | | | - / 1.00 | | tested |") + "\ntext")
+
+    def test_the_page_on_performance_has_the_newest_means(self) -> None:
+        page = PAGE.read_text(encoding="utf-8")
+        self.assertEqual(with_means(page, results().read_text(encoding="utf-8")), page)
 
 
 if __name__ == "__main__":
