@@ -3,7 +3,7 @@
 
     python3 tools/document_numbers.py        names each sentence that is out of step; ends in 'N passed, M failed'
 
-A count is told by the words behind it: `53 calls` are the calls that include/hivevigil.h declares, `21 errors` the
+A count is known by the words after it: `53 calls` are the calls that include/hivevigil.h declares, `21 errors` the
 variants of VortexError, and `28402 agree, 0 differ` the last line of crates/vectors/stdout. Sentences of other counts
 (measurements with a date, say) are not read.
 """
@@ -17,12 +17,14 @@ ROOT = Path(__file__).resolve().parent.parent
 SENTENCES = {
     "calls": [
         ("README.md", r"each of the (\d+) calls"),
+        ("CHANGELOG.md", r"(\d+) calls \(`include/hivevigil.h`\)"),
         ("crates/hivevigil/README.md", r"a static library of (\d+) calls"),
         ("examples/README.md", r"the library as (\d+) calls of C"),
     ],
     "errors": [
         ("docs/PROVED.md", r"has the (\d+) errors"),
         ("docs/SCRIPT.md", r"has the (\d+) errors"),
+        ("docs/CALLING.md", r"lists the (\d+) with numbers"),
     ],
     "agree": [("README.md", r"ends in `(\d+) agree, 0 differ`")],
 }
