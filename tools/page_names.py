@@ -1,5 +1,5 @@
 #!/usr/bin/env python3
-"""Names in pages that stand nowhere any more: a reader looks for what a page names.
+"""Names in pages that no file has any more: a reader looks for what a page names.
 
     python3 tools/page_names.py        names each; ends in 'N passed, M failed', N the pages
 
@@ -57,7 +57,7 @@ def main() -> int:
     found = {path: unknown((ROOT / path).read_text(encoding="utf-8"), known) for path in pages}
     for path, names in found.items():
         for number, name in names:
-            print(f"{path}:{number}: {name} stands nowhere")
+            print(f"{path}:{number}: no file has {name}")
     failed = sum(bool(names) for names in found.values())
     print(f"{len(pages) - failed} passed, {failed} failed")
     return 1 if failed else 0

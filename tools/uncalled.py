@@ -31,7 +31,7 @@ def sources(root: Path) -> dict[str, str]:
 
 
 def uncalled(texts: dict[str, str]) -> tuple[int, list[tuple[str, str]]]:
-    """How many public functions there are, and those that stand nowhere but where they are defined."""
+    """How many public functions there are, and those that are nowhere but where they are defined."""
     words = Counter(word for text in texts.values() for word in re.findall(r"\w+", text))
     defined = [(path, name) for path, text in texts.items() for name in PUBLIC.findall(text)]
     times = Counter(name for _, name in defined)

@@ -31,7 +31,7 @@ def words(crate: Path) -> set[str]:
 
 
 def unused(root: Path) -> dict[str, list[str]]:
-    """For each crate the names of its line that stand nowhere in it."""
+    """For each crate the names of its line that are nowhere in it."""
     crates = lines((root / "crates.txt").read_text(encoding="utf-8"))
     return {crate: sorted(set(names) - words(root / "crates" / crate)) for crate, names in crates.items()}
 
