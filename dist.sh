@@ -2,7 +2,7 @@
 # Makes packages of the built library, for machines that have neither the toolchain nor an hour:
 #     sh dist.sh [FOLDER]        into FOLDER, or dist/
 # A .tar.gz with install.sh and all that it puts in place, the Rust crate in it; a Debian package; a Python wheel.
-# Their version is that of the file VERSION, with +unproved behind it where the library was built without proof.
+# Their version is that of the file VERSION, with +unproved after it where the library was built without proof.
 # What the machine lacks (dpkg-deb, or setuptools and wheel) is named and skipped. Nothing is installed.
 set -eu
 top=$(cd "$(dirname "$0")" && pwd)
@@ -20,7 +20,7 @@ trap 'rm -rf "$work"' EXIT
 
 has() { command -v "$1" >/dev/null 2>&1; }
 
-# what install.sh needs, as it stands in a checkout
+# what install.sh needs, as it is in a checkout
 make_tar() {
     name=hivevigil-$version-$machine
     mkdir -p "$work/$name/tools" "$work/$name/rust" "$work/$name/docs"

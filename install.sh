@@ -3,7 +3,7 @@
 # that its users read: the binary interface, errors, columns as bytes and their schema.
 #     sh install.sh --prefix DIR [--libdir lib]     installs below DIR
 #     sh install.sh --prefix DIR --uninstall        takes away what an install put there, and nothing else
-# DESTDIR, if set, stands before DIR, as for other installers. sh examples/build.sh builds the library first.
+# DESTDIR, if set, comes before DIR, as for other installers. sh examples/build.sh builds the library first.
 set -eu
 top=$(cd "$(dirname "$0")" && pwd)
 

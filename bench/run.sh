@@ -1,13 +1,13 @@
 #!/bin/sh
-# Times the library's calls for C beside plain Rust kernels that do the same work, and compares what both answer. From
+# Times the library's calls for C relative to plain Rust kernels that do the same work, and compares what both answer. From
 # any folder, over lib/libhivevigil.a (or that of the folder that HIVEVIGIL_LIB names):
 #     sh bench/run.sh >tables.md           all lines: some fifteen minutes, 3 GB
 #     sh bench/run.sh --only sum,cast      the lines whose names begin so
 #     sh bench/run.sh --growth             a thousand to ten million runs
-#     sh bench/run.sh --sizes              bytes of messages beside those of arrays
+#     sh bench/run.sh --sizes              bytes of messages relative to those of arrays
 #     sh bench/run.sh --smoke              every line over few rows, in seconds: do both sides answer the same?
 # --rows N, --turns N and --rounds N change the size (4000000, 7, 1: of rounds the middle one of each line counts);
-# --cold maps each large block anew. CORE=3 in the environment runs on core 3 alone.
+# --cold maps each large block anew. CORE=3 in the environment runs only on core 3.
 # Needs cargo. The status is 1 where an answer differs, whatever was taken.
 set -eu
 top=$(cd "$(dirname "$0")/.." && pwd)

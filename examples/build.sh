@@ -1,5 +1,5 @@
 #!/bin/sh
-# Proves and builds the library: lib/libhivevigil.a, which needs nothing beside the C library, and lib/libhivevigil.so,
+# Proves and builds the library: lib/libhivevigil.a, which needs only the C library, and lib/libhivevigil.so,
 # the same with the calls for Arrow, for Python. From any folder:
 #     sh examples/build.sh
 #     sh examples/build.sh --unproved      the same calls in minutes, with nothing proved; lib/UNPROVED says so

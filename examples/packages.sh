@@ -1,8 +1,8 @@
 #!/bin/sh
-# Uses the library as its users do, each time in an empty folder outside of the checkout, from what was installed alone:
+# Uses the library as its users do, each time in an empty folder outside of the checkout, only from what was installed:
 #     sh examples/packages.sh c | cpp | rust | uninstall      after install.sh into that folder
 #     sh examples/packages.sh tar | deb | wheel DIST          from the packages that dist.sh made in DIST
-# Nothing is installed beside that folder, which is removed, and no network is used.
+# Nothing is installed outside of that folder, which is removed, and no network is used.
 set -eu
 top=$(cd "$(dirname "$0")/.." && pwd)
 cc=${CC:-cc} cxx=${CXX:-c++}

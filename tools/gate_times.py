@@ -4,8 +4,8 @@
     python3 tools/gate_times.py [COMMAND ..]      runs the command, `rt ci` where none is given, and prints the table
 
 While it runs the processor time of each process of the prover is read once a second, so that what the last second of a
-process took may be missing. A process is told by its command (a build or a check, and of which crate) and by its
-folder: wrong bodies are tried in folders of their own, whose name begins with `rt-edit-`. A check that runs beside
+process took may be missing. A process is known by its command (a build or a check, and of which crate) and by its
+folder: wrong bodies are tried in folders of their own, whose name begins with `rt-edit-`. A check that runs next to
 another gate on the machine is counted as well: run nothing else. Exits with the command's status.
 """
 
@@ -36,13 +36,13 @@ class Costs:
 
 
 def seconds_of(stat: str) -> float:
-    """The processor seconds that a line of /proc/PID/stat tells, in the process and by the system for it."""
+    """The processor seconds that a line of /proc/PID/stat has, in the process and by the system for it."""
     fields = stat[stat.rindex(")") + 2 :].split()
     return (int(fields[11]) + int(fields[12])) / TICKS
 
 
 def provers() -> dict[tuple[int, str], float]:
-    """The prover's processes, by their number and command behind their folder, and their processor seconds."""
+    """The prover's processes, by their number and command after their folder, and their processor seconds."""
     found = {}
     for process in Path("/proc").iterdir():
         if not process.name.isdigit():
@@ -58,7 +58,7 @@ def provers() -> dict[tuple[int, str], float]:
 
 
 def costs_of(seen: dict[tuple[int, str], float]) -> dict[str, Costs]:
-    """The costs of each crate, of processes as `provers` tells them."""
+    """The costs of each crate, of processes as `provers` returns them."""
     costs: dict[str, Costs] = defaultdict(Costs)
     for (_, text), seconds in seen.items():
         kind, crate = PROVER.search(text).groups()

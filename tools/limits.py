@@ -5,7 +5,7 @@
     python3 tools/limits.py --words    how often each word of WORDS is found, and where most; tools/words.txt is rewritten
 
 Sources (.rt) have at most 500 lines, their functions 40 from brace to brace, documents (.md) lines of 120 characters
-outside of tables and of indented text that is no item of a list. How many lines of sources are past 120, and how many
+outside of tables and of indented text that is not an item of a list. How many lines of sources are past 120, and how many
 past 140, may only fall: LONG_LINES has what there is. Imports and attributes don't count, since `rt fmt` writes each as
 one line. A cell of a table has at most 200 characters.
 

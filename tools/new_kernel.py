@@ -1,9 +1,9 @@
 #!/usr/bin/env python3
-"""Where a further kernel has to be named: each line that names one that stands, crate by crate from below.
+"""Where a further kernel has to be named: each line that names an existing one, crate by crate from below.
 
-    python3 tools/new_kernel.py FillNull fill_null        the variant and the function of the one that stands
+    python3 tools/new_kernel.py FillNull fill_null        the variant and the function of the existing one
 
-Its sources and definitions are listed with their lines, and the pages of docs/ and the headers behind them; tests are
+Its sources and definitions are listed with their lines, and the pages of docs/ and the headers after them; tests are
 left out, and of proofs each folder of the function. `docs/ARCHITECTURE.md`, "Where a further kernel goes", says what is
 written at each place. Ends in 'N lines, M folders of proofs'.
 """
@@ -13,7 +13,7 @@ import sys
 from pathlib import Path
 
 ROOT = Path(__file__).resolve().parent.parent
-# Crates of tests alone: a further kernel has tests of its own there.
+# Crates only for tests: a further kernel has tests of its own there.
 TESTS = {"column_tests", "conformance", "refusing", "script_tests"}
 
 
@@ -23,7 +23,7 @@ def order_of(crates_txt: str) -> list[str]:
 
 
 def lines_with(text: str, names: list[str]) -> list[tuple[int, str]]:
-    """The numbered lines of a text in which one of the names stands as a word. Long lists of imports are cut short."""
+    """The numbered lines of a text in which one of the names is a word. Long lists of imports are cut short."""
     word = re.compile(rf"\b(?:{'|'.join(map(re.escape, names))})\b")
     return [(number, line.strip()[:100]) for number, line in enumerate(text.split("\n"), 1) if word.search(line)]
 

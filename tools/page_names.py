@@ -3,8 +3,8 @@
 
     python3 tools/page_names.py        names each; ends in 'N passed, M failed', N the pages
 
-A name is a word, or a path of words, in backquotes: `filter_ends`, `ArrayRef::flat_view`. It stands where each of its
-words is one of a file that is no page, or of a file's path. Words of less than four letters and parts of words
+A name is a word, or a path of words, in backquotes: `filter_ends`, `ArrayRef::flat_view`. It is found where each of its
+words is one of a file that is not a page, or of a file's path. Words of less than four letters and parts of words
 (`_decimal`) are not looked at, nor are the pages of wrong bodies and the page on the Rust crate, which has its names.
 OTHERS has words of programs and toolchains that this repository does not hold.
 """
@@ -25,7 +25,7 @@ OTHERS = {
     "array_agg": "PostgreSQL",
     "work_mem": "PostgreSQL",
 }
-# What is no name: the toolchain's sum of a gate, and letters of a file of vectors.
+# What is not a name: the toolchain's sum of a gate, and letters of a file of vectors.
 NO_NAME = re.compile(r"[0-9a-f]{16}|x00FF")
 
 
@@ -41,7 +41,7 @@ def unknown(page: str, known: set[str]) -> list[tuple[int, str]]:
 
 
 def words_of(root: Path, paths: list[str]) -> set[str]:
-    """All words of the files that are no pages, and of all paths."""
+    """All words of the files that are not pages, and of all paths."""
     words = {word for path in paths for word in WORD.findall(path)}
     for path in paths:
         if not path.endswith((".md", ".png")) and not path.startswith("crates/vectors/std"):

@@ -1,12 +1,12 @@
 #!/usr/bin/env python3
-"""The public call heads its file: what a reader comes for stands above what it calls.
+"""The public call heads its file: what a reader comes for is above what it calls.
 
     python3 tools/public_first.py        names the files that begin otherwise; ends in 'N passed, M failed', N the files
 
 A call is a function, a trait, or an `impl` that has functions. It is public where users of the crate see it, shared
 where other files of the crate do, and else a helper; an `impl` is seen as its type and its trait are. The first call
 of a file has to be of the widest sort that the file has. Macros, constants, types and modules may stand before it, and
-tests are no calls. EXCEPTIONS names at most three files, each with its reason.
+tests are not calls. EXCEPTIONS names at most three files, each with its reason.
 """
 
 import re
@@ -17,14 +17,14 @@ from pathlib import Path
 ROOT = Path(__file__).resolve().parent.parent
 HELPER, SHARED, PUBLIC = range(3)
 SORTS = ("a helper", "what other files of the crate call", "a public call")
-# By file why its public call stands further down.
+# By file why its public call is further down.
 EXCEPTIONS: dict[str, str] = {}
 ITEM = re.compile(r"^(pub(?:\([a-z]+\))? )?(?:const )?(?:unsafe )?(?:extern \"C\" )?(fn|struct|enum|trait|impl)\b(.*)")
 METHOD = re.compile(r"^    (pub(?:\([a-z]+\))? )?(?:const )?(?:unsafe )?fn \w+", re.M)
 
 
 def sort_of(visibility: str | None) -> int:
-    """How widely what is written behind this word is seen."""
+    """How widely what is written after this word is seen."""
     if not visibility:
         return HELPER
     return PUBLIC if visibility.strip() == "pub" else SHARED
@@ -77,7 +77,7 @@ def fault_of(text: str) -> str | None:
     calls = calls_of(text)
     if not calls or calls[0] == max(calls):
         return None
-    return f"{SORTS[calls[0]]} stands before {SORTS[max(calls)]}"
+    return f"{SORTS[calls[0]]} comes before {SORTS[max(calls)]}"
 
 
 def main() -> int:

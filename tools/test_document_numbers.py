@@ -5,7 +5,7 @@ import unittest
 from document_numbers import agree, calls, errors, out_of_step
 
 HEADER = """
-/* hv_told(a) is no declaration; */
+/* hv_told(a) is not a declaration; */
 typedef struct hv_column { void *at; } hv_column;
 static inline const void *hv_some(const void *items) { return items; }
 int32_t hv_u8(const uint8_t *items, size_t len,

@@ -12,7 +12,7 @@ HELP = "// What it is.\nfn helper() -> u8 {\n    0\n}\n"
 class PublicFirst(unittest.TestCase):
     def test_a_helper_stands_below_the_call(self) -> None:
         self.assertIsNone(fault_of(CALL + HELP))
-        self.assertEqual(fault_of(HELP + CALL), "a helper stands before a public call")
+        self.assertEqual(fault_of(HELP + CALL), "a helper comes before a public call")
 
     def test_a_shared_function_heads_a_file_that_has_no_public_one(self) -> None:
         self.assertIsNone(fault_of(SHARE + HELP))

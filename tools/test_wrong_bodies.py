@@ -82,16 +82,16 @@ class LookTests(Tree):
 
     def test_a_text_that_is_gone_or_stands_twice_does_not_fit(self):
         self.page("file: src/lib.rt", "old: fourth = 1", "new: fourth = 0")
-        self.assert_unfit("an 'old:' text stands in crates/low/src/lib.rt 0 times, and not once: fourth = 1")
+        self.assert_unfit("an 'old:' text is in crates/low/src/lib.rt 0 times, and not once: fourth = 1")
         self.page("file: src/lib.rt", "old: = 2;", "new: = 3;")
-        self.assert_unfit("an 'old:' text stands in crates/low/src/lib.rt 2 times, and not once: = 2;")
+        self.assert_unfit("an 'old:' text is in crates/low/src/lib.rt 2 times, and not once: = 2;")
 
     def test_a_later_pair_fits_what_the_earlier_one_made(self):
         self.page("file: src/lib.rt", "old: second = 2", "new: second = 3", "old: = 2;", "new: = 4;")
         self.assert_fits()
         pairs = ["old: first = 1", "new: first = 2", "file: src/lib.rt", "old: = 1", "new: = 2"]
         self.page("file: src/lib.rt", *pairs)
-        self.assert_unfit("an 'old:' text stands in crates/low/src/lib.rt 0 times, and not once: = 1")
+        self.assert_unfit("an 'old:' text is in crates/low/src/lib.rt 0 times, and not once: = 1")
 
     def test_a_file_that_is_gone_does_not_fit(self):
         self.page("file: src/gone.rt", "old: a", "new: b")
@@ -103,14 +103,14 @@ class LookTests(Tree):
         self.page("file: src/lib.rt", "new: last")
         self.assert_unfit("a 'new:' line with no 'old:' line before it")
         self.page("file: src/lib.rt", "old: first")
-        self.assert_unfit("an 'old:' line with no 'new:' line behind it")
+        self.assert_unfit("an 'old:' line with no 'new:' line after it")
         self.page()
         self.assert_unfit("no lines")
 
     def test_a_page_has_edits_alone(self):
         self.write("crates/low/must-fail/notes.md", "# Notes\n\nThe line\n\n    let first = 1;\n")
         self.assert_unfit("line 5 is of no edit: let first = 1;", "low/notes.md")
-        self.assert_unfit("no wrong body stands in it", "low/notes.md")
+        self.assert_unfit("no wrong body is in it", "low/notes.md")
 
     def test_no_page_at_all_is_a_failure(self):
         self.assertEqual(self.looked(), (1, ["0 passed, 0 failed"]))
@@ -127,7 +127,7 @@ class LookTests(Tree):
 
 
 class TryTests(Tree):
-    """The same crate, with an `rt` that stands for the toolchain's."""
+    """The same crate, with an `rt` that takes the place of the toolchain's."""
 
     def setUp(self):
         super().setUp()

@@ -3,8 +3,8 @@
 
     python3 tools/uncalled.py        names them; ends in 'N passed, M failed', N the names that are used or have a reason
 
-A function is used where its name stands as a word in another place of the sources than where it is defined. REASONS
-has those that stand for users alone.
+A function is used where its name is a word in another place of the sources than where it is defined. REASONS
+has those that are only for users.
 """
 
 import re

@@ -85,7 +85,7 @@ def add_tests(crate: Path) -> list[str]:
 
 
 def kit_that_keeps(kit: Path, at: Path, module: Path) -> Path:
-    """A kit of links to the machine's, but for the compiler that `rt try` calls. rt takes the kit that it stands in."""
+    """A kit of links to the machine's, but for the compiler that `rt try` calls. rt takes the kit that it is in."""
     for folder in (at / "bin", at / "toolchain/bin"):
         folder.mkdir(parents=True)
     for source in [*kit.iterdir(), *(kit / "bin").iterdir(), *(kit / "toolchain").iterdir()]:
@@ -133,7 +133,7 @@ def struct_calls(header: str, exports: list[str]) -> dict[str, tuple[str, str]]:
 
 
 def adapters(calls: dict[str, tuple[str, str]]) -> str:
-    """C that returns a struct as C does, over the call of the module, which writes it where it is told."""
+    """C that returns a struct as C does, over the call of the module, which writes it where it is asked."""
     lines = ["#define HV_EXPORTS_ALONE", '#include "hivevigil.h"']
     for name, (struct, parameters) in calls.items():
         passed = ", ".join(re.search(r"(\w+)$", each.strip())[1] for each in parameters.split(","))

@@ -3,7 +3,7 @@
 
     python3 tools/unused_crates.py        ends in 'N passed, M failed', N the lines without such a name
 
-A name is used where it stands as a word in the crate's src/, specs/, proofs/ or must-fail/.
+A name is used where it is a word in the crate's src/, specs/, proofs/ or must-fail/.
 """
 
 import re

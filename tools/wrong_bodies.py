@@ -7,11 +7,11 @@
 Each is a title `NAME` in backquotes and, indented by four spaces, the lines of an edit: `file:`, and then `old:` and
 `new:` in turn. An `old:` text has to stand exactly once in its file, in what the earlier pairs of the same edit made.
 Before these lines `crate:` names another crate than that of the page, and `only:` a function with `prints:` a text:
-such an edit does not compile, and a check of the function alone has to fail and print the text. A page has no other
+such an edit does not compile, and a check of only the function has to fail and print the text. A page has no other
 indented lines, and one wrong body at least.
 
 A try takes a check of the crate and 10 to 40 seconds for each; it begins with what `rt check` kept. Edits of the same
-crate that the gate tries are tried beside those of its pages.
+crate that the gate tries are tried with those of its pages.
 """
 
 import argparse
@@ -77,7 +77,7 @@ class WrongBody:
                 sources[path] = sources[path].replace(old, value)
                 old = None
         if old is not None:
-            raise Unfit("an 'old:' line with no 'new:' line behind it")
+            raise Unfit("an 'old:' line with no 'new:' line after it")
         if not sources:
             raise Unfit("no lines")
         return sources
@@ -100,11 +100,11 @@ def read(path: Path) -> str:
 
 
 def once(source: str, text: str, path: Path) -> None:
-    """The text stands once in the source."""
+    """The text is once in the source."""
     count = source.count(text)
     if count != 1:
         name = path.relative_to(ROOT)
-        raise Unfit(f"an 'old:' text stands in {name} {count} times, and not once: {text[:60]}")
+        raise Unfit(f"an 'old:' text is in {name} {count} times, and not once: {text[:60]}")
 
 
 def pages() -> list[Path]:
@@ -124,7 +124,7 @@ def wrong_bodies(page: Path) -> tuple[list[WrongBody], list[str]]:
         elif line.startswith("    "):
             faults.append(f"line {number} is of no edit: {line.strip()[:60]}")
     if not found:
-        faults.append("no wrong body stands in it")
+        faults.append("no wrong body is in it")
     return found, faults
 
 
@@ -166,7 +166,7 @@ def try_by_proofs(crate: str, found: list[WrongBody]) -> int:
         for wrong in found:
             path = folder / f"{wrong.name}.edit"
             if path.exists():
-                print(f"{crate}/{wrong.name}: stands as an edit too", file=sys.stderr)
+                print(f"{crate}/{wrong.name}: is an edit too", file=sys.stderr)
                 return 1
             path.write_text(wrong.text(), encoding="utf-8")
             placed.append(path)
@@ -177,7 +177,7 @@ def try_by_proofs(crate: str, found: list[WrongBody]) -> int:
 
 
 def try_by_a_check(wrong: WrongBody) -> int:
-    """Has a check read a wrong body that does not compile; it stands in the sources meanwhile."""
+    """Has a check read a wrong body that does not compile; it is in the sources meanwhile."""
     edited = wrong.edited()
     before = {path: path.read_bytes() for path in edited}
     command = ["rt", "check", "--only", wrong.value("only")]

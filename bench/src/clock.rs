@@ -28,7 +28,7 @@ pub fn now() -> u64 {
     at.seconds as u64 * 1_000_000_000 + at.nanoseconds as u64
 }
 
-/// Memory that was freed is used again, and not given back to the system: what is timed is no page fault.
+/// Memory that was freed is used again, and not given back to the system: what is timed is not a page fault.
 pub fn keep_memory() {
     unsafe {
         mallopt(MMAP_MAX, 0);

@@ -85,7 +85,7 @@ items! {
     i64, hv_i64, hv_read_i64;
 }
 
-/// Digits of the decimals here, and behind the point.
+/// Digits of the decimals here, and after the point.
 const DIGITS: (u8, i8) = (30, 2);
 
 extern "C" {
@@ -246,7 +246,7 @@ impl Column {
         self.command(|column, out, fields| unsafe { raw::hv_encode_rows(column, out, fields) })
     }
 
-    /// The encoding of these columns of one type, one behind the other, by a builder.
+    /// The encoding of these columns of one type, one after the other, by a builder.
     pub fn built(batches: &[Column]) -> Column {
         let mut builder = BuilderHandle {
             at: ptr::null_mut(),
@@ -412,7 +412,7 @@ impl Column {
         size
     }
 
-    /// The message of a column, into so many bytes of room.
+    /// The message of a column, into this number of bytes of room.
     pub fn message(&self, room: usize) -> Vec<u8> {
         let (mut message, mut size) = (Vec::<u8>::with_capacity(room), 0);
         done(|fields| unsafe {

@@ -1,6 +1,6 @@
 /* Reads columns as bytes, a line of hexadecimal digits each, and answers a line each: "refused", or the rows, at most a
  * hundred of them, and the bytes that the column is written as again. Decimals are the digits of their 16 bytes, the
- * highest first, texts and bytes those of their bytes behind a quote, lists their items in brackets.
+ * highest first, texts and bytes those of their bytes after a quote, lists their items in brackets.
  *
  *     cc reader.c $(pkg-config --cflags --libs hivevigil) -o reader */
 #include "hivevigil.h"

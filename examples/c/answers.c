@@ -15,7 +15,7 @@ static void check_session(void) {
     for (size_t i = 0; i < COUNT(session.kernels); i++) CHECK(session.kernels[i] == 1);
 }
 
-/* Bits 3 to 5 are 1, 0 and 1: the second row is null. Its stored number is read as it stands. */
+/* Bits 3 to 5 are 1, 0 and 1: the second row is null. Its stored number is read as it is. */
 #define CHECK_NUMBERS(type, suffix, number_of_type, least, greatest, shown) \
     do { \
         const type items[3] = {least, 5, greatest}; \

@@ -1,4 +1,4 @@
-/* Rows laid out as legal arrays by chance: with offsets, as values of a dictionary or of runs, null_count told or not,
+/* Rows laid out as legal arrays by chance: with offsets, as values of a dictionary or of runs, null_count given or not,
  * bitmaps that are not needed, anything under null, buffers that are not aligned. */
 #ifndef HIVEVIGIL_ARROW_LAYOUTS_H
 #define HIVEVIGIL_ARROW_LAYOUTS_H
@@ -83,7 +83,7 @@ typedef struct view {
     int32_t buffer, start;
 } view;
 
-/* A text of more than 12 bytes goes to one of the buffers, behind some bytes of no text. */
+/* A text of more than 12 bytes goes to one of the buffers, after some bytes of no text. */
 static inline view lay_view(const row *text, uint8_t **buffers, int64_t *sizes, size_t count) {
     view made = {text->size, {0}, 0, 0};
     if (text->size <= 12) {

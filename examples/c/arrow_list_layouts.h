@@ -32,7 +32,7 @@ static inline bool has_null_list(const lists *all) {
     return false;
 }
 
-/* Lists behind some that are not shown, over items behind some that no list has. */
+/* Lists after some that are not shown, over items after some that no list has. */
 static inline void lay_lists(const type *of, const lists *shown, size_t width, struct ArrowSchema *schema,
                       struct ArrowArray *array) {
     const size_t offset = one_in(2) ? 0 : below(10), ahead = one_in(2) ? below(20) : 0, nulls = has_null_list(shown);

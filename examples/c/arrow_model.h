@@ -1,5 +1,5 @@
 /* Random rows, for arrow_layouts.h, which lays them out as Arrow arrays, and arrow_reader.h, which reads such arrays.
- * The three follow the format's text alone: nothing of the library is used but the structs of the interface. */
+ * The three follow only the format's text: nothing of the library is used but the structs of the interface. */
 #ifndef HIVEVIGIL_ARROW_MODEL_H
 #define HIVEVIGIL_ARROW_MODEL_H
 #include "hivevigil_arrow.h"

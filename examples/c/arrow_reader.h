@@ -1,5 +1,5 @@
 /* A reader of Arrow arrays, one row at a time, and what has to hold of an array that someone made. It follows the
- * format's text alone. */
+ * format's text only. */
 #ifndef HIVEVIGIL_ARROW_READER_H
 #define HIVEVIGIL_ARROW_READER_H
 #include "arrow_model.h"

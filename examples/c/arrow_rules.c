@@ -310,7 +310,7 @@ static void check_decimals(void) {
     }
 }
 
-/* Bytes that lie anywhere: each number is read as it stands. */
+/* Bytes that lie anywhere: each number is read as it is. */
 static void check_unaligned(void) {
     static uint8_t bytes[64];
     const int64_t wide[3] = {-2, 1, 70000000000};

@@ -298,7 +298,7 @@ static void check_one_schema(void) {
     hv_free(&runs);
 }
 
-/* Runs of runs go out as one level in every chunk, also where a chunk shows one run alone. */
+/* Runs of runs go out as one level in every chunk, also where a chunk shows only one run. */
 static void check_one_level(void) {
     const uint8_t outer[2] = {3, 7};
     const int64_t inner[2] = {5, 6}, items[7] = {5, 5, 5, 6, 6, 6, 6};

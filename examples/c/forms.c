@@ -285,7 +285,7 @@ static void check_constants(void) {
 
 /* ---- Runs ---- */
 
-/* each run as the rows have it: `form` tells which runs there are */
+/* each run as the rows have it: `form` says which runs there are */
 static void check_runs(const rows *of, int form) {
     hv_column column = HV_EMPTY;
     size_t count, start, stop, run, runs = 0, first[MOST + 2];

@@ -24,7 +24,7 @@ PLACE(hv_session, kernels, 64);
 SIZE(hv_settings, 72);
 PLACE(hv_settings, kernels, 56);
 
-/* What the library writes lies where the header says: every byte of the session, and none behind it. */
+/* What the library writes lies where the header says: every byte of the session, and none after it. */
 int main(void) {
     struct {
         hv_session session;

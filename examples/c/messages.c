@@ -1,4 +1,4 @@
-/* Columns as bytes, and back. What each message has to be stands here byte by byte, from the page on bytes. */
+/* Columns as bytes, and back. What each message has to be is here byte by byte, from the page on bytes. */
 #include "check.h"
 
 static hv_session session;
@@ -63,7 +63,7 @@ static bool is_filled(const uint8_t *bytes, size_t len) {
     return true;
 }
 
-/* The message of a column is these bytes, behind which nothing is written; with room for one less there is none, and
+/* The message of a column is these bytes, after which nothing is written; with room for one less there is none, and
  * nothing is written at all; what is read of it has these rows. */
 static void check_message(hv_column *column, const uint8_t *message, size_t len, const char *rows) {
     uint8_t written[LONGEST];

@@ -76,7 +76,7 @@ static void make_constant(size_t rows, hv_column *out) {
     CHECK(!hv_constant(&kind, &value, (const uint8_t *)"constant", len, rows, out, &error));
 }
 
-/* a flat column or a constant, with null told in one of the four ways */
+/* a flat column or a constant, with null given in one of the four ways */
 static void make_flat(size_t rows, hv_column *out) {
     uint64_t items[2 * ROWS], bits[2];
     for (size_t i = 0; i < COUNT(items); i++) items[i] = below(2) ? below(9) : chance();

@@ -303,7 +303,7 @@ static void check_empty_handles(void) {
     check_kept();
 }
 
-/* A null pointer for no items is no fault: no rows are made of it, read into it, or found there. */
+/* A null pointer for no items is not a fault: no rows are made of it, read into it, or found there. */
 static void check_no_items(void) {
     const int32_t zero[1] = {0};
     const hv_value no_letters = {.kind = HV_TEXT};
@@ -349,7 +349,7 @@ static void check_nothing_asked(void) {
     check_kept();
 }
 
-/* The size that a session begins with says which part of it is there; the exports read what stands behind it. */
+/* The size that a session begins with says which part of it is there; the exports read what comes after it. */
 static void check_session(void) {
     hv_session set, none = {0};
     hv_column made = HV_EMPTY;

@@ -1,4 +1,4 @@
-/* malloc, calloc, realloc and free that refuse the requests they are told to, and count blocks. The linker hands them
+/* malloc, calloc, realloc and free that refuse the requests that were chosen, and count blocks. The linker hands them
  * to all of the program: cc .. -Wl,--wrap=malloc,--wrap=calloc,--wrap=realloc,--wrap=free */
 #ifndef HIVEVIGIL_REFUSING_MALLOC_H
 #define HIVEVIGIL_REFUSING_MALLOC_H

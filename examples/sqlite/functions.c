@@ -295,7 +295,7 @@ static int32_t look_row(question *asked, hv_value *value, uint8_t *text, size_t 
 static int32_t ask_min(question *asked) { return answer_look(asked, look_least); }
 static int32_t ask_max(question *asked) { return answer_look(asked, look_greatest); }
 
-/* Argument `at` as a number of rows; false, and an error, where it is no integer. */
+/* Argument `at` as a number of rows; false, and an error, where it is not an integer. */
 static bool is_row(question *asked, const char *name, int at, sqlite3_int64 *row) {
     const int type = sqlite3_value_numeric_type(asked->values[at]);
     *row = sqlite3_value_int64(asked->values[at]);

@@ -161,7 +161,7 @@ static void check_bytes(void) {
 }
 
 /* One value in 2^60 rows, a constant, which costs a run in each function: 1 as i64 without null, 7 as u8, and, in two
- * rows, 2^63 as u64, which is no number of SQLite's. */
+ * rows, 2^63 as u64, which is not a number of SQLite's. */
 static void check_constants(void) {
     ask("CREATE TABLE x AS SELECT x'0801100818032080808080808080801028013A080100000000000000' AS ones, "
         "x'0801100118032080808080808080801028013A0107' AS sevens, "

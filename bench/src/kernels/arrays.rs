@@ -6,7 +6,7 @@ use crate::kernels::Slice;
 use std::ops::Range;
 use std::sync::Arc;
 
-/// The type of rows: whole numbers of so many bytes, and whether they may be null.
+/// The type of rows: whole numbers of this number of bytes, and whether they may be null.
 #[derive(Clone, Copy, Debug, PartialEq, Eq)]
 pub struct NumberType {
     pub bytes: usize,

@@ -143,7 +143,7 @@ fn size_around<T>(runs: &Runs<T>, packed: usize) -> usize {
     head + field_len(packed) + field_len(flat_len(&runs.values))
 }
 
-/// The message of runs over a type that has this number in the schema: a pass over their lengths tells how many bytes
+/// The message of runs over a type that has this number in the schema: a pass over their lengths counts how many bytes
 /// these have, and another writes them.
 pub fn write<T>(runs: &Runs<T>, number: u64) -> Vec<u8> {
     let push_lengths = |message: &mut Vec<u8>| {
@@ -236,7 +236,7 @@ impl<'a> Reader<'a> {
         self.behind(&[of_bytes(field)])
     }
 
-    /// The bytes that stand behind this key and their number.
+    /// The bytes after this key and their number.
     fn behind(&mut self, key: &[u8]) -> Option<&'a [u8]> {
         self.0 = self.0.strip_prefix(key)?;
         let len = self.varint()?;

@@ -34,7 +34,7 @@ pub fn fill<T: Copy + PartialEq>(runs: &Runs<T>, value: T) -> Runs<T> {
     join(runs.ends.clone(), Flat { items, flags: None })
 }
 
-/// The row of the dictionary that each code numbers; `None` where there is none. What stands under null is blank.
+/// The row of the dictionary that each code numbers; `None` where there is none. What is stored under null is blank.
 #[inline(never)]
 pub fn take_from<T: Copy + Default, U: Copy + PartialEq + Default>(
     codes: &Runs<T>,

@@ -46,7 +46,7 @@ pub fn lines<T: Number>(bench: &mut Bench, load: &Load) {
     }
 }
 
-/// Lists as long as the runs of the load, one behind the other.
+/// Lists as long as the runs of the load, one after the other.
 fn lists_of<T: Number>(load: &Load) -> Lists<T> {
     let stops = || load.ends.iter().map(|end| u64::from(*end));
     let starts = || std::iter::once(0).chain(stops());

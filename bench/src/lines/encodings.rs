@@ -24,7 +24,7 @@ pub fn lines(bench: &mut Bench, load: &Load) {
     numbers(bench, load);
 }
 
-/// A loop of Rust's, and what a line beside it is called behind the name of the call.
+/// A loop of Rust's, and what its line is called after the name of the call.
 type Kernel<'a, R> = (&'static str, &'a dyn Fn() -> R);
 
 /// A flat column that is encoded as it is, and built of a hundred batches; the Rust loops have it as one column.

@@ -1,5 +1,5 @@
 //! What the first call of a process costs, which meets its code, its branches and its memory for the first time: each
-//! call is made once in a process of its own, which tells what it took and what it answered. Its column was made just
+//! call is made once in a process of its own, which reports what it took and what it answered. Its column was made just
 //! before, so that a small one lies in the cache.
 use super::selects::{index_column, indices, mask, mask_column};
 use super::session;

@@ -172,7 +172,7 @@ fn selects(bench: &mut Bench, load: &Load, runs: &Runs<u64>, column: &Column) {
     );
 }
 
-/// What does not go by runs: one row in so many, a range, and all of them shared.
+/// What does not go by runs: one row of a number, a range, and all of them shared.
 fn looks(bench: &mut Bench, load: &Load, runs: &Runs<u64>, column: &Column) {
     const TIMES: usize = 1000;
     let (session, rows) = (session(), load.rows());

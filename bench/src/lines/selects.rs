@@ -16,7 +16,7 @@ pub const TAKES: [(&str, usize, bool); 4] = [
     ("take, a fortieth at random", FEW, false),
     ("take, a fortieth in order", FEW, true),
 ];
-/// Of so many rows a filter keeps one where it keeps few.
+/// Rows of which a filter keeps one where it keeps few.
 const RARE: u64 = 1000;
 /// The names of filters, and of how many rows one is kept.
 pub const FILTERS: [(&str, u64); 3] = [

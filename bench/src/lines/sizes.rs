@@ -15,7 +15,7 @@ struct Sizes {
     message: usize,
 }
 
-/// A table of the bytes of columns of so many rows without null: flat, and in runs with ends of 32 bits.
+/// A table of the bytes of columns of this number of rows without null: flat, and in runs with ends of 32 bits.
 pub fn sizes(rows: usize) -> String {
     let mut text = format!(
         "Bytes of {rows} rows. Arrays are items one after the other (bits of booleans, offsets of 32 bits and bytes of \
@@ -45,7 +45,7 @@ fn truths(load: &Load) -> Column {
     Column::truths(&Truths { bits, flags: None })
 }
 
-/// Rows of so many bits each.
+/// Rows of this number of bits each.
 fn row(text: &mut String, load: &Load, kind: &str, bits: usize, values: &Column) {
     let bytes = |items: usize| (items * bits).div_ceil(8);
     let runs = load.ends.len();
