@@ -5,7 +5,8 @@
 
 A count is known by the words after it: `53 calls` are the calls that include/hivevigil.h declares, `21 errors` the
 variants of VortexError, and `28402 agree, 0 differ` the last line of crates/vectors/stdout. Sentences of other counts
-(measurements with a date, say) are not read.
+(measurements with a date, say) are not read. Pages that cite a decision (`docs/DECISIONS.md`, 92) cite one that is
+there.
 """
 
 import re
@@ -68,6 +69,20 @@ def out_of_step(page: str, found: str, count: int, text: str) -> str | None:
     return f"{page}: {', '.join(wrong)} where there are {count} ({found})" if wrong else None
 
 
+def without_entry(page: str, text: str, decisions: str) -> str | None:
+    """What is wrong with the decisions that a page cites by their numbers."""
+    cited = set(re.findall(r"`docs/DECISIONS\.md`,\s+(\d+)", text))
+    gone = sorted(cited - set(re.findall(r"^(\d+)\. ", decisions, re.M)), key=int)
+    return f"{page}: cites {', '.join(gone)}, and docs/DECISIONS.md has no such entry" if gone else None
+
+
+def citing(root: Path) -> dict[str, str]:
+    """The pages that cite decisions, with their texts."""
+    pages = [*root.glob("*.md"), *root.glob("docs/*.md"), *root.glob("crates/*/README.md"), *root.glob("crates/*/must-fail/*.md")]
+    texts = {str(page.relative_to(root)): page.read_text(encoding="utf-8") for page in pages}
+    return {page: text for page, text in texts.items() if "DECISIONS.md`," in text}
+
+
 def main() -> int:
     counts = counted(ROOT)
     said = [
@@ -75,6 +90,8 @@ def main() -> int:
         for name, sentences in SENTENCES.items()
         for page, found in sentences
     ]
+    decisions = (ROOT / "docs/DECISIONS.md").read_text(encoding="utf-8")
+    said += [without_entry(page, text, decisions) for page, text in sorted(citing(ROOT).items())]
     for line in filter(None, said):
         print(line)
     failed = sum(line is not None for line in said)

@@ -2,7 +2,7 @@
 
 import unittest
 
-from document_numbers import agree, calls, errors, out_of_step
+from document_numbers import agree, calls, errors, out_of_step, without_entry
 
 HEADER = """
 /* hv_told(a) is not a declaration; */
@@ -41,6 +41,12 @@ class DocumentNumbers(unittest.TestCase):
         self.assertIsNone(out_of_step("a.md", r"the (\d+) calls", 53, "of the\n53 calls"))
         self.assertIn("54 where there are 53", out_of_step("a.md", r"the (\d+) calls", 53, "the 54 calls") or "")
         self.assertIn("no sentence", out_of_step("a.md", r"the (\d+) calls", 53, "all calls") or "")
+
+    def test_a_decision_that_is_cited_is_there(self) -> None:
+        decisions = "# Decisions\n\n92. **The gate.**\n237. **Text.**\n"
+        self.assertIsNone(without_entry("a.md", "(`docs/DECISIONS.md`,\n92), `docs/DECISIONS.md`", decisions))
+        said = without_entry("a.md", "(`docs/DECISIONS.md`, 240) and (`docs/DECISIONS.md`, 92)", decisions)
+        self.assertEqual(said, "a.md: cites 240, and docs/DECISIONS.md has no such entry")
 
 
 if __name__ == "__main__":
