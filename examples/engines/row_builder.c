@@ -185,6 +185,27 @@ int32_t row_builder_finish(row_builder *rows, hv_column *out, hv_error *error) {
     return answer;
 }
 
+/* The text of a run that waits, by itself: 12 where it is not UTF-8, 21. */
+static int32_t try_text(const row_builder *rows, size_t run) {
+    const int64_t offsets[2] = {0, rows->numbers[run + 1] - rows->numbers[run]};
+    const uint8_t *bytes = offsets[1] ? rows->bytes + rows->numbers[run] : NULL;
+    hv_column text = HV_EMPTY;
+    const int32_t answer = hv_large_texts(0, offsets, 2, bytes, (size_t)offsets[1], hv_not_nullable(), &text, NULL);
+    hv_free(&text);
+    return answer;
+}
+
+int32_t row_builder_bad_text(const row_builder *rows, uint64_t *row) {
+    int32_t answer = HV_OK;
+    size_t run = 0;
+    *row = rows->rows;
+    if (rows->kind != HV_TEXT || !rows->waiting) return HV_OK;
+    while (run < rows->waiting && !answer) answer = try_text(rows, run++);
+    if (answer != HV_TYPE_MISMATCH) return answer;
+    *row = rows->rows - rows->stops[rows->waiting - 1] + (run > 1 ? rows->stops[run - 2] : 0);
+    return HV_OK;
+}
+
 void row_builder_free(row_builder *rows) {
     static const row_builder empty = ROW_BUILDER_EMPTY;
     hv_builder_free(&rows->joined);

@@ -47,6 +47,10 @@ int32_t row_builder_encoding(row_builder *rows, hv_column *out, hv_error *error)
 /* The same, made of the builder's own memory where that can be: there are no rows after. */
 int32_t row_builder_finish(row_builder *rows, hv_column *out, hv_error *error);
 
+/* Where texts were refused as 12: the first row that is not UTF-8, or the number of rows where it is not one of those
+ * that wait; 21. */
+int32_t row_builder_bad_text(const row_builder *rows, uint64_t *row);
+
 void row_builder_free(row_builder *rows);
 
 #endif

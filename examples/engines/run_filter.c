@@ -1,5 +1,6 @@
 #include "run_filter.h"
 #include "hivevigil_helpers.h"
+#include <stdbool.h>
 #include <stdlib.h>
 #include <string.h>
 
@@ -63,6 +64,41 @@ int32_t column_valid_rows(const hv_column *column, uint64_t *rows, hv_error *err
     hv_session_initial(&session);
     const int32_t answer = read_parts(&session, column, &runs, error);
     if (!answer) *rows = valid_rows(&runs);
+    free_parts(&runs);
+    return answer;
+}
+
+/* How many rows of a number are added to a sum until it would leave the range of 64 bits. */
+static uint64_t rows_that_fit(int64_t sum, int64_t number) {
+    const uint64_t up = (uint64_t)INT64_MAX - (uint64_t)sum, down = (uint64_t)sum - (uint64_t)INT64_MIN;
+    if (number == 0) return UINT64_MAX;
+    return number > 0 ? up / (uint64_t)number : down / (0 - (uint64_t)number);
+}
+
+/* The row with which the sum leaves the range, or the number of rows. */
+static uint64_t overflow_row(const run_parts *runs, const int64_t *numbers) {
+    uint64_t start = 0;
+    int64_t sum = 0;
+    for (size_t run = 0; run < runs->count; run++) {
+        const bool valid = runs->valid[run / 64] >> run % 64 & 1;
+        const uint64_t rows = runs->stops[run] - start, fit = valid ? rows_that_fit(sum, numbers[run]) : UINT64_MAX;
+        if (fit < rows) return start + fit;
+        if (valid) sum = (int64_t)((uint64_t)sum + (uint64_t)numbers[run] * rows);
+        start = runs->stops[run];
+    }
+    return start;
+}
+
+int32_t column_overflow_row(const hv_column *column, uint64_t *row, hv_error *error) {
+    run_parts runs = {.values = HV_EMPTY};
+    hv_session session;
+    hv_session_initial(&session);
+    int32_t answer = read_parts(&session, column, &runs, error);
+    int64_t *numbers = answer ? NULL : calloc(runs.count + 1, sizeof *numbers);
+    if (!answer && !numbers) answer = HV_OUT_OF_MEMORY;
+    if (!answer) answer = hv_read_i64(&runs.values, 0, numbers, runs.count, error);
+    if (!answer) *row = overflow_row(&runs, numbers);
+    free(numbers);
     free_parts(&runs);
     return answer;
 }

@@ -16,4 +16,8 @@ int32_t column_filter(const hv_column *column, uint8_t operator_, const row_valu
 /* How many rows are not null; 21. */
 int32_t column_valid_rows(const hv_column *column, uint64_t *rows, hv_error *error);
 
+/* The row with which the sum of a column of signed numbers of 64 bits leaves their range, for one of which hv_sum says that
+ * it does; 21. */
+int32_t column_overflow_row(const hv_column *column, uint64_t *row, hv_error *error);
+
 #endif

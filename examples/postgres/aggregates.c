@@ -58,13 +58,21 @@ HV_FUNCTION(pg_hv_step_text) {
     return added(fcinfo, &value);
 }
 
+static const char *words_of_rows(const row_builder *rows) {
+    return rows->kind == HV_TEXT ? "texts" : rows->kind == HV_BYTES ? "bytes" : "numbers";
+}
+
 /* Adds the rows of a column's bytes. */
 static void add_bytes(const char *function, row_builder *rows, bytea *bytes) {
     hv_error error = {0, 0, 0};
     hv_column column = HV_EMPTY;
     hv_column_of(function, bytes, &column);
+    const char *words = hv_words_of(hv_kind_of(&column));
     const int32_t answer = row_builder_add_column(rows, &column, &error);
     hv_free(&column);
+    if (answer == HV_TYPE_MISMATCH)
+        ereport(ERROR, (errcode(ERRCODE_DATATYPE_MISMATCH),
+                        errmsg("%s: a column of %s after columns of %s", function, words, words_of_rows(rows))));
     hv_raise(function, answer, &error);
 }
 

@@ -21,14 +21,19 @@ static int error_code(int32_t answer) {
     }
 }
 
+const char *hv_words_of(hv_kind kind) {
+    return kind.number == HV_UTF8 ? "texts" : kind.number == HV_BINARY ? "bytes" : "numbers";
+}
+
 void hv_raise(const char *function, int32_t answer, const hv_error *error) {
     char text[HV_ERROR_TEXT];
     if (!answer) return;
     const char *why = hv_error_text(answer, error, text);
-    if (answer == HV_BAD_METADATA) why = "the bytes are no column";
+    if (answer == HV_BAD_METADATA) why = "the bytes are not a column";
+    if (answer == HV_UNSUPPORTED) why = "columns of booleans, decimals and lists are not served";
     if (answer == HV_WINDOW_OVERFLOW) why = "a column of 2^63 rows or more";
     if (answer == HV_CAST_OUT_OF_RANGE) why = "a number of the column is 2^63 or more";
-    if (answer == HV_TYPE_MISMATCH) why = "numbers, texts and bytes do not go together";
+    if (answer == HV_TYPE_MISMATCH) why = "a column holds numbers, texts or bytes, and not two of them";
     ereport(ERROR, (errcode(error_code(answer)), errmsg("%s: %s", function, why)));
 }
 
@@ -135,15 +140,21 @@ HV_FUNCTION(pg_hv_sum) {
     hv_column column = HV_EMPTY;
     hv_session session;
     hv_total total;
+    uint64 row = 0;
     hv_session_initial(&session);
     hv_column_of("hv_sum", PG_GETARG_BYTEA_PP(0), &column);
-    const int32_t answer = hv_sum(&session, &column, &total, &error);
+    const char *words = hv_words_of(hv_kind_of(&column));
+    int32_t answer = hv_sum(&session, &column, &total, &error);
+    const bool unsupported = answer == HV_UNSUPPORTED, overflow = !answer && total.kind == HV_NULL;
+    if (overflow) answer = column_overflow_row(&column, &row, &error);
     hv_free(&column);
-    if (answer == HV_UNSUPPORTED)
-        ereport(ERROR, (errcode(ERRCODE_DATATYPE_MISMATCH), errmsg("hv_sum: numbers alone are added")));
+    if (unsupported)
+        ereport(ERROR, (errcode(ERRCODE_DATATYPE_MISMATCH),
+                        errmsg("hv_sum: only numbers are added, and this is a column of %s", words)));
     hv_raise("hv_sum", answer, &error);
-    if (total.kind == 0)
-        ereport(ERROR, (errcode(ERRCODE_NUMERIC_VALUE_OUT_OF_RANGE), errmsg("hv_sum: bigint out of range")));
+    if (overflow)
+        ereport(ERROR, (errcode(ERRCODE_NUMERIC_VALUE_OUT_OF_RANGE), errmsg("hv_sum: bigint out of range"),
+                        errdetail("The sum leaves the range with row " UINT64_FORMAT ".", row)));
     if (total.empty) PG_RETURN_NULL();
     PG_RETURN_INT64(total.as_signed);
 }
@@ -192,7 +203,7 @@ static Datum number(const char *function, FunctionCallInfo fcinfo, place at) {
     show(function, fcinfo, at, &found);
     if (found.value.kind == HV_NULL) PG_RETURN_NULL();
     if (found.value.kind != HV_SIGNED)
-        ereport(ERROR, (errcode(ERRCODE_DATATYPE_MISMATCH), errmsg("%s: this is no column of numbers", function)));
+        ereport(ERROR, (errcode(ERRCODE_DATATYPE_MISMATCH), errmsg("%s: this is not a column of numbers", function)));
     PG_RETURN_INT64(found.value.as_signed);
 }
 
@@ -201,7 +212,7 @@ static Datum words(const char *function, FunctionCallInfo fcinfo, place at) {
     show(function, fcinfo, at, &found);
     if (found.value.kind == HV_NULL) PG_RETURN_NULL();
     if (found.value.kind != HV_TEXT)
-        ereport(ERROR, (errcode(ERRCODE_DATATYPE_MISMATCH), errmsg("%s: this is no column of texts", function)));
+        ereport(ERROR, (errcode(ERRCODE_DATATYPE_MISMATCH), errmsg("%s: this is not a column of texts", function)));
     PG_RETURN_TEXT_P(hv_text_of(function, found.bytes, found.value.as_unsigned));
 }
 
@@ -238,8 +249,13 @@ static Datum filtered(FunctionCallInfo fcinfo, const row_value *value) {
         ereport(ERROR,
                 (errcode(ERRCODE_INVALID_PARAMETER_VALUE), errmsg("hv_filter: an operator is one of = <> > >= < <=")));
     hv_column_of("hv_filter", PG_GETARG_BYTEA_PP(0), &column);
+    const char *words = hv_words_of(hv_kind_of(&column));
     const int32_t answer = column_filter(&column, operator_, value, &left, &error);
     hv_free(&column);
+    if (answer == HV_TYPE_MISMATCH)
+        ereport(ERROR, (errcode(ERRCODE_DATATYPE_MISMATCH),
+                        errmsg("hv_filter: a column of %s is not compared with a %s", words,
+                               value->kind == HV_TEXT ? "text" : "bigint")));
     hv_raise("hv_filter", answer, &error);
     PG_RETURN_BYTEA_P(hv_bytes_of_column("hv_filter", &left));
 }

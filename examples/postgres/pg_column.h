@@ -17,7 +17,10 @@
     PG_FUNCTION_INFO_V1(name);                                                                                         \
     Datum name(PG_FUNCTION_ARGS)
 
-/* Raises this refusal, in a sentence after the function's name; returns where it is none. */
+/* "numbers", "texts" or "bytes": what a column of this type holds. */
+const char *hv_words_of(hv_kind kind);
+
+/* Raises this refusal, in a sentence after the function's name; returns where there is none. */
 void hv_raise(const char *function, int32_t answer, const hv_error *error);
 
 /* The column of an argument, or the error that it is none. */

@@ -43,7 +43,7 @@ static void begin(const char *function, FunctionCallInfo fcinfo) {
 static Datum shown(const char *function, const hv_value *value, const uint8_t *text, uint8_t kind) {
     if (value->kind != kind)
         ereport(ERROR, (errcode(ERRCODE_DATATYPE_MISMATCH),
-                        errmsg("%s: this is no column of %s", function, kind == HV_TEXT ? "texts" : "numbers")));
+                        errmsg("%s: this is not a column of %s", function, kind == HV_TEXT ? "texts" : "numbers")));
     if (kind == HV_SIGNED) return Int64GetDatum(value->as_signed);
     return PointerGetDatum(hv_text_of(function, text, value->as_unsigned));
 }

@@ -61,22 +61,22 @@ SELECT same('SELECT hv_rows(c), hv_count(c), hv_sum(c), hv_min(c), hv_max(c) FRO
 \g /dev/null
 
 -- ---- Refusals ----
-SELECT refused($$SELECT '\x00'::hvcolumn$$, 'hvcolumn: the bytes are no column'),
-    refused($$SELECT 'x'::hvcolumn$$, 'hvcolumn: the bytes are no column'),
-    refused($$SELECT '\x0801'::bytea::hvcolumn$$, 'hvcolumn: the bytes are no column'),
+SELECT refused($$SELECT '\x00'::hvcolumn$$, 'hvcolumn: the bytes are not a column'),
+    refused($$SELECT 'x'::hvcolumn$$, 'hvcolumn: the bytes are not a column'),
+    refused($$SELECT '\x0801'::bytea::hvcolumn$$, 'hvcolumn: the bytes are not a column'),
     refused('SELECT hv_slice(c, 2, 12) FROM p', 'hv_slice: rows 2 to 12 are not among 8 rows'),
     refused('SELECT hv_slice(c, -2, 1) FROM p', 'hv_slice: rows are numbered from 0'),
     refused('SELECT hv_slice(c, 3, 2) FROM p', 'hv_slice: rows 3 to 2 are not among 8 rows'),
     refused('SELECT hv_filter(c, ''~'', 2) FROM p', 'hv_filter: an operator is one of = <> > >= < <='),
     refused('SELECT hv_filter(c, NULL, 2) FROM p', 'hv_filter: an operator is one of = <> > >= < <='),
-    refused('SELECT hv_filter(c, ''='', ''a''::text) FROM p', 'hv_filter: numbers, texts and bytes do not go together'),
-    refused('SELECT hv_sum(c) FROM q', 'hv_sum: numbers alone are added'),
-    refused('SELECT hv_min(c) FROM q', 'hv_min: this is no column of numbers'),
-    refused('SELECT hv_at_text(c, 0) FROM p', 'hv_at_text: this is no column of texts'),
-    refused('SELECT r.* FROM q, hv_runs(c) r', 'hv_runs: this is no column of numbers'),
-    refused('SELECT r.* FROM p, hv_text_runs(c) r', 'hv_text_runs: this is no column of texts'),
+    refused('SELECT hv_filter(c, ''='', ''a''::text) FROM p', 'hv_filter: a column of numbers is not compared with a text'),
+    refused('SELECT hv_sum(c) FROM q', 'hv_sum: only numbers are added, and this is a column of texts'),
+    refused('SELECT hv_min(c) FROM q', 'hv_min: this is not a column of numbers'),
+    refused('SELECT hv_at_text(c, 0) FROM p', 'hv_at_text: this is not a column of texts'),
+    refused('SELECT r.* FROM q, hv_runs(c) r', 'hv_runs: this is not a column of numbers'),
+    refused('SELECT r.* FROM p, hv_text_runs(c) r', 'hv_text_runs: this is not a column of texts'),
     refused('SELECT hv_concat(c) FROM (SELECT c FROM p UNION ALL SELECT c FROM q) x',
-            'hv_concat: numbers, texts and bytes do not go together'),
+            'hv_concat: a column of texts after columns of numbers'),
     -- eight columns of 2^60 rows are one of 2^63; and two rows of 2^63 as u64
     refused($$SELECT hv_concat('\x0801100118032080808080808080801028013A0107'::hvcolumn) FROM generate_series(1, 8)$$,
             'hv_concat: a column of 2^63 rows or more'),
@@ -86,6 +86,16 @@ SELECT refused($$SELECT '\x00'::hvcolumn$$, 'hvcolumn: the bytes are no column')
     refused('SELECT c FROM p ORDER BY c', 'could not identify an ordering operator for type hvcolumn'),
     refused('SELECT hv_sum(hv_column(v)) FROM (VALUES (9223372036854775807), (1)) x(v)', 'hv_sum: bigint out of range')
 \g /dev/null
+-- an overflow names its row: 2^63 - 1 is 1317624576693539401 times 7
+DO $$
+DECLARE detail text;
+BEGIN
+    PERFORM hv_sum(hv_concat('\x0801100118032080808080808080801028013A0107'::hvcolumn)) FROM generate_series(1, 2);
+    RAISE EXCEPTION 'the sum is not refused';
+EXCEPTION WHEN numeric_value_out_of_range THEN
+    GET STACKED DIAGNOSTICS detail = PG_EXCEPTION_DETAIL;
+    IF detail <> 'The sum leaves the range with row 1317624576693539401.' THEN RAISE EXCEPTION '%', detail; END IF;
+END $$;
 -- what has bytes and is no hvcolumn: true, 1.50, [7], three rows of it in one run, and null of lists
 SELECT refused(format('SELECT %L::hvcolumn', bytes), sentence),
     refused(format('SELECT %L::bytea::hvcolumn', bytes), sentence)
@@ -96,7 +106,7 @@ FROM (SELECT '0801100D180420012801' || '8A0114' || '080110081801200128013A080700
                     ('0801100A1801200128013A109600000000000000000000000000000070057804'),
                     (list), ('0801100D18022003400048015201035A4F' || list),
                     ('0801100D1803200328033A00A00108A80101')) AS all_of(digits),
-    LATERAL (SELECT '\x' || digits, 'hvcolumn: the call does not serve columns of this type or form')
+    LATERAL (SELECT '\x' || digits, 'hvcolumn: columns of booleans, decimals and lists are not served')
         AS asked(bytes, sentence)
 \g /dev/null
 

@@ -35,8 +35,9 @@ char *refusal(const char *function, int32_t answer, const hv_error *error) {
     char text[HV_ERROR_TEXT];
     const char *why = hv_error_text(answer, error, text);
     if (answer == HV_OUT_OF_MEMORY) return NULL;
-    if (answer == HV_BAD_METADATA) why = "the blob is no column";
+    if (answer == HV_BAD_METADATA) why = "the blob is not a column";
     if (answer == HV_WINDOW_OVERFLOW) why = too_long;
+    if (answer == HV_UNSUPPORTED) why = "columns of booleans, decimals and lists are not served";
     if (answer == HV_CAST_OUT_OF_RANGE) why = "a number of the column is 2^63 or more";
     return sqlite3_mprintf("%s: %s", function, why);
 }
@@ -144,10 +145,13 @@ static bool is_asked(sqlite3_context *context, const row_builder *rows, int coun
     return false;
 }
 
-/* Ends the call where rows were refused that are of one type: then a text is meant. */
-static void refuse_rows(sqlite3_context *context, const char *function, int32_t answer, const hv_error *error) {
-    if (answer == HV_TYPE_MISMATCH) fail(context, sqlite3_mprintf("%s: %s", function, not_utf8));
-    else refuse(context, function, answer, error);
+/* Ends the call where rows were refused that are of one type: then it is a text that is not UTF-8. */
+static void refuse_rows(sqlite3_context *context, const char *function, const row_builder *rows, int32_t answer,
+                        const hv_error *error) {
+    uint64_t row = 0;
+    const int32_t found = answer == HV_TYPE_MISMATCH ? row_builder_bad_text(rows, &row) : answer;
+    if (found) refuse(context, function, found, error);
+    else fail(context, sqlite3_mprintf("%s: row %llu is a text that is not UTF-8", function, (unsigned long long)row));
 }
 
 static void column_step(sqlite3_context *context, int count, sqlite3_value **values) {
@@ -169,7 +173,7 @@ static void column_step(sqlite3_context *context, int count, sqlite3_value **val
         return;
     }
     const int32_t answer = row_builder_add(rows, &value, &error);
-    if (answer) refuse_rows(context, "hv_column", answer, &error);
+    if (answer) refuse_rows(context, "hv_column", rows, answer, &error);
 }
 
 static void concat_step(sqlite3_context *context, int count, sqlite3_value **values) {
@@ -202,9 +206,9 @@ static void finish(sqlite3_context *context) {
     hv_column runs = HV_EMPTY;
     if (!rows) rows = &nothing;
     const int32_t answer = rows->rows > INT64_MAX ? HV_WINDOW_OVERFLOW : row_builder_finish(rows, &runs, &error);
-    row_builder_free(rows);
-    if (answer) refuse_rows(context, sqlite3_user_data(context), answer, &error);
+    if (answer) refuse_rows(context, sqlite3_user_data(context), rows, answer, &error);
     else answer_encoding(context, sqlite3_user_data(context), &runs);
+    row_builder_free(rows);
     hv_free(&runs);
 }
 
@@ -247,14 +251,22 @@ static int32_t ask_count(question *asked) {
     return answer;
 }
 
+/* The refusal of a sum that leaves the range of 64 bits, in SQLite's words and with the row. */
+static int32_t say_overflow(question *asked) {
+    uint64_t row = 0;
+    const int32_t answer = column_overflow_row(asked->column, &row, &asked->error);
+    if (answer) return answer;
+    return say(asked, sqlite3_mprintf("hv_sum: integer overflow with row %llu", (unsigned long long)row));
+}
+
 static int32_t ask_sum(question *asked) {
     hv_total total;
     if (hv_kind_of(asked->column).number != HV_I64)
-        return say(asked, sqlite3_mprintf("hv_sum: integers are added, and this is a column of %s",
+        return say(asked, sqlite3_mprintf("hv_sum: only integers are added, and this is a column of %s",
                                           kind_in_words(hv_kind_of(asked->column).number)));
     const int32_t answer = hv_sum(&asked->session, asked->column, &total, &asked->error);
     if (answer) return answer;
-    if (total.kind == 0) return say(asked, sqlite3_mprintf("hv_sum: integer overflow"));
+    if (total.kind == HV_NULL) return say_overflow(asked);
     if (!total.empty) sqlite3_result_int64(asked->context, total.as_signed);
     return HV_OK;
 }
@@ -325,7 +337,7 @@ static int32_t ask_slice(question *asked) {
     return answer;
 }
 
-/* The refusal of a value that is none of the column's type. */
+/* The refusal of a value that is not of the column's type. */
 static int32_t say_not_compared(question *asked, const row_value *value) {
     const uint8_t kind = hv_kind_of(asked->column).number;
     if (kind == HV_UTF8 && value->kind == HV_TEXT) return say(asked, sqlite3_mprintf("hv_filter: %s", not_utf8));

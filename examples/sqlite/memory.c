@@ -22,12 +22,13 @@ static const char *ask(const char *sql) {
     return answer;
 }
 
-/* How many requests were refused, one in each turn, until none is left. */
-static long refuse_each(const char *sql) {
+/* How many requests were refused, one in each turn, until none is left. The statement is refused by itself where
+ * `is_error` says so. */
+static long refuse_each(const char *sql, bool is_error) {
     char wanted[sizeof answer];
     long turn = 0, before = blocks;
     strcpy(wanted, ask(sql));
-    CHECK(strncmp(wanted, "error", 5) != 0);
+    CHECK((strncmp(wanted, "error: hv_", 10) == 0) == is_error && (is_error || strncmp(wanted, "error", 5) != 0));
     for (bool some = true; some; turn++) {
         const long so_far = refused;
         requests = 0, refuse_at = turn;
@@ -60,6 +61,10 @@ int main(void) {
         "SELECT sum(hv_count(c)) FROM (SELECT hv_concat(x'0801100B180120022803620200006A00') AS c)",
         "SELECT hv_sum(hv_concat(x'080110011803200528013A0107'))",
     };
+    static const char *const refused_statements[] = {
+        "SELECT hv_sum(hv_column(9223372036854775000 + v * 100)) FROM t",
+        "SELECT hv_column(iif(v < 20, v || ' trees', CAST(x'C328' AS TEXT))) FROM t",
+    };
     long all = 0;
     CHECK(sqlite3_open(":memory:", &db) == SQLITE_OK);
     CHECK(sqlite3_hivevigilsqlite_init(db, NULL, NULL) == SQLITE_OK);
@@ -72,8 +77,9 @@ int main(void) {
     ask("CREATE TABLE p AS SELECT hv_column(v) AS c, hv_column('a text of number ' || v || ' and more, so that it is "
         "longer "
         "than any room that there is at first') AS w FROM t");
-    for (size_t i = 0; i < COUNT(statements); i++) all += refuse_each(statements[i]);
+    for (size_t i = 0; i < COUNT(statements); i++) all += refuse_each(statements[i], false);
+    for (size_t i = 0; i < COUNT(refused_statements); i++) all += refuse_each(refused_statements[i], true);
     CHECK(sqlite3_close(db) == SQLITE_OK);
-    printf("%zu statements, %ld requests refused in turn\n", COUNT(statements), all);
+    printf("%zu statements, %ld requests refused in turn\n", COUNT(statements) + COUNT(refused_statements), all);
     return 0;
 }

@@ -100,7 +100,7 @@ static void check_texts(void) {
 #define ONE_LIST "0801100D180420012801" "8A0114" SEVEN "920114" WORD("00") "9A0114" WORD("01")
 #define LIST_RUNS "0801100D18022003400048015201035A4F" ONE_LIST
 #define NULL_LISTS "0801100D180320032803" "3A00" "A00108" "A80101"
-#define NOT_SERVED(function) "error: " function ": the call does not serve columns of this type or form"
+#define NOT_SERVED(function) "error: " function ": columns of booleans, decimals and lists are not served"
 #define NO_LISTS(question, function) \
     CHECK_SQL("SELECT " question " FROM (SELECT x'" ONE_LIST "' AS c)", NOT_SERVED(function)); \
     CHECK_SQL("SELECT " question " FROM (SELECT x'" LIST_RUNS "' AS c)", NOT_SERVED(function)); \
@@ -120,7 +120,7 @@ static void check_lists(void) {
     CHECK_SQL("SELECT * FROM hv_runs(x'" NULL_LISTS "')", NOT_SERVED("hv_runs"));
     /* a list of two where there is one element */
     CHECK_SQL("SELECT hv_rows(x'0801100D1804200128018A0114" SEVEN "920114" WORD("00") "9A0114" WORD("02") "')",
-              "error: hv_rows: the blob is no column");
+              "error: hv_rows: the blob is not a column");
 }
 
 /* The message of 4 4 4 null null 9 -1 -1, written by hand after column.proto. */
@@ -133,7 +133,7 @@ static void check_bytes(void) {
                                       "0000000000000000"
                                       "0900000000000000"
                                       "FFFFFFFFFFFFFFFF");
-    CHECK_SQL("SELECT hv_sum(x'0801100818012002280132003A00')", "error: hv_sum: the blob is no column");
+    CHECK_SQL("SELECT hv_sum(x'0801100818012002280132003A00')", "error: hv_sum: the blob is not a column");
     /* flat, two rows, without null */
     CHECK_SQL("SELECT hv_sum(x'080110081801200228013A10010000000000000002000000000000"
               "00')",
@@ -148,9 +148,9 @@ static void check_bytes(void) {
     CHECK_SQL("SELECT hv_sum(x'080110011801200228013A020102')", "3");
     CHECK_SQL("SELECT hv_sum(x'080110061803200528013A020700')", "35");
     CHECK_SQL("SELECT hv_rows(x'080110091801200128013A0101')",
-              "error: hv_rows: the call does not serve columns of this type or form");
+              NOT_SERVED("hv_rows"));
     CHECK_SQL("SELECT hv_rows(x'0801100A1801200128013A109600000000000000000000000000000070057804')",
-              "error: hv_rows: the call does not serve columns of this type or form");
+              NOT_SERVED("hv_rows"));
     check_lists();
     /* 2^62 rows in one run */
     CHECK_SQL("SELECT hv_rows(c), hv_at(c, 4611686018427387903), hv_max(hv_filter(c, '=', 1)) FROM (SELECT "
@@ -175,15 +175,18 @@ static void check_constants(void) {
     CHECK_SQL("SELECT hv_rows(hv_slice(sevens, 5, 1152921504606846976)), hv_rows(hv_filter(sevens, '>', 6)) FROM x",
               "1152921504606846971|1152921504606846976");
     CHECK_SQL("SELECT hv_sum(sevens) FROM x", "8070450532247928832");
+    /* 2^63 - 1 is 1317624576693539401 times 7 */
+    CHECK_SQL("SELECT hv_sum(hv_concat(c)) FROM (SELECT sevens AS c FROM x UNION ALL SELECT sevens FROM x)",
+              "error: hv_sum: integer overflow with row 1317624576693539401");
     CHECK_SQL("SELECT hv_rows(past) FROM x", "error: hv_rows: a number of the column is 2^63 or more");
 }
 
 static void check_refusals(void) {
-    CHECK_SQL("SELECT hv_sum(x'00')", "error: hv_sum: the blob is no column");
-    CHECK_SQL("SELECT hv_sum(x'')", "error: hv_sum: the blob is no column");
+    CHECK_SQL("SELECT hv_sum(x'00')", "error: hv_sum: the blob is not a column");
+    CHECK_SQL("SELECT hv_sum(x'')", "error: hv_sum: the blob is not a column");
     CHECK_SQL("SELECT hv_sum(5)", "error: hv_sum: a column is a blob, and this is an integer");
     CHECK_SQL("SELECT * FROM hv_runs('x')", "error: hv_runs: a column is a blob, and this is a text");
-    CHECK_SQL("SELECT * FROM hv_runs(x'01')", "error: hv_runs: the blob is no column");
+    CHECK_SQL("SELECT * FROM hv_runs(x'01')", "error: hv_runs: the blob is not a column");
     CHECK_SQL("SELECT * FROM hv_runs", "error: hv_runs: a column is asked for, hv_runs(column)");
     CHECK_SQL("SELECT hv_concat(1)", "error: hv_concat: a column is a blob, and this is an integer");
     CHECK_SQL("SELECT hv_concat(c) FROM (SELECT c FROM p UNION ALL SELECT c FROM q)",
@@ -192,10 +195,19 @@ static void check_refusals(void) {
               "error: hv_column: row 1 is a text, and a column holds integers");
     CHECK_SQL("SELECT hv_column(1.5)",
               "error: hv_column: row 0 is a real number, and a column holds integers, texts or blobs");
-    CHECK_SQL("SELECT hv_column(CAST(x'C328' AS TEXT))", "error: hv_column: a text is not UTF-8");
-    CHECK_SQL("SELECT hv_sum(c) FROM q", "error: hv_sum: integers are added, and this is a column of texts");
+    CHECK_SQL("SELECT hv_column(CAST(x'C328' AS TEXT))", "error: hv_column: row 0 is a text that is not UTF-8");
+    CHECK_SQL("SELECT hv_column(v) FROM (SELECT 'a' AS v UNION ALL SELECT 'a' UNION ALL SELECT NULL UNION ALL SELECT "
+              "CAST(x'C328' AS TEXT) UNION ALL SELECT 'b')",
+              "error: hv_column: row 3 is a text that is not UTF-8");
+    CHECK_SQL("SELECT hv_sum(c) FROM q", "error: hv_sum: only integers are added, and this is a column of texts");
     CHECK_SQL("SELECT hv_sum(hv_column(v)) FROM (SELECT 9223372036854775807 AS v UNION ALL SELECT 1)",
-              "error: hv_sum: integer overflow");
+              "error: hv_sum: integer overflow with row 1");
+    CHECK_SQL("SELECT hv_sum(hv_column(v)) FROM (SELECT -9223372036854775807 AS v UNION ALL SELECT NULL UNION ALL "
+              "SELECT -1 UNION ALL SELECT -1 UNION ALL SELECT 5)",
+              "error: hv_sum: integer overflow with row 3");
+    CHECK_SQL("SELECT hv_sum(hv_slice(hv_column(v), 1, 4)) FROM (SELECT 5 AS v UNION ALL SELECT 4611686018427387904 "
+              "UNION ALL SELECT 4611686018427387904 UNION ALL SELECT 1)",
+              "error: hv_sum: integer overflow with row 1");
     CHECK_SQL("SELECT hv_slice(c, 2, 12) FROM p", "error: hv_slice: rows 2 to 12 are not among 8 rows");
     CHECK_SQL("SELECT hv_slice(c, -2, 1) FROM p", "error: hv_slice: rows -2 to 1 are not among 8 rows");
     CHECK_SQL("SELECT hv_slice(c, 3, 2) FROM p", "error: hv_slice: rows 3 to 2 are not among 8 rows");
@@ -237,7 +249,9 @@ static void check_many(void) {
     same("SELECT hex(hv_concat(c)) FROM (SELECT hv_column(CAST(s AS BLOB)) AS c FROM m GROUP BY i / 700)",
          "SELECT hex(hv_column(CAST(s AS BLOB))) FROM m");
     CHECK_SQL("SELECT hv_column(CASE i WHEN 10 THEN CAST(x'C328' AS TEXT) ELSE s END) FROM m",
-              "error: hv_column: a text is not UTF-8");
+              "error: hv_column: row 10 is a text that is not UTF-8");
+    CHECK_SQL("SELECT hv_column(CASE i WHEN 3000 THEN CAST(x'C328' AS TEXT) ELSE s END) FROM m",
+              "error: hv_column: row 3000 is a text that is not UTF-8");
 }
 
 /* Columns that other programs wrote: null alone as texts, which goes with every type, a constant, and runs with the
