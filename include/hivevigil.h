@@ -1,5 +1,7 @@
 /* Run-end encoded columns for C, over libhivevigil.a. Each call is an exported function of the library, and in C and
- * C++ an inline function over it, which takes null where there is nothing.
+ * C++ an inline function over it, which takes null where there is nothing. Where no arguments follow, as where its
+ * address is taken, a name is that of the export (hivevigil_exports.h), and hv_u8 one of eight arguments; hv_call_u8 is
+ * the inline function.
  *
  * A column is a list of rows of one type, each a value or null. It may lie flat, as one constant, as lists, or as runs,
  * which store each stretch of equal rows once. Calls that ask about rows answer the same in whichever form.
@@ -17,7 +19,8 @@
  * docs/PROVED.md what is only tested.
  *
  * WHAT MAY BE NULL: a pointer to no items, where the length beside it is 0; `error`, where nobody asks for the fields;
- * the handle that hv_free or hv_builder_free is given, which then does nothing.
+ * the handle that hv_free or hv_builder_free is given, which then does nothing. A pointer to items, to bits of validity
+ * or to room for either that is null beside a length above 0 is refused as 11 (length, 0), before all else.
  *
  * WHAT A CALLER OWES:
  *  - a handle starts as HV_EMPTY, is written by this library alone, and hv_free empties it; a copy of the struct is no
@@ -83,12 +86,13 @@ enum {
     HV_ENDS_NOT_STRICT = 4,         /* run: its end is not above the end before; of offsets of texts, the row whose stop
                                        is below its start, or whose offset is negative */
     HV_WINDOW_OVERFLOW = 5,         /* offset and length, or all rows together, are 2^64 or more */
-    HV_FIRST_END_BELOW_OFFSET = 6,  /* end, offset */
+    HV_FIRST_END_BELOW_OFFSET = 6,  /* end, offset; never where no row is shown, which 7 is not either */
     HV_LAST_END_BELOW_WINDOW = 7,   /* end, required */
     HV_OUT_OF_BOUNDS = 8,           /* index (2^64 - 1 for one that no uint64_t has), length */
     HV_BAD_RANGE = 9,               /* start, stop, length */
     HV_MASK_LENGTH = 10,            /* mask, length */
-    HV_COLUMN_LENGTH = 11,          /* left, right: two lengths that belong together; of room: needed, there */
+    HV_COLUMN_LENGTH = 11,          /* left, right: two lengths that belong together; of room: needed, there; of a
+                                       null pointer to items: their number, 0 */
     HV_TYPE_MISMATCH = 12,
     HV_UNSUPPORTED = 13,            /* the call does not serve columns of this type, or of this form */
     HV_CAST_OUT_OF_RANGE = 14,
@@ -193,6 +197,7 @@ HV_ANSWER hv_i64(const int64_t *items, size_t len, hv_validity validity, hv_colu
 /* `count` booleans, row i by bit `start + i` of `truths`; 11 (rows, bytes) where there are fewer bits */
 HV_ANSWER hv_bools(const uint8_t *truths, size_t truths_len, size_t start, size_t count, hv_validity validity,
                    hv_column *out, hv_error *error);
+/* Numbers of more digits than the precision says are taken as they are, also where Arrow brings them: no call looks. */
 HV_ANSWER hv_decimals(const hv_pair *pairs, size_t len, uint8_t precision, int8_t scale, hv_validity validity,
                       hv_column *out, hv_error *error);
 /* Row i is the bytes from offsets[i] to offsets[i + 1] - 1; there is one offset more than rows. 4 for offsets that
@@ -208,7 +213,7 @@ HV_ANSWER hv_constant(const hv_kind *kind, const hv_value *value, const uint8_t 
                       hv_column *out, hv_error *error);
 /* The run column of these ends and one value for each, of which `count` rows from row `offset` on are shown. Ends are
  * a flat column of an unsigned type without null, each above the one before. Both are shared. Refused by the first
- * fault of 1 to 7 in their order, or as 21. */
+ * fault of 1 to 7 in their order, or as 21. Where `count` is 0 neither 6 nor 7 comes: the offset may then be any. */
 HV_ANSWER hv_runs(const hv_column *ends, const hv_column *values, size_t offset, size_t count, hv_column *out,
                   hv_error *error);
 /* Lists: row i is the sizes[i] items of `elements` from item offsets[i] on, and lists may lie in any order and
@@ -226,7 +231,8 @@ HV_ANSWER hv_compact(const hv_column *column, hv_column *out, hv_error *error);
 /* ---- Commands: what they leave goes to `out` ----
  * Refused exactly as is said here, with these fields, or as 21. The session decides in which form rows are left. A run
  * column of integers that is left has as few runs as can be, from row 0 on; hv_slice keeps those that there are. */
-/* as few runs as there can be, with ends of the least type; 20 unless the rows are integers */
+/* as few runs as there can be, with ends of the least type, which may be u64 where all rows are null; 20 unless the
+ * rows are integers */
 HV_ANSWER hv_encode(const hv_session *session, const hv_column *column, hv_column *out, hv_error *error);
 /* the rows written out in a flat form */
 HV_ANSWER hv_decode(const hv_session *session, const hv_column *column, hv_column *out, hv_error *error);
@@ -276,7 +282,7 @@ HV_ANSWER hv_is_sorted(const hv_session *session, const hv_column *column, uint8
 HV_ANSWER hv_extreme(const hv_session *session, const hv_column *column, uint8_t greatest, hv_value *value,
                      uint8_t *text, size_t text_len, hv_error *error);
 /* both at once, each with a buffer of its own; HV_NULL twice where all rows are null; 13 for lists, 11 for the one
- * that has no room in its buffer */
+ * that has no room in its buffer, and for the least where neither has */
 HV_ANSWER hv_min_max(const hv_session *session, const hv_column *column, hv_value *least, uint8_t *least_text,
                      size_t least_text_len, hv_value *greatest, uint8_t *greatest_text, size_t greatest_text_len,
                      hv_error *error);

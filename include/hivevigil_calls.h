@@ -1,20 +1,32 @@
 /* The calls of hivevigil.h, which includes this one and says what each answers: inline functions over the exports of
  * the same names, which stand here in parentheses. A null pointer for no items becomes an address, and so does an
- * `error` that nobody asks for. Nothing here is proved. */
+ * `error` that nobody asks for; one for items that are to be there is refused. Nothing here is proved. */
 #ifndef HIVEVIGIL_CALLS_H
 #define HIVEVIGIL_CALLS_H
 #ifndef HIVEVIGIL_EXPORTS_H
 #error "include hivevigil.h, which includes this part"
 #endif
 
-/* no items: behind this address nothing is read or written */
-static inline void *hv_items(const void *items) {
+/* an address for no items, behind which nothing is read or written */
+static inline void *hv_nowhere(void) {
     static const uint64_t nothing = 0;
-    return (void *)(uintptr_t)(items ? items : &nothing);
+    return (void *)(uintptr_t)&nothing;
 }
-#define HV_ITEMS(type, items) ((type *)hv_items(items))
+/* the refusal of a null pointer beside a length above 0: so many items are wanted, and none is there */
+static inline int32_t hv_missing(size_t len, hv_error *error) {
+    error->first = len;
+    error->second = error->third = 0;
+    return HV_COLUMN_LENGTH;
+}
 #define HV_FIELDS (error ? error : &ignored)
-#define HV_PARTS(of) of.nulls, HV_ITEMS(const uint8_t, of.bits), of.bits_len, of.first
+/* Each call has one for each pointer to items that it takes, before all else. */
+#define HV_ITEMS(type, items, len) \
+    do { \
+        if (!items && len) return hv_missing(len, HV_FIELDS); \
+        if (!items) items = (type *)hv_nowhere(); \
+    } while (0)
+#define HV_BITS(of) HV_ITEMS(const uint8_t, of.bits, of.bits_len)
+#define HV_PARTS(of) of.nulls, of.bits, of.bits_len, of.first
 
 /* the handle of a column that is lent: an export takes the column out, and puts it back before it returns */
 static inline hv_column *hv_lent(const hv_column *column) { return (hv_column *)(uintptr_t)column; }
@@ -37,11 +49,14 @@ HV_CALL void hv_free(hv_column *column) {
 #define HV_NATIVE(type, suffix) \
     HV_ANSWER hv_##suffix(const type *items, size_t len, hv_validity validity, hv_column *out, hv_error *error) { \
         hv_error ignored; \
-        return (hv_##suffix)(HV_ITEMS(const type, items), len, HV_PARTS(validity), out, HV_FIELDS); \
+        HV_ITEMS(const type, items, len); \
+        HV_BITS(validity); \
+        return (hv_##suffix)(items, len, HV_PARTS(validity), out, HV_FIELDS); \
     } \
     HV_ANSWER hv_read_##suffix(const hv_column *column, size_t start, type *items, size_t len, hv_error *error) { \
         hv_error ignored; \
-        return (hv_read_##suffix)(hv_lent(column), start, HV_ITEMS(type, items), len, HV_FIELDS); \
+        HV_ITEMS(type, items, len); \
+        return (hv_read_##suffix)(hv_lent(column), start, items, len, HV_FIELDS); \
     }
 HV_NATIVE(uint8_t, u8)
 HV_NATIVE(uint16_t, u16)
@@ -57,29 +72,38 @@ HV_NATIVE(int64_t, i64)
 HV_ANSWER hv_bools(const uint8_t *truths, size_t truths_len, size_t start, size_t count, hv_validity validity,
                    hv_column *out, hv_error *error) {
     hv_error ignored;
-    return (hv_bools)(HV_ITEMS(const uint8_t, truths), truths_len, start, count, HV_PARTS(validity), out, HV_FIELDS);
+    HV_ITEMS(const uint8_t, truths, truths_len);
+    HV_BITS(validity);
+    return (hv_bools)(truths, truths_len, start, count, HV_PARTS(validity), out, HV_FIELDS);
 }
 HV_ANSWER hv_decimals(const hv_pair *pairs, size_t len, uint8_t precision, int8_t scale, hv_validity validity,
                       hv_column *out, hv_error *error) {
     hv_error ignored;
-    return (hv_decimals)(HV_ITEMS(const hv_pair, pairs), len, precision, scale, HV_PARTS(validity), out, HV_FIELDS);
+    HV_ITEMS(const hv_pair, pairs, len);
+    HV_BITS(validity);
+    return (hv_decimals)(pairs, len, precision, scale, HV_PARTS(validity), out, HV_FIELDS);
 }
 HV_ANSWER hv_texts(uint8_t binary, const int32_t *offsets, size_t offsets_len, const uint8_t *bytes, size_t bytes_len,
                    hv_validity validity, hv_column *out, hv_error *error) {
     hv_error ignored;
-    return (hv_texts)(binary, HV_ITEMS(const int32_t, offsets), offsets_len, HV_ITEMS(const uint8_t, bytes), bytes_len,
-                      HV_PARTS(validity), out, HV_FIELDS);
+    HV_ITEMS(const int32_t, offsets, offsets_len);
+    HV_ITEMS(const uint8_t, bytes, bytes_len);
+    HV_BITS(validity);
+    return (hv_texts)(binary, offsets, offsets_len, bytes, bytes_len, HV_PARTS(validity), out, HV_FIELDS);
 }
 HV_ANSWER hv_large_texts(uint8_t binary, const int64_t *offsets, size_t offsets_len, const uint8_t *bytes,
                          size_t bytes_len, hv_validity validity, hv_column *out, hv_error *error) {
     hv_error ignored;
-    return (hv_large_texts)(binary, HV_ITEMS(const int64_t, offsets), offsets_len, HV_ITEMS(const uint8_t, bytes),
-                            bytes_len, HV_PARTS(validity), out, HV_FIELDS);
+    HV_ITEMS(const int64_t, offsets, offsets_len);
+    HV_ITEMS(const uint8_t, bytes, bytes_len);
+    HV_BITS(validity);
+    return (hv_large_texts)(binary, offsets, offsets_len, bytes, bytes_len, HV_PARTS(validity), out, HV_FIELDS);
 }
 HV_ANSWER hv_constant(const hv_kind *kind, const hv_value *value, const uint8_t *text, size_t text_len, size_t count,
                       hv_column *out, hv_error *error) {
     hv_error ignored;
-    return (hv_constant)(kind, value, HV_ITEMS(const uint8_t, text), text_len, count, out, HV_FIELDS);
+    HV_ITEMS(const uint8_t, text, text_len);
+    return (hv_constant)(kind, value, text, text_len, count, out, HV_FIELDS);
 }
 HV_ANSWER hv_runs(const hv_column *ends, const hv_column *values, size_t offset, size_t count, hv_column *out,
                   hv_error *error) {
@@ -89,8 +113,10 @@ HV_ANSWER hv_runs(const hv_column *ends, const hv_column *values, size_t offset,
 HV_ANSWER hv_lists(const hv_column *elements, const uint64_t *offsets, size_t offsets_len, const uint64_t *sizes,
                    size_t sizes_len, hv_validity validity, hv_column *out, hv_error *error) {
     hv_error ignored;
-    return (hv_lists)(hv_lent(elements), HV_ITEMS(const uint64_t, offsets), offsets_len,
-                      HV_ITEMS(const uint64_t, sizes), sizes_len, HV_PARTS(validity), out, HV_FIELDS);
+    HV_ITEMS(const uint64_t, offsets, offsets_len);
+    HV_ITEMS(const uint64_t, sizes, sizes_len);
+    HV_BITS(validity);
+    return (hv_lists)(hv_lent(elements), offsets, offsets_len, sizes, sizes_len, HV_PARTS(validity), out, HV_FIELDS);
 }
 HV_ANSWER hv_clone(const hv_column *column, hv_column *out, hv_error *error) {
     hv_error ignored;
@@ -144,14 +170,15 @@ HV_ANSWER hv_compare_scalar(const hv_session *session, const hv_column *column, 
                             const hv_value *value, const uint8_t *text, size_t text_len, hv_column *out,
                             hv_error *error) {
     hv_error ignored;
-    return (hv_compare_scalar)(hv_settings_of(session), hv_lent(column), operator_, value,
-                               HV_ITEMS(const uint8_t, text), text_len, out, HV_FIELDS);
+    HV_ITEMS(const uint8_t, text, text_len);
+    return (hv_compare_scalar)(hv_settings_of(session), hv_lent(column), operator_, value, text, text_len, out,
+                               HV_FIELDS);
 }
 HV_ANSWER hv_fill(const hv_session *session, const hv_column *column, const hv_value *value, const uint8_t *text,
                   size_t text_len, hv_column *out, hv_error *error) {
     hv_error ignored;
-    return (hv_fill)(hv_settings_of(session), hv_lent(column), value, HV_ITEMS(const uint8_t, text), text_len, out,
-                     HV_FIELDS);
+    HV_ITEMS(const uint8_t, text, text_len);
+    return (hv_fill)(hv_settings_of(session), hv_lent(column), value, text, text_len, out, HV_FIELDS);
 }
 
 /* Questions */
@@ -171,19 +198,22 @@ HV_ANSWER hv_is_sorted(const hv_session *session, const hv_column *column, uint8
 HV_ANSWER hv_extreme(const hv_session *session, const hv_column *column, uint8_t greatest, hv_value *value,
                      uint8_t *text, size_t text_len, hv_error *error) {
     hv_error ignored;
-    return (hv_extreme)(hv_settings_of(session), hv_lent(column), greatest, value, HV_ITEMS(uint8_t, text), text_len,
-                        HV_FIELDS);
+    HV_ITEMS(uint8_t, text, text_len);
+    return (hv_extreme)(hv_settings_of(session), hv_lent(column), greatest, value, text, text_len, HV_FIELDS);
 }
 HV_ANSWER hv_min_max(const hv_session *session, const hv_column *column, hv_value *least, uint8_t *least_text,
                      size_t least_text_len, hv_value *greatest, uint8_t *greatest_text, size_t greatest_text_len,
                      hv_error *error) {
     hv_error ignored;
-    return (hv_min_max)(hv_settings_of(session), hv_lent(column), least, HV_ITEMS(uint8_t, least_text), least_text_len,
-                        greatest, HV_ITEMS(uint8_t, greatest_text), greatest_text_len, HV_FIELDS);
+    HV_ITEMS(uint8_t, least_text, least_text_len);
+    HV_ITEMS(uint8_t, greatest_text, greatest_text_len);
+    return (hv_min_max)(hv_settings_of(session), hv_lent(column), least, least_text, least_text_len, greatest,
+                        greatest_text, greatest_text_len, HV_FIELDS);
 }
 HV_ANSWER hv_at(const hv_column *column, size_t row, hv_value *value, uint8_t *text, size_t text_len, hv_error *error) {
     hv_error ignored;
-    return (hv_at)(hv_lent(column), row, value, HV_ITEMS(uint8_t, text), text_len, HV_FIELDS);
+    HV_ITEMS(uint8_t, text, text_len);
+    return (hv_at)(hv_lent(column), row, value, text, text_len, HV_FIELDS);
 }
 HV_CALL size_t hv_length(const hv_column *column) { return (hv_length)(hv_lent(column)); }
 HV_CALL hv_kind hv_kind_of(const hv_column *column) { return (hv_kind_of)(hv_lent(column)); }
@@ -194,38 +224,46 @@ HV_CALL size_t hv_bytes_used(const hv_column *column) { return (hv_bytes_used)(h
 /* Reading many rows */
 HV_ANSWER hv_read_decimals(const hv_column *column, size_t start, hv_pair *pairs, size_t len, hv_error *error) {
     hv_error ignored;
-    return (hv_read_decimals)(hv_lent(column), start, HV_ITEMS(hv_pair, pairs), len, HV_FIELDS);
+    HV_ITEMS(hv_pair, pairs, len);
+    return (hv_read_decimals)(hv_lent(column), start, pairs, len, HV_FIELDS);
 }
 HV_ANSWER hv_read_bools(const hv_column *column, uint64_t *words, size_t len, hv_error *error) {
     hv_error ignored;
-    return (hv_read_bools)(hv_lent(column), HV_ITEMS(uint64_t, words), len, HV_FIELDS);
+    HV_ITEMS(uint64_t, words, len);
+    return (hv_read_bools)(hv_lent(column), words, len, HV_FIELDS);
 }
 HV_ANSWER hv_read_validity(const hv_column *column, uint64_t *words, size_t len, hv_error *error) {
     hv_error ignored;
-    return (hv_read_validity)(hv_lent(column), HV_ITEMS(uint64_t, words), len, HV_FIELDS);
+    HV_ITEMS(uint64_t, words, len);
+    return (hv_read_validity)(hv_lent(column), words, len, HV_FIELDS);
 }
 HV_ANSWER hv_read_bools_from(const hv_column *column, size_t start, size_t rows, uint64_t *words, size_t len,
                              hv_error *error) {
     hv_error ignored;
-    return (hv_read_bools_from)(hv_lent(column), start, rows, HV_ITEMS(uint64_t, words), len, HV_FIELDS);
+    HV_ITEMS(uint64_t, words, len);
+    return (hv_read_bools_from)(hv_lent(column), start, rows, words, len, HV_FIELDS);
 }
 HV_ANSWER hv_read_validity_from(const hv_column *column, size_t start, size_t rows, uint64_t *words, size_t len,
                                 hv_error *error) {
     hv_error ignored;
-    return (hv_read_validity_from)(hv_lent(column), start, rows, HV_ITEMS(uint64_t, words), len, HV_FIELDS);
+    HV_ITEMS(uint64_t, words, len);
+    return (hv_read_validity_from)(hv_lent(column), start, rows, words, len, HV_FIELDS);
 }
 HV_ANSWER hv_read_offsets(const hv_column *column, size_t start, int32_t *offsets, size_t len, hv_error *error) {
     hv_error ignored;
-    return (hv_read_offsets)(hv_lent(column), start, HV_ITEMS(int32_t, offsets), len, HV_FIELDS);
+    HV_ITEMS(int32_t, offsets, len);
+    return (hv_read_offsets)(hv_lent(column), start, offsets, len, HV_FIELDS);
 }
 HV_ANSWER hv_read_large_offsets(const hv_column *column, size_t start, int64_t *offsets, size_t len, hv_error *error) {
     hv_error ignored;
-    return (hv_read_large_offsets)(hv_lent(column), start, HV_ITEMS(int64_t, offsets), len, HV_FIELDS);
+    HV_ITEMS(int64_t, offsets, len);
+    return (hv_read_large_offsets)(hv_lent(column), start, offsets, len, HV_FIELDS);
 }
 HV_ANSWER hv_read_bytes(const hv_column *column, size_t start, size_t rows, uint8_t *bytes, size_t len,
                         hv_error *error) {
     hv_error ignored;
-    return (hv_read_bytes)(hv_lent(column), start, rows, HV_ITEMS(uint8_t, bytes), len, HV_FIELDS);
+    HV_ITEMS(uint8_t, bytes, len);
+    return (hv_read_bytes)(hv_lent(column), start, rows, bytes, len, HV_FIELDS);
 }
 
 /* Run columns */
@@ -244,7 +282,8 @@ HV_ANSWER hv_run_count(const hv_column *column, size_t *count, hv_error *error) 
 HV_ANSWER hv_run(const hv_column *column, size_t run, size_t *start, size_t *stop, hv_value *value, uint8_t *text,
                  size_t text_len, hv_error *error) {
     hv_error ignored;
-    return (hv_run)(hv_lent(column), run, start, stop, value, HV_ITEMS(uint8_t, text), text_len, HV_FIELDS);
+    HV_ITEMS(uint8_t, text, text_len);
+    return (hv_run)(hv_lent(column), run, start, stop, value, text, text_len, HV_FIELDS);
 }
 HV_ANSWER hv_run_of(const hv_column *column, size_t row, size_t *run, hv_error *error) {
     hv_error ignored;
@@ -252,17 +291,19 @@ HV_ANSWER hv_run_of(const hv_column *column, size_t row, size_t *run, hv_error *
 }
 HV_ANSWER hv_read_ends_u64(const hv_column *column, size_t first, uint64_t *stops, size_t len, hv_error *error) {
     hv_error ignored;
-    return (hv_read_ends_u64)(hv_lent(column), first, HV_ITEMS(uint64_t, stops), len, HV_FIELDS);
+    HV_ITEMS(uint64_t, stops, len);
+    return (hv_read_ends_u64)(hv_lent(column), first, stops, len, HV_FIELDS);
 }
 HV_ANSWER hv_serialize(const hv_column *column, uint8_t *bytes, size_t bytes_len, size_t *size, hv_error *error) {
     hv_error ignored;
-    return (hv_serialize)(hv_lent(column), HV_ITEMS(uint8_t, bytes), bytes_len, size, HV_FIELDS);
+    HV_ITEMS(uint8_t, bytes, bytes_len);
+    return (hv_serialize)(hv_lent(column), bytes, bytes_len, size, HV_FIELDS);
 }
 HV_ANSWER hv_deserialize(const hv_kind *kind, size_t count, const uint8_t *bytes, size_t bytes_len,
                          const hv_column *ends, const hv_column *values, hv_column *out, hv_error *error) {
     hv_error ignored;
-    return (hv_deserialize)(kind, count, HV_ITEMS(const uint8_t, bytes), bytes_len, hv_lent(ends), hv_lent(values), out,
-                            HV_FIELDS);
+    HV_ITEMS(const uint8_t, bytes, bytes_len);
+    return (hv_deserialize)(kind, count, bytes, bytes_len, hv_lent(ends), hv_lent(values), out, HV_FIELDS);
 }
 
 /* Lists */
@@ -299,7 +340,8 @@ HV_ANSWER hv_append(hv_builder *builder, const hv_column *column, hv_error *erro
 HV_ANSWER hv_append_value(hv_builder *builder, const hv_value *value, const uint8_t *text, size_t text_len,
                           size_t count, hv_error *error) {
     hv_error ignored;
-    return (hv_append_value)(builder, value, HV_ITEMS(const uint8_t, text), text_len, count, HV_FIELDS);
+    HV_ITEMS(const uint8_t, text, text_len);
+    return (hv_append_value)(builder, value, text, text_len, count, HV_FIELDS);
 }
 HV_ANSWER hv_encoding(const hv_builder *builder, hv_column *out, hv_error *error) {
     hv_error ignored;
@@ -322,14 +364,17 @@ HV_ANSWER hv_write_size(const hv_column *column, size_t *size, hv_error *error) 
 }
 HV_ANSWER hv_write(const hv_column *column, uint8_t *bytes, size_t bytes_len, size_t *size, hv_error *error) {
     hv_error ignored;
-    return (hv_write)(hv_lent(column), HV_ITEMS(uint8_t, bytes), bytes_len, size, HV_FIELDS);
+    HV_ITEMS(uint8_t, bytes, bytes_len);
+    return (hv_write)(hv_lent(column), bytes, bytes_len, size, HV_FIELDS);
 }
 HV_ANSWER hv_read_column(const uint8_t *bytes, size_t bytes_len, hv_column *out, hv_error *error) {
     hv_error ignored;
-    return (hv_read_column)(HV_ITEMS(const uint8_t, bytes), bytes_len, out, HV_FIELDS);
+    HV_ITEMS(const uint8_t, bytes, bytes_len);
+    return (hv_read_column)(bytes, bytes_len, out, HV_FIELDS);
 }
 
 #undef HV_ITEMS
+#undef HV_BITS
 #undef HV_FIELDS
 #undef HV_PARTS
 #endif

@@ -4,7 +4,8 @@
  * 0 for a type without null, 1 where no row is null, and any other number where the bits from bit `first` on tell it.
  *
  * In C and C++ the same names are inline functions over the exports (hivevigil_calls.h), by macros as they stand below.
- * Parentheses reach the export, as of the functions of C's own library: (hv_length)(&column). A program that defines
+ * Parentheses reach the export, as of the functions of C's own library: (hv_length)(&column); so does a name that no
+ * arguments follow, as that of a function pointer, where hv_call_length is the inline function. A program that defines
  * HV_EXPORTS_ALONE before it includes hivevigil.h has the types and the exports, and nothing over them. */
 #ifndef HIVEVIGIL_EXPORTS_H
 #define HIVEVIGIL_EXPORTS_H

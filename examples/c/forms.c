@@ -377,6 +377,7 @@ static void check_text_extremes(void) {
     CHECK(greatest.kind == HV_TEXT && greatest.as_unsigned == 3 && !memcmp(high, "ccc", 3));
     CHECK_REFUSED(hv_min_max(&session, &texts, &least, low, 0, &greatest, high, 3, &error), HV_COLUMN_LENGTH, 1, 0, 0);
     CHECK_REFUSED(hv_min_max(&session, &texts, &least, low, 1, &greatest, high, 2, &error), HV_COLUMN_LENGTH, 3, 2, 0);
+    CHECK_REFUSED(hv_min_max(&session, &texts, &least, low, 0, &greatest, high, 2, &error), HV_COLUMN_LENGTH, 1, 0, 0);
     CHECK(hv_min_max(&session, &none, &least, low, 1, &greatest, high, 3, &error) == HV_NO_COLUMN);
     hv_free(&texts);
 }

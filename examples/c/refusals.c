@@ -330,6 +330,86 @@ static void check_no_items(void) {
     hv_free(&made);
 }
 
+/* A null pointer where there are to be items: 11, with how many, before all else, also where the handle is empty. */
+#define MISSING(call, items) REFUSED(call, HV_COLUMN_LENGTH, items, 0, 0)
+
+static void check_missing_numbers(void) {
+    const hv_validity no_bits = hv_valid_bits(NULL, 2, 0);
+    const uint64_t items[1] = {0};
+#define MISSING_OF(suffix, type) \
+    MISSING(hv_##suffix(NULL, 3, NOT_NULLABLE, &out, &error), 3); \
+    MISSING(hv_##suffix((const type *)items, 1, no_bits, &out, &error), 2); \
+    MISSING(hv_read_##suffix(&numbers, 0, NULL, 3, &error), 3); \
+    MISSING(hv_read_##suffix(&empty, 0, NULL, SIZE_MAX, &error), SIZE_MAX)
+    MISSING_OF(u8, uint8_t);
+    MISSING_OF(u16, uint16_t);
+    MISSING_OF(u32, uint32_t);
+    MISSING_OF(u64, uint64_t);
+    MISSING_OF(i8, int8_t);
+    MISSING_OF(i16, int16_t);
+    MISSING_OF(i32, int32_t);
+    MISSING_OF(i64, int64_t);
+    CHECK(hv_u8(NULL, 1, NOT_NULLABLE, &out, NULL) == HV_COLUMN_LENGTH);
+    check_kept();
+}
+
+static void check_missing_to_make(void) {
+    const hv_validity no_bits = hv_valid_bits(NULL, 2, 0);
+    const hv_kind utf8 = {HV_UTF8, 0, 0, 0}, u8 = {HV_U8, 0, 0, 0};
+    const hv_value text = {.kind = HV_TEXT}, null = {.kind = HV_NULL};
+    const uint8_t bytes[1] = {0};
+    const int32_t offsets[2] = {0, 1};
+    const int64_t large[2] = {0, 1};
+    const uint64_t sizes[1] = {0};
+    const hv_pair pairs[1] = {{0, 0}};
+    hv_builder builder = HV_EMPTY;
+    MISSING(hv_bools(NULL, 1, 0, 0, NOT_NULLABLE, &out, &error), 1);
+    MISSING(hv_bools(bytes, 1, 0, 1, no_bits, &out, &error), 2);
+    MISSING(hv_decimals(NULL, 4, 3, 0, NOT_NULLABLE, &out, &error), 4);
+    MISSING(hv_decimals(pairs, 1, 3, 0, no_bits, &out, &error), 2);
+    MISSING(hv_texts(0, NULL, 2, bytes, 1, NOT_NULLABLE, &out, &error), 2);
+    MISSING(hv_texts(0, offsets, 2, NULL, 1, NOT_NULLABLE, &out, &error), 1);
+    MISSING(hv_texts(0, offsets, 2, bytes, 1, no_bits, &out, &error), 2);
+    MISSING(hv_large_texts(1, NULL, 2, bytes, 1, NOT_NULLABLE, &out, &error), 2);
+    MISSING(hv_large_texts(1, large, 2, NULL, 1, NOT_NULLABLE, &out, &error), 1);
+    MISSING(hv_large_texts(1, large, 2, bytes, 1, no_bits, &out, &error), 2);
+    MISSING(hv_lists(&numbers, NULL, 1, sizes, 1, NOT_NULLABLE, &out, &error), 1);
+    MISSING(hv_lists(&numbers, sizes, 1, NULL, 3, NOT_NULLABLE, &out, &error), 3);
+    MISSING(hv_lists(&numbers, sizes, 1, sizes, 1, no_bits, &out, &error), 2);
+    MISSING(hv_constant(&utf8, &text, NULL, 7, 1, &out, &error), 7);
+    MISSING(hv_compare_scalar(&session, &texts, HV_EQ, &text, NULL, 7, &out, &error), 7);
+    MISSING(hv_fill(&session, &texts, &null, NULL, 7, &out, &error), 7);
+    MISSING(hv_deserialize(&u8, 0, NULL, 2, &numbers, &numbers, &out, &error), 2);
+    MISSING(hv_read_column(NULL, 9, &out, &error), 9);
+    CHECK(!hv_builder_new(&utf8, &builder, &error));
+    MISSING(hv_append_value(&builder, &text, NULL, 7, 1, &error), 7);
+    CHECK(hv_builder_rows(&builder) == 0);
+    hv_builder_free(&builder);
+}
+
+static void check_missing_room(void) {
+    hv_value value;
+    uint8_t text[4];
+    size_t size, stop;
+    FILL(value), FILL(text), FILL(size), FILL(stop);
+    MISSING(hv_extreme(&session, &texts, 1, &value, NULL, 4, &error), 4);
+    MISSING(hv_min_max(&session, &texts, &value, NULL, 4, &value, text, 4, &error), 4);
+    MISSING(hv_min_max(&session, &texts, &value, text, 4, &value, NULL, 3, &error), 3);
+    MISSING(hv_at(&texts, 0, &value, NULL, 4, &error), 4);
+    MISSING(hv_run(&runs, 0, &size, &stop, &value, NULL, 4, &error), 4);
+    MISSING(hv_read_decimals(&numbers, 0, NULL, 2, &error), 2);
+    MISSING(hv_read_bools(&truths, NULL, 1, &error), 1);
+    MISSING(hv_read_validity(&truths, NULL, 1, &error), 1);
+    MISSING(hv_read_bools_from(&truths, 0, 3, NULL, 1, &error), 1);
+    MISSING(hv_read_validity_from(&truths, 0, 3, NULL, 1, &error), 1);
+    MISSING(hv_read_offsets(&texts, 0, NULL, 3, &error), 3);
+    MISSING(hv_read_large_offsets(&texts, 0, NULL, 3, &error), 3);
+    MISSING(hv_read_bytes(&texts, 0, 2, NULL, 3, &error), 3);
+    MISSING(hv_read_ends_u64(&runs, 0, NULL, 3, &error), 3);
+    MISSING(hv_serialize(&runs, NULL, 2, &size, &error), 2);
+    MISSING(hv_write(&runs, NULL, 99, &size, &error), 99);
+}
+
 /* Nor is an `error` that nobody asks for, whether the call is done or refused, or no handle to free. What is lent may
  * be lent by a pointer to const, and is the same after. */
 static void check_nothing_asked(void) {
@@ -404,6 +484,9 @@ int main(void) {
     check_far_offsets();
     check_empty_handles();
     check_no_items();
+    check_missing_numbers();
+    check_missing_to_make();
+    check_missing_room();
     check_nothing_asked();
     check_session();
     check_flags();
