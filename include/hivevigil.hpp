@@ -5,8 +5,8 @@
 //     for (const hv::Run &run : runs.runs()) use(run.start, run.stop, run.value);
 //     for (const hv::Value &row : runs) use(row);
 //
-// A column is used by one thread at a time, any thread; those that were made one from the other may be used at once, but
-// for lists.
+// A column is used by one thread at a time, any thread; those that were made one from the other may be used at once,
+// but for lists.
 #ifndef HIVEVIGIL_HPP
 #define HIVEVIGIL_HPP
 #include "hivevigil_fits.hpp"
@@ -276,8 +276,8 @@ public:
             if (answer != HV_COLUMN_LENGTH) throw Error(answer, fields);
         }
     }
-    // The rows that are not null, added one at a time. Refused as HV_CAST_OUT_OF_RANGE where the sum leaves the range of
-    // 64 bits; the first field is the row with which it does.
+    // The rows that are not null, added one at a time. Refused as HV_CAST_OUT_OF_RANGE where the sum leaves the range
+    // of 64 bits; the first field is the row with which it does.
     Sum sum(const hv_session &session = initial_session()) const {
         hv_total total{};
         detail::ask([&](auto *error) { return hv_sum(&session, &handle, &total, error); },
@@ -322,14 +322,14 @@ public:
     }
     std::vector<bool> truths() const { return flags(hv_call_read_bools_from); }
     std::vector<bool> validity() const { return flags(hv_call_read_validity_from); }
-    // Of runs, copied.
+    // The parts of runs, copied.
     Column ends() const {
         return made([&](auto *out, auto *error) { return hv_ends(&handle, out, error); });
     }
     Column values() const {
         return made([&](auto *out, auto *error) { return hv_values(&handle, out, error); });
     }
-    // Of lists: the elements of all, where those of each start, how many they are, and whether it is valid.
+    // The parts of lists: the elements of all, where those of each start, how many they are, and whether it is valid.
     Column list_elements() const { return part(hv_call_list_elements); }
     Column list_offsets() const { return part(hv_call_list_offsets); }
     Column list_sizes() const { return part(hv_call_list_sizes); }

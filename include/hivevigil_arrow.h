@@ -1,5 +1,5 @@
 /* Columns in and out of Arrow's C data interface and C stream interface, over hivevigil.h. Plain C in headers, which
- * C++ reads too; nothing here is proved. Little-endian machines alone, as hivevigil.h.
+ * C++ reads too; nothing here is proved. Only for little-endian machines, as hivevigil.h.
  *
  * IN come integers of 8 to 64 bits, dates, times, timestamps, durations and months (as the integers that they
  * are), booleans, decimals of 32, 64 and 128 bits, texts and bytes (with offsets of 32 or 64 bits, as views, or of
@@ -10,8 +10,8 @@
  * run, lists as lists, whose items are flat and follow one another row by row. What goes out is memory of malloc, which
  * the release callbacks free on any thread; a child that was moved out is the mover's.
  *
- * NEITHER in nor out go lists of lists, views of lists, structs (but as batches), maps, unions, the null type, intervals
- * of more than months, and decimals of 256 bits: HV_UNSUPPORTED; nor do lists that lie flat go out as runs.
+ * NEITHER in nor out go lists of lists, views of lists, structs (but as batches), maps, unions, the null type,
+ * intervals of more than months, and decimals of 256 bits: HV_UNSUPPORTED; nor do lists that lie flat go out as runs.
  *
  * DECIMALS are not tested against their precision, here as in every call of hivevigil.h: 123.45 in an array of
  * "d:4,2", which Arrow does not allow, comes in and goes out as the number that it is.
@@ -166,7 +166,7 @@ static inline const struct ArrowSchema *hv_arrow_schema_of(const hv_arrow_reader
 /* How many columns a chunk has. */
 static inline size_t hv_arrow_width(const hv_arrow_reader *reader);
 /* How a column of the chunks that follow is read; at first each is HV_ARROW_READ. Of one that is left out the handle
- * stays as it is. What is no column is passed over. */
+ * stays as it is. A number that no column has is passed over. */
 enum { HV_ARROW_READ = 0, HV_ARROW_LEAVE_OUT = 1, HV_ARROW_READ_BITS = 2 };
 static inline void hv_arrow_choose(hv_arrow_reader *reader, size_t column, uint8_t how);
 /* The next chunk as columns; *more is 0 where there was none, and then they stay. `count` is their number, else 11
@@ -176,7 +176,7 @@ static inline int32_t hv_arrow_next(const hv_session *session, hv_arrow_reader *
                                     size_t count, uint8_t *more, hv_error *error);
 /* What the stream said of its failure; empty where it said nothing. Good until the reader is closed. */
 static inline const char *hv_arrow_words(const hv_arrow_reader *reader);
-/* Releases the stream, and frees the reader. Null is no reader. */
+/* Releases the stream, and frees the reader, if there is one. */
 static inline void hv_arrow_close(hv_arrow_reader *reader);
 
 /* All chunks, one column of all rows for each column of a chunk, of no rows where there is no chunk: runs where each
@@ -196,8 +196,8 @@ static inline int32_t hv_arrow_concat(const hv_session *session, hv_column *colu
  * Batches with these names, or, where `names` is null, arrays of the one column. All is copied now, so that the stream
  * is free of the columns and their thread. Every chunk has the schema of the first: options (one for each column, or
  * null) that are 0 are of 32 bits here, a column that lies as runs or a constant goes out as runs over flat values, and
- * one of lists as lists. 11 (rows of the first, rows) where columns differ in their number of rows; 13 for no columns, or for arrays of more
- * than one; else as hv_arrow_export_with. A dictionary goes out once, and the chunks share it. */
+ * one of lists as lists. 11 (rows of the first, rows) where columns differ in their number of rows; 13 for no columns,
+ * or for arrays of more than one; else as hv_arrow_export_with. A dictionary goes out once, and the chunks share it. */
 static inline int32_t hv_arrow_export_stream(const hv_session *session, hv_column *columns, const char *const *names,
                                              size_t count, size_t chunk_rows, const hv_arrow_options *options,
                                              struct ArrowArrayStream *stream, hv_error *error);

@@ -39,7 +39,7 @@ static inline void hv_arrow_free_gathered(hv_arrow_gathered *gathered) {
     free(gathered->bytes.bytes);
 }
 
-/* Adds bits behind the `rows` bits that are there, from whole words, of which the bits past `count` are not read. */
+/* Adds bits after the `rows` bits that are there, from whole words, of which the bits past `count` are not read. */
 static inline bool hv_arrow_add_bits(hv_arrow_room *room, size_t rows, const uint64_t *words, size_t count) {
     size_t needed = ((rows + count) / 64 + 2) * sizeof *words, shift = rows % 64;
     if (needed > room->size && !hv_arrow_grow(room, needed - room->size)) return false;
@@ -158,7 +158,7 @@ static inline int32_t hv_arrow_common_kind(hv_column *columns, size_t count, hv_
     return HV_OK;
 }
 
-/* Adds the visible runs of a column behind those that end at `rows`. */
+/* Adds the visible runs of a column after those that end at `rows`. */
 static inline int32_t hv_arrow_gather_runs(const hv_session *session, hv_arrow_gathered *values, hv_arrow_room *ends,
                                            hv_column *column, uint64_t rows, hv_error *error) {
     hv_column shown = HV_EMPTY;

@@ -81,7 +81,7 @@ static inline int64_t hv_arrow_offset_at(const uint8_t *offsets, size_t index, s
     return wide;
 }
 
-/* Texts behind offsets, which are counted from the first text shown, so that its bytes are the first that are copied.
+/* Texts by offsets, which are counted from the first text shown, so that its bytes are the first that are copied.
  * An offset below the first becomes -1, and is refused as one that falls. */
 static inline int32_t hv_arrow_read_texts(const hv_arrow_rows *rows, hv_column *out, hv_error *error) {
     size_t width = rows->layout.width;

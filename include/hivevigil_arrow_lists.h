@@ -1,5 +1,5 @@
-/* Lists in and out, a part of hivevigil_arrow.h, which includes it. In Arrow the items of a list stand behind those of
- * the list before it; of a column they may stand anywhere among its elements. */
+/* Lists in and out, a part of hivevigil_arrow.h, which includes it. In Arrow the items of a list follow those of the
+ * list before it; in a column they may be anywhere among its elements. */
 #ifndef HIVEVIGIL_ARROW_LISTS_H
 #define HIVEVIGIL_ARROW_LISTS_H
 #include "hivevigil_arrow_in.h"

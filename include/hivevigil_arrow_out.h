@@ -24,7 +24,7 @@ static inline bool hv_arrow_are_options(const hv_arrow_options *options) {
     return options->form <= HV_ARROW_AS_FLAT && (offsets == 0 || offsets == 32 || offsets == 64);
 }
 
-/* Whether a format is one of this type. Decimals are written in 128 bits alone, and texts behind offsets. */
+/* Whether a format is one of this type. Decimals are written only in 128 bits, and texts only by offsets. */
 static inline bool hv_arrow_is_format_of(const char *format, hv_kind kind, hv_arrow_layout *layout) {
     if (!hv_arrow_layout_of(format, layout) || layout->number != kind.number) return false;
     if (layout->what == HV_ARROW_FLOATS || layout->what == HV_ARROW_VIEWS || layout->what == HV_ARROW_FIXED)
@@ -161,7 +161,7 @@ static inline int32_t hv_arrow_check_codes(const hv_arrow_writing *writing, hv_c
     return HV_OK;
 }
 
-/* Flat codes, and beside them their dictionary, to which format and offsets of the options belong. */
+/* Flat codes with their dictionary, to which format and offsets of the options belong. */
 static inline int32_t hv_arrow_write_coded(const hv_arrow_writing *writing, hv_column *codes, hv_kind kind,
                                            const char *name, struct ArrowSchema *schema, struct ArrowArray *array) {
     static const hv_arrow_options none = {0, 0, 0, 0, NULL, NULL};

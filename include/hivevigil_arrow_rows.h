@@ -10,7 +10,7 @@
 enum { HV_ARROW_NOT_NULLABLE = 0, HV_ARROW_NO_NULLS = 1, HV_ARROW_NULLS_BY_BITS = 2 };
 enum { HV_ARROW_FLAT = 0, HV_ARROW_CONSTANT = 1, HV_ARROW_OF_LISTS = 2, HV_ARROW_RUNS = 3, HV_ARROW_NO_FORM = 255 };
 
-/* No items, by an address that is not null: nothing is read behind it. */
+/* No items, by an address that is not null: nothing is read there. */
 static inline const uint8_t *hv_arrow_nothing(void) {
     static const uint64_t nothing = 0;
     return (const uint8_t *)&nothing;
@@ -81,7 +81,7 @@ static inline const hv_arrow_named_layout *hv_arrow_layouts(size_t *count) {
     return layouts;
 }
 
-/* An integer of up to nine digits at the front of a text, which then begins behind it. */
+/* An integer of up to nine digits at the front of a text, which then begins after it. */
 static inline bool hv_arrow_take_number(const char **text, int *number) {
     bool negative = **text == '-';
     const char *digits = *text + negative, *end = digits;
@@ -119,7 +119,7 @@ static inline bool hv_arrow_fixed_layout(const char *format, hv_arrow_layout *la
     return true;
 }
 
-/* False for a format that does not come in, and for what is no format. */
+/* False for a format that does not come in, and for a text that is not a format. */
 static inline bool hv_arrow_layout_of(const char *format, hv_arrow_layout *layout) {
     static const hv_arrow_layout timestamps = {HV_ARROW_NUMBERS, HV_I64, 8, 0, 0};
     size_t count;

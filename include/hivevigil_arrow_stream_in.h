@@ -34,7 +34,7 @@ static inline int32_t hv_arrow_take_schema(hv_arrow_reader *reader, hv_error *er
     if (!reader->stream.get_schema || !reader->stream.get_next) return hv_arrow_invalid(HV_ARROW_NO_POINTER, error);
     int number = reader->stream.get_schema(&reader->stream, schema);
     if (number) {
-        schema->release = NULL; /* what a stream leaves that failed is no schema */
+        schema->release = NULL; /* what a stream leaves that failed is not a schema */
         return hv_arrow_failed(reader, number, error);
     }
     if (!schema->release) return hv_arrow_invalid(HV_ARROW_RELEASED, error);

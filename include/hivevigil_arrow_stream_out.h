@@ -153,7 +153,7 @@ static inline int32_t hv_arrow_prepare(const hv_session *session, hv_arrow_field
                                 &field->shared->array, error);
 }
 
-/* Puts the dictionary beside codes, which may be the values of runs. */
+/* Gives codes, which may be the values of runs, their dictionary. */
 static inline int32_t hv_arrow_attach(const hv_arrow_field *field, struct ArrowSchema *schema, struct ArrowArray *array,
                                       hv_error *error) {
     if (!field->shared) return HV_OK;
@@ -168,8 +168,8 @@ static inline int32_t hv_arrow_attach(const hv_arrow_field *field, struct ArrowS
     return hv_arrow_refuse(HV_OUT_OF_MEMORY, 0, 0, error);
 }
 
-/* Rows `start` to `stop - 1` of one column, which stay in runs whichever kernels the session has: lists that were written
- * flat would not go out as runs. */
+/* Rows `start` to `stop - 1` of one column, which stay in runs whichever kernels the session has: lists that were
+ * written flat would not go out as runs. */
 static inline int32_t hv_arrow_write_field(const hv_session *session, const hv_arrow_field *field, size_t start,
                                            size_t stop, struct ArrowSchema *schema, struct ArrowArray *array,
                                            hv_error *error) {

@@ -13,7 +13,7 @@ namespace hv {
 // Holds an end and a value for each run, and nothing for a row. Where a call throws, it has the rows that it had.
 class Builder {
 public:
-    // Of rows of this type, which is none of lists.
+    // A builder of rows of this type, which is not one of lists.
     explicit Builder(hv_kind kind) : type(kind) {
         detail::ask([&](auto *error) { return hv_builder_new(&type, &handle, error); });
     }

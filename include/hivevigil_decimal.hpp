@@ -13,8 +13,8 @@ __extension__ typedef __int128 Wide; // every integer of a column, and every dec
 inline constexpr Wide wide_greatest = (Wide(INT64_MAX) << 64) + UINT64_MAX;
 inline constexpr Wide wide_least = -wide_greatest - 1;
 
-// A number at a scale: `floor` is the greatest integer that is not above it, and `rest` says that it is not that integer.
-// `past` is 1 or -1, and not 0, where that integer has more than 128 bits.
+// A number at a scale: `floor` is the greatest integer that is not above it, and `rest` says that it is not that
+// integer. `past` is 1 or -1, and not 0, where that integer has more than 128 bits.
 struct AtScale {
     Wide floor;
     bool rest;
@@ -37,8 +37,8 @@ constexpr AtScale at_scale(Wide number, int from, int to) {
 
 } // namespace detail
 
-// A number: high * 2^64 + low, the last `scale` digits of which are after the point. {1050, 0, 2} is 10.50, and equal to
-// {105, 0, 1}.
+// A number: high * 2^64 + low, the last `scale` digits of which are after the point. {1050, 0, 2} is 10.50, and equal
+// to {105, 0, 1}.
 struct Decimal {
     uint64_t low = 0;
     int64_t high = 0;

@@ -65,8 +65,8 @@ static inline const char *hv_error_sentence(int32_t number) {
 }
 
 /* Writes the refusal as a sentence with its fields into `text`, which has room for HV_ERROR_TEXT bytes, and returns
- * `text`. A number that is not of hivevigil.h is written with its fields. An index of 2^64 - 1, which stands for one that
- * no uint64_t has, is written in words. */
+ * `text`. A number that is not of hivevigil.h is written with its fields. An index of 2^64 - 1 is written in words: it
+ * means one that no uint64_t has. */
 static inline char *hv_error_text(int32_t number, const hv_error *error, char *text) {
     const uint64_t fields[] = {error->first, error->second, error->third};
     const char *sentence = hv_error_sentence(number);

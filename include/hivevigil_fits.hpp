@@ -57,7 +57,7 @@ inline Value value_of(Wide digits, hv_kind kind) {
     return static_cast<uint64_t>(digits);
 }
 
-// May a value be of a type, by its sort? Lists, and what is no type, are left to the call to refuse.
+// Whether a value may be of a type, by its sort. Lists, and numbers that name no type, are left to the call to refuse.
 inline bool may_be(const Value &value, hv_kind kind) {
     switch (kind.number) {
     case HV_BOOL: return std::holds_alternative<bool>(value);
@@ -67,8 +67,8 @@ inline bool may_be(const Value &value, hv_kind kind) {
     }
 }
 
-// The value as a row of the type: 7 is 7.00 in decimals of scale 2. Refused as 12 where it is of another sort, and as 14
-// where it is a number that the type does not have. Null is left to the call.
+// The value as a row of the type: 7 is 7.00 in decimals of scale 2. Refused as 12 where it is of another sort, and as
+// 14 where it is a number that the type does not have. Null is left to the call.
 inline Value fitted(const Value &value, hv_kind kind) {
     if (std::holds_alternative<Null>(value) || kind.number >= HV_LIST) return value;
     const auto refuse = [kind](int32_t number, const std::string &what) {
@@ -87,7 +87,8 @@ inline hv_pair pair_at(Decimal number, hv_kind kind, size_t row) {
     const AtScale at = at_scale(number.digits(), number.scale, kind.scale);
     if (at.past || at.rest)
         throw Error(HV_CAST_OUT_OF_RANGE, {},
-                    "row " + std::to_string(row) + " is " + to_string(number) + ", which does not fit " + to_string(kind));
+                    "row " + std::to_string(row) + " is " + to_string(number) + ", which does not fit " +
+                        to_string(kind));
     const Decimal same = std::get<Decimal>(value_of(at.floor, kind));
     return {same.low, same.high};
 }
@@ -111,7 +112,7 @@ template <class T> std::optional<T> optional_of(const Value &value, size_t row) 
 
 // ---- What a call refused, in words ----
 
-// Of a value of the column's sort.
+// A value of the column's sort.
 inline auto words_of_value(const Value &value, hv_kind kind) {
     return [&value, kind](int32_t answer) -> std::string {
         if (answer == HV_TYPE_MISMATCH && std::holds_alternative<std::string>(value)) return "the text is not UTF-8";
@@ -128,19 +129,19 @@ inline auto words_of_compared(const Value &value, hv_kind kind) {
     };
 }
 
-// Of a column of another type than the call takes.
+// A column of another type than the call takes.
 inline auto words_of_other(const char *before, hv_kind kind) {
     return [=](int32_t answer) { return answer == HV_TYPE_MISMATCH ? before + to_string(kind) : std::string(); };
 }
 
-// Of two types that differ.
+// Two types that differ.
 inline auto words_of_two(hv_kind left, const char *between, hv_kind right) {
     return [=](int32_t answer) {
         return answer == HV_TYPE_MISMATCH ? to_string(left) + between + to_string(right) : std::string();
     };
 }
 
-// Of a type that the call does not serve.
+// A type that the call does not serve.
 inline auto words_of_type(hv_kind kind, const char *after) {
     return [=](int32_t answer) { return answer == HV_UNSUPPORTED ? to_string(kind) + after : std::string(); };
 }
@@ -152,16 +153,16 @@ inline auto words_of_read(hv_kind kind, hv_kind asked) {
     };
 }
 
-// Of texts, the first of which that is not UTF-8 is looked for by asking for each by itself.
+// Texts: the first that is not UTF-8 is found by asking for each by itself.
 inline auto words_of_texts(const std::vector<std::string_view> &rows) {
     return [&rows](int32_t answer) -> std::string {
         for (size_t row = 0; answer == HV_TYPE_MISMATCH && row < rows.size(); row++) {
             hv_column column = HV_EMPTY;
             const int64_t offsets[] = {0, static_cast<int64_t>(rows[row].size())};
-            const int32_t alone = hv_large_texts(0, offsets, 2, reinterpret_cast<const uint8_t *>(rows[row].data()),
+            const int32_t by_itself = hv_large_texts(0, offsets, 2, reinterpret_cast<const uint8_t *>(rows[row].data()),
                                                  rows[row].size(), hv_not_nullable(), &column, nullptr);
             hv_free(&column);
-            if (alone == HV_TYPE_MISMATCH) return "row " + std::to_string(row) + " is not UTF-8";
+            if (by_itself == HV_TYPE_MISMATCH) return "row " + std::to_string(row) + " is not UTF-8";
         }
         return "";
     };

@@ -1,5 +1,5 @@
-// The runs of a column, and what is looked for in them where a call was refused: a part of hivevigil.hpp, which includes
-// it.
+// The runs of a column, and what is looked for in them where a call was refused: a part of hivevigil.hpp, which
+// includes it.
 #ifndef HIVEVIGIL_RUNS_HPP
 #define HIVEVIGIL_RUNS_HPP
 #include "hivevigil.hpp"

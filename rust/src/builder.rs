@@ -34,7 +34,7 @@ impl Drop for Builder {
 }
 
 impl Builder {
-    /// A builder of rows of this type, which is not one of lists. It has no rows.
+    /// Makes a builder of rows of this type, which is not one of lists. It has no rows.
     pub fn new(kind: Kind) -> Result<Builder, Error> {
         let at = ptr::null_mut();
         let handle = UnsafeCell::new(BuilderHandle { at });
@@ -70,33 +70,33 @@ impl Builder {
         .map_err(|error| error.of_null(self.kind))
     }
 
-    /// All rows so far as runs, as few as there can be. The builder keeps its rows.
+    /// Returns all rows so far as runs, as few as there can be. The builder keeps its rows.
     pub fn encoding(&self) -> Result<Column, Error> {
         Column::made(|out, fields| unsafe { raw::hv_encoding(self.handle.get(), out, fields) })
     }
 
-    /// The same, made of the builder's own memory where that can be. The builder has no rows after, and takes others;
-    /// where the call is refused, it is as it was.
+    /// Returns the same, made of the builder's own memory where that can be. The builder has no rows after, and takes
+    /// others; where the call is refused, it is as it was.
     pub fn finish(&mut self) -> Result<Column, Error> {
         Column::made(|out, fields| unsafe { raw::hv_finish(self.handle.get(), out, fields) })
     }
 
-    /// The type of the rows.
+    /// Returns the type of the rows.
     pub fn kind(&self) -> Kind {
         self.kind
     }
 
-    /// How many rows there are.
+    /// Counts the rows.
     pub fn len(&self) -> usize {
         unsafe { raw::hv_builder_rows(self.handle.get()) }
     }
 
-    /// Are there no rows?
+    /// Returns whether there are no rows.
     pub fn is_empty(&self) -> bool {
         self.len() == 0
     }
 
-    /// How many runs are held: as many as the encoding has.
+    /// Counts the runs that are held: as many as the encoding has.
     pub fn runs(&self) -> usize {
         unsafe { raw::hv_builder_runs(self.handle.get()) }
     }

@@ -23,16 +23,17 @@ impl Drop for Column {
 }
 
 /// Held while a call counts owners of the elements of lists, which the library counts without atomics: columns of lists
-/// that were made one from the other may be on several threads, and so one call at a time is lent any, makes or frees it.
+/// that were made one from the other may be on several threads, and so one call at a time is lent any, makes or frees
+/// it.
 static LISTS: Mutex<()> = Mutex::new(());
 
-/// The turn of a call that these columns are lent to, if one of them is of lists.
+/// Takes the turn of a call that these columns are lent to, if one of them is of lists.
 pub(crate) fn turn_of(columns: &[&Column]) -> Option<MutexGuard<'static, ()>> {
     let are_lists = columns.iter().any(|column| column.kind().is_list());
     are_lists.then(|| LISTS.lock().unwrap_or_else(PoisonError::into_inner))
 }
 
-/// The flags as bits, 8 to a byte, and a byte where there are none.
+/// Packs flags as bits, 8 to a byte, and a byte where there are none.
 fn bits_of(flags: &[bool]) -> Vec<u8> {
     let mut bits = vec![0u8; flags.len() / 8 + 1];
     for (row, flag) in flags.iter().enumerate() {
@@ -75,7 +76,7 @@ impl Column {
         Ok(column)
     }
 
-    /// A call on this column.
+    /// Calls with this column.
     pub(crate) fn part(
         &self,
         call: impl FnOnce(*mut Handle, *mut Handle, *mut Fields) -> i32,
@@ -84,7 +85,7 @@ impl Column {
         Column::made(|out, fields| call(self.handle.get(), out, fields))
     }
 
-    /// A call on this column and another: two handles, so that a column that is lent twice is cloned first.
+    /// Calls with this column and another: two handles, so that a column that is lent twice is cloned first.
     pub(crate) fn beside(
         &self,
         other: &Column,
@@ -131,8 +132,8 @@ impl Column {
         })
     }
 
-    /// Numbers of `precision` digits, `scale` of them after the point: 12 with scale 1 is 1.2. How many digits they have
-    /// is not tested.
+    /// Numbers of `precision` digits, `scale` of them after the point: 12 with scale 1 is 1.2. How many digits they
+    /// have is not tested.
     pub fn decimals(
         rows: &[i128],
         precision: u8,
@@ -198,9 +199,9 @@ impl Column {
         })
     }
 
-    /// The value in each of `rows` rows of a type, in memory for one; refused as `NullNotAllowed` for null in a type
-    /// without null, as `CastOutOfRange` for a number that the type does not have, and as `TypeMismatch` for a value of
-    /// another sort.
+    /// Makes a column of the value in each of `rows` rows of a type, in memory for one; refused as `NullNotAllowed` for
+    /// null in a type without null, as `CastOutOfRange` for a number that the type does not have, and as `TypeMismatch`
+    /// for a value of another sort.
     ///
     /// ```
     /// use hivevigil::{Column, Kind, Value};
@@ -229,7 +230,7 @@ impl Column {
         })
     }
 
-    /// The runs that a record describes, over these ends and values.
+    /// Makes the runs that a record describes, over these ends and values.
     pub fn deserialize(
         kind: Kind,
         rows: usize,
@@ -251,19 +252,20 @@ impl Column {
         })
     }
 
-    /// The column that [`Column::to_bytes`] wrote; `BadMetadata` for bytes that are the message of no column.
+    /// Reads the column that [`Column::to_bytes`] wrote; refused as `BadMetadata` for bytes that are not a column's
+    /// message.
     pub fn from_bytes(message: &[u8]) -> Result<Column, Error> {
         Column::made(|out, fields| unsafe {
             raw::hv_read_column(message.as_ptr(), message.len(), out, fields)
         })
     }
 
-    /// The same column in the same form. What holds 32 items or more is shared and not copied.
+    /// Returns the same column in the same form. What holds 32 items or more is shared and not copied.
     pub fn try_clone(&self) -> Result<Column, Error> {
         self.part(|column, out, fields| unsafe { raw::hv_clone(column, out, fields) })
     }
 
-    /// The same column in the same form, in buffers that no other column shares except the bytes of texts. A slice of
+    /// Copies the column in its form, into buffers that no other column shares except the bytes of texts. A slice of
     /// a few rows keeps the whole buffers that it is a part of; of its compact copy they may be freed.
     pub fn try_compact(&self) -> Result<Column, Error> {
         self.part(|column, out, fields| unsafe { raw::hv_compact(column, out, fields) })

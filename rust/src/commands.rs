@@ -13,26 +13,27 @@ impl Column {
         self.part(|column, out, fields| call(&session, column, out, fields))
     }
 
-    /// As few runs as there can be, with ends of the least type; refused as `OnlyPrimitive` unless the rows are integers.
+    /// Encodes the rows as runs, as few as there can be, with ends of the least type; refused as `OnlyPrimitive` unless
+    /// the rows are integers.
     pub fn encode(&self) -> Result<Column, Error> {
         self.command(|session, column, out, fields| unsafe {
             raw::hv_encode(session, column, out, fields)
         })
     }
 
-    /// The rows of any type but lists as runs, as few as there can be; refused as `Unsupported` for lists.
+    /// Encodes rows of any type but lists as runs, as few as there can be; refused as `Unsupported` for lists.
     pub fn encode_rows(&self) -> Result<Column, Error> {
         self.part(|column, out, fields| unsafe { raw::hv_encode_rows(column, out, fields) })
     }
 
-    /// The rows written out in a flat form.
+    /// Writes the rows out in a flat form.
     pub fn decode(&self) -> Result<Column, Error> {
         self.command(|session, column, out, fields| unsafe {
             raw::hv_decode(session, column, out, fields)
         })
     }
 
-    /// The rows of a range of any kind, refused as `BadRange` where they are not all there.
+    /// Returns the rows of a range of any kind; refused as `BadRange` where they are not all there.
     ///
     /// ```
     /// let column = hivevigil::Column::try_from([4i64, 5, 6, 7])?;
@@ -47,7 +48,7 @@ impl Column {
         })
     }
 
-    /// Where a range starts and ends, refused as `BadRange` where one of these is past 64 bits.
+    /// Finds where a range starts and ends; refused as `BadRange` where one of these is past 64 bits.
     fn ends_of(&self, rows: impl RangeBounds<usize>) -> Result<(usize, usize), Error> {
         let start = match rows.start_bound() {
             Bound::Included(start) => Some(*start),
@@ -71,9 +72,9 @@ impl Column {
         })
     }
 
-    /// Each row as the same value of another type; refused as `CastOutOfRange` or `NullNotAllowed` at the first row
-    /// that does not fit, which the sentence names, and as `Unsupported` unless both types are of integers or of one
-    /// kind that is not lists.
+    /// Returns each row as the same value of another type; refused as `CastOutOfRange` or `NullNotAllowed` at the first
+    /// row that does not fit, which the sentence names, and as `Unsupported` unless both types are of integers or of
+    /// one kind that is not lists.
     pub fn cast(&self, kind: Kind) -> Result<Column, Error> {
         self.command(|session, column, out, fields| unsafe {
             raw::hv_cast(session, column, &kind, out, fields)
@@ -91,7 +92,7 @@ impl Column {
         })
     }
 
-    /// The refusal of the first row that a cast does not serve.
+    /// Finds the first row that a cast does not serve, as the refusal of it.
     fn first_misfit(&self, kind: Kind) -> Option<Error> {
         for run in self.runs().ok()? {
             let run = run.ok()?;
@@ -109,7 +110,7 @@ impl Column {
         None
     }
 
-    /// The rows at the indices, integers in any form: null at a null index; refused as `OutOfBounds`.
+    /// Takes the rows at the indices, integers in any form: null at a null index; refused as `OutOfBounds`.
     pub fn take(&self, indices: &Column) -> Result<Column, Error> {
         let (session, column) = (Session::initial(), self.handle.get());
         self.beside(indices, |indices, out, fields| unsafe {
@@ -118,7 +119,7 @@ impl Column {
         .map_err(|error| error.of_other("indices are integers, not", indices.kind()))
     }
 
-    /// The rows at which the mask, booleans in any form, is true: a null in the mask selects nothing.
+    /// Keeps the rows where the mask, booleans in any form, is true: a null in the mask selects nothing.
     pub fn filter(&self, mask: &Column) -> Result<Column, Error> {
         let (session, column) = (Session::initial(), self.handle.get());
         self.beside(mask, |mask, out, fields| unsafe {
@@ -127,7 +128,7 @@ impl Column {
         .map_err(|error| error.of_other("a mask is of type bool, not", mask.kind()))
     }
 
-    /// The rows of the dictionary that these codes name.
+    /// Looks up the rows of the dictionary that these codes number.
     pub fn take_from(&self, dictionary: &Column) -> Result<Column, Error> {
         let (session, codes) = (Session::initial(), self.handle.get());
         self.beside(dictionary, |rows, out, fields| unsafe {
@@ -136,7 +137,7 @@ impl Column {
         .map_err(|error| error.of_other("codes are integers, not", self.kind()))
     }
 
-    /// Row by row whether `left operator right`, null where either is null.
+    /// Compares row by row, null where either row is null.
     pub fn compare(&self, operator: Operator, right: &Column) -> Result<Column, Error> {
         let (session, left, operator) = (Session::initial(), self.handle.get(), operator as u8);
         let (kind, other) = (self.kind(), right.kind());
@@ -149,8 +150,8 @@ impl Column {
         })
     }
 
-    /// The same with one value, of the column's sort or null. Any number is compared with integers and decimals: each
-    /// row of `i8` is less than 300, and 0.51 is greater than 0.505.
+    /// Compares each row with one value, of the column's sort or null. Any number is compared with integers and
+    /// decimals: each row of `i8` is less than 300, and 0.51 is greater than 0.505.
     ///
     /// ```
     /// use hivevigil::{Column, Operator, Value};
@@ -183,7 +184,7 @@ impl Column {
         .map_err(|error| error.not_compared(self.kind(), value.sort()))
     }
 
-    /// A value in place of each null, after which the type has no null; refused as `NullFill` for null, as
+    /// Puts a value in place of each null, after which the type has no null; refused as `NullFill` for null, as
     /// `CastOutOfRange` for a number that the type does not have, and as `TypeMismatch` for a value of another sort.
     pub fn fill(&self, value: impl Into<Value>) -> Result<Column, Error> {
         let value = value.into().fitted(self.kind())?;

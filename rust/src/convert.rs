@@ -127,8 +127,8 @@ macro_rules! wholes {
             }
         }
 
-        /// The same number, of any type of integers; refused as `CastOutOfRange` where this one does not have it, and as
-        /// `TypeMismatch` where the value is of another sort.
+        /// Takes the same number, of any type of integers; refused as `CastOutOfRange` where this one does not have it,
+        /// and as `TypeMismatch` where the value is of another sort.
         impl TryFrom<Value> for $type {
             type Error = Error;
 

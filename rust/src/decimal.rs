@@ -34,12 +34,12 @@ pub(crate) enum AtScale {
 }
 
 impl Decimal {
-    /// `digits` with the last `scale` of them after the point.
+    /// Makes the number of `digits`, the last `scale` of which are after the point.
     pub const fn new(digits: i128, scale: i8) -> Decimal {
         Decimal { digits, scale }
     }
 
-    /// The number in units of the last place of this scale.
+    /// Counts the number in units of the last place of this scale.
     pub(crate) fn at_scale(self, scale: i8) -> AtScale {
         let (mut digits, mut from, to) = (self.digits, i16::from(self.scale), i16::from(scale));
         let mut is_exact = true;

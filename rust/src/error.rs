@@ -101,7 +101,7 @@ macro_rules! errors {
             /// Every kind, in the order of the numbers.
             pub const ALL: &'static [ErrorKind] = &[$(ErrorKind::$name,)*];
 
-            /// The sentence, in which `%1`, `%2` and `%3` stand for the fields.
+            /// Returns the sentence, in which `%1`, `%2` and `%3` stand for the fields.
             pub fn sentence(self) -> &'static str {
                 match self {
                     $(ErrorKind::$name => $sentence,)*
@@ -138,7 +138,7 @@ errors! {
 }
 
 impl Error {
-    /// What the refusal is; `None` for a number that `hivevigil.h` does not list.
+    /// Returns what the refusal is; `None` for a number that `hivevigil.h` does not list.
     pub fn kind(&self) -> Option<ErrorKind> {
         ErrorKind::ALL
             .iter()
@@ -146,7 +146,7 @@ impl Error {
             .find(|kind| *kind as i32 == self.number)
     }
 
-    /// The refusal that a call of `hivevigil.h` answered by this number and these fields.
+    /// Makes the refusal that a call of `hivevigil.h` answered by this number and these fields.
     pub const fn new(number: i32, fields: Fields) -> Error {
         Error {
             number,
@@ -155,7 +155,7 @@ impl Error {
         }
     }
 
-    /// A refusal without fields.
+    /// Makes a refusal without fields.
     pub(crate) fn of(kind: ErrorKind) -> Error {
         Error::new(kind as i32, Fields::default())
     }
@@ -164,7 +164,7 @@ impl Error {
         Error { detail, ..self }
     }
 
-    /// Two lengths that belong together differ.
+    /// Refuses two lengths that belong together and differ.
     pub(crate) fn lengths(left: usize, right: usize) -> Error {
         let (first, second, third) = (left as u64, right as u64, 0);
         let fields = Fields {
@@ -175,7 +175,7 @@ impl Error {
         Error::new(ErrorKind::ColumnLength as i32, fields)
     }
 
-    /// A number that a type does not have.
+    /// Refuses a number that a type does not have.
     pub(crate) fn misfit(number: Decimal, kind: Kind) -> Error {
         let what = What::Number(number);
         Error::of(ErrorKind::CastOutOfRange).with(Detail::Misfit {
@@ -185,7 +185,7 @@ impl Error {
         })
     }
 
-    /// The same refusal of a value of this sort, which the type does not have.
+    /// Names the sort of the value that the type does not have.
     pub(crate) fn with_sort(self, sort: &'static str, kind: Kind) -> Error {
         let what = What::Sort(sort);
         self.with(Detail::Misfit {
@@ -195,13 +195,13 @@ impl Error {
         })
     }
 
-    /// A value that is of another sort than is asked for.
+    /// Refuses a value of another sort than is asked for.
     pub(crate) fn sort(found: &'static str, asked: &'static str) -> Error {
         let row = None;
         Error::of(ErrorKind::TypeMismatch).with(Detail::Sort { row, found, asked })
     }
 
-    /// The sum leaves the range of this type with this row, which is the first field.
+    /// Refuses a sum that leaves the range of this type with this row, which is the first field.
     pub(crate) fn overflow(row: usize, kind: Kind) -> Error {
         let first = row as u64;
         let fields = Fields {
@@ -211,7 +211,7 @@ impl Error {
         Error::new(ErrorKind::CastOutOfRange as i32, fields).with(Detail::Overflow(row, kind))
     }
 
-    /// The same refusal of the value of a row.
+    /// Names the row of the value.
     pub(crate) fn at_row(self, at: usize) -> Error {
         let row = Some(at);
         match self.detail {
@@ -221,7 +221,7 @@ impl Error {
         }
     }
 
-    /// Where it is of this kind, the same refusal in words about a type, or about a type and another.
+    /// Puts a refusal of this kind in words about a type, or about a type and another.
     pub(crate) fn about(
         self,
         kind: ErrorKind,
@@ -235,7 +235,7 @@ impl Error {
         self
     }
 
-    /// Where the types do not match, the same refusal in words that end in a type.
+    /// Puts a refusal of types that do not match in words that end in a type.
     pub(crate) fn of_other(self, words: &'static str, other: Kind) -> Error {
         if self.kind() == Some(ErrorKind::TypeMismatch) {
             return self.with(Detail::Ends(words, other));
@@ -243,7 +243,7 @@ impl Error {
         self
     }
 
-    /// Where a column of this type is not compared with a value of this sort.
+    /// Puts a refusal of types that do not match in words about a comparison with a value of this sort.
     pub(crate) fn not_compared(self, kind: Kind, sort: &'static str) -> Error {
         if self.kind() == Some(ErrorKind::TypeMismatch) {
             return self.with(Detail::NotCompared(kind, sort));
@@ -251,7 +251,7 @@ impl Error {
         self
     }
 
-    /// Where the type has no null, the same refusal of null.
+    /// Names the type that has no null.
     pub(crate) fn of_null(self, kind: Kind) -> Error {
         if self.kind() == Some(ErrorKind::NullNotAllowed) {
             return self.with_sort("null", kind);
@@ -259,7 +259,7 @@ impl Error {
         self
     }
 
-    /// The sentence that `hivevigil_errors.h` has for the number.
+    /// Writes the sentence that `hivevigil_errors.h` has for the number.
     fn sentence(&self, kind: ErrorKind) -> String {
         let Fields {
             first,

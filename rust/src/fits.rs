@@ -9,7 +9,7 @@ impl Kind {
         self.is_unsigned() || self.is_signed() || self.is_decimal()
     }
 
-    /// The numbers of a numeric type, without their scale. Precision is not tested, as in C.
+    /// Returns the numbers that a numeric type has, without their scale. Precision is not tested, as in C.
     pub(crate) fn range(self) -> RangeInclusive<i128> {
         let bits = 8 << (self.number % 4);
         if self.is_decimal() {
@@ -21,7 +21,7 @@ impl Kind {
         }
     }
 
-    /// Digits after the point.
+    /// Counts the digits after the point.
     fn places(self) -> i8 {
         if self.is_decimal() {
             self.scale
@@ -32,7 +32,7 @@ impl Kind {
 }
 
 impl Value {
-    /// "an integer", "a text" ..
+    /// Names the sort of the value: "an integer", "a text" ..
     pub(crate) fn sort(&self) -> &'static str {
         match self {
             Value::Null => "null",
@@ -53,7 +53,7 @@ impl Value {
         }
     }
 
-    /// A number that a type has.
+    /// Makes a value of a number that the type has.
     fn of_digits(digits: i128, kind: Kind) -> Value {
         if kind.is_decimal() {
             Value::Decimal(Decimal::new(digits, kind.scale))
@@ -64,7 +64,7 @@ impl Value {
         }
     }
 
-    /// Whether a value may be of a type, by its sort. Lists are left to the call to refuse.
+    /// Returns whether a value may be of a type, by its sort. Lists are left to the call to refuse.
     fn may_be(&self, kind: Kind) -> bool {
         match self {
             Value::Null => true,
@@ -75,8 +75,9 @@ impl Value {
         }
     }
 
-    /// The value as a row of the type: 7 is 7.00 in decimals of scale 2. Refused as `TypeMismatch` where it is of another
-    /// sort, and as `CastOutOfRange` where it is a number that the type does not have. Null is left to the call.
+    /// Returns the value as a row of the type: 7 is 7.00 in decimals of scale 2. Refused as `TypeMismatch` where it is
+    /// of another sort, and as `CastOutOfRange` where it is a number that the type does not have. Null is left to the
+    /// call.
     pub(crate) fn fitted(self, kind: Kind) -> Result<Value, Error> {
         let kind = kind.not_nullable();
         if !self.may_be(kind) {
@@ -94,9 +95,9 @@ impl Value {
     }
 }
 
-/// The comparison with a number that the type has which answers what `row operator value` does for rows of the type. A
-/// number that lies past the type, or between two of its numbers, is decided by one that the type has: each row is below
-/// 300 where each is at most 127, and above 0.505 where it is above 0.50.
+/// Finds the comparison with a number of the type that answers what `row operator value` does for its rows. A number
+/// that lies past the type, or between two of its numbers, is decided by one that the type has: each row is below 300
+/// where each is at most 127, and above 0.505 where it is above 0.50.
 pub(crate) fn comparison(operator: Operator, value: Value, kind: Kind) -> (Operator, Value) {
     use Operator::{Greater, GreaterOrEqual, Less, LessOrEqual, NotEqual};
     let Some(number) = value.number().filter(|_| kind.is_numeric()) else {

@@ -98,14 +98,14 @@ impl ExactSizeIterator for Runs<'_> {}
 impl FusedIterator for Runs<'_> {}
 
 impl Column {
-    /// The rows in turn.
+    /// Returns the rows in turn.
     pub fn rows(&self) -> Rows<'_> {
         let left = 0..self.len();
         Rows { column: self, left }
     }
 
-    /// The runs as they are stored, cut to the window, and copied nowhere: each is looked up when it is asked for. A
-    /// constant is one run, and of other columns each row is one.
+    /// Returns the runs as they are stored, cut to the window, and copied nowhere: each is looked up when it is asked
+    /// for. A constant is one run, and of other columns each row is one.
     ///
     /// ```
     /// use hivevigil::{Column, Run, Value};

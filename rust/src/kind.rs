@@ -69,7 +69,7 @@ impl Kind {
         }
     }
 
-    /// Numbers of `precision` digits, `scale` of them after the point, without null.
+    /// Names numbers of `precision` digits, `scale` of them after the point, without null.
     pub const fn decimal(precision: u8, scale: i8) -> Kind {
         Kind {
             number: DECIMAL,
@@ -79,7 +79,7 @@ impl Kind {
         }
     }
 
-    /// The same type, in which rows may be null.
+    /// Names the same type, in which rows may be null.
     pub const fn nullable(self) -> Kind {
         Kind {
             nullable: 1,
@@ -87,27 +87,27 @@ impl Kind {
         }
     }
 
-    /// May rows be null?
+    /// Returns whether rows may be null.
     pub const fn is_nullable(self) -> bool {
         self.nullable != 0
     }
 
-    /// Are the rows integers from 0 on?
+    /// Returns whether the rows are integers from 0 on.
     pub const fn is_unsigned(self) -> bool {
         self.number <= Kind::U64.number
     }
 
-    /// Are the rows integers that may be negative?
+    /// Returns whether the rows are integers that may be negative.
     pub const fn is_signed(self) -> bool {
         Kind::I8.number <= self.number && self.number <= Kind::I64.number
     }
 
-    /// Are the rows decimals?
+    /// Returns whether the rows are decimals.
     pub const fn is_decimal(self) -> bool {
         self.number == DECIMAL
     }
 
-    /// The same type, in which no row is null.
+    /// Names the same type, in which no row is null.
     pub const fn not_nullable(self) -> Kind {
         Kind {
             nullable: 0,
@@ -115,7 +115,7 @@ impl Kind {
         }
     }
 
-    /// Are the rows lists? A list type is only named, and cannot be asked for.
+    /// Returns whether the rows are lists. A list type is only named, and cannot be asked for.
     pub const fn is_list(self) -> bool {
         self.number == LIST
     }

@@ -65,7 +65,7 @@ pub struct Session {
 }
 
 impl Session {
-    /// Every kernel, and the numbers of the crate that is ported.
+    /// Registers every kernel, with the numbers of the crate that is ported.
     pub fn initial() -> Session {
         let mut session = Session::default();
         unsafe { raw::hv_session_initial(&mut session) };

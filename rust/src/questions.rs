@@ -5,22 +5,22 @@ use crate::{ask, Column, Error, ErrorKind, Fields, Form, Kind, Native, Run, Sess
 
 /// Questions.
 impl Column {
-    /// How many rows there are.
+    /// Counts the rows.
     pub fn len(&self) -> usize {
         unsafe { raw::hv_length(self.handle.get()) }
     }
 
-    /// Is there no row?
+    /// Returns whether there are no rows.
     pub fn is_empty(&self) -> bool {
         self.len() == 0
     }
 
-    /// The type of the rows.
+    /// Returns the type of the rows.
     pub fn kind(&self) -> Kind {
         unsafe { raw::hv_kind_of(self.handle.get()) }
     }
 
-    /// How the column lies.
+    /// Returns how the column lies.
     pub fn form(&self) -> Form {
         match unsafe { raw::hv_form(self.handle.get()) } {
             0 => Form::Flat,
@@ -30,8 +30,8 @@ impl Column {
         }
     }
 
-    /// How many bytes the column takes for what it shows, in its form: numbers as wide as their type, bits eight to a
-    /// byte, of texts and bytes 24 for each row and what the rows show; of runs the ends and the values.
+    /// Counts the bytes that the column takes for what it shows, in its form: numbers as wide as their type, bits eight
+    /// to a byte, of texts and bytes 24 for each row and what the rows show; of runs the ends and the values.
     ///
     /// ```
     /// let flat = hivevigil::Column::new(&[7i32; 1000])?;
@@ -42,12 +42,12 @@ impl Column {
         unsafe { raw::hv_bytes_used(self.handle.get()) }
     }
 
-    /// How many rows of its runs lie before the window of a run column.
+    /// Counts the rows of its runs that lie before the window of a run column.
     pub fn offset(&self) -> usize {
         unsafe { raw::hv_offset(self.handle.get()) }
     }
 
-    /// The sum of the rows that are not null, added one at a time; refused as `Unsupported` unless they are integers, and
+    /// Adds the rows that are not null, one at a time; refused as `Unsupported` unless they are integers, and
     /// as `CastOutOfRange` where the sum leaves the range of 64 bits: the first field is the row with which it does.
     ///
     /// ```
@@ -73,7 +73,7 @@ impl Column {
         })
     }
 
-    /// The refusal of a sum, with the row with which it leaves the range of 64 bits.
+    /// Finds the row with which the sum leaves the range of 64 bits, as the refusal of it.
     fn overflow(&self) -> Result<Error, Error> {
         let wide = match self.kind().is_signed() {
             true => Kind::I64,
@@ -99,7 +99,7 @@ impl Column {
         Ok(Error::overflow(self.len(), wide))
     }
 
-    /// Are all rows equal, null equal to null?
+    /// Returns whether all rows are equal, null equal to null.
     pub fn is_constant(&self) -> Result<bool, Error> {
         let (session, mut truth) = (Session::initial(), 0);
         ask(|fields| unsafe {
@@ -108,7 +108,7 @@ impl Column {
         Ok(truth != 0)
     }
 
-    /// Is no row above the next (`strict`: each below it), null below all else?
+    /// Returns whether no row is above the next (`strict`: each is below it), null below all else.
     pub fn is_sorted(&self, strict: bool) -> Result<bool, Error> {
         let (session, mut truth) = (Session::initial(), 0);
         ask(|fields| unsafe {
@@ -123,17 +123,17 @@ impl Column {
         Ok(truth != 0)
     }
 
-    /// The least row that is not null; `Null` where there is none.
+    /// Finds the least row that is not null; `Null` where there is none.
     pub fn least(&self) -> Result<Value, Error> {
         self.extreme(0)
     }
 
-    /// The greatest row that is not null; `Null` where there is none.
+    /// Finds the greatest row that is not null; `Null` where there is none.
     pub fn greatest(&self) -> Result<Value, Error> {
         self.extreme(1)
     }
 
-    /// Both at once.
+    /// Finds both at once.
     pub fn least_and_greatest(&self) -> Result<(Value, Value), Error> {
         let (session, mut room) = (Session::initial(), 64);
         loop {
@@ -181,7 +181,7 @@ impl Column {
         })
     }
 
-    /// Row `row`, refused as `OutOfBounds` past the end.
+    /// Looks up row `row`; refused as `OutOfBounds` past the end.
     pub fn at(&self, row: usize) -> Result<Value, Error> {
         shown(self, |value, text, fields| unsafe {
             raw::hv_at(
@@ -198,8 +198,9 @@ impl Column {
 
 /// Rows and parts read out.
 impl Column {
-    /// Row `row` as `T`, `None` where it is null: an integer, `bool`, `Decimal`, `String` or `Vec<u8>`; refused as
-    /// `CastOutOfRange` where `T` does not have the integer, and as `TypeMismatch` where the row is of another sort.
+    /// Looks up row `row` as `T`, `None` where it is null: an integer, `bool`, `Decimal`, `String` or `Vec<u8>`;
+    /// refused as `CastOutOfRange` where `T` does not have the integer, and as `TypeMismatch` where the row is of
+    /// another sort.
     ///
     /// ```
     /// let column = hivevigil::Column::try_from(&[Some(4i64), None])?;
@@ -216,14 +217,15 @@ impl Column {
         }
     }
 
-    /// The numbers of all rows, in any form, as the column's own integers; where a row is null it may be any number.
+    /// Reads the numbers of all rows, in any form, as the column's own integers; where a row is null it may be any
+    /// number.
     pub fn numbers<T: Native>(&self) -> Result<Vec<T>, Error> {
         let mut items = vec![T::default(); self.len()];
         self.read(0, &mut items)?;
         Ok(items)
     }
 
-    /// The same into room of the caller's, as many as it has, from row `start` on; refused as `BadRange` past the end.
+    /// Reads as many into room of the caller's as it has, from row `start` on; refused as `BadRange` past the end.
     pub fn read<T: Native>(&self, start: usize, items: &mut [T]) -> Result<(), Error> {
         ask(|fields| unsafe { T::read(self.handle.get(), start, items, fields) }).map_err(|error| {
             let (kind, words) = (self.kind().not_nullable(), "rows are not read as");
@@ -232,13 +234,13 @@ impl Column {
         })
     }
 
-    /// The rows of a column of integers, `None` where a row is null.
+    /// Reads the rows of a column of integers, `None` where a row is null.
     pub fn options<T: Native>(&self) -> Result<Vec<Option<T>>, Error> {
         let rows = self.numbers()?.into_iter().zip(self.validity()?);
         Ok(rows.map(|(item, valid)| valid.then_some(item)).collect())
     }
 
-    /// Whether each row is not null; refused as `Unsupported` for lists.
+    /// Reads whether each row is not null; refused as `Unsupported` for lists.
     pub fn validity(&self) -> Result<Vec<bool>, Error> {
         let mut words = vec![0u64; (self.len() + 63) / 64];
         ask(|fields| unsafe {
@@ -250,17 +252,17 @@ impl Column {
             .collect())
     }
 
-    /// The ends of a run column, copied.
+    /// Copies the ends of a run column.
     pub fn ends(&self) -> Result<Column, Error> {
         self.part(|column, out, fields| unsafe { raw::hv_ends(column, out, fields) })
     }
 
-    /// The values of a run column, copied.
+    /// Copies the values of a run column.
     pub fn values(&self) -> Result<Column, Error> {
         self.part(|column, out, fields| unsafe { raw::hv_values(column, out, fields) })
     }
 
-    /// The metadata record of a run column.
+    /// Writes the metadata record of a run column.
     pub fn serialize(&self) -> Result<Vec<u8>, Error> {
         let (mut bytes, mut size) = (vec![0u8; 64], 0);
         ask(|fields| unsafe {
@@ -276,8 +278,8 @@ impl Column {
         Ok(bytes)
     }
 
-    /// The column as bytes, in the form that it has, to keep or to send: a message of the Protocol Buffers encoding.
-    /// Refused only as `Unsupported`, for more than 16 levels of runs.
+    /// Writes the column as bytes, in the form that it has, to keep or to send: a message of the Protocol Buffers
+    /// encoding. Refused only as `Unsupported`, for more than 16 levels of runs.
     pub fn to_bytes(&self) -> Result<Vec<u8>, Error> {
         let _turn = turn_of(&[self]);
         let mut size = 0;
@@ -298,14 +300,14 @@ impl Column {
 
 /// Runs of a run column, counted from 0 as `ends` and `values` have them.
 impl Column {
-    /// The run of row `row`; refused as `OutOfBounds` past the end, and as `Unsupported` of other forms.
+    /// Finds the run of row `row`; refused as `OutOfBounds` past the end, and as `Unsupported` of other forms.
     pub fn run_of(&self, row: usize) -> Result<usize, Error> {
         let mut run = 0;
         ask(|fields| unsafe { raw::hv_run_of(self.handle.get(), row, &mut run, fields) })?;
         Ok(run)
     }
 
-    /// The rows of a run, none where the window does not reach it, and their value.
+    /// Looks up the rows of a run, none where the window does not reach it, and their value.
     pub fn run(&self, run: usize) -> Result<Run, Error> {
         let (mut start, mut stop) = (0, 0);
         let value = shown(self, |value, text, fields| unsafe {
@@ -328,7 +330,7 @@ impl Column {
     }
 }
 
-/// A row of a column, asked for again with more room where its text has none.
+/// Asks for a row of a column, and again with more room where its text has none.
 fn shown(
     column: &Column,
     mut call: impl FnMut(&mut RawValue, &mut [u8], *mut Fields) -> i32,

@@ -65,7 +65,7 @@ pub enum Operator {
 }
 
 impl Value {
-    /// What a call showed of a column, with the room that it was given for a text.
+    /// Takes what a call showed of a column, with the room that it was given for a text.
     pub(crate) fn of(raw: RawValue, mut text: Vec<u8>, column: &Column) -> Value {
         match raw.kind {
             1 => Value::Unsigned(raw.as_unsigned),
@@ -87,7 +87,7 @@ impl Value {
         }
     }
 
-    /// The value as C passes it, with the bytes of a text next to it.
+    /// Passes the value as C does, with the bytes of a text next to it.
     pub(crate) fn passed(&self) -> (RawValue, &[u8]) {
         let raw = |kind, as_unsigned, as_signed, truth| RawValue {
             as_unsigned,
