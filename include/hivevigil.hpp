@@ -416,7 +416,7 @@ private:
                 return hv_large_texts(binary, offsets.data(), offsets.size(),
                                       reinterpret_cast<const uint8_t *>(all.data()), all.size(), validity, out, error);
             },
-            detail::words_of_texts(rows));
+            detail::words_of_texts(rows, valid));
     }
     std::string words_of_cast(int32_t answer, hv_kind kind) const;
     Error overflow() const;

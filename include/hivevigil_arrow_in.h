@@ -81,11 +81,30 @@ static inline int64_t hv_arrow_offset_at(const uint8_t *offsets, size_t index, s
     return wide;
 }
 
+/* Texts as a column. Where one is not UTF-8, the first field is its row: the first that is not null and is refused by
+ * itself. */
+static inline int32_t hv_arrow_make_texts(const hv_arrow_rows *rows, const int64_t *offsets, const uint8_t *bytes,
+                                          size_t size, hv_column *out, hv_error *error) {
+    const uint8_t binary = rows->layout.number == HV_BINARY;
+    int32_t answer =
+        hv_large_texts(binary, offsets, rows->count + 1, bytes, size, hv_arrow_validity(rows), out, error);
+    for (size_t row = 0; answer == HV_TYPE_MISMATCH && row < rows->count; row++) {
+        const int64_t one[2] = {0, offsets[row + 1] - offsets[row]};
+        const size_t at = rows->start + row;
+        hv_column text = HV_EMPTY;
+        if (rows->nulls == HV_ARROW_NULLS_BY_BITS && !(rows->bits[at / 8] >> at % 8 & 1)) continue;
+        const int32_t by_itself = hv_large_texts(0, one, 2, one[1] ? bytes + offsets[row] : NULL, (size_t)one[1],
+                                                 hv_not_nullable(), &text, NULL);
+        hv_free(&text);
+        if (by_itself) return hv_arrow_refuse(by_itself, by_itself == HV_TYPE_MISMATCH ? row : 0, 0, error);
+    }
+    return answer;
+}
+
 /* Texts by offsets, which are counted from the first text shown, so that its bytes are the first that are copied.
  * An offset below the first becomes -1, and is refused as one that falls. */
 static inline int32_t hv_arrow_read_texts(const hv_arrow_rows *rows, hv_column *out, hv_error *error) {
     size_t width = rows->layout.width;
-    uint8_t binary = rows->layout.number == HV_BINARY;
     const uint8_t *stored = (const uint8_t *)rows->array->buffers[1];
     const uint8_t *bytes = (const uint8_t *)rows->array->buffers[2];
     if (rows->count > 0 && !stored) return hv_arrow_invalid(HV_ARROW_NO_POINTER, error);
@@ -100,9 +119,7 @@ static inline int32_t hv_arrow_read_texts(const hv_arrow_rows *rows, hv_column *
     }
     size_t size = offsets[rows->count] > 0 ? (size_t)offsets[rows->count] : 0;
     int32_t answer = size > 0 && !bytes ? hv_arrow_invalid(HV_ARROW_NO_POINTER, error) : HV_OK;
-    if (!answer)
-        answer = hv_large_texts(binary, offsets, rows->count + 1, size ? bytes + first : NULL, size,
-                                hv_arrow_validity(rows), out, error);
+    if (!answer) answer = hv_arrow_make_texts(rows, offsets, size ? bytes + first : NULL, size, out, error);
     free(offsets);
     return answer;
 }
@@ -183,9 +200,7 @@ static inline int32_t hv_arrow_read_views(const hv_arrow_rows *rows, hv_column *
         offsets ? hv_arrow_view_offsets(rows, offsets, error) : hv_arrow_refuse(HV_OUT_OF_MEMORY, 0, 0, error);
     if (!answer) bytes = hv_arrow_view_bytes(rows, offsets);
     if (!answer && !bytes) answer = hv_arrow_refuse(HV_OUT_OF_MEMORY, 0, 0, error);
-    if (!answer)
-        answer = hv_large_texts(rows->layout.number == HV_BINARY, offsets, rows->count + 1, bytes,
-                                (size_t)offsets[rows->count], hv_arrow_validity(rows), out, error);
+    if (!answer) answer = hv_arrow_make_texts(rows, offsets, bytes, (size_t)offsets[rows->count], out, error);
     free(bytes);
     free(offsets);
     return answer;

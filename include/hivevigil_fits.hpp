@@ -153,11 +153,12 @@ inline auto words_of_read(hv_kind kind, hv_kind asked) {
     };
 }
 
-// Texts: the first that is not UTF-8 is found by asking for each by itself.
-inline auto words_of_texts(const std::vector<std::string_view> &rows) {
-    return [&rows](int32_t answer) -> std::string {
+// Texts: the first row that is not null and not UTF-8 is found by asking for each by itself.
+inline auto words_of_texts(const std::vector<std::string_view> &rows, const std::vector<bool> *valid) {
+    return [&rows, valid](int32_t answer) -> std::string {
         for (size_t row = 0; answer == HV_TYPE_MISMATCH && row < rows.size(); row++) {
             hv_column column = HV_EMPTY;
+            if (valid && !(*valid)[row]) continue;
             const int64_t offsets[] = {0, static_cast<int64_t>(rows[row].size())};
             const int32_t by_itself = hv_large_texts(0, offsets, 2, reinterpret_cast<const uint8_t *>(rows[row].data()),
                                                  rows[row].size(), hv_not_nullable(), &column, nullptr);

@@ -352,7 +352,20 @@ static void check_slices_of_texts(void) {
     array.buffers[1] = negative, array.offset = 0;
     CHECK_REFUSED(IMPORT(&schema, &array), HV_ENDS_NOT_STRICT, 0, 0, 0);
     array.buffers[1] = offsets;
-    CHECK_REFUSED(IMPORT(&schema, &array), HV_TYPE_MISMATCH, 0, 0, 0); /* not UTF-8 */
+    CHECK_REFUSED(IMPORT(&schema, &array), HV_TYPE_MISMATCH, 0, 0, 0); /* row 0 is not UTF-8 */
+    /* nor is row 1 of these three, whose row 0 is null and may have any bytes; then as views */
+    const uint8_t bits[1] = {0x0d};
+    const int32_t three[5] = {0, 1, 2, 4, 5};
+    const uint8_t views[4][16] = {{1, 0, 0, 0, 'a'}, {1, 0, 0, 0, 0xff}, {2, 0, 0, 0, 'b', 0xff}, {1, 0, 0, 0, 0xff}};
+    struct ArrowArray some = array_of(3, 1, 3, BUFFERS(bits, three, "a\xff" "b\xff" "\xff"));
+    schema.flags = ARROW_FLAG_NULLABLE, some.null_count = 1;
+    CHECK_REFUSED(IMPORT(&schema, &some), HV_TYPE_MISMATCH, 1, 0, 0);
+    some.length = 1;
+    CHECK(!IMPORT(&schema, &some));
+    schema.format = "vu", some.length = 3, some.buffers[1] = views, some.buffers[2] = NULL;
+    CHECK_REFUSED(IMPORT(&schema, &some), HV_TYPE_MISMATCH, 1, 0, 0);
+    schema.format = "vz";
+    CHECK(!IMPORT(&schema, &some) && hv_length(&column) == 3);
 }
 
 static void check_bytes_of_one_size(void) {

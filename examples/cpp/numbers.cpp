@@ -195,7 +195,9 @@ static void check_rows_in_words() {
     CHECK(column.slice(0, 2).cast(hv::kinds::i16).kind().nullable == 0);
     check_refused(HV_UNSUPPORTED, "i64? is not cast to utf8", [&] { column.cast(hv::kinds::utf8); });
     check_refused(HV_TYPE_MISMATCH, "row 1 is not UTF-8", [] { Column::texts({"a", "\xff", "\xfe"}); });
-    CHECK(Column::bytes({"\xff"}).size() == 1);
+    const std::vector<bool> last{false, true}; // a null row may have any bytes
+    CHECK(Column::texts({"\xff", "a"}, &last).get<std::string>(1) == "a" && Column::bytes({"\xff"}).size() == 1);
+    check_refused(HV_TYPE_MISMATCH, "row 1 is not UTF-8", [&] { Column::texts({"\xff", "\xfe"}, &last); });
 }
 
 static void check_values_in_words() {
