@@ -116,7 +116,7 @@ fi
 # what a program includes that takes every warning for an error
 headers_alone() {
     warned="-Wall -Wextra -Wpedantic -Wshadow -Wconversion -Wno-string-conversion -Werror -Iinclude -fsyntax-only"
-    for header in hivevigil hivevigil_errors hivevigil_helpers hivevigil_arrow; do
+    for header in hivevigil hivevigil_errors hivevigil_helpers hivevigil_arrow hivevigil_arrow_errors; do
         echo "#include <$header.h>" >"$work/alone.c"
         cp "$work/alone.c" "$work/alone.cpp"
         $cc -std=c99 $warned "$work/alone.c" && $cxx -std=c++17 $warned "$work/alone.cpp" || return 1

@@ -1,6 +1,7 @@
 /* Names and sentences of refusals, worked out by hand. */
 #include "hivevigil_errors.h"
 #include "check.h"
+#include "hivevigil_arrow_errors.h"
 
 static void check_sentences(void) {
     char text[HV_ERROR_TEXT];
@@ -44,8 +45,29 @@ static void check_of_a_call(void) {
     hv_free(&column);
 }
 
+/* Each number of Arrow has a sentence, and each reason another; a number of hivevigil.h has its own. */
+static void check_arrow(void) {
+    char text[HV_ERROR_TEXT];
+    const hv_error range = {5, 11, 10}, view = {HV_ARROW_VIEW, 3, 0}, ends = {32768, 32767, 0};
+    const hv_error failed = {(uint64_t)-5, 0, 0};
+    for (uint64_t why = HV_ARROW_RELEASED; why <= HV_ARROW_VIEW; why++) {
+        const hv_error error = {why, UINT64_MAX, 0};
+        CHECK(strlen(hv_arrow_error_text(HV_ARROW_INVALID, &error, text)) < HV_ERROR_TEXT - 1);
+        CHECK(strstr(text, hv_arrow_reason(why)) && strcmp(hv_arrow_reason(why), hv_arrow_reason(why + 1)) != 0);
+        CHECK(strcmp(hv_arrow_reason(why), hv_arrow_reason(0)) != 0);
+    }
+    CHECK(strcmp(hv_arrow_error_text(HV_ARROW_INVALID, &view, text),
+                 "the Arrow array is not valid: row 3: a view is not within its buffers, or does not begin as they do") ==
+          0);
+    CHECK(strcmp(hv_arrow_error_text(HV_ARROW_ENDS_TOO_LARGE, &ends, text),
+                 "a run ends before row 32768, past the greatest end of its width, 32767") == 0);
+    CHECK(strcmp(hv_arrow_error_text(HV_ARROW_STREAM_FAILED, &failed, text), "the Arrow stream failed with -5") == 0);
+    CHECK(strcmp(hv_arrow_error_text(HV_BAD_RANGE, &range, text), "rows 5 to 11 are not among 10 rows") == 0);
+}
+
 int main(void) {
     check_sentences();
+    check_arrow();
     check_room();
     check_of_a_call();
     puts("each refusal has a name and a sentence");
