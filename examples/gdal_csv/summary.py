@@ -69,10 +69,10 @@ class Summary:
 
 
 def sum_of(column):
-    total = column.sum()
-    if total is None:
-        raise OverflowError("the sum of one batch is not within 64 bits: take smaller batches")
-    return total
+    try:
+        return column.sum()
+    except OverflowError as error:
+        raise OverflowError(f"{error}; take smaller batches") from None
 
 
 def address_of(part):

@@ -47,7 +47,7 @@ def check_runs():
         assert runs[[9, 4, -10]].to_list() == [None, 2, 1] and runs[::-4].to_list() == [None, 3, 1]
         assert Column.of([5, 0]).take_from(runs).to_list() == [3, 1]
         assert runs.eq(runs).to_list()[1:3] == [True, None]
-        assert runs.fill(7).to_list()[8:] == [7, 7] and runs.cast("i8").type == "i8?"
+        assert runs.fill(7).to_list()[8:] == [7, 7] and runs.cast("i8?").type == "i8?"
         assert runs.ends().to_list() == [2, 4, 5, 8, 10] and runs.values().to_list() == [1, None, 2, 3, None]
         assert (runs.null_count, runs.run_count()) == (4, 5) and list(runs.runs())[2] == (4, 5, 2)
         # 10 ends of a byte, values of 8 bytes and a byte of bits; before 80 bytes and 2 of bits
@@ -87,7 +87,7 @@ def check_other_types():
     assert Column.of([True, None, False]).to_list() == [True, None, False]
     assert Column.of([b"\xff", b""]).to_list() == [b"\xff", b""]
     prices = Column.of([Decimal("1.50"), Decimal("20"), None])
-    assert (prices.type, prices.max(), prices.gt(2).to_list()) == ("decimal(4, 2)?", 20, [False, True, None])
+    assert (prices.type, prices.max(), prices.gt(2).to_list()) == ("decimal(38, 2)?", 20, [False, True, None])
 
 
 def check_runs_by_record():
@@ -121,6 +121,8 @@ def check_refusals():
     assert refusal(column.slice, 5, 11) == ("BadRange", (5, 11, 10))
     assert refusal(Column.of(["a"]).encode) == ("OnlyPrimitive", (0, 0, 0))
     assert refusal(column.fill, None) == ("NullFill", (0, 0, 0))
+    assert refusal(column.cast, "i8") == ("NullNotAllowed", (0, 0, 0)) and refusal(lambda: column == 1) == "TypeError"
+    assert refusal(Column.of([2**63 - 1, 1]).sum) == "OverflowError"
     assert refusal(column.at, 2**64) == ("OutOfBounds", (2**64, 10, 0))
     assert refusal(column.compare, 256, 1) == "ValueError" and refusal(column.fill, 2**64) == "OverflowError"
     try:

@@ -6,19 +6,22 @@ capsule may be dropped while an exception is on its way.
 from __future__ import annotations
 
 import ctypes
+import re
 from collections.abc import Iterator
 from ctypes import byref, c_char_p, c_void_p, py_object
 from typing import TYPE_CHECKING, Any, Optional
 
 from ._arrow_structs import ArrowArray, ArrowArrayStream, ArrowSchema
 from ._library import ArrowOptions, Fields, Handle, ask, calls, calls_without_lock, session
-from .errors import ArrowStreamFailed, TypeMismatch, refusal
+from ._values import NOT_FLOAT, in_words
+from .errors import ArrowStreamFailed, HivevigilError, TypeMismatch, Unsupported, refusal
 
 if TYPE_CHECKING:
     from .column import Column
 
 _AS_IT_LIES, _AS_RUNS, _AS_FLAT = range(3)
 _RUNS, _BATCH = b"+r", b"+s"
+_NOT_SERVED = re.compile(r"[efgn]|\+[smwuv].*|d:.*,256|ti[Dn]|.* within a list", re.DOTALL)
 _WORDS = 512  # bytes of what a stream says of its failure
 
 
@@ -30,6 +33,7 @@ def _declared(name: str, answers: Any, *takes: Any) -> Any:
 
 _new_capsule = _declared("PyCapsule_New", py_object, c_void_p, c_char_p, c_void_p)
 _pointer_of = _declared("PyCapsule_GetPointer", c_void_p, py_object, c_char_p)
+_is_capsule = _declared("PyCapsule_IsValid", ctypes.c_int, py_object, c_char_p)
 
 _NAMES = {ArrowSchema: b"arrow_schema", ArrowArray: b"arrow_array", ArrowArrayStream: b"arrow_array_stream"}
 _DROPS = {
@@ -50,9 +54,12 @@ def _new(kind: Any) -> tuple[Any, Any]:
 
 def _held(capsule: Any, kind: Any) -> Any:
     """The struct that a capsule holds, which the capsule releases."""
-    part = kind.from_address(_pointer_of(capsule, _NAMES[kind]))
+    name = _NAMES[kind]
+    if not _is_capsule(capsule, name):
+        raise ValueError(f"a capsule of the name {name.decode()} is expected here")
+    part = kind.from_address(_pointer_of(capsule, name))
     if not part.release:
-        raise ValueError(f"the {_NAMES[kind].decode()} of the capsule was released")
+        raise ValueError(f"the {name.decode()} of the capsule was released")
     return part
 
 
@@ -87,7 +94,11 @@ def export(column: Column, name: str, format: Optional[str], dictionary: Optiona
     if beside is not None:
         options.dictionary = beside._as_parameter_
     exported = Exported()
-    ask(calls.hv_export_with, session, column, name.encode(), options, exported.schema, exported.array)
+    try:
+        ask(calls.hv_export_with, session, column, name.encode(), options, exported.schema, exported.array)
+    except TypeMismatch as refused:
+        no_codes, no_format = f"codes are integers, not of {column.type}", f"{column.type} has no format {format!r}"
+        raise refused.saying(f"to_arrow: {no_format if beside is None else no_codes}") from None
     return exported
 
 
@@ -140,7 +151,7 @@ def import_columns(source: Any, kind: type[Column]) -> dict[str, Column]:
         return _of_array(source.__arrow_c_array__(), kind)
     if hasattr(source, "__arrow_c_stream__"):
         return _of_stream(source.__arrow_c_stream__(), kind)
-    raise TypeError(f"{type(source).__name__} has neither __arrow_c_array__ nor __arrow_c_stream__")
+    raise TypeError(f"from_arrow takes an array, a batch or a table of an Arrow library, not {in_words(source)}")
 
 
 def _names_of(schema: Any) -> Optional[list[str]]:
@@ -156,35 +167,71 @@ def _names_of(schema: Any) -> Optional[list[str]]:
 def _of_array(capsules: Any, kind: type[Column]) -> dict[str, Column]:
     schema, items = _held(capsules[0], ArrowSchema), _held(capsules[1], ArrowArray)
     names = _names_of(schema)
-    if names is None:
-        return {"": kind._made(calls.hv_import_array, session, byref(schema), byref(items))}
-    return {
-        name: kind._made(calls.hv_import_child, session, byref(schema), byref(items), child)
-        for child, name in enumerate(names)
+    try:
+        if names is None:
+            return {"": kind._made(calls.hv_import_array, session, byref(schema), byref(items))}
+        return {
+            name: kind._made(calls.hv_import_child, session, byref(schema), byref(items), child)
+            for child, name in enumerate(names)
+        }
+    except (TypeMismatch, Unsupported) as refused:
+        raise _in_words(refused, _not_served(schema, names)) from None
+
+
+def _in_words(refused: HivevigilError, not_served: str) -> HivevigilError:
+    """The refusal of what came in: a text, or a format, of which `not_served` says which."""
+    if isinstance(refused, TypeMismatch):
+        return refused.saying("from_arrow: a text is not UTF-8")
+    return refused.saying(f"from_arrow: {not_served}") if isinstance(refused, Unsupported) else refused
+
+
+def _not_served(schema: Any, names: Optional[list[str]]) -> str:
+    """Which format is not served, and of which column."""
+    columns = {"": schema} if names is None else {
+        f"column {name!r} has ": schema.children[child].contents for child, name in enumerate(names)
     }
+    for whose, column in columns.items():
+        for format in filter(_NOT_SERVED.fullmatch, _formats(column)):
+            why = f": {NOT_FLOAT}" if format in ("e", "f", "g") else ""
+            return f"{whose}Arrow's format {format!r}, which is not served{why}" if whose else (
+                f"Arrow's format {format!r} is not served{why}"
+            )
+    return "an Arrow format is not served"
+
+
+def _formats(schema: Any, is_within_list: bool = False) -> Iterator[str]:
+    """The formats of a schema and of what is in it; lists in lists are marked, since they are not served."""
+    format = (schema.format or b"").decode(errors="replace")
+    is_list = format in ("+l", "+L")
+    yield f"{format} within a list" if is_list and is_within_list else format
+    for child in range(schema.n_children):
+        yield from _formats(schema.children[child].contents, is_list)
+    if schema.dictionary:
+        yield from _formats(schema.dictionary.contents)
 
 
 def _of_stream(capsule: Any, kind: type[Column]) -> dict[str, Column]:
     """All chunks as one column each. The interpreter's lock is given up meanwhile: a stream may wait for a thread that
     needs it, and no column that exists is touched."""
     stream = _held(capsule, ArrowArrayStream)
-    names = _stream_names(stream)
+    names, not_served = _described(stream)
     count = 1 if names is None else len(names)
     handles, words, fields = (Handle * max(1, count))(), ctypes.create_string_buffer(_WORDS), Fields()
     number = calls_without_lock.hv_import_stream(session, byref(stream), handles, count, None, words, _WORDS, fields)
     if number == ArrowStreamFailed.number:
         raise ArrowStreamFailed(fields.first, words=words.value.decode(errors="replace"))
     if number:
-        raise refusal(number, fields.first, fields.second, fields.third)
+        raise _in_words(refusal(number, fields.first, fields.second, fields.third), not_served)
     columns = [kind._owning(Handle(handle.at)) for handle in handles[:count]]
     return dict(zip(names if names is not None else [""], columns))
 
 
-def _stream_names(stream: Any) -> Optional[list[str]]:
+def _described(stream: Any) -> tuple[Optional[list[str]], str]:
+    """The names of a stream's columns, and which format is not served, where one is not."""
     with Exported() as (schema, _):
         failed = stream.get_schema(byref(stream), byref(schema))
         if failed:
             words = stream.get_last_error(byref(stream)) or b""
             raise ArrowStreamFailed(failed, words=words.decode(errors="replace"))
-        return _names_of(schema)
-
+        names = _names_of(schema)
+        return names, _not_served(schema, names)

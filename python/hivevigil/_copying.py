@@ -4,6 +4,7 @@ from __future__ import annotations
 from typing import TYPE_CHECKING, Any
 
 from ._types import LETTERS, TYPES
+from ._values import is_whole
 from .errors import Unsupported
 
 if TYPE_CHECKING:
@@ -52,7 +53,8 @@ def to_numpy(column: Column, null: Any) -> Any:
             items[numpy.array([item is None for item in items], dtype=bool)] = null
         return items
     if null is not None and column.nullable:
-        column = column.fill(null)
+        is_bit = TYPES[column._kind.number] == "bool" and is_whole(null) and null in (0, 1)
+        column = column.fill(bool(null) if is_bit else null)
     items, missing = _stored(column._flat())
     masks: Any = numpy.ma
     return items if missing is None else masks.masked_array(items, missing)

@@ -1,10 +1,10 @@
-"""What stands between the brackets of column[..], and which masks and indices take and filter accept."""
+"""What column[..] takes between its brackets, and which masks and indices filter and take accept."""
 from __future__ import annotations
 
 import array
 from typing import TYPE_CHECKING, Any, Optional
 
-from ._making import is_array
+from ._making import is_array, listed
 from ._types import SIGNED, WHOLE_NUMBERS
 from ._values import is_truth, row_of, whole
 from .errors import OutOfBounds, TypeMismatch
@@ -23,10 +23,12 @@ def selected(column: Column, key: Any) -> Any:
         return column._at(row_of(key, column._length))
     if key is None or key is Ellipsis or isinstance(key, (str, bytes, tuple, float)):
         raise TypeError(f"a column is indexed by an integer, a slice, a mask or a list of rows, not {key!r}")
-    beside = _column_of(column, key)
-    if beside is not None:
-        return column.filter(beside) if beside.type.rstrip("?") == "bool" else column.take(beside)
-    rows = list(key)
+    chosen = _column_of(column, key)
+    if chosen is not None:
+        return column.filter(chosen) if chosen.type.rstrip("?") == "bool" else column.take(chosen)
+    rows = listed(key, "rows")
+    if rows and all(row is None for row in rows):
+        raise TypeError("None alone is neither a mask nor a list of rows: write column.filter(..) or column.take(..)")
     return column.filter(rows) if any(map(is_truth, rows)) else column.take(rows)
 
 
@@ -39,41 +41,45 @@ def _sliced(column: Column, key: slice) -> Column:
 
 def mask_of(column: Column, mask: Any) -> Column:
     """A column of booleans in any form, of a list, or of an array of another library."""
-    beside = _column_of(column, mask)
-    if beside is None:
-        return column.of(list(mask), "bool")
-    if beside.type.rstrip("?") != "bool":
-        raise TypeMismatch()
-    return beside
+    chosen = _column_of(column, mask)
+    if chosen is None:
+        return column.of(listed(mask, "a mask's flags"), "bool")
+    if chosen.type.rstrip("?") != "bool":
+        raise TypeMismatch().saying(f"filter: a mask is of booleans, not of {chosen.type}")
+    return chosen
 
 
 def indices_of(column: Column, indices: Any) -> Column:
     """A column of integers in any form. Of a list or an array negative ones count from the end, as Python's do."""
-    beside = _column_of(column, indices)
-    if beside is None:
-        return column.of(_rows(list(indices), column._length), "u64")
-    if beside.type.rstrip("?") not in WHOLE_NUMBERS:
-        raise TypeMismatch()
-    return beside
+    chosen = _column_of(column, indices)
+    if chosen is None:
+        return column.of(_rows(listed(indices, "indices"), column._length), "u64")
+    if chosen.type.rstrip("?") not in WHOLE_NUMBERS:
+        raise TypeMismatch().saying(f"take: indices are integers, not of {chosen.type}")
+    return chosen
 
 
 def _column_of(column: Column, key: Any) -> Optional[Column]:
-    """The column of a column or of an array, in which negative indices count from the end; None of another iterable."""
+    """The column of a column or of an array, in which negative indices count from the end; None of another iterable,
+    and of an array of objects, whose rows say what it is."""
     if isinstance(key, type(column)):
         return key
-    if isinstance(key, (str, bytes)):
-        raise TypeError(f"{key!r} is no list of rows and no mask")
-    if not is_array(key):
+    if not is_array(key) or _has_objects(key):
         return None
-    beside = column._of_array(key)
-    least = beside.min() if beside.type.rstrip("?") in SIGNED else None
+    chosen = column._of_array(key)
+    least = chosen.min() if chosen.type.rstrip("?") in SIGNED else None
     if isinstance(least, int) and least < 0:
-        return column.of(_rows(beside.to_list(), column._length), "u64")
-    return beside
+        return column.of(_rows(chosen.to_list(), column._length), "u64")
+    return chosen
+
+
+def _has_objects(key: Any) -> bool:
+    """Whether an array of NumPy or pandas has objects of Python."""
+    return getattr(getattr(key, "dtype", None), "kind", None) == "O" and getattr(key, "ndim", 1) == 1
 
 
 def _rows(rows: list[Any], length: int) -> list[Optional[int]]:
-    """Indices from the start; None is null, at which a null row stands."""
+    """Indices from the start; at None, which is null, the row is null."""
     numbers = [None if row is None else whole(row, "an index") for row in rows]
     for number in numbers:
         if number is not None and not -length <= number < length:

@@ -3,12 +3,12 @@ from __future__ import annotations
 
 import array
 import ctypes
-from collections.abc import Sequence
 from typing import TYPE_CHECKING, Any, Optional
 
 from . import _reading
 from ._library import calls
-from ._making import Made, validity_of
+from ._making import flags_of, listed, numbers, validity_of
+from .errors import ColumnLength, OutOfBounds
 
 if TYPE_CHECKING:
     from .column import Column
@@ -18,12 +18,20 @@ def is_list(column: Column) -> bool:
     return column.type.startswith("list")
 
 
-def made_of(elements: Column, offsets: Sequence[int], sizes: Sequence[int], valid: Optional[Sequence[Any]]) -> Made:
-    """What hv_lists takes: row i is the sizes[i] elements from offsets[i] on, null where its flag is false."""
-    starts, counts = array.array("Q", offsets), array.array("Q", sizes)
-    passed = [(ctypes.c_uint64 * max(1, len(numbers)))(*numbers) for numbers in (starts, counts)]
-    nulls = validity_of(valid, len(starts))
-    return calls.hv_lists, elements, passed[0], len(starts), passed[1], len(counts), *nulls
+def made(elements: Column, offsets: Any, sizes: Any, valid: Optional[Any]) -> Column:
+    """Lists: row i is the sizes[i] elements from offsets[i] on, null where its flag is false."""
+    starts = numbers(listed(offsets, "offsets"), "u64", "offset")
+    counts = numbers(listed(sizes, "sizes"), "u64", "size")
+    passed = [(ctypes.c_uint64 * max(1, len(items)))(*items) for items in (starts, counts)]
+    nulls = validity_of(flags_of(valid), len(starts))
+    try:
+        return elements._made(calls.hv_lists, elements, passed[0], len(starts), passed[1], len(counts), *nulls)
+    except OutOfBounds as refused:
+        row, there = refused.fields[:2]
+        wanted = f"elements {starts[row]} to {starts[row] + counts[row] - 1}"
+        raise refused.saying(f"from_lists: row {row} is {wanted}, and there are {there} elements") from None
+    except ColumnLength as refused:
+        raise refused.saying(f"from_lists: there are {len(starts)} offsets and {len(counts)} sizes") from None
 
 
 def _numbers(column: Column, call: Any) -> array.array[int]:

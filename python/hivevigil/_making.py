@@ -3,15 +3,16 @@ from __future__ import annotations
 
 import array
 import ctypes
-from collections.abc import Iterable, Sequence
+from collections.abc import Iterable, Iterator, Sequence
 from decimal import Decimal
 from itertools import accumulate
 from numbers import Integral
+from operator import index
 from typing import Any, Optional
 
 from ._library import NUMBERS, Kind, Pair, calls
 from ._types import GREATEST_PRECISION, LETTERS, TYPES, checked_places, range_of
-from ._values import is_truth, unscaled
+from ._values import NOT_FLOAT, checked_text, in_words, is_missing_class, is_truth, unscaled, why_not
 from .errors import ColumnLength
 
 Made = tuple[Any, ...]
@@ -29,6 +30,15 @@ def bits_of(flags: Iterable[Any]) -> bytes:
     return int(letters or b"0", 2).to_bytes(len(letters) // 8 + 1, "little")
 
 
+def flags_of(valid: Optional[Any]) -> Optional[Any]:
+    """Flags that a caller gives, in which None and pandas.NA are false."""
+    if valid is None:
+        return None
+    if hasattr(valid, "isna"):
+        return valid.to_numpy(dtype=bool, na_value=False)
+    return valid if hasattr(valid, "dtype") else listed(valid, "flags")
+
+
 def validity_of(valid: Optional[Sequence[Any]], rows: int, nullable: bool = False) -> tuple[int, bytes, int, int]:
     """What the makers take: nulls, bits, their number of bytes, and the first bit."""
     if valid is None:
@@ -42,34 +52,60 @@ def validity_of(valid: Optional[Sequence[Any]], rows: int, nullable: bool = Fals
 # ---- Rows as Python has them ----
 
 
-def _sort_of(kind: type) -> str:
-    """What values of a class of Python are."""
+def listed(rows: Any, what: str = "rows") -> list[Any]:
+    """An iterable as a list, in which None is each null: pandas.NA, numpy.ma.masked, what pandas calls missing."""
+    if hasattr(rows, "isna") and hasattr(rows, "astype"):
+        return [None if missing else row for row, missing in zip(rows.astype(object), rows.isna())]
+    if isinstance(rows, (str, bytes)) or not (hasattr(rows, "__iter__") or hasattr(rows, "__getitem__")):
+        raise TypeError(f"{what} are a list, another iterable, an array or a column, not {in_words(rows)}")
+    given = list(rows)
+    missing = set(filter(is_missing_class, set(map(type, given)))) - {type(None)}
+    return [None if type(row) in missing else row for row in given] if missing else given
+
+
+_SORTS = {"whole": "integers", "decimal": "decimals", "bool": "booleans", "utf8": "texts", "binary": "bytes"}
+
+
+def _sort_of(kind: type) -> Optional[str]:
+    """What values of a class of Python are; None of a class that no column has values of."""
     if kind is bool or kind.__module__ == "numpy" and kind.__name__ in ("bool_", "bool"):
         return "bool"
     for sort, classes in (("whole", Integral), ("decimal", Decimal), ("utf8", str)):
         if issubclass(kind, classes):
             return sort
-    if issubclass(kind, (bytes, bytearray, memoryview)):
-        return "binary"
-    why = "; floating-point numbers are not values of this library" if issubclass(kind, float) else ""
-    raise TypeError(f"no column has values of class {kind.__name__}{why}")
+    return "binary" if issubclass(kind, (bytes, bytearray, memoryview)) else None
 
 
 def inferred(rows: Sequence[Any]) -> Kind:
-    """The type of rows: i64, or u64 where a number needs it; the least decimal of all; bool, utf8, binary."""
+    """The type of rows: i64, or u64 where a number needs it; a decimal with as many digits as there are; bool, utf8,
+    binary."""
     present = [row for row in rows if row is not None]
-    sorts = {_sort_of(kind) for kind in set(map(type, present))}
+    sorts = set(map(_sort_of, set(map(type, present))))
     nullable = len(present) < len(rows)
     if not sorts:
         raise ValueError("no row tells a type: name one, as Column.of(rows, 'i64')")
     if sorts == {"whole", "decimal"}:
         sorts = {"decimal"}
-    if len(sorts) > 1:
-        raise TypeError(f"the rows are of several types: {', '.join(sorted(sorts))}")
+    if len(sorts) > 1 or None in sorts:
+        raise TypeError(_misfit(rows))
     (sort,) = sorts
     if sort == "decimal":
-        return Kind(TYPES.index("decimal"), nullable, *_places_of(present))
-    return Kind(TYPES.index(_whole_type_of(present) if sort == "whole" else sort), nullable, 0, 0)
+        return Kind(TYPES.index("decimal"), nullable, *_places_of(rows))
+    return Kind(TYPES.index(_whole_type_of(present) if sort == "whole" else str(sort)), nullable, 0, 0)
+
+
+def _misfit(rows: Sequence[Any]) -> str:
+    """Which row no column has, or has beside the rows before it."""
+    first: Optional[tuple[int, Any, str]] = None
+    for number, row in enumerate(rows):
+        sort = row if row is None else _sort_of(type(row))
+        if row is not None and sort is None:
+            hint = "; Column.from_lists makes lists" if isinstance(row, (list, tuple)) else why_not(row)
+            return f"row {number} is {in_words(row)}, of class {type(row).__name__}, which no column has{hint}"
+        if first and sort and {sort, first[2]} not in ({sort}, {"whole", "decimal"}):
+            return f"row {first[0]} is {in_words(first[1])} and row {number} is {in_words(row)}: a column has one type"
+        first = (number, row, sort) if sort and (not first or sort == "decimal") else first
+    return "the rows are of several types"
 
 
 def _whole_type_of(present: Sequence[int]) -> str:
@@ -78,20 +114,24 @@ def _whole_type_of(present: Sequence[int]) -> str:
         if least in range_of(name) and greatest in range_of(name):
             return name
     alone = [number for number in (least, greatest) if number not in range_of("i64") and number not in range_of("u64")]
-    raise OverflowError(f"no type of integers has {alone[0] if alone else f'both {least} and {greatest}'}")
+    raise OverflowError(
+        f"no type of integers has {in_words(alone[0]) if alone else f'both {in_words(least)} and {in_words(greatest)}'}"
+    )
 
 
-def _places_of(present: Sequence[Any]) -> tuple[int, int]:
-    """The least scale that has all places of the rows, and the least precision beside it."""
-    parts = [Decimal(row).as_tuple() for row in present]
-    exponents = [part.exponent for part in parts if isinstance(part.exponent, int)]
-    if len(exponents) < len(parts):
-        raise ValueError("a row is no number: a decimal column has neither NaN nor infinity")
+def _places_of(rows: Sequence[Any]) -> tuple[int, int]:
+    """As many digits as a decimal has, so that other numbers fit, and the least scale that has all places of the
+    rows."""
+    parts = [Decimal(0 if row is None else row).as_tuple() for row in rows]
+    for number, part in enumerate(parts):
+        if not isinstance(part.exponent, int):
+            raise ValueError(f"row {number} is {rows[number]}: a decimal column has neither NaN nor infinity")
+    exponents = [int(part.exponent) for part in parts]
     scale = max(0, -min(exponents))
     precision = max(len(part.digits) + exponent + scale for part, exponent in zip(parts, exponents))
     if max(precision, scale) > GREATEST_PRECISION:
         raise OverflowError(f"the rows need {max(precision, scale)} digits, and a decimal has {GREATEST_PRECISION}")
-    return checked_places(max(precision, scale, 1), scale)
+    return checked_places(GREATEST_PRECISION, scale)
 
 
 def flat_of(rows: Sequence[Any], kind: Kind) -> Made:
@@ -101,7 +141,7 @@ def flat_of(rows: Sequence[Any], kind: Kind) -> Made:
     name = TYPES[kind.number]
     validity = validity_of(None if all_valid else flags, len(rows), bool(kind.nullable))
     if name in LETTERS:
-        return numbers_of(_numbers(rows, name, all_valid), validity)
+        return numbers_of(numbers(rows if all_valid else [0 if row is None else row for row in rows], name), validity)
     if name == "bool":
         return truths_of(bits_of(_truths(rows)), len(rows), validity)
     if name == "decimal":
@@ -109,32 +149,50 @@ def flat_of(rows: Sequence[Any], kind: Kind) -> Made:
     return texts_of(_encoded(rows, name), name, validity)
 
 
-def _numbers(rows: Sequence[Any], name: str, all_valid: bool) -> array.array[int]:
+def numbers(rows: Sequence[Any], name: str, what: str = "row") -> array.array[int]:
+    """Integers as a type of C has them."""
     try:
-        return array.array(LETTERS[name], rows if all_valid else [0 if row is None else row for row in rows])
-    except OverflowError:
-        wrong = next(row for row in rows if row is not None and int(row) not in range_of(name))
-        raise OverflowError(f"{wrong} is no value of type {name}") from None
+        return array.array(LETTERS[name], rows)
+    except (OverflowError, TypeError):
+        for number, row in enumerate(rows):
+            if not hasattr(row, "__index__"):
+                raise TypeError(f"{what} {number} is {in_words(row)}, not an integer{why_not(row)}") from None
+            if index(row) not in range_of(name):
+                raise OverflowError(f"{what} {number} is {in_words(index(row))}, which does not fit {name}") from None
+        raise
 
 
 def _truths(rows: Sequence[Any]) -> list[bool]:
-    wrong = next((row for row in rows if row is not None and not is_truth(row)), None)
-    if wrong is not None:
-        raise TypeError(f"{wrong!r} is no boolean")
+    for number, row in enumerate(rows):
+        if row is not None and not is_truth(row):
+            raise TypeError(f"row {number} is {in_words(row)}, not a boolean")
     return list(map(bool, rows))
 
 
 def _pairs(rows: Sequence[Any], kind: Kind) -> bytes:
-    numbers = (0 if row is None else unscaled(row, kind.precision, kind.scale) for row in rows)
-    return b"".join(number.to_bytes(16, "little", signed=True) for number in numbers)
+    return b"".join(_unscaled(rows, kind))
+
+
+def _unscaled(rows: Sequence[Any], kind: Kind) -> Iterator[bytes]:
+    for number, row in enumerate(rows):
+        try:
+            item = 0 if row is None else unscaled(row, kind.precision, kind.scale)
+        except (OverflowError, TypeError, ValueError) as error:
+            raise type(error)(f"row {number}: {error}") from None
+        yield item.to_bytes(16, "little", signed=True)
 
 
 def _encoded(rows: Sequence[Any], name: str) -> list[bytes]:
     wanted: Any = str if name == "utf8" else (bytes, bytearray, memoryview)
-    for row in rows:
+    for number, row in enumerate(rows):
         if row is not None and not isinstance(row, wanted):
-            raise TypeError(f"{row!r} is no value of type {name}")
-    return [b"" if row is None else row.encode() if name == "utf8" else bytes(row) for row in rows]
+            raise TypeError(f"row {number} is {in_words(row)}, not {'a text' if name == 'utf8' else 'bytes'}")
+    if name == "binary":
+        return [b"" if row is None else bytes(row) for row in rows]
+    try:
+        return [b"" if row is None else row.encode() for row in rows]
+    except UnicodeEncodeError:
+        return [checked_text(row or "", f"row {number}: ") for number, row in enumerate(rows)]
 
 
 # ---- Items as C has them ----
@@ -142,7 +200,7 @@ def _encoded(rows: Sequence[Any], name: str) -> list[bytes]:
 
 def numbers_of(items: Any, validity: tuple[Any, ...]) -> Made:
     """A buffer of integers in one dimension."""
-    view = memoryview(items)
+    view = view_of(items)
     name = type_of_view(view)
     if not view.contiguous:
         view = memoryview(view.tobytes()).cast(LETTERS[name])
@@ -176,11 +234,18 @@ def texts_at(offsets: array.array[int], data: bytes, name: str, validity: tuple[
     return calls.hv_large_texts, name == "binary", passed, len(offsets), data, len(data), *validity
 
 
+def view_of(items: Any) -> memoryview:
+    try:
+        return memoryview(items)
+    except TypeError:
+        raise TypeError(f"a buffer of integers is an array, a memoryview or bytes, not {in_words(items)}") from None
+
+
 def type_of_view(view: memoryview) -> str:
     """The type of a buffer's items, by its format and width: 'i32' of 'i', '<i4' or 'l' of four bytes."""
     letter = view.format.lstrip("@=<")
     if len(letter) != 1 or letter not in "bhilqBHILQ" or view.ndim != 1:
-        raise TypeError(f"no buffer of integers in one dimension: format {view.format!r}, {view.ndim} dimensions")
+        raise TypeError(f"not a buffer of integers in one dimension: format {view.format!r}, {view.ndim} dimensions")
     return ("u" if letter.isupper() else "i") + str(8 * view.itemsize)
 
 
@@ -213,9 +278,12 @@ def of_numpy(items: Any, valid: Optional[Any] = None) -> Made:
     if items.dtype.kind == "b":
         return truths_of(bits_of(items), len(items), validity_of(valid, len(items)))
     if items.dtype.kind not in "OUS":
-        hint = "; its .view('i8') are integers" if items.dtype.kind in "mM" else ""
+        hints = {"m": "its .view('i8') are integers", "M": "its .view('i8') are integers", "f": NOT_FLOAT}
+        hint = f": {hints[items.dtype.kind]}" if items.dtype.kind in hints else ""
         raise TypeError(f"no column has items of dtype {items.dtype}{hint}")
-    rows = items.tolist() if valid is None else [row if flag else None for row, flag in zip(items.tolist(), valid)]
+    rows = listed(items.tolist())
+    if valid is not None:
+        rows = [row if flag else None for row, flag in zip(rows, valid)]
     name = {"U": "utf8", "S": "binary"}.get(items.dtype.kind)
     return flat_of(rows, Kind(TYPES.index(name), 0, 0, 0) if name else inferred(rows))
 
@@ -224,6 +292,8 @@ def of_pandas(items: Any) -> Made:
     """A Series, an Index or an array of pandas; what pandas calls missing is null."""
     import numpy
 
+    if getattr(items, "ndim", 1) != 1:
+        raise TypeError(f"a {type(items).__name__} has several columns: give one, as frame['name']")
     missing = numpy.asarray(items.isna())
     valid = ~missing if missing.any() else None
     native = getattr(items.dtype, "numpy_dtype", items.dtype)

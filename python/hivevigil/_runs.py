@@ -5,7 +5,7 @@ import ctypes
 import sys
 from collections.abc import Iterator
 from itertools import chain, compress, repeat
-from typing import TYPE_CHECKING, NamedTuple, Optional
+from typing import TYPE_CHECKING, Any, NamedTuple, Optional
 
 from . import _lists, _reading
 from ._library import ask, calls
@@ -57,8 +57,8 @@ def lengths(stops: list[int]) -> list[int]:
     return [stop - start for start, stop in zip(chain((0,), stops), stops)]
 
 
-def rows(column: Column) -> Iterator[Scalar]:
-    """Row by row; of runs each value is read once, but for lists, of which each row is one of its own."""
+def rows(column: Column) -> Iterator[Any]:
+    """Row by row; of runs each value is read once, but each row of lists is a list of its own."""
     if _lists.is_list(column):
         return iter(_lists.rows(column))
     if column.form == "runs":

@@ -24,7 +24,7 @@ _TEXT = re.compile(r"\s*(?:(u?)int(8|16|32|64)|(\w+))\s*(?:\(\s*(\d+)\s*(?:,\s*(
 
 
 def text_of(kind: Kind) -> str:
-    """'i64', 'decimal(10, 2)', and a '?' behind where rows may be null."""
+    """'i64', 'decimal(10, 2)', followed by a '?' where rows may be null."""
     name = TYPES[kind.number]
     places = f"({kind.precision}, {kind.scale})" if name == "decimal" else ""
     return name + places + ("?" if kind.nullable else "")
@@ -35,12 +35,12 @@ def kind_of(asked: Any) -> Kind:
     name = asked.__name__ if isinstance(asked, type) else getattr(asked, "name", asked)
     found = _TEXT.fullmatch(_OF_CLASSES.get(name, name) if isinstance(asked, type) else str(name))
     if not found:
-        raise TypeError(f"no type of columns: {asked!r}")
+        raise TypeError(f"{asked!r} is not a type of columns, as 'i64?' is")
     unsigned, bits, word, precision, scale, nullable = found.groups()
     name = ("u" if unsigned else "i") + bits if bits else word
     if name not in TYPES[:-1] or (precision is not None) != (name == "decimal"):
         expected = "decimal(precision, scale)" if name == "decimal" else ", ".join((*WHOLE_NUMBERS, *TYPES[8:-1]))
-        raise TypeError(f"no type of columns: {asked!r}; expected {expected}")
+        raise TypeError(f"{asked!r} is not a type of columns: expected {expected}")
     kind = Kind(TYPES.index(name), bool(nullable), 0, 0)
     if precision is not None:
         kind.precision, kind.scale = checked_places(int(precision), int(scale or 0))

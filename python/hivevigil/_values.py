@@ -1,30 +1,72 @@
-"""Single values, numbers of rows and operators, checked before they cross to C, and read when they come back."""
+"""Single values, numbers of rows and operators: checked before they cross to C, and read when they come back."""
 from __future__ import annotations
 
 import ctypes
 import operator
 from decimal import Decimal
+from numbers import Rational, Real
 from typing import Any, Union
 
 from ._library import Kind, Value
-from ._types import OPERATORS, TYPES, range_of, text_of
+from ._types import OPERATORS, TYPES, WHOLE_NUMBERS, range_of, text_of
 from .errors import OutOfBounds
 
 Scalar = Union[int, bool, Decimal, str, bytes, None]
 _UNSIGNED, _SIGNED, _TRUTH, _DECIMAL, _TEXT, _BYTES = range(1, 7)
 _LOW = 2**64 - 1
+_WORDS, _BITS = 60, 1024  # letters of a value in a sentence, and bits of a number that is written out
+_SORTS = {
+    **dict.fromkeys(WHOLE_NUMBERS, "an integer"), "bool": "a boolean", "utf8": "a text", "binary": "bytes",
+    "list": "a list, which no call takes",
+}
+NOT_FLOAT = "floating-point numbers are not values of this library"
 
 
 def is_truth(value: Any) -> bool:
-    """Python's bool, or NumPy's, which is none of Python's."""
+    """Whether a value is Python's bool, or NumPy's, which is another class."""
     return isinstance(value, bool) or type(value).__module__ == "numpy" and type(value).__name__ in ("bool_", "bool")
 
 
+def is_missing_class(kind: type) -> bool:
+    """Whether values of a class are null: None, pandas.NA, numpy.ma.masked."""
+    library = kind.__module__.partition(".")[0]
+    return kind is type(None) or (library, kind.__name__) in (("pandas", "NAType"), ("numpy", "MaskedConstant"))
+
+
+def is_missing(value: Any) -> bool:
+    """Whether a value is null."""
+    return value is None or is_missing_class(type(value))
+
+
+def is_whole(value: Any) -> bool:
+    """Whether a value is an integer, NumPy's too; booleans and floats are not."""
+    return hasattr(value, "__index__") and not is_truth(value)
+
+
+def in_words(value: Any) -> str:
+    """A value as Python writes it, or the front of what takes more than a few words; of an object its class."""
+    if getattr(type(value), "__repr__") is getattr(object, "__repr__"):
+        return f"an object of class {type(value).__name__}"
+    if isinstance(value, int) and value.bit_length() > _BITS:
+        return f"an integer of {value.bit_length()} bits"
+    text = repr(value).partition("\n")[0]
+    return text if len(text) <= _WORDS else text[: _WORDS - 3] + "..."
+
+
 def whole(value: Any, what: str) -> int:
-    """An integer, NumPy's too; booleans and floats are none."""
-    if is_truth(value) or not hasattr(value, "__index__"):
-        raise TypeError(f"{what} is an integer, not {type(value).__name__}")
+    """The integer that a value is."""
+    if not is_whole(value):
+        raise TypeError(f"{what} is an integer, not {in_words(value)}")
     return operator.index(value)
+
+
+def checked_text(value: str, where: str = "") -> bytes:
+    """The bytes of a text as UTF-8; half of a surrogate pair has none."""
+    try:
+        return value.encode()
+    except UnicodeEncodeError as error:
+        half = f"U+{ord(value[error.start]):04X}"
+        raise ValueError(f"{where}{in_words(value)} is not UTF-8: {half} is half of a surrogate pair") from None
 
 
 def row_of(row: Any, length: int) -> int:
@@ -49,27 +91,34 @@ def size_of(value: Any, what: str) -> int:
 def operator_of(sign: Any) -> int:
     """The number of an operator that is written as in Python."""
     if sign not in OPERATORS:
-        raise ValueError(f"no operator {sign!r}: one of {' '.join(OPERATORS)}")
+        raise ValueError(f"{in_words(sign)} is not an operator: the operators are {' '.join(OPERATORS)}")
     return OPERATORS.index(sign)
 
 
 def unscaled(value: Any, precision: int, scale: int) -> int:
     """A decimal as the integer of its least place: 1.5 with scale 2 is 150. Never rounded."""
-    if is_truth(value) or not (isinstance(value, Decimal) or hasattr(value, "__index__")):
-        raise TypeError(f"a decimal is a decimal.Decimal or an integer, not {type(value).__name__}")
-    sign, digits, exponent = Decimal(value).as_tuple()
+    if not (isinstance(value, Decimal) or is_whole(value)):
+        raise TypeError(f"a decimal is a decimal.Decimal or an integer, not {in_words(value)}{why_not(value)}")
+    number = Decimal(operator.index(value) if is_whole(value) else value)
+    sign, digits, exponent = number.as_tuple()
     if not isinstance(exponent, int):
-        raise ValueError(f"{value} is no number")
-    number, places = int("".join(map(str, digits)) or "0"), exponent + scale
-    if number and places + len(str(number)) > precision:
-        raise OverflowError(f"{value} is not within decimal({precision}, {scale})")
-    if number and places < 0:
-        number, rest = divmod(number, 10 ** min(-places, len(digits)))
-        if rest or number == 0:
-            raise ValueError(f"{value} has more than {scale} places, and none is rounded away")
-    elif number:
-        number *= 10**places
-    return -number if sign else number
+        raise ValueError(f"{value} is not a number that a decimal column has")
+    if not number:
+        return 0
+    if number.adjusted() + scale >= precision:
+        written = in_words(value) if is_whole(value) else value
+        raise OverflowError(f"{written} does not fit decimal({precision}, {scale})")
+    places = exponent + scale
+    if places < 0 and any(digits[places:]):
+        raise ValueError(f"{value} has more than {scale} places, and nothing is rounded")
+    kept = digits + (0,) * places if places >= 0 else digits[:places]
+    whole_number = int("".join(map(str, kept)))
+    return -whole_number if sign else whole_number
+
+
+def why_not(value: Any) -> str:
+    """What a sentence about a refused value says more: why floats are refused."""
+    return f": {NOT_FLOAT}" if isinstance(value, Real) and not isinstance(value, Rational) else ""
 
 
 def decimal_of(number: int, scale: int) -> Decimal:
@@ -79,30 +128,36 @@ def decimal_of(number: int, scale: int) -> Decimal:
 
 
 def passed(kind: Kind, value: Any) -> tuple[Value, bytes, int]:
-    """A value as C takes it beside a column of this type, with the bytes of a text and their number."""
+    """A value of a column's type as C takes it, with the bytes of a text and their number."""
     name = TYPES[kind.number]
-    if value is None:
+    if is_missing(value):
         return Value(), b"", 0
     if name == "bool" and is_truth(value):
         return Value(0, 0, _TRUTH, bool(value)), b"", 0
     if name == "utf8" and isinstance(value, str):
-        text = value.encode()
+        text = checked_text(value)
         return Value(0, 0, _TEXT, 0), text, len(text)
     if name == "binary" and isinstance(value, (bytes, bytearray, memoryview)):
         return Value(0, 0, _BYTES, 0), bytes(value), memoryview(value).nbytes
     if name == "decimal":
-        number = unscaled(value, kind.precision, kind.scale)
-        return Value(number & _LOW, number >> 64, _DECIMAL, 0), b"", 0
-    if name in ("bool", "utf8", "binary", "list"):
-        raise TypeError(f"{value!r} is no value of type {text_of(kind)}")
-    number = whole(value, f"a value of type {name}")
+        return stored(name, unscaled(value, kind.precision, kind.scale))
+    if name not in WHOLE_NUMBERS or not is_whole(value):
+        raise TypeError(f"a value of type {text_of(kind)} is {_SORTS[name]}, not {in_words(value)}{why_not(value)}")
+    number = operator.index(value)
     if number not in range_of(name):
-        raise OverflowError(f"{number} is no value of type {name}")
+        raise OverflowError(f"{in_words(number)} does not fit {name}")
+    return stored(name, number)
+
+
+def stored(name: str, number: int) -> tuple[Value, bytes, int]:
+    """A number of a type, of decimals in units of the least place, as C takes it."""
+    if name == "decimal":
+        return Value(number & _LOW, number >> 64, _DECIMAL, 0), b"", 0
     return (Value(number, 0, _UNSIGNED, 0) if name[0] == "u" else Value(0, number, _SIGNED, 0)), b"", 0
 
 
 def shown(value: Value, kind: Kind, text: ctypes.Array[ctypes.c_char]) -> Scalar:
-    """A value that C answered about a column of this type; `text` is the buffer that was given beside it."""
+    """A value that C answered about a column of this type; `text` is the buffer that was passed with it."""
     if value.kind == _DECIMAL:
         return decimal_of((value.as_signed << 64) + value.as_unsigned, kind.scale)
     if value.kind < _DECIMAL:

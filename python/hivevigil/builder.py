@@ -1,18 +1,20 @@
 """Rows that come batch by batch, encoded."""
 from __future__ import annotations
 
+import sys
 from typing import Any
 
+from . import _casting
 from ._library import BuilderHandle, ask, calls
 from ._types import kind_of, text_of
 from ._values import Scalar, passed, size_of
 from .column import Column
-from .errors import TypeMismatch
+from .errors import NullNotAllowed, TypeMismatch
 
 
 class Builder:
-    """The encoding of rows of one type, but lists, that come batch by batch: an end and a value for each run, and nothing
-    for a row. Where a call is refused, the builder has the rows that it had.
+    """The encoding of rows that come batch by batch, of any one type but lists: an end and a value for each run, and
+    nothing for a row. Where a call is refused, the builder has the rows that it had.
 
         builder = Builder("i64?")
         for batch in batches:
@@ -29,8 +31,8 @@ class Builder:
         ask(calls.hv_builder_new, self._kind, self._handle)
 
     def append(self, batch: Any) -> None:
-        """The rows of a batch of the builder's type go behind its rows."""
-        column = batch if isinstance(batch, Column) else Column.of(batch, self.type)
+        """Adds the rows of a batch, a column of the builder's type or what Column.of takes."""
+        column = batch if isinstance(batch, Column) else self._column_of(batch)
         try:
             ask(calls.hv_append, self._handle, column)
         except TypeMismatch as refused:
@@ -38,10 +40,17 @@ class Builder:
             refused.columns = (f"{self.type} (builder)", f"{column.type} ({column.form})")
             raise
 
+    def _column_of(self, batch: Any) -> Column:
+        column = Column.of(batch, self.type)
+        return column if column.type == self.type else _casting.cast(column, self._kind, "append")
+
     def append_value(self, value: Scalar, count: int = 1) -> None:
-        """So many rows of one value, or of None, go behind the rows."""
+        """Adds so many rows of one value, or of None."""
         size = size_of(count, "the number of rows")
-        ask(calls.hv_append_value, self._handle, *passed(self._kind, value), size)
+        try:
+            ask(calls.hv_append_value, self._handle, *passed(self._kind, value), size)
+        except NullNotAllowed as refused:
+            raise refused.saying(f"append_value: the value is null, and {self.type} has no null") from None
 
     def encoding(self) -> Column:
         """All rows so far as runs, as few as there can be; the builder keeps its rows."""
@@ -62,7 +71,13 @@ class Builder:
         return int(calls.hv_builder_rows(self._handle))
 
     def __len__(self) -> int:
+        if self.rows > sys.maxsize:
+            raise OverflowError(f"{self.rows} rows are more than len() can answer: builder.rows can")
         return self.rows
+
+    def __bool__(self) -> bool:
+        """Whether there is a row."""
+        return self.rows > 0
 
     @property
     def runs(self) -> int:

@@ -3,15 +3,16 @@ from __future__ import annotations
 
 import array
 import ctypes
-from collections.abc import Iterator, Sequence
+import sys
+from collections.abc import Iterator
 from typing import Any, NoReturn, Optional
 
-from . import _arrow, _copying, _indexing, _lists, _making, _reading, _runs, _showing
-from ._library import Handle, Kind, Total, Value, ask, calls, session
+from . import _arrow, _casting, _comparing, _copying, _indexing, _lists, _making, _questions, _reading, _runs, _showing
+from ._library import Handle, Kind, ask, calls, session
 from ._runs import Run
 from ._types import FORMS, LETTERS, SIGNED, TYPES, kind_of, text_of
-from ._values import Scalar, operator_of, passed, row_of, shown, size_of, whole
-from .errors import ColumnLength, NoColumn, Unsupported
+from ._values import Scalar, is_missing, passed, row_of, size_of, whole
+from .errors import NoColumn, Unsupported
 
 
 class Column:
@@ -49,7 +50,7 @@ class Column:
         return self
 
     def _beside(self, other: Column) -> Column:
-        """The other column. Two handles of one call are two, so a column beside itself is copied."""
+        """The other column of a call. A call takes two handles, so a column that is passed twice is copied."""
         return self.copy() if other is self else _column(other)
 
     def free(self) -> None:
@@ -91,12 +92,12 @@ class Column:
 
     @classmethod
     def of(cls, rows: Any, type: Any = None) -> Column:
-        """The column of a list, any iterable, or an array of NumPy, pandas or an Arrow library; None (or masked, or
-        missing) is null.
+        """The column of a list, any iterable, or an array of NumPy, pandas or an Arrow library; None, pandas.NA and
+        what is masked or missing are null.
 
         The type is inferred where none is given: integers are i64 (u64 where one needs it) or as the array has
-        them, decimal.Decimal the least decimal that has all of them, then bool, utf8 and binary. A type is given as
-        'i32', 'decimal(10, 2)', int, str or a dtype; 'i32?' may be null also where no row is.
+        them, decimal.Decimal a decimal of 38 digits with the places that the rows need, then bool, utf8 and binary. A
+        type is given as 'i32', 'decimal(10, 2)', int, str or a dtype, and may be null where a row is; 'i32?' always.
         """
         asked = None if type is None else kind_of(type)
         if isinstance(rows, str):
@@ -104,7 +105,7 @@ class Column:
         if isinstance(rows, (array.array, memoryview, bytes, bytearray)) or _making.is_array(rows):
             column = cls._of_array(rows)
             return column if asked is None else column._as(asked)
-        rows = list(rows)
+        rows = _making.listed(rows)
         return cls._made(*_making.flat_of(rows, _making.inferred(rows) if asked is None else asked))
 
     @classmethod
@@ -117,28 +118,29 @@ class Column:
             return cls.from_arrow(rows)
         return cls._made(*_making.of_numpy(rows)) if hasattr(rows, "dtype") else cls.from_buffer(rows)
 
-    def _as(self, asked: Kind) -> Column:
+    def _as(self, asked: Kind, call: str = "Column.of") -> Column:
         """The same rows as a type, which may be null where a row is, or where it says so."""
         asked.nullable = asked.nullable or self._kind.nullable
         if bytes(asked) == bytes(self._kind):
             return self
         same_sort = TYPES[asked.number] in LETTERS and TYPES[self._kind.number] in LETTERS
         if same_sort or asked.number == self._kind.number and TYPES[asked.number] != "decimal":
-            return self._made(calls.hv_cast, session, self, asked)
+            return _casting.cast(self, asked, call)
         return self._made(*_making.flat_of(self.to_list(), asked))
 
     @classmethod
-    def from_buffer(cls, items: Any, valid: Optional[Sequence[Any]] = None) -> Column:
+    def from_buffer(cls, items: Any, valid: Optional[Any] = None) -> Column:
         """The flat column of a buffer of integers: an array, a memoryview, a NumPy array. Null where a flag of
         `valid` is false. The items are copied."""
-        return cls._made(*_making.numbers_of(items, _making.validity_of(valid, len(memoryview(items)))))
+        validity = _making.validity_of(_making.flags_of(valid), len(_making.view_of(items)))
+        return cls._made(*_making.numbers_of(items, validity))
 
     @classmethod
     def from_runs(cls, ends: Any, values: Any, offset: int = 0, rows: Optional[int] = None) -> Column:
         """The runs that end before these rows, with a value for each, of which `rows` rows from row `offset` on are
         shown; without `rows` all to the last end. Both are copied; ends are integers without sign."""
         end_column = ends if isinstance(ends, Column) else cls.of(ends, None if hasattr(ends, "dtype") else "u64")
-        end_column = end_column._as(kind_of("u64")) if end_column.type in SIGNED else end_column
+        end_column = end_column._as(kind_of("u64"), "from_runs, ends") if end_column.type in SIGNED else end_column
         value_column = values if isinstance(values, Column) else cls.of(values)
         start = size_of(offset, "the offset")
         if rows is None:
@@ -149,14 +151,14 @@ class Column:
     @classmethod
     def constant(cls, value: Scalar, rows: int, type: Any = None) -> Column:
         """The value in each of so many rows, in memory for one. The type is that of the value where none is given."""
-        kind = _making.inferred([value]) if type is None else kind_of(type)
-        kind.nullable = kind.nullable or value is None
+        kind = _making.inferred(_making.listed([value])) if type is None else kind_of(type)
+        kind.nullable = kind.nullable or is_missing(value)
         return cls._made(calls.hv_constant, kind, *passed(kind, value), size_of(rows, "the number of rows"))
 
     @classmethod
     def from_lists(cls, elements: Any, offsets: Any, sizes: Any, valid: Any = None) -> Column:
         """Lists: row i is the sizes[i] elements from offsets[i] on, null where a flag of `valid` is false."""
-        return cls._made(*_lists.made_of(cls.of(elements), offsets, sizes, valid))
+        return _lists.made(cls.of(elements), offsets, sizes, valid)
 
     @classmethod
     def from_record(cls, type: Any, rows: int, record: bytes, ends: Column, values: Column) -> Column:
@@ -211,14 +213,11 @@ class Column:
         return self._made(calls.hv_slice, session, self, size_of(start, "the start"), size_of(stop, "the stop"))
 
     def cast(self, type: Any, nullable: Optional[bool] = None) -> Column:
-        """Each row as the same value of a type, 'i8' or 'i8?'. It may be null as this column may, unless `nullable` or
-        a '?' says otherwise."""
+        """Each row as the same value of a type: refused at the first row that does not fit, or that is null where the
+        type has no null. 'i8' has none, 'i8?' has, and so has each type with `nullable`."""
         kind = kind_of(type)
-        kind.nullable = nullable if nullable is not None else kind.nullable or self._kind.nullable
-        try:
-            return self._made(calls.hv_cast, session, self, kind)
-        except Unsupported as refused:
-            raise refused.about(f"cast to {text_of(kind)}", self) from None
+        kind.nullable = kind.nullable if nullable is None else nullable
+        return _casting.cast(self, kind)
 
     def take(self, indices: Any) -> Column:
         """The rows at the indices: a column, a list, or an array; null at a null index. Of lists and arrays negative
@@ -235,12 +234,11 @@ class Column:
         return self._made(calls.hv_take_from, session, self, self._beside(values))
 
     def compare(self, operator: str, right: Any) -> Column:
-        """Row by row whether `row operator right`, for a column or one value, with one of == != > >= < <=; null where
-        either is null."""
-        sign = operator_of(operator)
+        """Row by row whether `row operator right`, for a column of the same type or one value, with one of == != > >=
+        < <=; null where either is null. Numbers are compared exactly, also with one that the type does not have."""
         if isinstance(right, Column):
-            return self._made(calls.hv_compare, session, self, sign, self._beside(right))
-        return self._made(calls.hv_compare_scalar, session, self, sign, *passed(self._kind, right))
+            return _comparing.with_column(self, operator, right)
+        return _comparing.with_value(self, operator, right)
 
     def eq(self, right: Any) -> Column:
         return self.compare("==", right)
@@ -260,11 +258,26 @@ class Column:
     def le(self, right: Any) -> Column:
         return self.compare("<=", right)
 
-    def __lt__(self, _: Any) -> NoReturn:
-        self._there()
-        raise TypeError("rows are compared by column.lt(..), le, gt, ge, eq and ne, and columns have no order")
+    def __eq__(self, other: object) -> bool:
+        """Whether both are the same object; rows are compared by eq."""
+        return self is other if isinstance(other, Column) else _comparing.refused(self, "==", other)
 
-    __le__ = __gt__ = __ge__ = __lt__
+    def __ne__(self, other: object) -> bool:
+        return self is not other if isinstance(other, Column) else _comparing.refused(self, "!=", other)
+
+    __hash__ = object.__hash__
+
+    def __lt__(self, other: Any) -> NoReturn:
+        _comparing.refused(self, "<", other)
+
+    def __le__(self, other: Any) -> NoReturn:
+        _comparing.refused(self, "<=", other)
+
+    def __gt__(self, other: Any) -> NoReturn:
+        _comparing.refused(self, ">", other)
+
+    def __ge__(self, other: Any) -> NoReturn:
+        _comparing.refused(self, ">=", other)
 
     def fill(self, value: Any) -> Column:
         """A value in place of each null, after which the type has no null."""
@@ -273,8 +286,18 @@ class Column:
     # ---- Questions ----
 
     def __len__(self) -> int:
-        """How many rows; runs may have more than len() can answer, 2**63 and above."""
+        """How many rows. Runs may have 2**63 and more, which len() cannot answer."""
+        if self._length > sys.maxsize:
+            raise OverflowError(f"{self._length} rows are more than len() can answer")
         return self._length
+
+    def __bool__(self) -> bool:
+        """Whether there is a row."""
+        return self._length > 0
+
+    def __contains__(self, value: Any) -> bool:
+        """Whether a row has this value, or is null for None; of runs each value is looked at once."""
+        return _questions.has(self, value)
 
     @property
     def _length(self) -> int:
@@ -310,67 +333,42 @@ class Column:
         """How many rows are null."""
         return _runs.null_count(self)
 
-    def sum(self) -> Optional[int]:
-        """The sum of the rows that are not null, 0 where there is none; None where it left the range of 64 bits."""
-        total = Total()
-        ask(calls.hv_sum, session, self, total)
-        return (None, int(total.as_unsigned), int(total.as_signed))[total.kind]
+    def sum(self) -> int:
+        """The sum of the rows that are not null, 0 where there is none. OverflowError where it leaves 64 bits on the
+        way from row to row, which names the row."""
+        return _questions.total(self)
 
     def is_constant(self) -> bool:
         """Whether all rows are equal, null equal to null."""
-        return self._truth(calls.hv_is_constant)
+        return _questions.truth(self, calls.hv_is_constant)
 
     def is_sorted(self, strict: bool = False) -> bool:
         """Whether no row is above the next (strict: whether each is below it), null below all else."""
-        return self._truth(calls.hv_is_sorted, bool(strict))
-
-    def _truth(self, call: Any, *arguments: Any) -> bool:
-        truth = ctypes.c_uint8()
-        ask(call, session, self, *arguments, truth)
-        return bool(truth.value)
+        return _questions.truth(self, calls.hv_is_sorted, bool(strict))
 
     def min(self) -> Scalar:
-        """The least row that is not null; None where all are null."""
-        return self._shown(calls.hv_extreme, session, self, 0)
+        """The least row that is not null. None where there is none, since no row is the least of none."""
+        return _questions.value_of(self, calls.hv_extreme, session, self, 0)
 
     def max(self) -> Scalar:
-        """The greatest row that is not null; None where all are null."""
-        return self._shown(calls.hv_extreme, session, self, 1)
+        """The greatest row that is not null. None where there is none."""
+        return _questions.value_of(self, calls.hv_extreme, session, self, 1)
 
     def min_max(self) -> tuple[Scalar, Scalar]:
         """Both at once."""
-        room = 64
-        while True:
-            least, greatest = Value(), Value()
-            low, high = ctypes.create_string_buffer(room), ctypes.create_string_buffer(room)
-            try:
-                ask(calls.hv_min_max, session, self, least, low, room, greatest, high, room)
-                return shown(least, self._kind, low), shown(greatest, self._kind, high)
-            except ColumnLength as short:
-                room = short.fields[0]
+        return _questions.least_and_greatest(self)
 
     def __getitem__(self, key: Any) -> Any:
         """A row by its number, from the end where it is negative; else a column: of a slice, of a mask's rows (a
         column, a list, or an array of booleans), or of the rows at indices."""
         return _indexing.selected(self, key)
 
-    def at(self, row: int) -> Scalar:
+    def at(self, row: int) -> Any:
         """The row, from the end where it is negative."""
         return self._at(row_of(row, self._length))
 
     def _at(self, row: int) -> Any:
-        return _lists.row(self, row) if _lists.is_list(self) else self._shown(calls.hv_at, self, row)
-
-    def _shown(self, call: Any, *arguments: Any) -> Scalar:
-        """A value, asked for again with more room where its text has none."""
-        room = 64
-        while True:
-            value, text = Value(), ctypes.create_string_buffer(room)
-            try:
-                ask(call, *arguments, value, text, room)
-                return shown(value, self._kind, text)
-            except ColumnLength as short:
-                room = short.fields[0]
+        return _lists.row(self, row) if _lists.is_list(self) else _questions.value_of(self, calls.hv_at, self, row)
 
     # ---- Reading ----
 
@@ -380,7 +378,7 @@ class Column:
 
     def blocks(self, rows: int = _reading.BLOCK) -> Iterator[Column]:
         """The column in pieces of so many rows, the last one of what is left."""
-        step = size_of(rows, "the rows of a block")
+        step = size_of(rows, "the number of rows of a block")
         if step == 0:
             raise ValueError("a block has at least one row")
         length = self._length
@@ -492,9 +490,11 @@ class Column:
 
 def _column(other: Any) -> Column:
     if not isinstance(other, Column):
-        raise TypeError(f"a Column is expected, not {type(other).__name__}")
+        raise TypeError(f"a Column is expected here, not {type(other).__name__}")
     return other
 
 
 def _address(part: Any) -> int:
+    if not isinstance(part, (int, ctypes.Structure)):
+        raise TypeError(f"an ArrowSchema, an ArrowArray or an address is expected here, not {type(part).__name__}")
     return part if isinstance(part, int) else ctypes.addressof(part)

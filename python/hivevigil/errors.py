@@ -15,17 +15,26 @@ class HivevigilError(Exception):
     sentence: ClassVar[str] = "the call was refused"
     call: str = ""  # which one was refused, and "i64 (flat)" of each column that it was lent
     columns: tuple[str, ...] = ()
+    said: str = ""  # the sentence, where more is known than number and fields tell: a row, a value, a type
 
     def __init__(self, *fields: int) -> None:
         super().__init__(*fields)
         self.fields: tuple[int, ...] = (*fields, 0, 0, 0)[:3]
 
     def about(self, call: str, *columns: Any) -> HivevigilError:
-        """The same refusal, which tells of the call and of the types and forms of its columns."""
+        """The same refusal, which names the call and the types and forms of its columns."""
         self.call, self.columns = call, tuple(f"{column.type} ({column.form})" for column in columns)
         return self
 
+    def saying(self, sentence: str) -> HivevigilError:
+        """The same refusal with this sentence."""
+        self.said = sentence
+        return self
+
     def __str__(self) -> str:
+        return self.said or self._in_words()
+
+    def _in_words(self) -> str:
         return self.sentence.format(*self.fields)
 
 
@@ -60,10 +69,10 @@ class LastEndBelowWindow(HivevigilError, ValueError):
 class OutOfBounds(HivevigilError, IndexError):
     number, sentence = 8, "row {0} of a column of {1} rows"
 
-    def __str__(self) -> str:
+    def _in_words(self) -> str:
         if self.fields[0] == 2**64 - 1:
             return f"a row that is negative, or past 2**64 - 2, of a column of {self.fields[1]} rows"
-        return super().__str__()
+        return super()._in_words()
 
 
 class BadRange(HivevigilError, IndexError):
@@ -81,23 +90,23 @@ class ColumnLength(HivevigilError, ValueError):
 class TypeMismatch(HivevigilError, TypeError):
     number, sentence = 12, "the types do not go together"
 
-    def __str__(self) -> str:
+    def _in_words(self) -> str:
         if len(self.columns) < 2:
-            return super().__str__()
+            return super()._in_words()
         return f"{self.call}: columns of {' and of '.join(self.columns)} do not go together"
 
 
 class Unsupported(HivevigilError, TypeError):
     number, sentence = 13, "the call does not serve columns of this type or form"
 
-    def __str__(self) -> str:
+    def _in_words(self) -> str:
         if not self.columns:
-            return super().__str__()
+            return super()._in_words()
         return f"{self.call} does not serve columns of {' and of '.join(self.columns)}"
 
 
 class CastOutOfRange(HivevigilError, OverflowError):
-    number, sentence = 14, "a row is no value of the type"
+    number, sentence = 14, "a row does not fit the type"
 
 
 class NullNotAllowed(HivevigilError, ValueError):
@@ -105,11 +114,11 @@ class NullNotAllowed(HivevigilError, ValueError):
 
 
 class NullFill(HivevigilError, ValueError):
-    number, sentence = 16, "nulls are filled by a value, and null is none"
+    number, sentence = 16, "nulls are filled with a value, and null is not one"
 
 
 class BadMetadata(HivevigilError, ValueError):
-    number, sentence = 17, "the bytes are no metadata record, or no column"
+    number, sentence = 17, "the bytes are not a metadata record, or not a column"
 
 
 class EndsTypeNumber(HivevigilError, ValueError):
@@ -121,7 +130,7 @@ class RunCount(HivevigilError, ValueError):
 
 
 class OnlyPrimitive(HivevigilError, TypeError):
-    number, sentence = 20, "the encoder serves integers alone; to_runs() serves each type"
+    number, sentence = 20, "encode() serves only integers; to_runs() serves every type but lists"
 
 
 class OutOfMemory(HivevigilError, MemoryError):
@@ -133,16 +142,16 @@ class NoColumn(HivevigilError, ValueError):
 
 
 class BadNumber(HivevigilError, ValueError):
-    number, sentence = 23, "the number stands for no type, or for no operator"
+    number, sentence = 23, "the number is not that of a type or an operator"
 
 
 class ArrowInvalid(HivevigilError, ValueError):
     number, sentence = 101, "the Arrow array is not legal: {0}"
     reasons = (
-        "it is none of its format",
+        "it is not an array of its format",
         "a struct is missing or was released",
         "a pointer that the format needs is null",
-        "it has not the buffers or children of its format",
+        "it does not have the buffers or children of its format",
         "a length or an offset is negative, or past what there is",
         "null_count is not the number of nulls",
         "an array of runs has a bitmap, or a run end is null",
@@ -150,7 +159,7 @@ class ArrowInvalid(HivevigilError, ValueError):
         "a view of texts is not within its buffers",
     )
 
-    def __str__(self) -> str:
+    def _in_words(self) -> str:
         reason = self.fields[0]
         return self.sentence.format(self.reasons[reason if reason < len(self.reasons) else 0])
 
@@ -168,8 +177,8 @@ class ArrowStreamFailed(HivevigilError, OSError):
         super().__init__(*fields)
         self.words = words
 
-    def __str__(self) -> str:
-        return f"{super().__str__()}: {self.words}" if self.words else super().__str__()
+    def _in_words(self) -> str:
+        return f"{super()._in_words()}: {self.words}" if self.words else super()._in_words()
 
 
 CLASSES: dict[int, type[HivevigilError]] = {kind.number: kind for kind in HivevigilError.__subclasses__()}

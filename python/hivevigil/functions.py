@@ -8,7 +8,7 @@ from typing import Any
 
 from ._arrow import import_columns
 from ._library import Handle, calls, session
-from .column import Column
+from .column import Column, _column
 from .errors import TypeMismatch
 
 
@@ -19,7 +19,7 @@ def columns_from_arrow(source: Any) -> dict[str, Column]:
 
 def concat(columns: Iterable[Column]) -> Column:
     """The rows of columns of one type, one column after the other: runs where each is runs or a constant, else flat."""
-    given = list(columns)
+    given = [_column(column) for column in columns]
     if not given:
         raise ValueError("concat takes at least one column, whose type is that of the answer")
     handles = (Handle * max(1, len(given)))()

@@ -31,7 +31,8 @@ class Inexact(Exception):
 
 
 class _Quiet:
-    """Keeps GDAL's own messages, and prints none: a warning says that a value was changed. What GDAL refuses is Inexact."""
+    """Keeps GDAL's own messages, and prints none: a warning says that a value was changed. What GDAL refuses is
+    Inexact."""
 
     def __enter__(self) -> None:
         from osgeo import gdal
@@ -72,8 +73,8 @@ class GdalFile:
         self.passes = 1
 
     def batches(self, advance: Callable[[int], None]) -> Iterator[dict[str, Column]]:
-        """The columns of each batch; `advance` is called with the number of rows that were read. Refused as Inexact where
-        GDAL changed a value."""
+        """The columns of each batch; `advance` is called with the number of rows that were read. Refused as Inexact
+        where GDAL changed a value."""
         while (batch := self._next()) is not None:
             columns = {name: self._child(batch, self.places[name]) for name in self.types}
             rows = max(map(len, columns.values()), default=0)

@@ -20,7 +20,7 @@ PATIENCE = 1.0  # seconds before a progress bar is drawn
 
 @dataclass
 class Summary:
-    """What is known of one column so far. A run that may go on in the next batch is not yet counted in `run_lengths`."""
+    """What is known of one column so far. A run that may go on in the next batch is not yet in `run_lengths`."""
 
     name: str
     rows: int = 0

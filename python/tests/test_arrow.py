@@ -150,6 +150,47 @@ def test_arrays_that_are_not_legal():
         Column.from_arrow(Made("g", [None, ctypes.create_string_buffer(8)], 1))
 
 
+def floats(name=b""):
+    return Made("g", [None, ctypes.create_string_buffer(16)], 1, name=name)
+
+
+def texts(data):
+    """One text of these bytes."""
+    offsets = ctypes.create_string_buffer((0).to_bytes(4, "little") + len(data).to_bytes(4, "little"))
+    return Made("u", [None, offsets, ctypes.create_string_buffer(data)], 1)
+
+
+FLOATS = "floating-point numbers are not values of this library"
+
+
+@pytest.mark.parametrize(
+    "source, kind, said",
+    [
+        (lambda: floats(), errors.Unsupported, f"Arrow's format 'g' is not served: {FLOATS}"),
+        (lambda: MadeStream([floats()]), errors.Unsupported, f"Arrow's format 'g' is not served: {FLOATS}"),
+        (lambda: Made("+s", [None], 1, children=[numbers([1], name=b"a"), floats(b"b")]), errors.Unsupported,
+         f"column 'b' has Arrow's format 'g', which is not served: {FLOATS}"),
+        (lambda: MadeStream([Made("+s", [None], 1, children=[numbers([1], name=b"a"), floats(b"b")])]),
+         errors.Unsupported, f"column 'b' has Arrow's format 'g', which is not served: {FLOATS}"),
+        (lambda: Made("tin", [None, ctypes.create_string_buffer(16)], 1), errors.Unsupported,
+         "Arrow's format 'tin' is not served"),
+        (lambda: texts(b"a\xff"), errors.TypeMismatch, "a text is not UTF-8"),
+        (lambda: MadeStream([texts(b"a"), texts(b"\xff")]), errors.TypeMismatch, "a text is not UTF-8"),
+    ],
+)
+def test_arrays_that_are_not_served(source, kind, said):
+    with pytest.raises(kind) as refused:
+        columns_from_arrow(source())
+    assert str(refused.value) == f"from_arrow: {said}"
+
+
+def test_lists_by_streams():
+    lists = Column.from_lists(["a", "b", None], [0, 1, 0], [1, 2, 0], [True, True, False])
+    again = Column.from_arrow(OnlyStream(lists))
+    assert (again.type, again.to_list()) == ("list?", [["a"], ["b", None], None])
+    assert Column.from_arrow(OnlyStream(Column.from_lists([1], [], []))).to_list() == []
+
+
 class Wrong:
     """Hands out capsules of another name."""
 
@@ -159,7 +200,7 @@ class Wrong:
 
 
 def test_capsules_of_another_name():
-    with pytest.raises(ValueError):
+    with pytest.raises(ValueError, match="^a capsule of the name arrow_schema is expected here$"):
         Column.from_arrow(Wrong())
 
 

@@ -2,6 +2,7 @@
 from decimal import Decimal
 from itertools import groupby
 
+import pandas
 import pytest
 from hivevigil import Builder, Column, errors
 from hypothesis import given
@@ -99,12 +100,21 @@ def test_refused_batches_change_nothing():
     with pytest.raises(errors.TypeMismatch) as refused:
         builder.append(Column.of([1, None], "i32?"))
     assert str(refused.value) == "append: columns of i32 (builder) and of i32? (flat) do not go together"
-    with pytest.raises(errors.NullNotAllowed):
-        builder.append_value(None)
+    due = [
+        (lambda: builder.append([None]), "append: row 0 is null, and i32 has no null; 'i32?' has"),
+        (lambda: builder.append(pandas.Series([1, None], dtype="Int64")), "append: row 1 is null"),
+        (lambda: builder.append_value(None), "append_value: the value is null, and i32 has no null"),
+    ]
+    for call, said in due:
+        with pytest.raises(errors.NullNotAllowed) as refused:
+            call()
+        assert str(refused.value).startswith(said)
     with pytest.raises(OverflowError):
         builder.append_value(2**31)
     with pytest.raises(errors.WindowOverflow, match="all rows together, are 2\\*\\*64 or more"):
         builder.append_value(2, 2**64 - 3)
     check_encoding(builder.encoding(), [1, 1, 2])
+    builder.append(pandas.Series([2, 3], dtype="Int32"))  # a type with null, and no row is null
+    check_encoding(builder.encoding(), [1, 1, 2, 2, 3])
     with pytest.raises(errors.Unsupported):
         Column.from_lists([1, 2], [0, 1], [1, 1]).to_runs()

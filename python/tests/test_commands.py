@@ -1,8 +1,10 @@
 """Each command and question over a column in any form answers as over its rows."""
 import operator
+from decimal import Decimal
+from itertools import accumulate
 
 import pytest
-from hivevigil import Column, concat, errors
+from hivevigil import Builder, Column, concat, errors
 from hypothesis import assume, given
 from hypothesis import strategies as st
 from rows import BITS, TYPES, least_and_greatest, runs_of, samples, stretches, values
@@ -111,32 +113,104 @@ def test_fill(data, sample):
 @given(samples(types=tuple(BITS)), st.sampled_from(list(BITS)))
 def test_cast(sample, name):
     least, greatest = least_and_greatest(name)
-    if all(row is None or least <= row <= greatest for row in sample.rows):
-        cast = sample.column.cast(name)
-        assert cast.to_list() == sample.rows and cast.type == name + "?" * sample.column.nullable
-        assert sample.column.cast(name + "?").type == name + "?"
+    present = [(row, value) for row, value in enumerate(sample.rows) if value is not None]
+    past = [(row, value) for row, value in present if not least <= value <= greatest]
+    nulls = [row for row, value in enumerate(sample.rows) if value is None]
+    column = sample.column
+    check_cast(lambda: column.cast(name + "?"), name + "?", sample.rows, past, [])
+    check_cast(lambda: column.cast(name, nullable=True), name + "?", sample.rows, past, [])
+    check_cast(lambda: column.cast(name), name, sample.rows, past, nulls)
+    check_cast(lambda: column.cast(name + "?", nullable=False), name, sample.rows, past, nulls)
+
+
+def check_cast(call, type, rows, past, nulls):
+    """The rows as this type, or a refusal that names the first row which is no value of it."""
+    if not past and not nulls:
+        cast = call()
+        assert (cast.type, cast.to_list()) == (type, rows)
+        return
+    name = type.rstrip("?")
+    if not past or nulls and nulls[0] < past[0][0]:
+        kind, said = errors.NullNotAllowed, f"row {nulls[0]} is null, and {name} has no null; '{name}?' has"
     else:
-        with pytest.raises(OverflowError):
-            sample.column.cast(name)
-    if None in sample.rows:
-        with pytest.raises((ValueError, OverflowError)):
-            sample.column.cast(name, nullable=False)
+        kind, said = errors.CastOutOfRange, f"row {past[0][0]} is {past[0][1]}, which does not fit {name}"
+    with pytest.raises(kind) as refused:
+        call()
+    assert str(refused.value) == f"cast to {type}: {said}"
 
 
 @given(samples(types=tuple(BITS)))
 def test_sum(sample):
     total = sum(row for row in sample.rows if row is not None)
     least, greatest = least_and_greatest("u64" if sample.type[0] == "u" else "i64")
-    partial = [0]
-    for row in sample.rows:
-        partial.append(partial[-1] + (row or 0))
-    if all(least <= part <= greatest for part in partial):
+    partial = list(accumulate(row or 0 for row in sample.rows))
+    past = [row for row, part in enumerate(partial) if not least <= part <= greatest]
+    if not past:
         assert sample.column.sum() == total
+    else:
+        with pytest.raises(OverflowError, match=f"at row {past[0]}, which is {sample.rows[past[0]]}: "):
+            sample.column.sum()
 
 
-def test_sums_that_leave_64_bits():
-    assert Column.of([2**63 - 1, 1]).sum() is None and Column.of([2**64 - 1, 1]).sum() is None
+@pytest.mark.parametrize(
+    "column, said",
+    [
+        (Column.of([2**63 - 1, 1]), "i64 at row 1, which is 1: the rows before it make 9223372036854775807"),
+        (Column.of([2**64 - 1, 0, 7]).to_runs(), f"u64 at row 2, which is 7: the rows before it make {2**64 - 1}"),
+        (Column.of([3, None, -(2**63), -4, 5]), f"i64 at row 3, which is -4: the rows before it make {3 - 2**63}"),
+        (Column.constant(2**62, 2**60), f"i64 at row 1, which is {2**62}: the rows before it make {2**62}"),
+        (Column.constant(-3, 2**63),
+         f"i64 at row {2**63 // 3}, which is -3: the rows before it make {-(2**63 // 3) * 3}"),
+        (Column.of([0, 1, 1, 2**63 - 2]).encode()[1:],
+         f"i64 at row 2, which is {2**63 - 2}: the rows before it make 2"),
+    ],
+)
+def test_sums_that_leave_64_bits(column, said):
+    with pytest.raises(OverflowError) as refused:
+        column.sum()
+    assert str(refused.value) == f"sum: it leaves {said}"
+
+
+def test_sums_that_stay_within_64_bits():
     assert Column.of([2**63 - 1, None]).encode().sum() == 2**63 - 1 and Column.of([None], "u8").sum() == 0
+    assert Column.of([], "i8").sum() == 0 and Column.constant(-(2**62), 2).sum() == -(2**63)
+
+
+def test_no_row_is_the_least_of_none():
+    for column in (Column.of([], "i64"), Column.of([None, None], "utf8"), Column.constant(None, 2**60, "bool")):
+        assert column.min() is None and column.max() is None and column.min_max() == (None, None)
+
+
+@given(st.data(), samples())
+def test_whether_a_row_has_a_value(data, sample):
+    value = data.draw(st.none() | values(sample.type) | st.sampled_from(sample.rows or [None]))
+    assert (value in sample.column) == (value in sample.rows)
+    for other in (True, 1, 1.0, Decimal("1.500"), "a", b"a", [1], float("nan"), 2**200, "\ud800", object()):
+        assert (other in sample.column) == (other in sample.rows)
+
+
+def test_values_are_looked_for_by_runs():
+    many = Column.constant(7, 2**60)
+    assert 7 in many and 8 not in many and None not in many and None in Column.constant(None, 2**60, "utf8")
+    runs = Column.from_runs([2**60, 2**61], ["oak", None])
+    assert "oak" in runs and None in runs and "elm" not in runs and "oak" not in runs[2**60 :]
+    nested = Column.from_runs([2**40, 2**41], Column.of(["oak", None]).to_runs())
+    assert "oak" in nested and None in nested and 3 not in nested
+    lists = Column.from_lists([1, 2], [0, 0], [1, 2], [True, False])
+    assert [1] in lists and None in lists and [2] not in lists
+
+
+def test_columns_past_what_len_counts():
+    many, none = Column.constant(7, 2**63), Column.constant(7, 0)
+    assert many and Column.from_runs([2**64 - 1], ["oak"]) and not none and not Column.of([], "i8")
+    with pytest.raises(OverflowError, match="9223372036854775808 rows are more than len"):
+        len(many)
+    builder = Builder("i8")
+    assert not builder
+    builder.append_value(1, 2**63)
+    assert builder
+    with pytest.raises(OverflowError, match="builder.rows can"):
+        len(builder)
 
 
 @given(samples())

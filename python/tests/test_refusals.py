@@ -93,21 +93,24 @@ def test_operators(sign):
     ("1", TypeError), (b"1", TypeError), (True, TypeError), (object(), TypeError),
 ])
 def test_values_that_are_none_of_the_type(value, error):
-    for call in (runs().fill, runs().eq, lambda value: runs().compare("<", value)):
-        with pytest.raises(error):
-            call(value)
+    with pytest.raises(error):
+        runs().fill(value)
+    if not isinstance(value, (int, float)) or isinstance(value, bool):
+        for call in (runs().eq, lambda value: runs().compare("<", value)):
+            with pytest.raises(error):
+                call(value)
 
 
 @given(st.integers())
 def test_no_number_is_truncated(number):
     column = Column.of([0, 1, None], "u8")
+    assert column.eq(number).to_list() == [number == 0, number == 1, None]
+    assert column.lt(number).to_list() == [0 < number, 1 < number, None]
     if 0 <= number < 256:
-        assert column.eq(number).to_list()[:2] == [number == 0, number == 1]
         assert column.fill(number).to_list() == [0, 1, number]
     else:
-        for call in (column.eq, column.fill):
-            with pytest.raises(OverflowError):
-                call(number)
+        with pytest.raises(OverflowError, match=f"^{number} does not fit u8$"):
+            column.fill(number)
     with pytest.raises((ValueError, OverflowError, IndexError)):
         column.slice(0, number if number not in (0, 1, 2, 3) else 4)
 
@@ -146,12 +149,12 @@ def test_refusals_name_the_call_and_its_columns():
     due = [
         (texts.sum, "sum does not serve columns of utf8 (flat)"),
         (texts.to_runs().sum, "sum does not serve columns of utf8 (runs)"),
-        (lambda: numbers.encode().cast("utf8"), "cast to utf8? does not serve columns of i64? (runs)"),
+        (lambda: numbers.encode().cast("utf8"), "cast to utf8 does not serve columns of i64? (runs)"),
         (numbers.ends, "ends does not serve columns of i64? (flat)"),
         (texts.record, "record does not serve columns of utf8 (flat)"),
         (texts.to_array, "to_array does not serve columns of utf8 (flat)"),
         (lambda: Column.of(["a"] * 4).eq(numbers),
-         "compare: columns of utf8 (flat) and of i64? (flat) do not go together"),
+         "compare: utf8 and i64 are two types; rows of one type are compared"),
         (lambda: concat([numbers, numbers.encode(), texts]),
          "concat: columns of i64? (flat) and of utf8 (flat) do not go together"),
     ]
@@ -164,10 +167,34 @@ def test_refusals_name_the_call_and_its_columns():
     assert str(errors.TypeMismatch()) == "the types do not go together"
 
 
-def test_columns_have_no_order():
-    for call in (lambda: runs() > 1, lambda: runs() <= 1, lambda: 1 < runs(), lambda: sorted([runs(), runs()])):
-        with pytest.raises(TypeError, match=r"column\.lt"):
-            call()
+ORDER = "which makes a mask; columns have no order, and == between two says whether they are one object"
+
+
+@pytest.mark.parametrize(
+    "compared, written",
+    [
+        (lambda one: one == 50, "eq(50)"), (lambda one: 50 == one, "eq(50)"), (lambda one: one != "a", "ne('a')"),
+        (lambda one: one < 50, "lt(50)"), (lambda one: one <= None, "le(None)"), (lambda one: one > 1, "gt(1)"),
+        (lambda one: 1 < one, "gt(1)"), (lambda one: one >= 1, "ge(1)"), (lambda one: None == one, "eq(None)"),
+        (lambda one: one == [1, 2], "eq(Column.of(rows))"), (lambda one: one < runs(), "lt(other)"),
+        (lambda one: sorted([one, runs()]), "lt(other)"), (lambda one: one in [1, one], "eq(1)"),
+    ],
+)
+def test_operators_of_python_say_how_rows_are_compared(compared, written):
+    with pytest.raises(TypeError) as refused:
+        compared(runs())
+    assert str(refused.value) == f"rows are compared by column.{written}, {ORDER}"
+
+
+def test_one_object_is_itself():
+    one, other = runs(), runs()
+    assert one == one and not one != one and one != other and not one == other
+    assert len({one, other, one}) == 2 and {one: 1}[one] == 1 and [other, one].index(one) == 1
+    one.free()
+    assert one == one and one != other and hash(one) != hash(other)
+
+
+def test_no_columns_have_no_type():
     with pytest.raises(ValueError, match="at least one"):
         concat([])
 
@@ -227,8 +254,9 @@ ARGUMENTS = {
     "slice": (0, 1), "cast": ("i8",), "take": ([0],), "filter": ([True] * 4,), "take_from": ([1, 2, 3],),
     "compare": ("==", 1), "fill": (1,), "at": (0,), "__getitem__": (0,), "__deepcopy__": ({},),
     **{name: (1,) for name in ("eq", "ne", "gt", "ge", "lt", "le", "__lt__", "__le__", "__gt__", "__ge__")},
+    **{name: (1,) for name in ("__eq__", "__ne__", "__contains__")},
 }
-STAY = {"free", "freed", "__repr__", "__exit__", "__del__", "_repr_html_"}
+STAY = {"free", "freed", "__repr__", "__exit__", "__del__", "_repr_html_", "__hash__"}
 MAKERS = {
     "of", "constant", "from_buffer", "from_lists", "from_runs", "from_record", "from_bytes", "from_arrow",
     "from_arrow_structs",

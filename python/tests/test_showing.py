@@ -20,7 +20,7 @@ SVG = "{http://www.w3.org/2000/svg}"
         (Column.of(range(11)), "<Column i64: 11 rows, flat>\n  [0, 1, 2, 3, 4, 5, 6, 7, 8, 9, ...]"),
         (Column.of([5, 5, 5]).encode()[:2], "<Column i64: 2 rows, constant>\n  0:2  5"),
         (Column.of([], "i8").encode(), "<Column i8: 0 rows in 0 runs>"),
-        (Column.of([Decimal("1.50")] * 12).to_runs(), "<Column decimal(3, 2): 12 rows in 1 run>\n  0:12  1.50"),
+        (Column.of([Decimal("1.50")] * 12).to_runs(), "<Column decimal(38, 2): 12 rows in 1 run>\n  0:12  1.50"),
         (Column.of([7, 7, None]).encode(), "<Column i64?: 3 rows in 2 runs>\n  0:2  7\n  2:3  None"),
         (
             Column.of(range(9)).encode()[1:],

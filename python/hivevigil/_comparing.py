@@ -1,0 +1,88 @@
+"""Comparisons with one value, and why `==` and `<` are not among them.
+
+A number that the column's type does not have still has a place among its rows: 300 is above every i8, and 0.505 lies
+between two decimals of scale 2. Such a comparison is one with a number that the type has, which answers the same.
+"""
+from __future__ import annotations
+
+import operator
+from decimal import Decimal
+from fractions import Fraction
+from numbers import Real
+from typing import TYPE_CHECKING, Any, NoReturn
+
+from ._library import calls, session
+from ._types import TYPES, WHOLE_NUMBERS, range_of
+from ._values import in_words, is_truth, is_whole, operator_of, passed, stored
+from .errors import TypeMismatch
+
+if TYPE_CHECKING:
+    from .column import Column
+
+METHODS = {"==": "eq", "!=": "ne", ">": "gt", ">=": "ge", "<": "lt", "<=": "le"}
+_WIDE = range(-(2**127), 2**127)  # what a decimal is stored as, in units of its least place
+_DIGITS = 60  # more than any type has
+
+
+def with_value(column: Column, sign: str, value: Any) -> Column:
+    """Row by row whether `row sign value`; null where the row or the value is null."""
+    operator_of(sign)
+    name, number = TYPES[column._kind.number], None
+    if is_number(value) and (name in WHOLE_NUMBERS or name == "decimal"):
+        fits = _WIDE if name == "decimal" else range_of(name)
+        sign, number = _decided(sign, *_place(value, column._kind.scale), fits)
+    parts = passed(column._kind, value) if number is None else stored(name, number)
+    return column._made(calls.hv_compare_scalar, session, column, operator_of(sign), *parts)
+
+
+def is_number(value: Any) -> bool:
+    """Whether a value has a place among numbers: an integer, a Decimal, a Fraction, a float."""
+    return (is_whole(value) or isinstance(value, (Decimal, Real))) and not is_truth(value)
+
+
+def _place(value: Any, scale: int) -> tuple[int, bool]:
+    """The greatest number of least places that is not above a value, and whether it is the value."""
+    if isinstance(value, Decimal):
+        is_nan, is_past = value.is_nan(), value.is_infinite() or bool(value) and value.adjusted() + scale > _DIGITS
+    else:
+        is_nan, is_past = value != value, abs(value) == float("inf")
+    if is_nan:
+        raise ValueError(f"{value} has no place among numbers, and no row is compared with it")
+    if is_past:
+        return (10**_DIGITS if value > 0 else -(10**_DIGITS)), False
+    if not value:
+        return 0, True
+    if isinstance(value, Decimal) and value.adjusted() + scale < -_DIGITS:
+        return (0 if value > 0 else -1), False
+    exact = Fraction(operator.index(value)) if is_whole(value) else Fraction(*value.as_integer_ratio())
+    scaled = exact * Fraction(10) ** scale
+    return scaled.numerator // scaled.denominator, scaled.denominator == 1
+
+
+def _decided(sign: str, floor: int, exact: bool, fits: range) -> tuple[str, int]:
+    """A comparison with a number that fits, which answers as that with the value whose place this is."""
+    least, greatest = fits[0], fits[-1]
+    if exact and floor in fits:
+        return sign, floor
+    below = sign in ("<", "<=", "==")
+    if floor < least or sign in ("==", "!="):
+        return ("<" if below else ">="), least  # of no row, or of every row
+    return ("<=" if below else ">"), min(floor, greatest)
+
+
+def refused(column: Column, sign: str, other: Any) -> NoReturn:
+    """Says how rows are compared, where an operator of Python was written."""
+    column._there()
+    is_one = isinstance(other, (str, bytes)) or not hasattr(other, "__len__")
+    value = "other" if isinstance(other, type(column)) else in_words(other) if is_one else "Column.of(rows)"
+    why = "columns have no order, and == between two says whether they are one object"
+    raise TypeError(f"rows are compared by column.{METHODS[sign]}({value}), which makes a mask; {why}")
+
+
+def with_column(column: Column, sign: str, right: Column) -> Column:
+    """Row by row whether `row sign other`, for the rows of a column of the same type."""
+    try:
+        return column._made(calls.hv_compare, session, column, operator_of(sign), column._beside(right))
+    except TypeMismatch as refused:
+        left, other = (each.type.rstrip("?") for each in (column, right))
+        raise refused.saying(f"compare: {left} and {other} are two types; rows of one type are compared") from None

@@ -1,0 +1,92 @@
+"""What is asked of all rows at once: sums, the least and the greatest, and whether some row has a value."""
+from __future__ import annotations
+
+import ctypes
+from decimal import Decimal
+from typing import TYPE_CHECKING, Any
+
+from . import _runs
+from ._library import Total, Value, ask, calls, session
+from ._types import TYPES, WHOLE_NUMBERS, range_of
+from ._values import Scalar, is_missing, is_truth, shown
+from .errors import ColumnLength
+
+if TYPE_CHECKING:
+    from .column import Column
+
+_CLASSES: dict[str, Any] = {
+    **dict.fromkeys(WHOLE_NUMBERS, int), "bool": bool, "decimal": (int, Decimal), "utf8": str, "binary": bytes,
+}
+
+
+def total(column: Column) -> int:
+    """The sum of the rows that are not null; an OverflowError where it leaves 64 bits on the way from row to row."""
+    found = Total()
+    ask(calls.hv_sum, session, column, found)
+    if found.kind:
+        return int(found.as_unsigned if found.kind == 1 else found.as_signed)
+    name = "u64" if TYPES[column._kind.number][0] == "u" else "i64"
+    row, value, before = _overflow(column, range_of(name))
+    raise OverflowError(f"sum: it leaves {name} at row {row}, which is {value}: the rows before it make {before}")
+
+
+def _overflow(column: Column, fits: range) -> tuple[int, int, int]:
+    """The first row whose value takes the sum out of this range, the value, and the sum of the rows before it."""
+    before = 0
+    for start, stop, value in column.runs():
+        number: Any = value or 0
+        if before + (stop - start) * number not in fits:
+            room = fits[-1] - before if number > 0 else before - fits[0]
+            rows = room // abs(number)  # of this run still fit
+            return start + rows, number, before + rows * number
+        before += (stop - start) * number
+    raise OverflowError("sum: it is past 64 bits")
+
+
+def truth(column: Column, call: Any, *arguments: Any) -> bool:
+    """What a question is answered that is true or false."""
+    answer = ctypes.c_uint8()
+    ask(call, session, column, *arguments, answer)
+    return bool(answer.value)
+
+
+def value_of(column: Column, call: Any, *arguments: Any) -> Scalar:
+    """A value, asked for again with more room where its text has none."""
+    room = 64
+    while True:
+        value, text = Value(), ctypes.create_string_buffer(room)
+        try:
+            ask(call, *arguments, value, text, room)
+            return shown(value, column._kind, text)
+        except ColumnLength as short:
+            room = short.fields[0]
+
+
+def least_and_greatest(column: Column) -> tuple[Scalar, Scalar]:
+    room = 64
+    while True:
+        least, greatest = Value(), Value()
+        low, high = ctypes.create_string_buffer(room), ctypes.create_string_buffer(room)
+        try:
+            ask(calls.hv_min_max, session, column, least, low, room, greatest, high, room)
+            return shown(least, column._kind, low), shown(greatest, column._kind, high)
+        except ColumnLength as short:
+            room = short.fields[0]
+
+
+def has(column: Column, value: Any) -> bool:
+    """Whether a row equals a value, as `value in column.to_list()` says it; of runs each value is looked at once."""
+    if is_missing(value):
+        return column.null_count > 0
+    if column.form == "constant":
+        return column._length > 0 and bool(column[0] == value)
+    if column.form == "runs":
+        shown = _runs.span(column)
+        return has(column.values().slice(shown.start, shown.stop), value)
+    name = TYPES[column._kind.number]
+    if isinstance(value, _CLASSES.get(name, ())) and is_truth(value) == (name == "bool"):
+        try:
+            return column.eq(value).max() is True
+        except ValueError:  # NaN, or a text that is not UTF-8
+            return False
+    return value in _runs.rows(column)
