@@ -15,8 +15,7 @@
  * is a column of its own. What C passes (numbers, bits, bytes) is copied, and is C's own again when the call returns.
  *
  * WHAT IS BEHIND IT. What a call leaves, what it answers, and the number and fields by which it is refused are proved
- * of the library, where callers do what they owe (next); crates/hivevigil/README.md says it call by call, and
- * docs/PROVED.md what is only tested.
+ * of the library, where callers do what they owe (next): crates/hivevigil/README.md, and docs/PROVED.md what is tested.
  *
  * WHAT MAY BE NULL: a pointer to no items, where the length beside it is 0; `error`, where nobody asks for the fields;
  * the handle that hv_free or hv_builder_free is given, which then does nothing. A pointer to items, to bits of validity

@@ -29,7 +29,7 @@ static inline void *hv_arrow_grow(hv_arrow_room *room, size_t more) {
 typedef struct hv_arrow_gathered {
     hv_kind kind;
     size_t rows;
-    hv_arrow_room items, valid, offsets, bytes; /* truths and validity as bits; texts have offsets and bytes alone */
+    hv_arrow_room items, valid, offsets, bytes; /* truths and validity as bits; texts have only offsets and bytes */
 } hv_arrow_gathered;
 
 static inline void hv_arrow_free_gathered(hv_arrow_gathered *gathered) {
@@ -67,7 +67,7 @@ static inline int32_t hv_arrow_gather_bits(hv_arrow_gathered *gathered, hv_colum
     return answer;
 }
 
-/* The offset that each text has among all bytes gathered, the first offset alone for the first text. */
+/* The offset that each text has among all bytes gathered, only the first offset for the first text. */
 static inline int32_t hv_arrow_gather_texts(hv_arrow_gathered *gathered, hv_column *column, size_t rows,
                                             hv_error *error) {
     int64_t base = (int64_t)gathered->bytes.size;

@@ -76,7 +76,7 @@ static inline bool hv_arrow_new_array(struct ArrowArray *array, size_t length, i
     return whole;
 }
 
-/* A buffer of so many items, and some room where there are none. NULL where memory is refused. */
+/* A buffer of this number of items, and some room where there are none. NULL where memory is refused. */
 static inline void *hv_arrow_new_buffer(struct ArrowArray *array, int64_t index, size_t items, size_t width) {
     void *buffer = items > (SIZE_MAX - 8) / width ? NULL : malloc(items * width + 8);
     array->buffers[index] = buffer;

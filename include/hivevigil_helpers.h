@@ -1,5 +1,5 @@
 /* What a C program may want around the calls of hivevigil.h: columns that are moved and joined, and masks and
- * indices that lie in C's own buffers. Header alone, C11 and C++17. Nothing here is proved. */
+ * indices that lie in C's own buffers. Only a header, C11 and C++17. Nothing here is proved. */
 #ifndef HIVEVIGIL_HELPERS_H
 #define HIVEVIGIL_HELPERS_H
 #include "hivevigil.h"
@@ -71,7 +71,7 @@ HV_TAKE_OF(int32_t, i32)
 HV_TAKE_OF(int64_t, i64)
 #undef HV_TAKE_OF
 
-/* The encoding of the rows of `count` columns of one type, which is no list, one behind the other: 12 for a column of
+/* The encoding of the rows of `count` columns of one type, which is not a list, one after the other: 12 for a column of
  * another type than the first, 22 where there is none, 13 for lists, 5 for 2^64 rows or more. What is held goes by runs
  * and not by rows. */
 HV_ANSWER hv_concat(const hv_column *columns, size_t count, hv_column *out, hv_error *error) {

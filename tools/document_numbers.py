@@ -78,7 +78,8 @@ def without_entry(page: str, text: str, decisions: str) -> str | None:
 
 def citing(root: Path) -> dict[str, str]:
     """The pages that cite decisions, with their texts."""
-    pages = [*root.glob("*.md"), *root.glob("docs/*.md"), *root.glob("crates/*/README.md"), *root.glob("crates/*/must-fail/*.md")]
+    patterns = ("*.md", "docs/*.md", "crates/*/README.md", "crates/*/must-fail/*.md")
+    pages = [page for pattern in patterns for page in root.glob(pattern)]
     texts = {str(page.relative_to(root)): page.read_text(encoding="utf-8") for page in pages}
     return {page: text for page, text in texts.items() if "DECISIONS.md`," in text}
 

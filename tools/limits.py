@@ -2,12 +2,12 @@
 """Lengths that a reader can take in, of files, functions and lines, and words that a reader stumbles over.
 
     python3 tools/limits.py            names what is too long; ends in 'N passed, M failed', N the files that were read
-    python3 tools/limits.py --words    how often each word of WORDS is found, and where most; tools/words.txt is rewritten
+    python3 tools/limits.py --words    how often each word of WORDS is found, and where most; rewrites tools/words.txt
 
 Sources (.rt) have at most 500 lines, their functions 40 from brace to brace, documents (.md) lines of 120 characters
-outside of tables and of indented text that is not an item of a list. How many lines of sources are past 120, and how many
-past 140, may only fall: LONG_LINES has what there is. Imports and attributes don't count, since `rt fmt` writes each as
-one line. A cell of a table has at most 200 characters.
+outside of tables and of indented text that is not an item of a list. How many lines of sources are past 120, and how
+many past 140, may only fall: LONG_LINES has what there is. Imports and attributes don't count, since `rt fmt` writes
+each as one line. A cell of a table has at most 200 characters.
 
 The words that docs/STYLE.md asks to avoid are counted over pages, comments and headers. tools/words.txt has how often
 each may be found, and no number may rise: who mends some lowers them by --words. The table of docs/STYLE.md itself and

@@ -69,7 +69,7 @@ static void check_lists(hv_column *from, const lists *values, const size_t *due,
     hv_free(&elements), hv_free(&flags);
 }
 
-/* The same of an array that went out as lists, by only the two structs. */
+/* The same of an array that went out as lists, by the two structs alone. */
 static void check_array(const struct ArrowSchema *schema, const struct ArrowArray *array, const lists *values,
                         const size_t *due, size_t count) {
     if (strcmp(schema->format, "+l") != 0 && strcmp(schema->format, "+L") != 0) stop("the format of lists", 0);
