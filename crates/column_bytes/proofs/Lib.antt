@@ -14,3 +14,4 @@ pub mod Packing
 pub mod RunLaws
 pub mod FlatReads
 pub mod ListReads
+pub mod BytesTaken

@@ -1,5 +1,5 @@
 -- A column and the same one with its texts and bytes packed: the rows and the bytes are the same.
-use Rattle.std.proofs.Common.{◌≡◌, ℕ, ◌+◌, List, ◌++◌, length, map, refl, sym, ap, ◌∙◌, arith}
+use Rattle.std.proofs.Common.{◌≡◌, ℕ, ◌+◌, ◌^◌, ◌<◌, List, ◌++◌, length, map, refl, sym, ap, ◌∙◌, arith}
 use Rattle.std.specs.Prelude.{option_map, Option, Some, None, cond, slice_range}
 use Rattle.std.specs.List.{range_with_len}
 use Rattle.column_base.specs.declared.dtype.DType.{DType}
@@ -21,7 +21,7 @@ use Rattle.column_bytes.specs.Packed.{IsPacked, IsPackedLeaf, packed_leaf, packe
 use Rattle.column_bytes.specs.Read.{IsWritable, IsMessage}
 use Rattle.column_bytes.specs.Stored.{IsStored, IsStoredLeaf}
 use Rattle.column_bytes.proofs.Leaves.{leaf_body}
-use Rattle.column_bytes.proofs.Messages.{run_body, lists_body_is}
+use Rattle.column_bytes.proofs.Messages.{run_body, lists_body_is, message_one}
 
 leaf_dtype_packed : (leaf : Leaf) → leaf_dtype (packed_leaf leaf) ≡ leaf_dtype leaf
 leaf_dtype_packed (OfNumbers form) = refl
@@ -160,3 +160,9 @@ packed_message levels bytes c w e = record {
   packed = is_packed c w.stored;
   spelt = e ∙ sym (bytes_packed c w.stored);
 }
+
+-- columns with the same bytes have the same rows
+pub bytes_tell_rows : (m n : ℕ) (c d : Column) → IsWritable m c → IsWritable n d → length (column_bytes c) < 2 ^ 64 → column_bytes c ≡ column_bytes d → plain_of c ≡ plain_of d
+bytes_tell_rows m n c d v w small e =
+    let one = message_one m n (column_bytes c) (packed_column c) (packed_column d) small (packed_message m (column_bytes c) c v refl) (packed_message n (column_bytes c) d w e) in
+    sym (plain_packed c v.stored) ∙ ap plain_of one ∙ plain_packed d w.stored

@@ -1,8 +1,8 @@
-//! The laws of columns as bytes. `spelling_is_unique` does nothing: its clause is the law.
+//! The laws of columns as bytes. But for the last, each function here does nothing: its clause is the law.
 ghost use Rattle.std.specs.Prelude.{◌≡◌, IfOk, IfErr};
 ghost use Rattle.runend_array.specs.Array.{column_of};
 ghost use Rattle.runend_array.specs.Column.{plain_of};
-ghost use Rattle.column_bytes.specs.Laws.{SpellingIsUnique};
+ghost use Rattle.column_bytes.specs.Laws.{SpellingIsUnique, WrittenIsAMessage, EqualBytesEqualRows, ReadTakesFewBytes};
 ghost use Rattle.column_bytes.specs.Packed.{packed_column};
 ghost use Rattle.column_bytes.specs.Read.{IsUnsupportedOrMemory};
 
@@ -14,6 +14,25 @@ use std::alloc::Allocator;
 /// Bytes are those of at most one column.
 pub fn spelling_is_unique()
     ensures { SpellingIsUnique }
+{}
+
+/// What is written of a column is a message: that of the same column, its texts and bytes packed.
+/// For file writers: no reader may refuse it as `BadMetadata`.
+pub fn written_is_a_message()
+    ensures { WrittenIsAMessage }
+{}
+
+/// Columns that have the same message have the same type and the same rows.
+/// For caches and group-by: a comparison of bytes takes no two columns for one.
+pub fn equal_bytes_equal_rows()
+    ensures { EqualBytesEqualRows }
+{}
+
+/// A column that was read takes at most 24 bytes for each byte of its message, as `bytes_used` counts them: as many as
+/// the view of an empty text has, whose size is one byte there.
+/// For servers: how much memory a message can ask for is known by its length, before it is read.
+pub fn read_takes_few_bytes()
+    ensures { ReadTakesFewBytes }
 {}
 
 /// Writes a column and reads what was written: it is a column of the same form but for the views and buffers of texts
