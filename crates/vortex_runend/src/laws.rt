@@ -1,12 +1,14 @@
 //! The laws of encodings, and of rows that are sliced, taken and filled, each proved of every list of
 //! optional values, so of integers too, the law of what a run column holds beside its slots, and
-//! those of commands and of the metadata record. Those of filter, of strategies of a take, of commands, of
-//! sums, of the record and of columns cut into chunks stand in the crates below.
+//! those of native types, of commands and of the metadata record. Those of filter, of strategies of a take, of
+//! commands, of sums, of the record and of columns cut into chunks stand in the crates below.
 //!
 //! An encoding of a list is its tight exact cover: runs of which none is empty, none can be joined
-//! with the next, and none is hidden. But for the last, each function here does nothing: its clause is
+//! with the next, and none is hidden. But for the last three, each function here does nothing: its clause is
 //! the law.
 ghost use Rattle.std.specs.Prelude.{◌≡◌, IfOk, IsOkUnless};
+ghost use Rattle.column_base.specs.Number.{IsNumbered, Narrows};
+ghost use Rattle.column_base.specs.Types.{HasNumber};
 ghost use Rattle.runend_array.specs.Array.{column_of, dtype_of, rows};
 ghost use Rattle.runend_array.specs.Encoding.{IsPlainNumbers};
 ghost use Rattle.vortex_runend.specs.Laws.{DecodingAnEncoding, EqualListsEqualEncodings, NeighboursDiffer, NoCoverIsShorter, SliceOfSlice, TakeOfTake, FillThenSlice, TightCoverIsUnique, EqualDataHashEqually};
@@ -19,7 +21,7 @@ pub use chunk_laws::{
 };
 pub use runend_aggregate::laws::{sum_in_four_runs, sum_of_four_runs};
 pub use runend_aggregate::{sum_signed_runs, sum_unsigned_runs};
-use runend_array::{ArrayRef, ExecutionCtx, RunEnd, VortexError, VortexResult};
+use runend_array::{ArrayRef, ExecutionCtx, NativePType, RunEnd, VortexError, VortexResult};
 pub use runend_commands::laws::runs_agree;
 pub use runend_indices::laws::{
     merge_of_six_indices, physical_indices_by_halves, physical_indices_by_table,
@@ -87,6 +89,27 @@ pub fn fill_then_slice()
 pub fn equal_data_hash_equally()
     ensures { EqualDataHashEqually }
 {}
+
+/// Of every native type: values are equal, and ordered, as their numbers are, a number has at most one value, and the
+/// default is 0. For generic code: what is proved of numbers holds of the items of a buffer.
+pub fn native_values_are_numbers<T: NativePType>()
+    ensures { IsNumbered T.eq T.cmp T.is_default T.number }
+{}
+
+/// Widens a value of any native type: the answer is its number. For generic code.
+pub fn widen_gives_the_number<T: NativePType>(value: T) -> i128
+    ensures { result ≡ T.number value }
+{
+    value.widen()
+}
+
+/// Narrows a number to any native type: the answer is its value, or `None` exactly where the type does not have the
+/// number. For generic code.
+pub fn narrow_is_exact<T: NativePType>(number: i128) -> Option<T>
+    ensures { Narrows T.number (HasNumber T.PTYPE) number result }
+{
+    T::narrow(number)
+}
 
 /// Encodes a plain column of integers, of any of the eight types, and decodes what comes out: the
 /// rows and the type are those of the column. Refused as `OutOfMemory` alone. For compressors.
