@@ -1,3 +1,4 @@
 pub mod KnownInput
 pub mod WordSplits
 pub mod ListedRows
+pub mod CountedReads

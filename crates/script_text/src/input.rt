@@ -1,6 +1,7 @@
 //! Input that is read whole.
 ghost use Rattle.std.specs.Prelude.{◌≡◌, ◌≤◌, IfOk, OnOk, vec_len};
 ghost use Rattle.std.specs.Io.KnownBytes.{Consumes, IsAtEnd};
+ghost use Rattle.script_text.specs.Reads.{IsReadWithin};
 ghost use Rattle.script_text.specs.declared.input.Failure.TheVariants.{OutOfMemory};
 
 use crate::reads::{BLOCK_BYTES, LimitedReads};
@@ -29,15 +30,17 @@ impl From<AllocError> for Failure {
 
 /// All that is left of the input, by as many reads of 65,536 bytes as are left. Refused as `CannotRead` where a
 /// read fails, or where the input does not end within them, and as `OutOfMemory`.
-#[tactic(auto, using(crate::proofs::KnownInput::consumes_none, crate::proofs::KnownInput::consumes_more, crate::proofs::KnownInput::consumes_end))]
-pub fn read_input<R: Read + Drop, A: Allocator + Copy>(
+#[tactic(auto, using(crate::proofs::KnownInput::consumes_none, crate::proofs::KnownInput::consumes_more, crate::proofs::KnownInput::consumes_end, crate::proofs::CountedReads::none_read, crate::proofs::CountedReads::read_again, crate::proofs::CountedReads::within))]
+pub fn read_input<R: Read, A: Allocator + Copy>(
     alloc: A,
-    input: &mut LimitedReads<R>,
+    input: &mut LimitedReads<'_, R>,
 ) -> Result<Vec<u8, A>, Failure>
-    ensures bytes { IfOk result (λ all. Consumes (R.remaining input.old.reader)
-        (R.remaining input.new.reader) all.items) }
-    ensures end { OnOk result (IsAtEnd (R.remaining input.new.reader)) }
-    ensures reads { input.new.left ≤ input.old.left }
+    ensures bytes { IfOk result (λ all. Consumes (R.remaining input.old.reader.now)
+        (R.remaining input.new.reader.now) all.items) }
+    ensures end { OnOk result (IsAtEnd (R.remaining input.new.reader.now)) }
+    ensures left { input.new.left ≤ input.old.left }
+    ensures reads { IsReadWithin R.remaining input.old.left BLOCK_BYTES input.old.reader.now input.new.reader.now }
+    ensures same_reader { input.new.reader.ghost_name ≡ input.old.reader.ghost_name }
 {
     let mut all = Vec::new(alloc);
     let mut block = empty_block(alloc)?;

@@ -12,17 +12,18 @@ pub const MAX_READS: u64 = 1 << 20;
 /// How many bytes are asked for at a time.
 pub const BLOCK_BYTES: usize = 1 << 16;
 
-/// A reader, and how many reads of it are left. It is read by `read` alone.
+/// A reader that is lent, and how many reads of it are left. It is read by `read` alone.
 #[derive(Drop)]
-pub struct LimitedReads<R: Drop> {
-    reader: R,
+pub struct LimitedReads<'a, R: Read> {
+    reader: &'a mut R,
     left: u64,
 }
 
-impl<R: Read + Drop> LimitedReads<R> {
+impl<'a, R: Read> LimitedReads<'a, R> {
     /// The reader, with 1,048,576 reads left.
-    pub fn new(reader: R) -> Self
-        ensures reader { result.reader ≡ reader }
+    pub fn new(reader: &'a mut R) -> LimitedReads<'a, R>
+        ensures same_reader { result.reader.ghost_name ≡ reader.entry.ghost_name }
+        ensures reader { result.reader.now ≡ reader.old }
         ensures left { result.left ≡ MAX_READS }
     {
         LimitedReads {
@@ -42,10 +43,12 @@ impl<R: Read + Drop> LimitedReads<R> {
     pub fn read(&mut self, block: &mut [u8]) -> io::Result<usize>
         requires left { 0 < self.old.left }
         requires block { length block.old ≡ BLOCK_BYTES }
+        ensures same_reader { self.new.reader.ghost_name ≡ self.old.reader.ghost_name }
         ensures left { self.new.left + 1 ≡ self.old.left }
         ensures block { length block.new ≡ BLOCK_BYTES }
         ensures bound { ReadsAtMost result block.new }
-        ensures bytes { ReadConsumes (R.remaining self.old.reader) (R.remaining self.new.reader) result block.new }
+        ensures bytes { ReadConsumes (R.remaining self.old.reader.now) (R.remaining self.new.reader.now) result
+            block.new }
     {
         self.left -= 1;
         self.reader.read(block)
