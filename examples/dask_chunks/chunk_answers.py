@@ -1,4 +1,4 @@
-"""What is asked of one chunk of rows, and how the answers about two chunks, one behind the other, are joined: the
+"""What is asked of one chunk of rows, and how the answers about two chunks, one after the other, are joined: the
 answer over all chunks is the same however the rows are cut. That the answers about joined rows are the joined answers
 is proved of the definitions: `crates/chunk_laws` (rows, filters, sums, least and greatest, sorted, encodings).
 
@@ -69,7 +69,7 @@ def _in_order(left, right):
 
 
 def joined(left, right):
-    """The answers about the rows of two chunks, one behind the other."""
+    """The answers about the rows of two chunks, one after the other."""
     if left.rows == 0 or right.rows == 0:
         return right if left.rows == 0 else left
     return Answer(

@@ -41,7 +41,7 @@ def in_chunks(count, chunks):
 
 
 class ChunkFailed(Exception):
-    """No answer about a chunk, which is told by its rows."""
+    """No answer about a chunk, which its rows identify."""
 
 
 def over_chunks(client, rows, threshold, work=answer_of):

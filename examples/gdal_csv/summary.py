@@ -1,6 +1,6 @@
 """A CSV of any size through GDAL's Arrow stream into columns, batch by batch: encoded, filtered and summed, with
-SQLite's answers beside ours. Ends with 1 where the two differ, and with 2 and one line on standard error where there is
-nothing to answer: no such file, no CSV, a broken line, no column that is served, GDAL missing or too old.
+SQLite's answers next to ours. Ends with 1 where the two differ, and with 2 and one line on standard error where there
+is nothing to answer: no such file, no CSV, a broken line, no column that is served, GDAL missing or too old.
 
     /usr/bin/python3 examples/gdal_csv/summary.py FILE.csv [--where COLUMN OPERATOR VALUE] [--batch ROWS] [--no-sqlite]
 
@@ -221,7 +221,7 @@ class Where:
 
 
 def arguments():
-    parser = argparse.ArgumentParser(description="Summarises a CSV, with SQLite's answers beside ours.")
+    parser = argparse.ArgumentParser(description="Summarises a CSV, with SQLite's answers next to ours.")
     parser.add_argument("file")
     parser.add_argument("--where", nargs=3, metavar=("COLUMN", "OPERATOR", "VALUE"))
     parser.add_argument("--batch", type=int, default=65536, metavar="ROWS")

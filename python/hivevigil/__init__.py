@@ -7,7 +7,7 @@
     runs.sum(), runs[-2], runs[2:4].to_list()       # 26, 7, [4, 7]
     runs[runs.gt(4)].to_list()                      # [7, 7]
 
-The shared object lies beside this file, in lib/ of a checkout, or where HIVEVIGIL_SO says. NumPy, pandas and Matplotlib
+The shared object is next to this file, in lib/ of a checkout, or where HIVEVIGIL_SO says. NumPy, pandas and Matplotlib
 are used where they are there. `python -m hivevigil FILE.csv` shows what the columns of a CSV file take in runs.
 """
 from typing import Any
@@ -27,7 +27,7 @@ __all__ = [
 
 
 def __getattr__(name: str) -> Any:
-    """`__version__`, which is looked up where it is asked for."""
+    """`__version__`, which is looked up when it is asked for."""
     if name == "__version__":
         return version()
     raise AttributeError(f"module {__name__!r} has no attribute {name!r}")

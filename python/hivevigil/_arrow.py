@@ -13,13 +13,13 @@ from typing import TYPE_CHECKING, Any, Optional
 
 from ._arrow_structs import ArrowArray, ArrowArrayStream, ArrowSchema
 from ._library import ArrowOptions, Fields, Handle, ask, calls, calls_without_lock, session
-from ._values import NOT_FLOAT, in_words
-from .errors import ArrowStreamFailed, HivevigilError, TypeMismatch, Unsupported, refusal
+from ._values import NOT_FLOAT, checked_text
+from .errors import ArrowStreamFailed, HivevigilError, TypeMismatch, Unsupported, in_words, refusal
 
 if TYPE_CHECKING:
     from .column import Column
 
-_AS_IT_LIES, _AS_RUNS, _AS_FLAT = range(3)
+_AS_IT_IS, _AS_RUNS, _AS_FLAT = range(3)
 _RUNS, _BATCH = b"+r", b"+s"
 _NOT_SERVED = re.compile(r"[efgn]|\+[smwuv].*|d:.*,256|ti[Dn]|.* within a list", re.DOTALL)
 _WORDS = 512  # bytes of what a stream says of its failure
@@ -67,7 +67,7 @@ def _held(capsule: Any, kind: Any) -> Any:
 
 
 class Exported:
-    """An ArrowSchema and an ArrowArray that are ours to release, as long as nobody moved them."""
+    """An ArrowSchema and an ArrowArray that are ours to release unless they were moved."""
 
     def __init__(self) -> None:
         self.schema, self.array = ArrowSchema(), ArrowArray()
@@ -87,23 +87,29 @@ class Exported:
         self.release()
 
 
+def _text(value: Any, what: str) -> bytes:
+    if not isinstance(value, str):
+        raise TypeError(f"{what} is a text, not {in_words(value)}")
+    return checked_text(value)
+
+
 def export(column: Column, name: str, format: Optional[str], dictionary: Optional[Column]) -> Exported:
     options = ArrowOptions()
-    options.format = None if format is None else format.encode()
-    beside = None if dictionary is None else column._beside(dictionary)
-    if beside is not None:
-        options.dictionary = beside._as_parameter_
+    options.format = None if format is None else _text(format, "a format")
+    values = None if dictionary is None else column._beside(dictionary)
+    if values is not None:
+        options.dictionary = values._as_parameter_
     exported = Exported()
     try:
-        ask(calls.hv_export_with, session, column, name.encode(), options, exported.schema, exported.array)
+        ask(calls.hv_export_with, session, column, _text(name, "a name"), options, exported.schema, exported.array)
     except TypeMismatch as refused:
         no_codes, no_format = f"codes are integers, not of {column.type}", f"{column.type} has no format {format!r}"
-        raise refused.saying(f"to_arrow: {no_format if beside is None else no_codes}") from None
+        raise refused.saying(f"to_arrow: {no_format if values is None else no_codes}") from None
     return exported
 
 
 def _options(requested: Any) -> Iterator[Any]:
-    """What is tried in turn: the form and format that a consumer asks for, the form alone, the column as it lies."""
+    """What is tried in turn: the form and format that a consumer asks for, only the form, the column as it is."""
     if requested is not None:
         schema = _held(requested, ArrowSchema)
         is_runs = schema.format == _RUNS and schema.n_children == 2
@@ -147,6 +153,8 @@ def stream_capsule(column: Column, requested: Any) -> Any:
 
 def import_columns(source: Any, kind: type[Column]) -> dict[str, Column]:
     """The columns of an object that hands out capsules: of a batch or a table by name, of an array one without name."""
+    if isinstance(source, type):
+        raise TypeError(f"from_arrow takes an array, a batch or a table of an Arrow library, not {in_words(source)}")
     if hasattr(source, "__arrow_c_array__"):
         return _of_array(source.__arrow_c_array__(), kind)
     if hasattr(source, "__arrow_c_stream__"):
@@ -211,8 +219,8 @@ def _formats(schema: Any, is_within_list: bool = False) -> Iterator[str]:
 
 
 def _of_stream(capsule: Any, kind: type[Column]) -> dict[str, Column]:
-    """All chunks as one column each. The interpreter's lock is given up meanwhile: a stream may wait for a thread that
-    needs it, and no column that exists is touched."""
+    """A column for each, of all chunks. The interpreter's lock is released meanwhile: a stream may wait for a thread
+    that needs it, and no existing column is touched."""
     stream = _held(capsule, ArrowArrayStream)
     names, not_served = _described(stream)
     count = 1 if names is None else len(names)

@@ -13,8 +13,8 @@ from typing import TYPE_CHECKING, Any, NoReturn
 
 from ._library import calls, session
 from ._types import TYPES, WHOLE_NUMBERS, range_of
-from ._values import in_words, is_truth, is_whole, operator_of, passed, stored
-from .errors import TypeMismatch
+from ._values import is_truth, is_whole, operator_of, passed, stored
+from .errors import TypeMismatch, in_words
 
 if TYPE_CHECKING:
     from .column import Column

@@ -50,7 +50,7 @@ def mask_of(column: Column, mask: Any) -> Column:
 
 
 def indices_of(column: Column, indices: Any) -> Column:
-    """A column of integers in any form. Of a list or an array negative ones count from the end, as Python's do."""
+    """A column of integers in any form. In a list or an array negative ones count from the end, as Python's do."""
     chosen = _column_of(column, indices)
     if chosen is None:
         return column.of(_rows(listed(indices, "indices"), column._length), "u64")
@@ -60,8 +60,8 @@ def indices_of(column: Column, indices: Any) -> Column:
 
 
 def _column_of(column: Column, key: Any) -> Optional[Column]:
-    """The column of a column or of an array, in which negative indices count from the end; None of another iterable,
-    and of an array of objects, whose rows say what it is."""
+    """A column itself, or that of an array, in which negative indices count from the end. None for another iterable,
+    and for an array of objects, whose rows say what it is."""
     if isinstance(key, type(column)):
         return key
     if not is_array(key) or _has_objects(key):

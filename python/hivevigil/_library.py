@@ -1,4 +1,4 @@
-"""The shared object: where it is, the structs of hivevigil.h, and what each export takes, as ctypes declares it.
+"""The shared object: where it is, the structs of hivevigil.h, and the arguments of each export, declared for ctypes.
 
 Calls hold the interpreter's lock (PyDLL), so that threads call one at a time, as the header asks of columns that were
 made one from the other.
@@ -168,7 +168,7 @@ def _declare(library: Any) -> None:
 
 
 def _load() -> tuple[Any, Any]:
-    """The shared object that the environment names, else the one beside this file, else that of the checkout."""
+    """The shared object that the environment names, else the one next to this file, else that of the checkout."""
     named = os.environ.get(VARIABLE)
     here = Path(__file__).resolve()
     places = [Path(named)] if named else [here.parent / _NAME, here.parents[2] / "lib" / _NAME]

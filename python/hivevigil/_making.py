@@ -12,8 +12,8 @@ from typing import Any, Optional
 
 from ._library import NUMBERS, Kind, Pair, calls
 from ._types import GREATEST_PRECISION, LETTERS, TYPES, checked_places, range_of
-from ._values import NOT_FLOAT, checked_text, in_words, is_missing_class, is_truth, unscaled, why_not
-from .errors import ColumnLength
+from ._values import NOT_FLOAT, checked_text, is_missing_class, is_truth, is_whole, unscaled, why_not
+from .errors import ColumnLength, in_words
 
 Made = tuple[Any, ...]
 _DIGITS = bytes([48, 49]) + bytes(254)  # the bytes 0 and 1 as the letters 0 and 1
@@ -21,7 +21,7 @@ _FLAT, _NO_NULLS, _BY_BITS = 0, 1, 2
 
 
 def bits_of(flags: Iterable[Any]) -> bytes:
-    """Flags as bits, the first the least of the first byte, and a byte where there are none."""
+    """Flags as bits, the first in the lowest bit of the first byte, and a byte where there are none."""
     if hasattr(flags, "dtype"):
         import numpy
 
@@ -34,9 +34,11 @@ def flags_of(valid: Optional[Any]) -> Optional[Any]:
     """Flags that a caller gives, in which None and pandas.NA are false."""
     if valid is None:
         return None
-    if hasattr(valid, "isna"):
-        return valid.to_numpy(dtype=bool, na_value=False)
-    return valid if hasattr(valid, "dtype") else listed(valid, "flags")
+    if isinstance(valid, type) or not hasattr(valid, "dtype") or valid.dtype.kind == "O":
+        return listed(valid, "flags")
+    if valid.ndim != 1 or valid.dtype.kind not in "biu":
+        raise TypeError(f"flags are booleans in one dimension, not {in_words(valid)}")
+    return valid.to_numpy(dtype=bool, na_value=False) if hasattr(valid, "isna") else valid
 
 
 def validity_of(valid: Optional[Sequence[Any]], rows: int, nullable: bool = False) -> tuple[int, bytes, int, int]:
@@ -54,11 +56,15 @@ def validity_of(valid: Optional[Sequence[Any]], rows: int, nullable: bool = Fals
 
 def listed(rows: Any, what: str = "rows") -> list[Any]:
     """An iterable as a list, in which None is each null: pandas.NA, numpy.ma.masked, what pandas calls missing."""
-    if hasattr(rows, "isna") and hasattr(rows, "astype"):
+    if hasattr(rows, "isna") and getattr(rows, "ndim", 1) == 1 and not isinstance(rows, type):
         return [None if missing else row for row, missing in zip(rows.astype(object), rows.isna())]
-    if isinstance(rows, (str, bytes)) or not (hasattr(rows, "__iter__") or hasattr(rows, "__getitem__")):
-        raise TypeError(f"{what} are a list, another iterable, an array or a column, not {in_words(rows)}")
-    given = list(rows)
+    try:
+        if isinstance(rows, (str, bytes)) or isinstance(rows, memoryview) and rows.ndim != 1:
+            raise TypeError
+        iterator = iter(rows)  # refused of a number or a class
+    except TypeError:
+        raise TypeError(f"{what} are a list, another iterable, an array or a column, not {in_words(rows)}") from None
+    given = list(iterator)
     missing = set(filter(is_missing_class, set(map(type, given)))) - {type(None)}
     return [None if type(row) in missing else row for row in given] if missing else given
 
@@ -95,7 +101,7 @@ def inferred(rows: Sequence[Any]) -> Kind:
 
 
 def _misfit(rows: Sequence[Any]) -> str:
-    """Which row no column has, or has beside the rows before it."""
+    """Which row no column has, or none that has the rows before it."""
     first: Optional[tuple[int, Any, str]] = None
     for number, row in enumerate(rows):
         sort = row if row is None else _sort_of(type(row))
@@ -155,7 +161,7 @@ def numbers(rows: Sequence[Any], name: str, what: str = "row") -> array.array[in
         return array.array(LETTERS[name], rows)
     except (OverflowError, TypeError):
         for number, row in enumerate(rows):
-            if not hasattr(row, "__index__"):
+            if not (isinstance(row, bool) or is_whole(row)):
                 raise TypeError(f"{what} {number} is {in_words(row)}, not an integer{why_not(row)}") from None
             if index(row) not in range_of(name):
                 raise OverflowError(f"{what} {number} is {in_words(index(row))}, which does not fit {name}") from None
@@ -235,10 +241,12 @@ def texts_at(offsets: array.array[int], data: bytes, name: str, validity: tuple[
 
 
 def view_of(items: Any) -> memoryview:
+    """The buffer of an object that has one."""
     try:
         return memoryview(items)
     except TypeError:
-        raise TypeError(f"a buffer of integers is an array, a memoryview or bytes, not {in_words(items)}") from None
+        expected = "an array, a memoryview or another bytes-like object is expected"
+        raise TypeError(f"{expected}, not {in_words(items)}") from None
 
 
 def type_of_view(view: memoryview) -> str:
@@ -259,7 +267,7 @@ def is_arrow(items: Any) -> bool:
 
 def is_array(items: Any) -> bool:
     """Whether an object is an array of NumPy, of pandas, or of an Arrow library, and not an iterable of rows."""
-    return hasattr(items, "dtype") or hasattr(items, "isna") or is_arrow(items)
+    return not isinstance(items, type) and (hasattr(items, "dtype") or hasattr(items, "isna") or is_arrow(items))
 
 
 def of_numpy(items: Any, valid: Optional[Any] = None) -> Made:

@@ -7,9 +7,10 @@ from typing import TYPE_CHECKING, Any
 
 from . import _runs
 from ._library import Total, Value, ask, calls, session
+from ._making import is_array
 from ._types import TYPES, WHOLE_NUMBERS, range_of
 from ._values import Scalar, is_missing, is_truth, shown
-from .errors import ColumnLength
+from .errors import ColumnLength, in_words
 
 if TYPE_CHECKING:
     from .column import Column
@@ -78,6 +79,8 @@ def has(column: Column, value: Any) -> bool:
     """Whether a row equals a value, as `value in column.to_list()` says it; of runs each value is looked at once."""
     if is_missing(value):
         return column.null_count > 0
+    if is_array(value) and getattr(value, "ndim", 1) > 0:
+        raise TypeError(f"a row is one value, not {in_words(value)}")
     if column.form == "constant":
         return column._length > 0 and bool(column[0] == value)
     if column.form == "runs":

@@ -1,4 +1,4 @@
-"""Rows of columns in any form as lists, arrays and bitmaps: a window of many rows by each call, never a call a row."""
+"""Rows of columns in any form as lists, arrays and bitmaps: each call reads a window of many rows."""
 from __future__ import annotations
 
 import array
@@ -28,7 +28,7 @@ def flags_of(bits: bytes, rows: int) -> bytes:
 
 
 def bitmap(column: Column, read: Any, start: int, stop: int) -> bytes:
-    """Rows as bits, the first the least of the first byte."""
+    """Rows as bits, the first in the lowest bit of the first byte."""
     rows = stop - start
     words = (ctypes.c_uint64 * max(1, (rows + 63) // 64))()
     ask(read, column, start, rows, words, (rows + 63) // 64)
@@ -46,7 +46,7 @@ def truths(column: Column, start: int, stop: int) -> bytes:
 
 
 def numbers(column: Column, start: int, stop: int) -> array.array[int]:
-    """The numbers of rows; where one is null any number may stand."""
+    """The numbers of rows; a null row may have any number."""
     name, rows = TYPES[column._kind.number], stop - start
     items = array.array(LETTERS[name], bytes(WIDTHS[name] * rows))
     passed = (NUMBERS[name] * rows).from_buffer(items) if rows else (NUMBERS[name] * 1)()
@@ -109,7 +109,7 @@ def _stored(column: Column, start: int, stop: int) -> list[Any]:
 
 
 def blocks(column: Column) -> Iterator[list[Scalar]]:
-    """The rows, a list for each block, of which one is there at a time."""
+    """The rows, a list for each block, one block at a time."""
     length = column._length
     for start in range(0, length, BLOCK):
         yield window(column, start, min(start + BLOCK, length))

@@ -1,4 +1,4 @@
-"""The runs that a column shows, and its rows by way of them."""
+"""The runs that a column shows, and its rows by these runs."""
 from __future__ import annotations
 
 import ctypes
@@ -75,7 +75,7 @@ def _flat_rows(column: Column) -> Iterator[Scalar]:
 
 
 def _repeated(value: Scalar, count: int) -> Iterator[Scalar]:
-    return repeat(value, min(count, sys.maxsize))  # repeat counts no further, nor does who reads
+    return repeat(value, min(count, sys.maxsize))  # repeat counts no further, and nobody reads as far
 
 
 def stored_runs(column: Column, most: Optional[int] = None) -> Iterator[Run]:

@@ -5,6 +5,7 @@ import re
 from typing import Any
 
 from ._library import Kind
+from .errors import in_words
 
 TYPES = ("u8", "u16", "u32", "u64", "i8", "i16", "i32", "i64", "bool", "decimal", "utf8", "binary", "list")
 FORMS = {0: "flat", 1: "constant", 2: "lists", 3: "runs"}
@@ -33,14 +34,15 @@ def text_of(kind: Kind) -> str:
 def kind_of(asked: Any) -> Kind:
     """The type that is asked for: 'i64?', 'int64', 'decimal(10, 2)', int, str, or a dtype of NumPy."""
     name = asked.__name__ if isinstance(asked, type) else getattr(asked, "name", asked)
-    found = _TEXT.fullmatch(_OF_CLASSES.get(name, name) if isinstance(asked, type) else str(name))
+    text = _OF_CLASSES.get(name, name) if isinstance(asked, type) else name
+    found = _TEXT.fullmatch(text) if isinstance(text, str) else None
     if not found:
-        raise TypeError(f"{asked!r} is not a type of columns, as 'i64?' is")
+        raise TypeError(f"{in_words(asked)} is not a type of columns, as 'i64?' is")
     unsigned, bits, word, precision, scale, nullable = found.groups()
     name = ("u" if unsigned else "i") + bits if bits else word
     if name not in TYPES[:-1] or (precision is not None) != (name == "decimal"):
         expected = "decimal(precision, scale)" if name == "decimal" else ", ".join((*WHOLE_NUMBERS, *TYPES[8:-1]))
-        raise TypeError(f"{asked!r} is not a type of columns: expected {expected}")
+        raise TypeError(f"{in_words(asked)} is not a type of columns: expected {expected}")
     kind = Kind(TYPES.index(name), bool(nullable), 0, 0)
     if precision is not None:
         kind.precision, kind.scale = checked_places(int(precision), int(scale or 0))

@@ -9,12 +9,11 @@ from typing import Any, Union
 
 from ._library import Kind, Value
 from ._types import OPERATORS, TYPES, WHOLE_NUMBERS, range_of, text_of
-from .errors import OutOfBounds
+from .errors import OutOfBounds, in_words
 
 Scalar = Union[int, bool, Decimal, str, bytes, None]
 _UNSIGNED, _SIGNED, _TRUTH, _DECIMAL, _TEXT, _BYTES = range(1, 7)
 _LOW = 2**64 - 1
-_WORDS, _BITS = 60, 1024  # letters of a value in a sentence, and bits of a number that is written out
 _SORTS = {
     **dict.fromkeys(WHOLE_NUMBERS, "an integer"), "bool": "a boolean", "utf8": "a text", "binary": "bytes",
     "list": "a list, which no call takes",
@@ -40,17 +39,12 @@ def is_missing(value: Any) -> bool:
 
 def is_whole(value: Any) -> bool:
     """Whether a value is an integer, NumPy's too; booleans and floats are not."""
-    return hasattr(value, "__index__") and not is_truth(value)
-
-
-def in_words(value: Any) -> str:
-    """A value as Python writes it, or the front of what takes more than a few words; of an object its class."""
-    if getattr(type(value), "__repr__") is getattr(object, "__repr__"):
-        return f"an object of class {type(value).__name__}"
-    if isinstance(value, int) and value.bit_length() > _BITS:
-        return f"an integer of {value.bit_length()} bits"
-    text = repr(value).partition("\n")[0]
-    return text if len(text) <= _WORDS else text[: _WORDS - 3] + "..."
+    if is_truth(value) or isinstance(value, type) or not hasattr(value, "__index__"):
+        return False
+    try:
+        return isinstance(operator.index(value), int)
+    except TypeError:  # an array, which has the method for each number of items
+        return False
 
 
 def whole(value: Any, what: str) -> int:
@@ -82,15 +76,15 @@ def size_of(value: Any, what: str) -> int:
     """A number of rows or bytes, as size_t has it."""
     size = whole(value, what)
     if size < 0:
-        raise ValueError(f"{what} is negative: {size}")
+        raise ValueError(f"{what} is negative: {in_words(size)}")
     if size > _LOW:
-        raise OverflowError(f"{what} is past 2**64 - 1: {size}")
+        raise OverflowError(f"{what} is past 2**64 - 1: {in_words(size)}")
     return size
 
 
 def operator_of(sign: Any) -> int:
     """The number of an operator that is written as in Python."""
-    if sign not in OPERATORS:
+    if not isinstance(sign, str) or sign not in OPERATORS:
         raise ValueError(f"{in_words(sign)} is not an operator: the operators are {' '.join(OPERATORS)}")
     return OPERATORS.index(sign)
 

@@ -12,7 +12,7 @@ from ._library import Handle, Kind, ask, calls, session
 from ._runs import Run
 from ._types import FORMS, LETTERS, SIGNED, TYPES, kind_of, text_of
 from ._values import Scalar, is_missing, passed, row_of, size_of, whole
-from .errors import NoColumn, Unsupported
+from .errors import NoColumn, Unsupported, in_words
 
 
 class Column:
@@ -24,7 +24,7 @@ class Column:
 
     __slots__ = ("_handle", "_as_parameter_", "__weakref__")
     _handle: Handle
-    _as_parameter_: Any  # what ctypes passes where a call is lent a column, which so lives as long as the call
+    _as_parameter_: Any  # what ctypes passes for a column, which it keeps alive during the call
 
     def __init__(self, *_: object, **__: object) -> None:
         raise TypeError("Column.of(rows) makes a column; so do from_buffer, from_runs, from_arrow and from_record")
@@ -44,7 +44,7 @@ class Column:
         return column
 
     def _there(self) -> Column:
-        """The column, for calls that refuse nothing; the others refuse a freed one by themselves."""
+        """The column, for calls that refuse nothing. The others refuse a freed one themselves."""
         if self.freed:
             raise NoColumn()
         return self
@@ -54,7 +54,7 @@ class Column:
         return self.copy() if other is self else _column(other)
 
     def free(self) -> None:
-        """Frees the column now. Each call on it is refused from then on, but for this one and `freed`."""
+        """Frees the column now. From then on each call on it is refused, except this one and `freed`."""
         calls.hv_free(self._handle)
 
     @property
@@ -163,14 +163,14 @@ class Column:
     @classmethod
     def from_record(cls, type: Any, rows: int, record: bytes, ends: Column, values: Column) -> Column:
         """The run column of this many rows that a metadata record describes, over copies of ends and values."""
-        count, data = size_of(rows, "the number of rows"), bytes(memoryview(record))
+        count, data = size_of(rows, "the number of rows"), bytes(_making.view_of(record))
         passed_record = (kind_of(type), count, data or b"\0", len(data))
         return cls._made(calls.hv_deserialize, *passed_record, _column(ends), ends._beside(values))
 
     @classmethod
     def from_bytes(cls, message: bytes) -> Column:
-        """The column that `to_bytes` wrote, in the form that it had. `BadMetadata` for bytes that are no message."""
-        data = bytes(memoryview(message))  # of a number bytes() would make as many bytes
+        """The column that `to_bytes` wrote, in the form that it had. `BadMetadata` for other bytes."""
+        data = bytes(_making.view_of(message))  # of a number bytes() would make as many bytes
         return cls._made(calls.hv_read_column, data or b"\0", len(data))
 
     @classmethod
@@ -194,11 +194,11 @@ class Column:
     # ---- Commands ----
 
     def encode(self) -> Column:
-        """As few runs as there can be, of integers alone; to_runs() serves every type."""
+        """The rows of integers in as few runs as possible; to_runs() serves every type but lists."""
         return self._made(calls.hv_encode, session, self)
 
     def to_runs(self) -> Column:
-        """As few runs as there can be, of rows of any type but lists."""
+        """The rows of any type but lists in as few runs as possible."""
         return self._made(calls.hv_encode_rows, self)
 
     def decode(self) -> Column:
@@ -209,7 +209,7 @@ class Column:
         return self if self.form == "flat" else self.decode()
 
     def slice(self, start: int, stop: int) -> Column:
-        """The rows from `start` to `stop` - 1, which have to be there; `column[start:stop]` cuts as Python does."""
+        """The rows from `start` to `stop` - 1, all of which have to exist; `column[start:stop]` cuts as Python does."""
         return self._made(calls.hv_slice, session, self, size_of(start, "the start"), size_of(stop, "the stop"))
 
     def cast(self, type: Any, nullable: Optional[bool] = None) -> Column:
@@ -220,7 +220,7 @@ class Column:
         return _casting.cast(self, kind)
 
     def take(self, indices: Any) -> Column:
-        """The rows at the indices: a column, a list, or an array; null at a null index. Of lists and arrays negative
+        """The rows at the indices: a column, a list, or an array; null at a null index. In lists and arrays negative
         indices count from the end."""
         return self._made(calls.hv_take, session, self, self._beside(_indexing.indices_of(self, indices)))
 
@@ -325,7 +325,7 @@ class Column:
 
     @property
     def offset(self) -> int:
-        """Of runs how many of their rows lie before the window; else 0."""
+        """How many rows of the runs come before the window; 0 in other forms."""
         return int(calls.hv_offset(self._there()))
 
     @property
@@ -347,7 +347,7 @@ class Column:
         return _questions.truth(self, calls.hv_is_sorted, bool(strict))
 
     def min(self) -> Scalar:
-        """The least row that is not null. None where there is none, since no row is the least of none."""
+        """The least row that is not null. None where there is none."""
         return _questions.value_of(self, calls.hv_extreme, session, self, 0)
 
     def max(self) -> Scalar:
@@ -405,8 +405,8 @@ class Column:
         return _copying.to_pandas(self)
 
     def to_array(self) -> array.array[int]:
-        """The numbers of a column of integers in any form, which NumPy reads without a copy; where a row is null
-        any number may stand."""
+        """The numbers of a column of integers in any form, which NumPy reads without a copy; a null row may have any
+        number."""
         if TYPES[self._kind.number] not in LETTERS:
             raise Unsupported().about("to_array", self)
         return _reading.numbers(self, 0, len(self))
@@ -416,12 +416,12 @@ class Column:
         return _reading.validity(self, 0, len(self))
 
     def truths(self) -> bytes:
-        """The booleans as a bitmap; where a row is null any may stand."""
+        """The booleans as a bitmap; a null row may have either."""
         return _reading.truths(self, 0, len(self))
 
     def runs(self) -> Iterator[Run]:
-        """The runs that the column shows, each as (start, stop, value), counted from its first row. Of runs and
-        constants these are the stored ones; of a flat column as few as there can be."""
+        """The runs that the column shows, each as (start, stop, value), counted from its first row: the stored ones of
+        runs and constants, as few as possible of a flat column."""
         return _runs.stored_runs(self if self.form in ("runs", "constant") else self.to_runs())
 
     def run_count(self) -> int:
@@ -431,7 +431,7 @@ class Column:
         return len(_runs.span(self if self.form == "runs" else self.to_runs()))
 
     def ends(self) -> Column:
-        """The stored ends of a run column, before its window too; of a constant the end of its one run."""
+        """The stored ends of a run column, also before its window; the end of a constant's one run."""
         if self.form == "constant":
             return self.of([self._length] if self._length else [], "u64")
         return self._made(calls.hv_ends, self)
@@ -450,7 +450,7 @@ class Column:
 
     def to_bytes(self) -> bytes:
         """The column as bytes, in the form that it has, to keep or to send: a message of the Protocol Buffers encoding.
-        Texts and bytes are read into one buffer. `Unsupported` for more than 16 levels of runs alone."""
+        Texts and bytes are read into one buffer. Only more than 16 levels of runs are refused, as `Unsupported`."""
         size = ctypes.c_size_t()
         ask(calls.hv_write_size, self, size)
         data = ctypes.create_string_buffer(size.value)
@@ -490,11 +490,11 @@ class Column:
 
 def _column(other: Any) -> Column:
     if not isinstance(other, Column):
-        raise TypeError(f"a Column is expected here, not {type(other).__name__}")
+        raise TypeError(f"a Column is expected here, not {in_words(other)}")
     return other
 
 
 def _address(part: Any) -> int:
     if not isinstance(part, (int, ctypes.Structure)):
-        raise TypeError(f"an ArrowSchema, an ArrowArray or an address is expected here, not {type(part).__name__}")
+        raise TypeError(f"an ArrowSchema, an ArrowArray or an address is expected here, not {in_words(part)}")
     return part if isinstance(part, int) else ctypes.addressof(part)

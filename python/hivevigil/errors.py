@@ -8,14 +8,30 @@ from __future__ import annotations
 from typing import Any, ClassVar
 
 
+_LETTERS, _BITS = 60, 1024  # of a value in a sentence, and of a number that is written out
+
+
+def written(number: int) -> str:
+    """A number in decimal, or how wide it is, where that is past what Python writes."""
+    return f"an integer of {number.bit_length()} bits" if number.bit_length() > _BITS else str(number)
+
+
+def in_words(value: Any) -> str:
+    """A value as Python writes it, or the front of what takes more than a few words; of an object its class."""
+    text = (written(value) if type(value) is int else repr(value)).partition("\n")[0]
+    if text.startswith("<") and " at 0x" in text:
+        return f"an object of class {type(value).__name__}"
+    return text if len(text) <= _LETTERS else text[: _LETTERS - 3] + "..."
+
+
 class HivevigilError(Exception):
     """A refusal: its `number`, its three `fields` (0 where the refusal has fewer), and a sentence by `str`."""
 
     number: ClassVar[int] = 0
     sentence: ClassVar[str] = "the call was refused"
-    call: str = ""  # which one was refused, and "i64 (flat)" of each column that it was lent
+    call: str = ""  # which one was refused, and "i64 (flat)" for each column that was passed
     columns: tuple[str, ...] = ()
-    said: str = ""  # the sentence, where more is known than number and fields tell: a row, a value, a type
+    said: str = ""  # the sentence, where more is known than the number and the fields: a row, a value, a type
 
     def __init__(self, *fields: int) -> None:
         super().__init__(*fields)
@@ -35,7 +51,7 @@ class HivevigilError(Exception):
         return self.said or self._in_words()
 
     def _in_words(self) -> str:
-        return self.sentence.format(*self.fields)
+        return self.sentence.format(*map(written, self.fields))
 
 
 class EndsNotUnsigned(HivevigilError, TypeError):
@@ -84,7 +100,7 @@ class MaskLength(HivevigilError, ValueError):
 
 
 class ColumnLength(HivevigilError, ValueError):
-    number, sentence = 11, "{0} rows beside {1} rows"
+    number, sentence = 11, "lengths of {0} and {1}, which have to be the same"
 
 
 class TypeMismatch(HivevigilError, TypeError):
@@ -142,7 +158,7 @@ class NoColumn(HivevigilError, ValueError):
 
 
 class BadNumber(HivevigilError, ValueError):
-    number, sentence = 23, "the number is not that of a type or an operator"
+    number, sentence = 23, "the number is not that of a type or of an operator"
 
 
 class ArrowInvalid(HivevigilError, ValueError):
@@ -155,7 +171,7 @@ class ArrowInvalid(HivevigilError, ValueError):
         "a length or an offset is negative, or past what there is",
         "null_count is not the number of nulls",
         "an array of runs has a bitmap, or a run end is null",
-        "schema and array differ in having a dictionary, or codes are no integers",
+        "schema and array differ in having a dictionary, or codes are not integers",
         "a view of texts is not within its buffers",
     )
 
@@ -169,7 +185,7 @@ class ArrowEndsTooLarge(HivevigilError, OverflowError):
 
 
 class ArrowStreamFailed(HivevigilError, OSError):
-    """The stream's own failure; `words` are what it says of it."""
+    """The stream's own failure; `words` are what it says about it."""
 
     number, sentence = 103, "the Arrow stream failed with {0}"
 

@@ -1,4 +1,4 @@
-"""What makes columns of columns, and of what Arrow libraries hold; the version."""
+"""Calls that make columns from columns, and from what Arrow libraries hold; the version."""
 from __future__ import annotations
 
 from collections.abc import Iterable
@@ -8,6 +8,7 @@ from typing import Any
 
 from ._arrow import import_columns
 from ._library import Handle, calls, session
+from ._making import listed
 from .column import Column, _column
 from .errors import TypeMismatch
 
@@ -19,7 +20,7 @@ def columns_from_arrow(source: Any) -> dict[str, Column]:
 
 def concat(columns: Iterable[Column]) -> Column:
     """The rows of columns of one type, one column after the other: runs where each is runs or a constant, else flat."""
-    given = [_column(column) for column in columns]
+    given = [_column(column) for column in listed(columns, "columns")]
     if not given:
         raise ValueError("concat takes at least one column, whose type is that of the answer")
     handles = (Handle * max(1, len(given)))()
@@ -33,7 +34,7 @@ def concat(columns: Iterable[Column]) -> Column:
 
 
 def version() -> str:
-    """Of a checkout what its file VERSION says, else that of the installed package."""
+    """The version that the file VERSION of a checkout says, else that of the installed package."""
     package = Path(__file__).resolve().parents[1]
     if (package / "pyproject.toml").exists() and (package.parent / "VERSION").exists():
         return (package.parent / "VERSION").read_text().strip()

@@ -1,5 +1,5 @@
-"""An independent reader and writer of Arrow's C data interface, over the structs alone, by the format's text: arrays to
-rows, and rows to arrays that lie in Python's memory."""
+"""An independent reader and writer of Arrow's C data interface, over nothing but the structs, by the format's text:
+arrays to rows, and rows to arrays in Python's memory."""
 import ctypes
 from decimal import Decimal
 
@@ -131,7 +131,7 @@ def batch(columns, length):
 
 
 class MadeStream:
-    """A stream of batches or arrays, which fails behind them where it has words for it."""
+    """A stream of batches or arrays, which fails after them where it has words for it."""
 
     def __init__(self, parts, words=None):
         self.parts, self.words, self.released = list(parts), words, 0

@@ -124,7 +124,7 @@ def test_cast(sample, name):
 
 
 def check_cast(call, type, rows, past, nulls):
-    """The rows as this type, or a refusal that names the first row which is no value of it."""
+    """The rows as this type, or a refusal that names the first row which does not fit."""
     if not past and not nulls:
         cast = call()
         assert (cast.type, cast.to_list()) == (type, rows)

@@ -58,7 +58,7 @@ def test_indices_of_arrays():
     with pytest.raises(errors.OutOfBounds) as caught:
         runs().take(numpy.array([-5]))
     assert caught.value.fields == (-5, 4, 0)
-    with pytest.raises(IndexError):  # of a column indices count from the start alone
+    with pytest.raises(IndexError):  # in a column indices count from the start
         runs().take(Column.of([-1]))
 
 

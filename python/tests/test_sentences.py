@@ -1,10 +1,15 @@
 """Refusals in sentences: what was wrong, with the row and the value, and with nothing of how Python is made."""
+import array
+import re
+from datetime import date
 from decimal import Decimal
+from fractions import Fraction
+from itertools import islice
 
 import numpy
 import pandas
 import pytest
-from hivevigil import Builder, Column, concat, errors
+from hivevigil import Builder, Column, HivevigilError, columns_from_arrow, concat, errors
 
 TWO = Column.of([4, 7])
 FLOATS = "floating-point numbers are not values of this library"
@@ -98,7 +103,7 @@ IS_NOT_ROWS = "are a list, another iterable, an array or a column, not"
     "call, said",
     [
         (lambda: Column.of(FRAME), "a DataFrame has several columns: give one, as frame['name']"),
-        (lambda: concat([1, 2]), "a Column is expected here, not int"),
+        (lambda: concat([1, 2]), "a Column is expected here, not 1"),
         (lambda: Column.of(5), f"rows {IS_NOT_ROWS} 5"),
         (lambda: Column.of(None), f"rows {IS_NOT_ROWS} None"),
         (lambda: Column.of(Thing()), f"rows {IS_NOT_ROWS} an object of class Thing"),
@@ -108,10 +113,22 @@ IS_NOT_ROWS = "are a list, another iterable, an array or a column, not"
         (lambda: TWO.take_from(5), f"rows {IS_NOT_ROWS} 5"),
         (lambda: Builder("i8").append(5), f"rows {IS_NOT_ROWS} 5"),
         (lambda: Column.from_lists([1], 5, [1]), f"offsets {IS_NOT_ROWS} 5"),
-        (lambda: Column.from_buffer(5), "a buffer of integers is an array, a memoryview or bytes, not 5"),
+        (lambda: Column.from_buffer(5), "an array, a memoryview or another bytes-like object is expected, not 5"),
+        (lambda: Column.from_bytes("a"), "an array, a memoryview or another bytes-like object is expected, not 'a'"),
+        (lambda: Column.from_buffer(b"a", 5), f"flags {IS_NOT_ROWS} 5"),
+        (lambda: Column.from_buffer(b"a", numpy.array([[1]])), "flags are booleans in one dimension, not array([[1]])"),
+        (lambda: concat(5), f"columns {IS_NOT_ROWS} 5"),
+        (lambda: TWO.to_arrow(5), "a name is a text, not 5"),
+        (lambda: TWO.to_arrow("", b"i"), "a format is a text, not b'i'"),
+        (lambda: TWO.take(memoryview(bytes(4)).cast("B", (2, 2))),
+         f"indices {IS_NOT_ROWS} an object of class memoryview"),
+        (lambda: TWO.take(int), f"indices {IS_NOT_ROWS} <class 'int'>"),
+        (lambda: TWO.at(numpy.array([1])), "a row is an integer, not array([1])"),
+        (lambda: numpy.array([4, 7]) in TWO, "a row is one value, not array([4, 7])"),
+        (lambda: TWO in TWO, "a row is one value, not <Column i64: 2 rows, flat>"),
         (lambda: Column.from_arrow(5), "from_arrow takes an array, a batch or a table of an Arrow library, not 5"),
         (lambda: Column.from_arrow_structs("a", 5),
-         "an ArrowSchema, an ArrowArray or an address is expected here, not str"),
+         "an ArrowSchema, an ArrowArray or an address is expected here, not 'a'"),
         (lambda: Column.of([1], "f64"),
          "'f64' is not a type of columns: expected u8, u16, u32, u64, i8, i16, i32, i64, bool, decimal, utf8, binary"),
         (lambda: Column.of([1], "decimal"), "'decimal' is not a type of columns: expected decimal(precision, scale)"),
@@ -141,3 +158,74 @@ def test_a_column_that_is_passed_twice():
     ones = Column.of([1, 0], "u8")
     assert ones.take(ones).to_list() == [0, 1] == ones.take_from(ones).to_list()
     assert Column.from_lists(ones, ones, [1, 1]).to_list() == [[0], [1]]
+
+
+# what Python says of its own ways, and what a caller of this package need not know
+INTERNALS = re.compile(
+    r"has no attribute|object is not |cannot be interpreted|unsupported operand|index-sized|codec can|ctypes|NoneType|"
+    r"\b_[a-z]+|__\w+__|argument \d|must be (str|int|bytes)|positional|ambiguous|can't convert|not supported between|"
+    r"invalid literal|PyCapsule|has no len|Exceeds the limit|could not convert|invalid type|unhashable|sub-views|0x"
+)
+ODD = [
+    None, True, 5, -1, 2**64, 10**5000, 1.5, float("nan"), 1j, "a", "", "\ud800", b"a", Decimal("NaN"), Fraction(1, 3),
+    date(2024, 1, 1), Thing(), Thing, len, [], [None], ["a"], [1.5], [[1]], [2**64], {}, {"a": 1}, (1,), range(3),
+    slice(1, 2), ..., NotImplemented, array.array("d", [1.0]), memoryview(bytes(4)).cast("B", (2, 2)), numpy.array([]),
+    numpy.array([[1]]), numpy.array(5), numpy.array(["a"]), numpy.array([1.5]), numpy.zeros(3, "M8[D]"),
+    numpy.float32(1), numpy.int8(1), numpy.int8, numpy.dtype("i1"), numpy.ma.masked, pandas.NA, pandas.NaT,
+    pandas.Series([1.5]), FRAME,
+    pandas.Series(["a"]), pandas.Timestamp(0), TWO, Column.of(["a", None]), Column, Builder("i8"), "i8", "decimal", int,
+]
+COLUMNS = [
+    Column.of([4, None, 7], "i16"), Column.of([4, 4, 7]).encode(), Column.of([True, None, False]),
+    Column.of(["a", "a", None]).to_runs(), Column.of([Decimal("1.5"), None, 2]), Column.of([b"a", b"b", b"c"]),
+    Column.from_lists([1, 2], [0, 1, 0], [1, 1, 1]), Column.constant(5, 3),
+]
+METHODS = (
+    "eq", "lt", "fill", "take", "filter", "take_from", "cast", "at", "__getitem__", "__contains__", "blocks",
+    "to_numpy", "to_arrow", "__eq__", "__lt__",
+)
+
+
+def calls_with(odd):
+    """Every call that takes something, with this in each place."""
+    ends, values = Column.of([1], "u8"), Column.of([1])
+    yield from (lambda call=call: call(odd) for call in (
+        Column.of, Column.from_buffer, Column.from_bytes, Column.from_arrow, columns_from_arrow, concat, Builder,
+    ))
+    yield from (lambda place=place: Column.constant(*place) for place in ((odd, 2), (1, odd), (1, 2, odd)))
+    yield from (lambda place=place: Column.of(*place) for place in (([1, 2], odd), (["a"], odd), ([odd],), ([1, odd],)))
+    yield from (lambda place=place: Column.from_runs(*place) for place in (
+        (odd, [1]), ([1], odd), ([3], [1], odd), ([3], [1], 0, odd),
+    ))
+    yield from (lambda place=place: Column.from_lists(*place) for place in (
+        (odd, [0], [0]), ([1], odd, [1]), ([1], [0], odd), ([1], [0], [1], odd),
+    ))
+    yield from (lambda place=place: Column.from_record(*place) for place in (
+        (odd, 1, b"", ends, values), ("i64", odd, b"", ends, values), ("i64", 1, odd, ends, values),
+        ("i64", 1, b"", odd, values), ("i64", 1, b"", ends, odd),
+    ))
+    yield lambda: Column.from_buffer(b"a", odd)
+    yield lambda: concat([values, odd])
+    for type_of_rows in ("i8", "utf8", "decimal(4, 2)", "bool?"):
+        yield lambda: Builder(type_of_rows).append(odd)
+        yield lambda: Builder(type_of_rows).append_value(odd)
+        yield lambda: Builder(type_of_rows).append_value(None, odd)
+    for column in COLUMNS:
+        yield from (lambda name=name: getattr(column, name)(odd) for name in METHODS)
+        yield lambda: column.slice(0, odd)
+        yield lambda: column.compare(odd, 1)
+        yield lambda: column.to_arrow("", odd)
+        yield lambda: column.to_arrow("", None, odd)
+
+
+@pytest.mark.parametrize("place", range(len(ODD)))
+def test_no_sentence_tells_of_internals(place):
+    refused = 0
+    for call in calls_with(ODD[place]):
+        try:
+            answer = call()
+            list(islice(answer, 3)) if hasattr(answer, "__next__") else None
+        except (TypeError, ValueError, OverflowError, IndexError, MemoryError, HivevigilError) as error:
+            refused += 1
+            assert str(error) and not INTERNALS.search(str(error)), type(error)
+    assert refused > 20
