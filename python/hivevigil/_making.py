@@ -3,7 +3,7 @@ from __future__ import annotations
 
 import array
 import ctypes
-from collections.abc import Iterable, Iterator, Sequence
+from collections.abc import Iterable, Sequence
 from decimal import Decimal
 from itertools import accumulate
 from numbers import Integral
@@ -176,16 +176,14 @@ def _truths(rows: Sequence[Any]) -> list[bool]:
 
 
 def _pairs(rows: Sequence[Any], kind: Kind) -> bytes:
-    return b"".join(_unscaled(rows, kind))
-
-
-def _unscaled(rows: Sequence[Any], kind: Kind) -> Iterator[bytes]:
-    for number, row in enumerate(rows):
-        try:
-            item = 0 if row is None else unscaled(row, kind.precision, kind.scale)
-        except (OverflowError, TypeError, ValueError) as error:
-            raise type(error)(f"row {number}: {error}") from None
-        yield item.to_bytes(16, "little", signed=True)
+    parts, precision, scale = [], kind.precision, kind.scale
+    try:
+        for row in rows:
+            number = 0 if row is None else unscaled(row, precision, scale)
+            parts.append(number.to_bytes(16, "little", signed=True))
+    except (OverflowError, TypeError, ValueError) as error:
+        raise type(error)(f"row {len(parts)}: {error}") from None
+    return b"".join(parts)
 
 
 def _encoded(rows: Sequence[Any], name: str) -> list[bytes]:

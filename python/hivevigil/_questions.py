@@ -89,7 +89,12 @@ def has(column: Column, value: Any) -> bool:
     name = TYPES[column._kind.number]
     if isinstance(value, _CLASSES.get(name, ())) and is_truth(value) == (name == "bool"):
         try:
-            return column.eq(value).max() is True
+            return _is_true_anywhere(column.eq(value))
         except ValueError:  # NaN, or a text that is not UTF-8
             return False
     return value in _runs.rows(column)
+
+
+def _is_true_anywhere(mask: Column) -> bool:
+    bits = int.from_bytes(mask.truths(), "little")
+    return bits != 0 and (not mask.nullable or bits & int.from_bytes(mask.validity(), "little") != 0)

@@ -39,6 +39,8 @@ def is_missing(value: Any) -> bool:
 
 def is_whole(value: Any) -> bool:
     """Whether a value is an integer, NumPy's too; booleans and floats are not."""
+    if type(value) is int:
+        return True
     if is_truth(value) or isinstance(value, type) or not hasattr(value, "__index__"):
         return False
     try:
@@ -49,6 +51,8 @@ def is_whole(value: Any) -> bool:
 
 def whole(value: Any, what: str) -> int:
     """The integer that a value is."""
+    if type(value) is int:
+        return value
     if not is_whole(value):
         raise TypeError(f"{what} is an integer, not {in_words(value)}")
     return operator.index(value)
@@ -93,21 +97,19 @@ def unscaled(value: Any, precision: int, scale: int) -> int:
     """A decimal as the integer of its least place: 1.5 with scale 2 is 150. Never rounded."""
     if not (isinstance(value, Decimal) or is_whole(value)):
         raise TypeError(f"a decimal is a decimal.Decimal or an integer, not {in_words(value)}{why_not(value)}")
-    number = Decimal(operator.index(value) if is_whole(value) else value)
-    sign, digits, exponent = number.as_tuple()
+    sign, digits, exponent = (value if isinstance(value, Decimal) else Decimal(operator.index(value))).as_tuple()
     if not isinstance(exponent, int):
         raise ValueError(f"{value} is not a number that a decimal column has")
-    if not number:
-        return 0
-    if number.adjusted() + scale >= precision:
-        written = in_words(value) if is_whole(value) else value
-        raise OverflowError(f"{written} does not fit decimal({precision}, {scale})")
     places = exponent + scale
+    if len(digits) + places > precision and any(digits):
+        written = value if isinstance(value, Decimal) else in_words(value)
+        raise OverflowError(f"{written} does not fit decimal({precision}, {scale})")
     if places < 0 and any(digits[places:]):
         raise ValueError(f"{value} has more than {scale} places, and nothing is rounded")
-    kept = digits + (0,) * places if places >= 0 else digits[:places]
-    whole_number = int("".join(map(str, kept)))
-    return -whole_number if sign else whole_number
+    number = int("".join(map(str, digits[:places] if places < 0 else digits)) or "0")
+    if number and places > 0:
+        number *= 10**places
+    return -number if sign else number
 
 
 def why_not(value: Any) -> str:
