@@ -189,7 +189,7 @@ static inline int32_t hv_arrow_import_stream(const hv_session *session, struct A
                                              hv_column *columns, size_t count, const uint8_t *how, char *words,
                                              size_t words_len, hv_error *error);
 /* Columns of one type, but for null, one after the other: runs over flat values where each is runs or a constant, else
- * flat. 12 for two types, 13 for no columns and for lists. */
+ * flat; lists as lists, whose elements follow one another. 12 for two types, 13 for no columns. */
 static inline int32_t hv_arrow_concat(const hv_session *session, hv_column *columns, size_t count, hv_column *out,
                                       hv_error *error);
 

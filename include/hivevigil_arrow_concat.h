@@ -1,7 +1,7 @@
 /* Columns one after the other, a part of hivevigil_arrow.h, which includes it. */
 #ifndef HIVEVIGIL_ARROW_CONCAT_H
 #define HIVEVIGIL_ARROW_CONCAT_H
-#include "hivevigil_arrow_out.h"
+#include "hivevigil_arrow_lists.h"
 
 /* Memory that grows. */
 typedef struct hv_arrow_room {
@@ -148,7 +148,6 @@ static inline int32_t hv_arrow_common_kind(hv_column *columns, size_t count, hv_
         hv_kind other = hv_kind_of(&columns[i]);
         uint8_t form = hv_form(&columns[i]);
         if (form == HV_ARROW_NO_FORM) return hv_arrow_refuse(HV_NO_COLUMN, 0, 0, error);
-        if (other.number > HV_BINARY) return hv_arrow_refuse(HV_UNSUPPORTED, 0, 0, error);
         if (other.number != kind->number) return hv_arrow_refuse(HV_TYPE_MISMATCH, 0, 0, error);
         if (other.number == HV_DECIMAL && (other.precision != kind->precision || other.scale != kind->scale))
             return hv_arrow_refuse(HV_TYPE_MISMATCH, 0, 0, error);
@@ -199,6 +198,8 @@ static inline int32_t hv_arrow_concat(const hv_session *session, hv_column *colu
     bool are_runs;
     memset(&gathered, 0, sizeof gathered);
     hv_arrow_refuse(HV_OK, 0, 0, error);
+    if (count > 0 && hv_kind_of(&columns[0]).number == HV_LIST)
+        return hv_arrow_concat_lists(session, columns, count, out, error);
     int32_t answer = hv_arrow_common_kind(columns, count, &gathered.kind, &are_runs, error);
     for (size_t i = 0; !answer && i < count; i++) {
         size_t more = hv_length(&columns[i]);

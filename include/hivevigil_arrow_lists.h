@@ -173,6 +173,81 @@ static inline int32_t hv_arrow_write_parts(const hv_arrow_writing *writing, hv_a
     return answer;
 }
 
+/* ---- One after the other ---- */
+
+/* The lists of columns, which are joined. */
+typedef struct hv_arrow_joined_lists {
+    size_t rows, room;
+    uint64_t *offsets, *sizes; /* one block, with room for all rows */
+    uint8_t *bits;             /* with room for all rows */
+    uint64_t items;            /* of the columns before */
+    uint8_t nullable;
+} hv_arrow_joined_lists;
+
+/* Adds the rows of a column, and leaves the items that they have. */
+static inline int32_t hv_arrow_add_lists(const hv_session *session, hv_arrow_joined_lists *joined, hv_column *column,
+                                         hv_column *items, hv_error *error) {
+    const hv_arrow_writing writing = {session, error, {0, 0, 0, 0, NULL, NULL}, 0};
+    hv_arrow_list_parts parts = {HV_EMPTY, 0, NULL, NULL, NULL, 0};
+    hv_column lists = HV_EMPTY;
+    int32_t answer = hv_decode(session, column, &lists, error);
+    if (!answer) answer = hv_arrow_take_apart(&lists, &parts, error);
+    if (!answer) answer = hv_arrow_gather_items(&writing, &parts, items);
+    for (size_t row = 0; !answer && row < parts.rows; row++, joined->rows++) {
+        const bool valid = parts.valid[row / 64] >> row % 64 & 1;
+        uint8_t *byte = &joined->bits[joined->rows / 8];
+        joined->offsets[joined->rows] = joined->items;
+        joined->sizes[joined->rows] = parts.sizes[row];
+        joined->items += parts.sizes[row];
+        *byte = (uint8_t)(*byte | valid << joined->rows % 8);
+    }
+    free(parts.offsets);
+    hv_free(&parts.elements);
+    hv_free(&lists);
+    return answer;
+}
+
+/* Room for the rows of all columns. */
+static inline int32_t hv_arrow_begin_lists(hv_column *columns, size_t count, hv_arrow_joined_lists *joined,
+                                           hv_error *error) {
+    for (size_t i = 0; i < count; i++) {
+        const hv_kind kind = hv_kind_of(&columns[i]);
+        if (kind.number == 255) return hv_arrow_refuse(HV_NO_COLUMN, 0, 0, error);
+        if (kind.number != HV_LIST) return hv_arrow_refuse(HV_TYPE_MISMATCH, 0, 0, error);
+        if (hv_length(&columns[i]) > SIZE_MAX / 32 - joined->room) return hv_arrow_refuse(HV_OUT_OF_MEMORY, 0, 0, error);
+        joined->room += hv_length(&columns[i]);
+        joined->nullable |= kind.nullable;
+    }
+    joined->offsets = (uint64_t *)malloc(2 * joined->room * sizeof *joined->offsets + 1);
+    joined->bits = (uint8_t *)calloc(joined->room / 8 + 1, 1);
+    if (!joined->offsets || !joined->bits) return hv_arrow_refuse(HV_OUT_OF_MEMORY, 0, 0, error);
+    joined->sizes = joined->offsets + joined->room;
+    return HV_OK;
+}
+
+static inline int32_t hv_arrow_concat_lists(const hv_session *session, hv_column *columns, size_t count, hv_column *out,
+                                            hv_error *error) {
+    hv_arrow_joined_lists joined = {0, 0, NULL, NULL, NULL, 0, 0};
+    hv_column *items = (hv_column *)calloc(count, sizeof *items), all = HV_EMPTY, elements = HV_EMPTY;
+    int32_t answer = items ? hv_arrow_begin_lists(columns, count, &joined, error)
+                           : hv_arrow_refuse(HV_OUT_OF_MEMORY, 0, 0, error);
+    for (size_t i = 0; !answer && i < count; i++)
+        answer = hv_arrow_add_lists(session, &joined, &columns[i], &items[i], error);
+    if (!answer) answer = hv_arrow_concat(session, items, count, &all, error);
+    if (!answer) answer = hv_decode(session, &all, &elements, error);
+    const hv_validity validity =
+        joined.nullable ? hv_valid_bits(joined.bits, joined.room / 8 + 1, 0) : hv_not_nullable();
+    if (!answer)
+        answer = hv_lists(&elements, joined.offsets, joined.rows, joined.sizes, joined.rows, validity, out, error);
+    for (size_t i = 0; items && i < count; i++) hv_free(&items[i]);
+    free(items);
+    free(joined.offsets);
+    free(joined.bits);
+    hv_free(&all);
+    hv_free(&elements);
+    return answer;
+}
+
 /* A column that lies as lists. */
 static inline int32_t hv_arrow_write_lists(const hv_arrow_writing *writing, hv_column *column, const char *name,
                                            struct ArrowSchema *schema, struct ArrowArray *array) {

@@ -188,7 +188,8 @@ static inline bool hv_arrow_new_empty(const struct ArrowSchema *schema, struct A
     uint8_t what = served ? layout.what : (uint8_t)HV_ARROW_RUN_ENDS;
     int64_t buffers = what == HV_ARROW_RUN_ENDS ? 0 : what == HV_ARROW_BATCH ? 1 : 2;
     if (what == HV_ARROW_TEXTS || what == HV_ARROW_VIEWS) buffers = 3;
-    bool nests = served && (what == HV_ARROW_RUN_ENDS || what == HV_ARROW_BATCH) && schema->children;
+    bool nests = served && schema->children &&
+                 (what == HV_ARROW_RUN_ENDS || what == HV_ARROW_BATCH || what == HV_ARROW_LISTS);
     if (!hv_arrow_new_array(array, 0, buffers, nests && schema->n_children > 0 ? schema->n_children : 0)) return false;
     bool whole = true;
     for (int64_t i = 0; whole && i < array->n_children; i++)

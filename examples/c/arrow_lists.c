@@ -137,6 +137,9 @@ static void check_stream(hv_column *from, const lists *values, const size_t *due
     if (at != count) stop("rows of all chunks", at);
     schema.release(&schema);
     stream.release(&stream);
+    if (hv_arrow_export_stream(&session, from, NULL, 1, step, NULL, &stream, &error)) stop("does not go out again", 0);
+    if (hv_arrow_import_stream(&session, &stream, &again, 1, NULL, NULL, 0, &error)) stop("does not come in whole", 0);
+    check_lists(&again, values, places, count, "a row of all chunks");
 }
 
 static void check_bytes(hv_column *from, const lists *values, const size_t *due, size_t count) {
@@ -234,6 +237,60 @@ static void check_batches_of_lists(void) {
     hv_free(&both[0]), hv_free(&both[1]), hv_free(&elements);
 }
 
+/* Lists of one type, but for null, are joined, of which a window shows some; refused are other rows and other items. */
+static void check_joined_lists(void) {
+    const int32_t items[3] = {7, 8, 9};
+    const uint64_t offsets[3] = {2, 0, 1}, sizes[3] = {1, 2, 1};
+    const uint8_t bits[1] = {0x05};
+    hv_column parts[3] = {HV_EMPTY, HV_EMPTY, HV_EMPTY}, elements = HV_EMPTY, wide = HV_EMPTY;
+    const hv_kind i64 = {HV_I64, 0, 0, 0};
+    CHECK(!hv_i32(items, 3, NOT_NULLABLE, &elements, &error) && !hv_cast(&session, &elements, &i64, &wide, &error));
+    CHECK(!hv_lists(&elements, offsets, 3, sizes, 3, NOT_NULLABLE, &column, &error)); /* [9] [7 8] [8] */
+    CHECK(!hv_slice(&session, &column, 1, 3, &parts[0], &error));
+    CHECK(!hv_lists(&elements, offsets, 3, sizes, 3, NULLS_BY(bits, 0), &parts[1], &error)); /* [9] null [8] */
+    hv_column both[2] = {parts[1], parts[0]}; /* lent as an array, and not freed */
+    CHECK(!hv_arrow_concat(&session, both, 2, &again, &error) && hv_kind_of(&again).nullable == 1);
+    CHECK(hv_form(&again) == HV_FORM_LISTS && hv_length(&again) == 5);
+    CHECK(!hv_list_elements(&again, &column, &error));
+    CHECK_ROWS(&column, "9 8 7 8 8");
+    CHECK(!hv_list_offsets(&again, &column, &error));
+    CHECK_ROWS(&column, "0 1 1 2 4");
+    CHECK(!hv_list_sizes(&again, &column, &error));
+    CHECK_ROWS(&column, "1 0 1 2 1");
+    CHECK(!hv_list_validity(&again, &column, &error));
+    CHECK_ROWS(&column, "true false true true true");
+    CHECK(!hv_lists(&wide, offsets, 3, sizes, 3, NOT_NULLABLE, &parts[2], &error));
+    CHECK_REFUSED(hv_arrow_concat(&session, parts, 3, &again, &error), HV_TYPE_MISMATCH, 0, 0, 0);
+    hv_column with_numbers[2] = {parts[0], elements}, with_none[2] = {parts[0], HV_EMPTY};
+    CHECK_REFUSED(hv_arrow_concat(&session, with_numbers, 2, &again, &error), HV_TYPE_MISMATCH, 0, 0, 0);
+    CHECK_REFUSED(hv_arrow_concat(&session, with_none, 2, &again, &error), HV_NO_COLUMN, 0, 0, 0);
+    CHECK(hv_length(&again) == 5);
+    for (size_t i = 0; i < COUNT(parts); i++) hv_free(&parts[i]);
+    hv_free(&elements), hv_free(&wide);
+}
+
+/* A stream of lists without chunks has no rows. */
+static int give_lists(struct ArrowArrayStream *from, struct ArrowSchema *to) {
+    static struct ArrowSchema item = {.format = "i", .release = release_schema}, *items[1] = {&item};
+    const struct ArrowSchema schema = {.format = "+l", .n_children = 1, .children = items, .release = release_schema};
+    (void)from;
+    item.release = release_schema;
+    *to = schema;
+    return 0;
+}
+static int give_nothing(struct ArrowArrayStream *from, struct ArrowArray *to) {
+    (void)from;
+    memset(to, 0, sizeof *to);
+    return 0;
+}
+static void release_stream(struct ArrowArrayStream *from) { from->release = NULL; }
+
+static void check_no_chunks(void) {
+    struct ArrowArrayStream stream = {give_lists, give_nothing, NULL, release_stream, NULL};
+    CHECK(!hv_arrow_import_stream(&session, &stream, &again, 1, NULL, NULL, 0, &error) && !stream.release);
+    CHECK(hv_form(&again) == HV_FORM_LISTS && hv_length(&again) == 0);
+}
+
 /* Chunks of codes share a dictionary of lists. The items of one are moved out, and the others have theirs. */
 static void check_dictionary_of_lists(void) {
     const int32_t items[3] = {7, 8, 9};
@@ -275,6 +332,8 @@ int main(int arguments, char **given) {
     check_refusals();
     check_batches_of_lists();
     check_dictionary_of_lists();
+    check_joined_lists();
+    check_no_chunks();
     hv_free(&column), hv_free(&again);
     printf("%" PRIu64 " random arrays of lists came in, went out and came in again, as streams and as bytes\n", count);
     return 0;

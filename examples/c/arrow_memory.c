@@ -178,6 +178,10 @@ static int32_t concat(void) {
     hv_column all[3] = {runs, numbers, nested};
     return hv_arrow_concat(&session, all, 3, &out[0], &error);
 }
+static int32_t concat_lists(void) {
+    hv_column all[2] = {lists, list_runs};
+    return hv_arrow_concat(&session, all, 2, &out[0], &error);
+}
 static int32_t concat_runs(void) {
     hv_column all[2] = {runs, nested};
     return hv_arrow_concat(&session, all, 2, &out[0], &error);
@@ -196,6 +200,7 @@ static const struct {
     NAMED(export_stream),    NAMED(export_batches),   NAMED(export_coded_stream), NAMED(concat),
     NAMED(concat_runs),      NAMED(export_lists),     NAMED(export_list_runs),    NAMED(lists_out_and_in),
     NAMED(export_list_stream), NAMED(export_list_run_stream), NAMED(export_coded_list_stream),
+    NAMED(concat_lists),
 };
 
 static void release_all(void) {
