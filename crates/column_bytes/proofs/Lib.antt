@@ -15,3 +15,4 @@ pub mod RunLaws
 pub mod FlatReads
 pub mod ListReads
 pub mod BytesTaken
+pub mod SameRows

@@ -2,7 +2,7 @@
 ghost use Rattle.std.specs.Prelude.{◌≡◌, IfOk, IfErr};
 ghost use Rattle.runend_array.specs.Array.{column_of};
 ghost use Rattle.runend_array.specs.Column.{plain_of};
-ghost use Rattle.column_bytes.specs.Laws.{SpellingIsUnique, WrittenIsAMessage, EqualBytesEqualRows, ReadTakesFewBytes};
+ghost use Rattle.column_bytes.specs.Laws.{SpellingIsUnique, WrittenIsAMessage, EqualRowsEqualBytes, EqualBytesEqualRows, ReadTakesFewBytes};
 ghost use Rattle.column_bytes.specs.Packed.{packed_column};
 ghost use Rattle.column_bytes.specs.Read.{IsUnsupportedOrMemory};
 
@@ -20,6 +20,15 @@ pub fn spelling_is_unique()
 /// For file writers: no reader may refuse it as `BadMetadata`.
 pub fn written_is_a_message()
     ensures { WrittenIsAMessage }
+{}
+
+/// Two encodings of the same rows and type, which is none of lists, have the same message, byte for byte, whichever
+/// columns they were made of and wherever their texts lie. An encoding is what `encode_rows` of `runend_encode_rows`
+/// answers: the tight exact cover, from the first row on, with ends of the least type and flat values as a call computes
+/// them. `RunEnd::encode` answers it too, but of a column whose validity says by its form that all rows are null.
+/// For caches, group-by and databases: bytes can be compared and hashed in place of rows.
+pub fn equal_rows_equal_bytes()
+    ensures { EqualRowsEqualBytes }
 {}
 
 /// Columns that have the same message have the same type and the same rows.
