@@ -4,3 +4,4 @@ pub mod Replies
 pub mod Messages
 pub mod Lengthened
 pub mod Outcomes
+pub mod AnswerLines

@@ -1,11 +1,13 @@
 //! Runs a script of commands on one column.
 ghost use Rattle.std.specs.Prelude.{◌≡◌, ◌≢◌, ◌⊎◌, ◌↔◌, ℕ, List, IfOk, IfSome, IsOkUnless, IsTrue, MatchResult, OnErr};
 ghost use Rattle.std.specs.Iterator.{AlwaysYields, IsFinite};
+ghost use Rattle.std.specs.String.{string_bytes};
 ghost use Rattle.runend_array.specs.Array.{column_of, dtype_of};
 ghost use Rattle.runend_array.specs.Column.{AreParts, column_of_runs, runs_of};
 ghost use Rattle.runend_array.specs.Fault.{PartsFault};
 ghost use Rattle.runend_commands.specs.declared.command.Answer.TheVariants.{Done};
 ghost use Rattle.runend_script.specs.declared.command.ScriptCommand.TheVariants as line;
+ghost use Rattle.runend_script.specs.AnswerLines.{AddsLines};
 ghost use Rattle.runend_script.specs.Lengthened.{IsAppended, IsRepeated, ListsArray};
 ghost use Rattle.runend_script.specs.Listed.{AreRunsOf, IsFlatOf};
 ghost use Rattle.runend_script.specs.Messages.{IsMessageReply};
@@ -19,7 +21,7 @@ use crate::lengthened::{with_batch, with_value};
 use crate::message::message_line;
 use crate::record::{meta_line, read_record};
 use crate::session::set_session;
-use crate::shown::{form_line, rows_line};
+use crate::shown::{form_line, push_line, rows_line};
 use column_base::{DType, Nullability, PType, VortexError, VortexResult};
 use runend_commands::{Answer, Command as ColumnCommand, execute_one};
 use script_answers::{answer_line, has_answer_line, refusal_line};
@@ -58,10 +60,7 @@ pub fn script<A: Allocator + Copy>(
     ensures only { IsOkUnless result VortexError.OutOfMemory }
 {
     let mut answers = String::new(*ctx.allocator());
-    let mut column = None;
-    let ended = answer_lines(text, &mut answers, &mut column, ctx);
-    drop(column);
-    match ended {
+    match answer_script(text, &mut answers, ctx) {
         Ok(bad) => Ok(ScriptAnswer { text: answers, bad }),
         Err(error) => {
             drop(answers);
@@ -70,7 +69,24 @@ pub fn script<A: Allocator + Copy>(
     }
 }
 
+/// Runs the script as `script` does, and puts its answer lines behind the answers. Does the last of them say that a
+/// line was no command? Refused as `OutOfMemory` alone, and then the lines that were answered before stand there.
+pub(crate) fn answer_script<A: Allocator + Copy>(
+    text: &str,
+    answers: &mut String<A>,
+    ctx: &mut ExecutionCtx<A>,
+) -> VortexResult<bool>
+    ensures only { IsOkUnless result VortexError.OutOfMemory }
+    ensures lines { AddsLines (string_bytes answers.old) (string_bytes answers.new) }
+{
+    let mut column = None;
+    let ended = answer_lines(text, answers, &mut column, ctx);
+    drop(column);
+    ended
+}
+
 // Puts the answer lines of the script behind the answers, up to the first line that is no command. Is there one?
+#[tactic(auto, using(crate::proofs::AnswerLines::no_lines, crate::proofs::AnswerLines::more_lines))]
 fn answer_lines<A: Allocator + Copy>(
     text: &str,
     answers: &mut String<A>,
@@ -78,11 +94,12 @@ fn answer_lines<A: Allocator + Copy>(
     ctx: &mut ExecutionCtx<A>,
 ) -> VortexResult<bool>
     ensures only { IsOkUnless result VortexError.OutOfMemory }
+    ensures lines { AddsLines (string_bytes answers.old) (string_bytes answers.new) }
 {
     let mut before = 0usize;
     for line in text.split('\n') {
         let reply = reply_to(line, column, ctx)?;
-        let bad = push_reply(answers, before, reply)?;
+        let bad = push_reply(*ctx.allocator(), answers, before, reply)?;
         if bad {
             return Ok(true);
         }
@@ -92,24 +109,25 @@ fn answer_lines<A: Allocator + Copy>(
     Ok(false)
 }
 
-// Puts the line of the reply behind the answers, where it has one. Was the line, which so many stand before, no
-// command?
+// Puts the line of the reply behind the answers, where it has one: all of it, or nothing of it where memory is refused.
+// Was the line, which so many stand before, no command?
+#[tactic(auto, using(crate::proofs::AnswerLines::no_lines, crate::proofs::AnswerLines::one_line, crate::proofs::AnswerLines::done_line))]
 fn push_reply<A: Allocator + Copy>(
+    alloc: A,
     answers: &mut String<A>,
     before: usize,
     reply: Reply<A>,
-) -> Result<bool, AllocError> {
+) -> Result<bool, AllocError>
+    ensures { AddsLines (string_bytes answers.old) (string_bytes answers.new) }
+{
     match reply {
         Reply::Silent => {}
         Reply::Done => answers.push_str("ok\n")?,
-        Reply::Line(answer) => {
-            let pushed = writeln!(answers, "{answer}");
-            drop(answer);
-            pushed?
-        }
+        Reply::Line(answer) => push_line(answers, answer)?,
         Reply::Bad => {
             let number = before.saturating_add(1);
-            writeln!(answers, "line {number}: bad command")?;
+            let answer = format!(in alloc; "line {number}: bad command")?;
+            push_line(answers, answer)?;
             return Ok(true);
         }
     }

@@ -1,8 +1,11 @@
-//! The lines of rows and of forms, without their line feeds.
+//! The lines of rows and of forms, without their line feeds, and how a line is put behind others.
+ghost use Rattle.std.specs.Prelude.{◌≡◌, ◌++◌, ◌∷◌, [], OnErr, OnOk};
+ghost use Rattle.std.specs.String.{string_bytes};
+
 use column_base::{DType, VortexError, VortexResult};
 use column_words::{is_null_or_number, name_of, push_marked};
 use script_answers::push_word;
-use std::alloc::Allocator;
+use std::alloc::{AllocError, Allocator};
 use vortex_runend::{
     ArrayRef, ConstantArray, RunEndArray, RunEndArrayExt, RunEndArraySlotsExt, ScalarView,
 };
@@ -30,6 +33,23 @@ pub fn form_line<A: Allocator + Copy>(alloc: A, array: &ArrayRef<A>) -> VortexRe
         }
     }
     Ok(line)
+}
+
+/// Puts a line and its line feed behind the answers, or nothing where memory is refused.
+pub fn push_line<A: Allocator + Copy>(
+    answers: &mut String<A>,
+    mut line: String<A>,
+) -> Result<(), AllocError>
+    ensures line { OnOk result (string_bytes answers.new ≡
+        string_bytes answers.old ++ (string_bytes line ++ 10 ∷ [])) }
+    ensures kept { OnErr result (string_bytes answers.new ≡ string_bytes answers.old) }
+{
+    let pushed = match line.push('\n') {
+        Ok(()) => answers.push_str(line.as_str()),
+        Err(error) => Err(error),
+    };
+    drop(line);
+    pushed
 }
 
 // The type as a word, behind a space.

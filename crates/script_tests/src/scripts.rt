@@ -6,10 +6,16 @@ use runend_script::{script, serve};
 use std::alloc::{Allocator, Global};
 use std::io::Read;
 use std::test::Fail;
-use vortex_runend::{ExecutionCtx, VortexResult, VortexSession};
+use vortex_runend::{ExecutionCtx, VortexResult, VortexSession, initialize};
 
 fn context<A: Allocator + Copy>(alloc: A) -> ExecutionCtx<A> {
     ExecutionCtx::new(VortexSession::empty(), alloc)
+}
+
+fn full_context<A: Allocator + Copy>(alloc: A) -> ExecutionCtx<A> {
+    let mut session = VortexSession::empty();
+    initialize(&mut session);
+    ExecutionCtx::new(session, alloc)
 }
 
 // Does a bad line end the script, with these answers before it?
@@ -197,7 +203,7 @@ fn is_served<A: Allocator + Copy, R: Read>(
 }
 
 // Inputs, and the status and the text that each is served with.
-const INPUTS: [(&[u8], u8, &str); 7] = [
+const INPUTS: [(&[u8], u8, &str); 8] = [
     (b"", 0, ""),
     (b" \n\n", 0, ""),
     (b"col u8 1\nrows", 0, "ok\nrows 1\n"),
@@ -207,17 +213,28 @@ const INPUTS: [(&[u8], u8, &str); 7] = [
         2,
         "ok\nok\nline 3: bad command\n",
     ),
+    (
+        b"runs i32 u8 3 2 2 5 10 / 1 2 3\nrows\n",
+        2,
+        "refused 6 2 3\nline 2: bad command\n",
+    ),
     (ENDED, 2, ENDED_ANSWERS),
     (b"col u8\n\xff", 2, "not UTF-8\n"),
 ];
 
+// Is this written, with this status, in a session without a kernel and in one with all of them?
+fn is_served_in_each(alloc: Global, input: &[u8], status: u8, text: &str) -> bool {
+    let due = (status, text.as_bytes(), b"".as_slice());
+    let (mut without, mut with) = (input, input);
+    is_served(alloc, &mut context(alloc), &mut without, due)
+        && is_served(alloc, &mut full_context(alloc), &mut with, due)
+}
+
 #[test]
 fn served_inputs(rt: HostRuntime) -> Result<(), Fail> {
     for (input, status, text) in INPUTS {
-        let mut input = input;
-        let due = (status, text.as_bytes(), b"".as_slice());
         assert!(rt;
-            is_served(rt.alloc(), &mut context(rt.alloc()), &mut input, due),
+            is_served_in_each(rt.alloc(), input, status, text),
             "{text:?}"
         );
     }
@@ -286,6 +303,11 @@ const SERVED_ANSWERS: &[u8] =
     ok\nmeta 10 02 18 01\nsum 14\nminmax 4 5\nconstant false\nsorted true\nstrict false\n\
     ok\nok\nruns i8 u8 offset 0 length 6 ends 1 4 6 values 4 5 6\n";
 
+// Are these the answers of the first lines, each of them whole?
+fn are_first_answers(out: &[u8]) -> bool {
+    SERVED_ANSWERS.starts_with(out) && (out.is_empty() || out.ends_with(b"\n"))
+}
+
 // What comes of the lines where this request is refused, alone or with all later ones: is it as it is due where the
 // request comes (`Some(true)`), or is it none that comes, and is all answered (`None`)?
 fn refused_at(alloc: Global, request: u64, is_alone: bool) -> Option<bool> {
@@ -298,7 +320,9 @@ fn refused_at(alloc: Global, request: u64, is_alone: bool) -> Option<bool> {
     let mut out = Vec::new(alloc);
     let mut err = Vec::new(alloc);
     let status = serve(&mut input, &mut out, &mut err, &mut context(&heap));
-    let is_short = status == 3 && out.is_empty() && err.as_slice() == b"out of memory\n".as_slice();
+    let is_short = status == 3
+        && are_first_answers(&out)
+        && err.as_slice() == b"out of memory\n".as_slice();
     let is_answered = status == 0 && err.is_empty() && out.as_slice() == SERVED_ANSWERS;
     drop(out);
     drop(err);
@@ -328,4 +352,34 @@ fn growths_that_are_refused(rt: HostRuntime) {
         first_unmet(rt.alloc(), false),
     );
     assert!(rt; alone > 30 && alone < 999 && later > 30 && later < 999);
+}
+
+// Rows that no memory can show, behind a line that is answered.
+const UNSHOWN: &[u8] =
+    b"runs u8 u64 0 18446744073709551615 18446744073709551615 / 7\nat 5\nrows\nat 6\n";
+
+#[test]
+fn answers_before_memory_ends(rt: HostRuntime) {
+    let mut input = UNSHOWN;
+    let due = (
+        3,
+        b"ok\nvalue 7\n".as_slice(),
+        b"out of memory\n".as_slice(),
+    );
+    assert!(rt; is_served(rt.alloc(), &mut context(rt.alloc()), &mut input, due));
+}
+
+// Nothing can be written, and memory ends.
+fn is_short_and_closed(alloc: Global) -> bool {
+    let mut input = UNSHOWN;
+    let mut err = Vec::new(alloc);
+    let status = serve(&mut input, &mut Closed, &mut err, &mut context(alloc));
+    let is_told = err.as_slice() == b"out of memory\n".as_slice();
+    drop(err);
+    status == 3 && is_told
+}
+
+#[test]
+fn memory_that_ends_is_told_where_nothing_can_be_written(rt: HostRuntime) {
+    assert!(rt; is_short_and_closed(rt.alloc()));
 }
