@@ -189,7 +189,7 @@ def _of_array(capsules: Any, kind: type[Column]) -> dict[str, Column]:
 def _in_words(refused: HivevigilError, not_served: str) -> HivevigilError:
     """The refusal of what came in: a text, or a format, of which `not_served` says which."""
     if isinstance(refused, TypeMismatch):
-        return refused.saying("from_arrow: a text is not UTF-8")
+        return refused.saying(f"from_arrow: the text in row {refused.fields[0]} of an array is not UTF-8")
     return refused.saying(f"from_arrow: {not_served}") if isinstance(refused, Unsupported) else refused
 
 

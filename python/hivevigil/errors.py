@@ -162,7 +162,7 @@ class BadNumber(HivevigilError, ValueError):
 
 
 class ArrowInvalid(HivevigilError, ValueError):
-    number, sentence = 101, "the Arrow array is not legal: {0}"
+    number, sentence = 101, "the Arrow array is not valid: {0}"
     reasons = (
         "it is not an array of its format",
         "a struct is missing or was released",
@@ -171,13 +171,13 @@ class ArrowInvalid(HivevigilError, ValueError):
         "a length or an offset is negative, or past what there is",
         "null_count is not the number of nulls",
         "an array of runs has a bitmap, or a run end is null",
-        "schema and array differ in having a dictionary, or codes are not integers",
-        "a view of texts is not within its buffers",
+        "only one of schema and array has a dictionary, or the codes are not integers",
+        "the view of row {0} is not within its buffers, or does not begin as they do",
     )
 
     def _in_words(self) -> str:
-        reason = self.fields[0]
-        return self.sentence.format(self.reasons[reason if reason < len(self.reasons) else 0])
+        reason = self.reasons[self.fields[0] if self.fields[0] < len(self.reasons) else 0]
+        return self.sentence.format(reason.format(self.fields[1]))
 
 
 class ArrowEndsTooLarge(HivevigilError, OverflowError):

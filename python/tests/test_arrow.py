@@ -4,6 +4,7 @@ import gc
 import os
 import subprocess
 import sys
+from itertools import accumulate
 from pathlib import Path
 
 import hivevigil
@@ -146,18 +147,19 @@ def test_arrays_that_are_not_legal():
     broken.items.length = -1
     with pytest.raises(errors.ArrowInvalid, match="negative"):
         Column.from_arrow(broken)
-    with pytest.raises(errors.Unsupported):
-        Column.from_arrow(Made("g", [None, ctypes.create_string_buffer(8)], 1))
+    said = "the Arrow array is not valid: the view of row 5 is not within its buffers, or does not begin as they do"
+    assert str(errors.ArrowInvalid(8, 5)) == said
 
 
 def floats(name=b""):
     return Made("g", [None, ctypes.create_string_buffer(16)], 1, name=name)
 
 
-def texts(data):
-    """One text of these bytes."""
-    offsets = ctypes.create_string_buffer((0).to_bytes(4, "little") + len(data).to_bytes(4, "little"))
-    return Made("u", [None, offsets, ctypes.create_string_buffer(data)], 1)
+def texts(*rows):
+    """Texts of these bytes."""
+    offsets = b"".join(offset.to_bytes(4, "little") for offset in accumulate(map(len, rows), initial=0))
+    buffers = [None, ctypes.create_string_buffer(offsets), ctypes.create_string_buffer(b"".join(rows))]
+    return Made("u", buffers, len(rows))
 
 
 FLOATS = "floating-point numbers are not values of this library"
@@ -174,8 +176,9 @@ FLOATS = "floating-point numbers are not values of this library"
          errors.Unsupported, f"column 'b' has Arrow's format 'g', which is not served: {FLOATS}"),
         (lambda: Made("tin", [None, ctypes.create_string_buffer(16)], 1), errors.Unsupported,
          "Arrow's format 'tin' is not served"),
-        (lambda: texts(b"a\xff"), errors.TypeMismatch, "a text is not UTF-8"),
-        (lambda: MadeStream([texts(b"a"), texts(b"\xff")]), errors.TypeMismatch, "a text is not UTF-8"),
+        (lambda: texts(b"a", b"b", b"\xff"), errors.TypeMismatch, "the text in row 2 of an array is not UTF-8"),
+        (lambda: MadeStream([texts(b"a"), texts(b"a", b"\xff")]), errors.TypeMismatch,
+         "the text in row 1 of an array is not UTF-8"),
     ],
 )
 def test_arrays_that_are_not_served(source, kind, said):

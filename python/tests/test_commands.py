@@ -200,6 +200,16 @@ def test_values_are_looked_for_by_runs():
     assert [1] in lists and None in lists and [2] not in lists
 
 
+def test_runs_over_runs():
+    column = Column.of([4, None, 7])
+    for _ in range(60):
+        column = Column.from_runs(Column.of([1, 2, 3], "u8"), column)
+    assert column.to_list() == [4, None, 7] and column.null_count == 1 and column.sum() == 11
+    assert 7 in column and None in column and 5 not in column and column.lt(300).to_list() == [True, None, True]
+    with pytest.raises(errors.NullNotAllowed, match="row 1 is null"):
+        column.cast("i8")
+
+
 def test_columns_past_what_len_counts():
     many, none = Column.constant(7, 2**63), Column.constant(7, 0)
     assert many and Column.from_runs([2**64 - 1], ["oak"]) and not none and not Column.of([], "i8")
