@@ -31,14 +31,16 @@ def bits_of(flags: Iterable[Any]) -> bytes:
 
 
 def flags_of(valid: Optional[Any]) -> Optional[Any]:
-    """Flags that a caller gives, in which None and pandas.NA are false."""
+    """Flags that a caller gives, in which None, pandas.NA and what is masked are false."""
     if valid is None:
         return None
     if isinstance(valid, type) or not hasattr(valid, "dtype") or valid.dtype.kind == "O":
         return listed(valid, "flags")
     if valid.ndim != 1 or valid.dtype.kind not in "biu":
         raise TypeError(f"flags are booleans in one dimension, not {in_words(valid)}")
-    return valid.to_numpy(dtype=bool, na_value=False) if hasattr(valid, "isna") else valid
+    if hasattr(valid, "isna"):
+        return valid.to_numpy(dtype=bool, na_value=False)
+    return valid.filled(False) if hasattr(valid, "filled") else valid
 
 
 def validity_of(valid: Optional[Sequence[Any]], rows: int, nullable: bool = False) -> tuple[int, bytes, int, int]:
@@ -239,7 +241,9 @@ def texts_at(offsets: array.array[int], data: bytes, name: str, validity: tuple[
 
 
 def view_of(items: Any) -> memoryview:
-    """The buffer of an object that has one."""
+    """The buffer of an object that has one. That of a masked array would be read without its mask."""
+    if type(items).__name__ == "MaskedArray":
+        raise TypeError("a masked array has flags of its own: Column.of reads them")
     try:
         return memoryview(items)
     except TypeError:

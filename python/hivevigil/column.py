@@ -179,7 +179,7 @@ class Column:
         `__arrow_c_stream__`, whose chunks become one column): an array, or a batch or table of one column."""
         columns = _arrow.import_columns(source, cls)
         if len(columns) != 1:
-            raise ValueError(f"{len(columns)} columns, {', '.join(columns)}: columns_from_arrow takes more than one")
+            raise ValueError(f"{len(columns)} columns ({', '.join(columns)}) and not one: see columns_from_arrow")
         return columns.popitem()[1]
 
     @classmethod

@@ -87,6 +87,7 @@ def test_values_that_are_missing():
     [
         [True, NA], [True, None], pandas.array([True, NA], dtype="boolean"), pandas.Series([True, False]),
         pandas.Series([True, NA], dtype="boolean"), numpy.array([True, False]),
+        numpy.ma.masked_array([True, True], [False, True]), Column.of([True, None]), numpy.array([True, None], object),
     ],
 )
 def test_flags_that_are_missing(valid):

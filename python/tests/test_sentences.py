@@ -117,6 +117,8 @@ IS_NOT_ROWS = "are a list, another iterable, an array or a column, not"
         (lambda: Column.from_bytes("a"), "an array, a memoryview or another bytes-like object is expected, not 'a'"),
         (lambda: Column.from_buffer(b"a", 5), f"flags {IS_NOT_ROWS} 5"),
         (lambda: Column.from_buffer(b"a", numpy.array([[1]])), "flags are booleans in one dimension, not array([[1]])"),
+        (lambda: Column.from_buffer(numpy.ma.masked_array([1, 2], [False, True])),
+         "a masked array has flags of its own: Column.of reads them"),
         (lambda: concat(5), f"columns {IS_NOT_ROWS} 5"),
         (lambda: TWO.to_arrow(5), "a name is a text, not 5"),
         (lambda: TWO.to_arrow("", b"i"), "a format is a text, not b'i'"),
