@@ -12,6 +12,7 @@ from numbers import Real
 from typing import TYPE_CHECKING, Any, NoReturn
 
 from ._library import calls, session
+from ._making import is_array
 from ._types import TYPES, WHOLE_NUMBERS, range_of
 from ._values import is_truth, is_whole, operator_of, passed, stored
 from .errors import TypeMismatch, in_words
@@ -27,6 +28,9 @@ _DIGITS = 60  # more than any type has
 def with_value(column: Column, sign: str, value: Any) -> Column:
     """Row by row whether `row sign value`; null where the row or the value is null."""
     operator_of(sign)
+    if isinstance(value, (list, tuple, range)) or is_array(value) and getattr(value, "ndim", 1) > 0:
+        made = f"Column.of(..) makes one of {in_words(value)}"
+        raise TypeError(f"a column is compared with a column or one value: {made}")
     name, number = TYPES[column._kind.number], None
     if is_number(value) and (name in WHOLE_NUMBERS or name == "decimal"):
         fits = _WIDE if name == "decimal" else range_of(name)
