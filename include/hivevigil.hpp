@@ -68,8 +68,8 @@ public:
             return hv_bools(bits.data(), bits.size(), 0, rows.size(), validity, out, error);
         });
     }
-    // Decimals, each as it is at this scale; refused as HV_CAST_OUT_OF_RANGE where one has more digits after the point.
-    // Their number of digits is not tested against the precision.
+    // Decimals, each as it is at this scale; refused as HV_CAST_OUT_OF_RANGE where one has more digits after the point,
+    // or more digits than the precision.
     static Column decimals(const std::vector<Decimal> &rows, uint8_t precision, int8_t scale,
                            const std::vector<bool> *valid = nullptr) {
         const hv_kind kind = kinds::decimal(precision, scale);
@@ -77,7 +77,7 @@ public:
         for (size_t row = 0; row < rows.size(); row++) pairs[row] = detail::pair_at(rows[row], kind, row);
         return decimals(pairs, precision, scale, valid);
     }
-    // The same of numbers that are at this scale: {1050, 0} of scale 2 is 10.50.
+    // The same of numbers that are at this scale, of which nothing is tested: {1050, 0} of scale 2 is 10.50.
     static Column decimals(const std::vector<hv_pair> &pairs, uint8_t precision, int8_t scale,
                            const std::vector<bool> *valid = nullptr) {
         return with_nulls(pairs.size(), valid, [&](auto validity, auto *out, auto *error) {

@@ -214,7 +214,8 @@ static inline int32_t hv_arrow_begin_lists(hv_column *columns, size_t count, hv_
         const hv_kind kind = hv_kind_of(&columns[i]);
         if (kind.number == 255) return hv_arrow_refuse(HV_NO_COLUMN, 0, 0, error);
         if (kind.number != HV_LIST) return hv_arrow_refuse(HV_TYPE_MISMATCH, 0, 0, error);
-        if (hv_length(&columns[i]) > SIZE_MAX / 32 - joined->room) return hv_arrow_refuse(HV_OUT_OF_MEMORY, 0, 0, error);
+        if (hv_length(&columns[i]) > SIZE_MAX / 32 - joined->room)
+            return hv_arrow_refuse(HV_OUT_OF_MEMORY, 0, 0, error);
         joined->room += hv_length(&columns[i]);
         joined->nullable |= kind.nullable;
     }

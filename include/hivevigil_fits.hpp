@@ -20,12 +20,20 @@ struct Range {
     bool has(Wide number) const { return least <= number && number <= greatest; }
 };
 
-// The numbers of a numeric type, without their scale. Precision is not tested, as in C.
+// The numbers that a column of a numeric type may hold, without their scale. C does not test the precision.
 inline Range range_of(hv_kind kind) {
     if (kind.number == HV_DECIMAL) return {wide_least, wide_greatest};
     const int bits = 8 << kind.number % 4;
     if (!is_signed(kind)) return {0, (Wide(1) << bits) - 1};
     return {-(Wide(1) << (bits - 1)), (Wide(1) << (bits - 1)) - 1};
+}
+
+// Those of at most `precision` digits; 128 bits have at most 39.
+inline Range range_of_values(hv_kind kind) {
+    if (kind.number != HV_DECIMAL || kind.precision > 38) return range_of(kind);
+    Wide past = 1;
+    for (int digit = 0; digit < kind.precision; digit++) past *= 10;
+    return {1 - past, past - 1};
 }
 
 // ---- Values ----
@@ -68,7 +76,8 @@ inline bool may_be(const Value &value, hv_kind kind) {
 }
 
 // The value as a row of the type: 7 is 7.00 in decimals of scale 2. Refused as 12 where it is of another sort, and as
-// 14 where it is a number that the type does not have. Null is left to the call.
+// 14 where it is a number that the type does not have: decimals have at most `precision` digits. Null is left to the
+// call.
 inline Value fitted(const Value &value, hv_kind kind) {
     if (std::holds_alternative<Null>(value) || kind.number >= HV_LIST) return value;
     const auto refuse = [kind](int32_t number, const std::string &what) {
@@ -78,14 +87,14 @@ inline Value fitted(const Value &value, hv_kind kind) {
     const std::optional<Number> number = number_of(value);
     if (!number) return value;
     const AtScale at = at_scale(number->digits, number->scale, scale_of(kind));
-    if (at.past || at.rest || !range_of(kind).has(at.floor)) refuse(HV_CAST_OUT_OF_RANGE, to_string(value));
+    if (at.past || at.rest || !range_of_values(kind).has(at.floor)) refuse(HV_CAST_OUT_OF_RANGE, to_string(value));
     return value_of(at.floor, kind);
 }
 
-// A decimal as C has it in a column of this type; refused as 14 where it has more digits after the point.
+// A decimal as C has it in a column of this type; refused as 14 where the type does not have it.
 inline hv_pair pair_at(Decimal number, hv_kind kind, size_t row) {
     const AtScale at = at_scale(number.digits(), number.scale, kind.scale);
-    if (at.past || at.rest)
+    if (at.past || at.rest || !range_of_values(kind).has(at.floor))
         throw Error(HV_CAST_OUT_OF_RANGE, {},
                     "row " + std::to_string(row) + " is " + to_string(number) + ", which does not fit " +
                         to_string(kind));

@@ -90,6 +90,13 @@ static void check_decimals() {
     CHECK(builder.runs() == 2 && hv::to_string(builder.finish().at(2)) == "7.00");
     check_refused(HV_CAST_OUT_OF_RANGE, "10.505 does not fit decimal(10, 2)",
                   [&] { some.fill(Decimal::of(10505, 3)); });
+    const hv_kind narrow = hv::kinds::decimal(4, 2);
+    CHECK(Column::constant(narrow, Decimal::of(-9999, 2), 1).get<Decimal>(0) == Decimal::of(-9999, 2));
+    check_refused(HV_CAST_OUT_OF_RANGE, "100 does not fit decimal(4, 2)", [&] { Column::constant(narrow, 100, 1); });
+    check_refused(HV_CAST_OUT_OF_RANGE, "row 0 is -100.00, which does not fit decimal(4, 2)",
+                  [] { Column::decimals({Decimal::of(-10000, 2)}, 4, 2); });
+    const Decimal least(0, INT64_MIN, 0);
+    CHECK(Column::constant(hv::kinds::decimal(39, 0), least, 1).get<Decimal>(0) == least);
     check_refused(HV_CAST_OUT_OF_RANGE, "row 1 is 0.005, which does not fit decimal(10, 2)", [] {
         Column::decimals({Decimal::of(1, 0), Decimal::of(5, 3)}, 10, 2);
     });

@@ -9,7 +9,7 @@ impl Kind {
         self.is_unsigned() || self.is_signed() || self.is_decimal()
     }
 
-    /// Returns the numbers that a numeric type has, without their scale. Precision is not tested, as in C.
+    /// Returns the numbers that a column of a numeric type may hold, without scale. C does not test the precision.
     pub(crate) fn range(self) -> RangeInclusive<i128> {
         let bits = 8 << (self.number % 4);
         if self.is_decimal() {
@@ -19,6 +19,14 @@ impl Kind {
         } else {
             -(1 << (bits - 1))..=(1 << (bits - 1)) - 1
         }
+    }
+
+    /// Returns whether a value of the type may have these digits: decimals have at most `precision` of them. 128 bits
+    /// have at most 39.
+    fn has(self, digits: i128) -> bool {
+        let is_short = |precision: u32| digits.unsigned_abs() < 10u128.pow(precision);
+        let fits = !self.is_decimal() || self.precision > 38 || is_short(self.precision.into());
+        fits && self.range().contains(&digits)
     }
 
     /// Counts the digits after the point.
@@ -87,9 +95,7 @@ impl Value {
             return Ok(self);
         };
         match number.at_scale(kind.places()) {
-            AtScale::Exact(digits) if kind.range().contains(&digits) => {
-                Ok(Value::of_digits(digits, kind))
-            }
+            AtScale::Exact(digits) if kind.has(digits) => Ok(Value::of_digits(digits, kind)),
             _ => Err(Error::misfit(number, kind)),
         }
     }

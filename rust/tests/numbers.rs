@@ -144,6 +144,25 @@ fn numbers_go_into_decimals() -> Result<(), Error> {
         ErrorKind::CastOutOfRange,
         sentence,
     );
+    let narrow = Kind::decimal(4, 2);
+    for (digits, fits) in [(9999, true), (-9999, true), (10000, false), (-10000, false)] {
+        let column = Column::constant(narrow, Decimal::new(digits, 2), 1);
+        assert_eq!(column.is_ok(), fits);
+    }
+    let sentence = "100.00 does not fit decimal(4, 2)";
+    check_refused(
+        Column::constant(narrow, Decimal::new(10000, 2), 1),
+        ErrorKind::CastOutOfRange,
+        sentence,
+    );
+    let sentence = "100 does not fit decimal(4, 2)";
+    check_refused(
+        Column::constant(narrow, 100, 1),
+        ErrorKind::CastOutOfRange,
+        sentence,
+    );
+    let widest = Column::constant(Kind::decimal(39, 0), Decimal::new(i128::MIN, 0), 1)?;
+    assert_eq!(widest.at(0)?, decimal(i128::MIN, 0));
     let mut builder = Builder::new(Kind::decimal(10, 2))?;
     builder.append_value(Decimal::new(105, 1), 2)?;
     builder.append_value(7u8, 1)?;
