@@ -129,7 +129,7 @@ def check_refusals():
         column[10]
         raise AssertionError("not refused")
     except IndexError as error:
-        assert str(error) == "row 10 of a column of 10 rows"
+        assert str(error) == "row 10 is not among 10 rows"
 
 
 check_runs()

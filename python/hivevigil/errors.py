@@ -83,16 +83,16 @@ class LastEndBelowWindow(HivevigilError, ValueError):
 
 
 class OutOfBounds(HivevigilError, IndexError):
-    number, sentence = 8, "row {0} of a column of {1} rows"
+    number, sentence = 8, "row {0} is not among {1} rows"
 
     def _in_words(self) -> str:
         if self.fields[0] == 2**64 - 1:
-            return f"a row that is negative, or past 2**64 - 2, of a column of {self.fields[1]} rows"
+            return f"a row that is negative, or past 2**64 - 2, is not among {self.fields[1]} rows"
         return super()._in_words()
 
 
 class BadRange(HivevigilError, IndexError):
-    number, sentence = 9, "rows {0} to {1} of a column of {2} rows"
+    number, sentence = 9, "rows {0} to {1} are not among {2} rows"
 
 
 class MaskLength(HivevigilError, ValueError):
@@ -104,7 +104,7 @@ class ColumnLength(HivevigilError, ValueError):
 
 
 class TypeMismatch(HivevigilError, TypeError):
-    number, sentence = 12, "the types do not go together"
+    number, sentence = 12, "the types do not match"
 
     def _in_words(self) -> str:
         if len(self.columns) < 2:
@@ -135,6 +135,10 @@ class NullFill(HivevigilError, ValueError):
 
 class BadMetadata(HivevigilError, ValueError):
     number, sentence = 17, "the bytes are not a metadata record, or not a column"
+
+    def _in_words(self) -> str:
+        what = {"from_bytes": "not what to_bytes writes", "from_record": "not a metadata record"}.get(self.call)
+        return f"{self.call}: the bytes are {what}" if what else super()._in_words()
 
 
 class EndsTypeNumber(HivevigilError, ValueError):

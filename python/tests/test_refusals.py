@@ -164,7 +164,7 @@ def test_refusals_name_the_call_and_its_columns():
         assert str(caught.value) == sentence
         assert str(pickle.loads(pickle.dumps(caught.value))) == sentence
     assert str(errors.Unsupported()) == "the call does not serve columns of this type or form"
-    assert str(errors.TypeMismatch()) == "the types do not go together"
+    assert str(errors.TypeMismatch()) == "the types do not match"
 
 
 ORDER = "which makes a mask; columns have no order, and == between two says whether they are one object"
