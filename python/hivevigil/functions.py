@@ -19,7 +19,8 @@ def columns_from_arrow(source: Any) -> dict[str, Column]:
 
 
 def concat(columns: Iterable[Column]) -> Column:
-    """The rows of columns of one type, one column after the other: runs where each is runs or a constant, else flat."""
+    """The rows of columns of one type, one column after the other: lists as lists, runs where each column is runs or a
+    constant, else flat."""
     given = [_column(column) for column in listed(columns, "columns")]
     if not given:
         raise ValueError("concat takes at least one column, whose type is that of the answer")
@@ -29,8 +30,9 @@ def concat(columns: Iterable[Column]) -> Column:
     try:
         return Column._made(calls.hv_concat_columns, session, handles, len(given))
     except TypeMismatch as refused:
-        other = next(column for column in given if column.type.rstrip("?") != given[0].type.rstrip("?"))
-        raise refused.about("concat", given[0], other) from None
+        types = list(dict.fromkeys(column.type.rstrip("?") for column in given))
+        why = f"{types[0]} and {types[1]} are two types" if len(types) > 1 else "the elements are of two types"
+        raise refused.saying(f"concat: {why}; columns of one type are joined") from None
 
 
 def version() -> str:

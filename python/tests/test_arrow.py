@@ -235,3 +235,12 @@ def test_capsules_at_the_end_of_the_interpreter():
     program = "import hivevigil; kept = hivevigil.Column.of([1, 2]).encode(); parts = kept.__arrow_c_array__()"
     ended = subprocess.run([sys.executable, "-X", "dev", "-c", program], env=FINDS, capture_output=True, text=True)
     assert (ended.returncode, ended.stderr) == (0, "")
+
+
+def test_chunks_of_lists():
+    def lists(sizes, rows):
+        offsets = b"".join(offset.to_bytes(4, "little") for offset in accumulate(sizes, initial=0))
+        return Made("+l", [None, ctypes.create_string_buffer(offsets)], len(sizes), children=[numbers(rows)])
+
+    column = Column.from_arrow(MadeStream([lists([2, 0], [1, None]), lists([], []), lists([1], [3])]))
+    assert (column.type, column.to_list()) == ("list?", [[1, None], [], [3]])

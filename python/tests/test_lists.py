@@ -3,7 +3,7 @@ import copy
 import pickle
 
 import pytest
-from hivevigil import Column, errors
+from hivevigil import Column, concat, errors
 from hypothesis import given
 from hypothesis import strategies as st
 
@@ -103,3 +103,13 @@ def test_bytes():
     assert Column.of([True] * 17).nbytes == 3
     assert Column.constant("abcd", 10**9).nbytes == 4
     assert Column.from_lists([1, 2], [0, 1], [2, 1]).nbytes == 2 * 8 + 2 * (8 + 8)
+
+
+def test_lists_one_after_the_other():
+    first = Column.from_lists([1, 2], [1, 0], [1, 2])
+    second = Column.from_lists([3, None], [0, 0], [2, 0], [True, False])
+    assert concat([first, second, first]).to_list() == [[2], [1, 2], [3, None], None, [2], [1, 2]]
+    assert concat([first, second]).type == "list?" and concat([first]).to_list() == first.to_list()
+    with pytest.raises(errors.TypeMismatch) as refused:
+        concat([first, Column.from_lists(["a"], [0], [1])])
+    assert str(refused.value) == "concat: the elements are of two types; columns of one type are joined"
