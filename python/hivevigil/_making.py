@@ -307,6 +307,9 @@ def of_pandas(items: Any) -> Made:
     missing = numpy.asarray(items.isna())
     valid = ~missing if missing.any() else None
     native = getattr(items.dtype, "numpy_dtype", items.dtype)
+    if getattr(native, "kind", "O") in "fmM":
+        hint = f"{NOT_FLOAT}, .astype('Int64')" if native.kind == "f" else "its .astype('int64')"
+        raise TypeError(f"no column has items of dtype {items.dtype}: {hint} are integers")
     if getattr(native, "kind", "O") not in "iub":
         return of_numpy(numpy.asarray(items.astype(object)), valid)
     if native is items.dtype:
