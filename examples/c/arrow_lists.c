@@ -166,7 +166,7 @@ static void check_one(void) {
     const int32_t answer = hv_arrow_import(&session, &schema, &array, &came, &error);
     if (answer) fprintf(stderr, "%s: refused as %" PRId32 "\n", of->format, answer), stop("a legal array", 0);
     check_out_and_in(&came, &values, runs ? due : NULL, count);
-    check_stream(&came, &values, runs ? due : NULL, count);
+    if (one_in(4)) check_stream(&came, &values, runs ? due : NULL, count);
     check_bytes(&came, &values, runs ? due : NULL, count);
     hv_free(&came);
 }
