@@ -50,6 +50,39 @@ fn bits_are_appended_filled_cut_copied_and_sliced(rt: HostRuntime) -> Result<(),
     Ok(())
 }
 
+// The words of 65 true bits.
+const TWO_WORDS: [u64; 2] = [18_446_744_073_709_551_615, 1];
+
+// 128 true bits, counted between places on both sides of a word's end, and again with ten of them cleared there.
+struct Counted {}
+
+impl Calls for Counted {
+    fn are_answered<A: Allocator + Copy>(alloc: A) -> VortexResult<bool> {
+        let bits = BitBufferMut::full(alloc, true, 128)?.freeze();
+        let counts = (
+            bits.count_range(0, 0),
+            bits.count_range(63, 65),
+            bits.count_range(1, 127),
+        );
+        drop(bits);
+        let mut bits = BitBufferMut::full(alloc, true, 128)?;
+        bits.fill_range(60, 70, false);
+        let bits = bits.freeze();
+        let left = bits.true_count();
+        drop(bits);
+        let bits = BitBufferMut::full(alloc, true, 65)?.freeze();
+        let are_words = bits.words() == TWO_WORDS.as_slice();
+        drop(bits);
+        Ok(counts == (0, 2, 126) && left == 118 && are_words)
+    }
+}
+
+#[test]
+fn bits_are_counted_across_words(rt: HostRuntime) -> Result<(), Fail> {
+    assert!(rt; are_answered_in_turn::<Counted>(rt.alloc()));
+    Ok(())
+}
+
 // The numbers of the true bits, of 65 that are filled and then cleared but for both ends.
 struct Numbered {}
 

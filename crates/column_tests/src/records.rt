@@ -46,7 +46,8 @@ fn are_bytes<A: Allocator>(written: VortexResult<Vec<u8, A>>, bytes: &[u8]) -> V
     Ok(are_due)
 }
 
-// A record that says nothing has no bytes. One of three runs from row 1 on, with ends of type u32, is read again.
+// A record that says nothing has no bytes, and one that says an offset alone has no other field. One of three runs from
+// row 1 on, with ends of type u32, is read again.
 struct Records {}
 
 impl Calls for Records {
@@ -54,11 +55,13 @@ impl Calls for Records {
         let mut metadata = RunEndMetadata::default();
         let is_empty = metadata.ends_ptype() == PType::U8
             && are_bytes(metadata.encode_to_vec(alloc), &[])?;
+        metadata.offset = 300;
+        let is_offset = are_bytes(metadata.encode_to_vec(alloc), &[0x18, 0xAC, 0x02])?;
         metadata.set_ends_ptype(PType::U32);
         metadata.num_runs = 3;
         metadata.offset = 1;
         let is_spelt = are_bytes(metadata.encode_to_vec(alloc), &[0x08, 2, 0x10, 3, 0x18, 1])?;
-        Ok(is_empty && is_spelt && write_then_read(&metadata, alloc)? == metadata)
+        Ok(is_empty && is_offset && is_spelt && write_then_read(&metadata, alloc)? == metadata)
     }
 }
 
