@@ -24,8 +24,9 @@ pub fn written_is_a_message()
 
 /// Two encodings of the same rows and type, which is none of lists, have the same message, byte for byte, whichever
 /// columns they were made of and wherever their texts lie. An encoding is what `encode_rows` of `runend_encode_rows`
-/// answers: the tight exact cover, from the first row on, with ends of the least type and flat values as a call computes
-/// them. `RunEnd::encode` answers it too, but of a column whose validity says by its form that all rows are null.
+/// answers: the tight exact cover, from the first row on, with ends of the least type and flat values as a call
+/// computes them. `RunEnd::encode` answers it too, but of a column whose validity says by its form that all rows are
+/// null.
 /// For caches, group-by and databases: bytes can be compared and hashed in place of rows.
 pub fn equal_rows_equal_bytes()
     ensures { EqualRowsEqualBytes }
