@@ -44,31 +44,60 @@ HV_CALL void hv_session_initial(hv_session *session) {
 HV_CALL void hv_free(hv_column *column) {
     if (column) (hv_free)(column);
 }
+HV_CALL void hv_builder_free(hv_builder *builder) {
+    if (builder) (hv_builder_free)(builder);
+}
 
-/* Numbers of each native type */
-#define HV_NATIVE(type, suffix) \
-    HV_ANSWER hv_##suffix(const type *items, size_t len, hv_validity validity, hv_column *out, hv_error *error) { \
-        hv_error ignored; \
-        HV_ITEMS(const type, items, len); \
-        HV_BITS(validity); \
-        return (hv_##suffix)(items, len, HV_PARTS(validity), out, HV_FIELDS); \
-    } \
-    HV_ANSWER hv_read_##suffix(const hv_column *column, size_t start, type *items, size_t len, hv_error *error) { \
-        hv_error ignored; \
-        HV_ITEMS(type, items, len); \
-        return (hv_read_##suffix)(hv_lent(column), start, items, len, HV_FIELDS); \
-    }
-HV_NATIVE(uint8_t, u8)
-HV_NATIVE(uint16_t, u16)
-HV_NATIVE(uint32_t, u32)
-HV_NATIVE(uint64_t, u64)
-HV_NATIVE(int8_t, i8)
-HV_NATIVE(int16_t, i16)
-HV_NATIVE(int32_t, i32)
-HV_NATIVE(int64_t, i64)
-#undef HV_NATIVE
-
+/* made by tools/declarations.py from hivevigil.h */
 /* Making columns */
+HV_ANSWER hv_u8(const uint8_t *items, size_t len, hv_validity validity, hv_column *out, hv_error *error) {
+    hv_error ignored;
+    HV_ITEMS(const uint8_t, items, len);
+    HV_BITS(validity);
+    return (hv_u8)(items, len, HV_PARTS(validity), out, HV_FIELDS);
+}
+HV_ANSWER hv_u16(const uint16_t *items, size_t len, hv_validity validity, hv_column *out, hv_error *error) {
+    hv_error ignored;
+    HV_ITEMS(const uint16_t, items, len);
+    HV_BITS(validity);
+    return (hv_u16)(items, len, HV_PARTS(validity), out, HV_FIELDS);
+}
+HV_ANSWER hv_u32(const uint32_t *items, size_t len, hv_validity validity, hv_column *out, hv_error *error) {
+    hv_error ignored;
+    HV_ITEMS(const uint32_t, items, len);
+    HV_BITS(validity);
+    return (hv_u32)(items, len, HV_PARTS(validity), out, HV_FIELDS);
+}
+HV_ANSWER hv_u64(const uint64_t *items, size_t len, hv_validity validity, hv_column *out, hv_error *error) {
+    hv_error ignored;
+    HV_ITEMS(const uint64_t, items, len);
+    HV_BITS(validity);
+    return (hv_u64)(items, len, HV_PARTS(validity), out, HV_FIELDS);
+}
+HV_ANSWER hv_i8(const int8_t *items, size_t len, hv_validity validity, hv_column *out, hv_error *error) {
+    hv_error ignored;
+    HV_ITEMS(const int8_t, items, len);
+    HV_BITS(validity);
+    return (hv_i8)(items, len, HV_PARTS(validity), out, HV_FIELDS);
+}
+HV_ANSWER hv_i16(const int16_t *items, size_t len, hv_validity validity, hv_column *out, hv_error *error) {
+    hv_error ignored;
+    HV_ITEMS(const int16_t, items, len);
+    HV_BITS(validity);
+    return (hv_i16)(items, len, HV_PARTS(validity), out, HV_FIELDS);
+}
+HV_ANSWER hv_i32(const int32_t *items, size_t len, hv_validity validity, hv_column *out, hv_error *error) {
+    hv_error ignored;
+    HV_ITEMS(const int32_t, items, len);
+    HV_BITS(validity);
+    return (hv_i32)(items, len, HV_PARTS(validity), out, HV_FIELDS);
+}
+HV_ANSWER hv_i64(const int64_t *items, size_t len, hv_validity validity, hv_column *out, hv_error *error) {
+    hv_error ignored;
+    HV_ITEMS(const int64_t, items, len);
+    HV_BITS(validity);
+    return (hv_i64)(items, len, HV_PARTS(validity), out, HV_FIELDS);
+}
 HV_ANSWER hv_bools(const uint8_t *truths, size_t truths_len, size_t start, size_t count, hv_validity validity,
                    hv_column *out, hv_error *error) {
     hv_error ignored;
@@ -215,13 +244,63 @@ HV_ANSWER hv_at(const hv_column *column, size_t row, hv_value *value, uint8_t *t
     HV_ITEMS(uint8_t, text, text_len);
     return (hv_at)(hv_lent(column), row, value, text, text_len, HV_FIELDS);
 }
-HV_CALL size_t hv_length(const hv_column *column) { return (hv_length)(hv_lent(column)); }
-HV_CALL hv_kind hv_kind_of(const hv_column *column) { return (hv_kind_of)(hv_lent(column)); }
-HV_CALL uint8_t hv_form(const hv_column *column) { return (hv_form)(hv_lent(column)); }
-HV_CALL size_t hv_offset(const hv_column *column) { return (hv_offset)(hv_lent(column)); }
-HV_CALL size_t hv_bytes_used(const hv_column *column) { return (hv_bytes_used)(hv_lent(column)); }
+HV_CALL size_t hv_length(const hv_column *column) {
+    return (hv_length)(hv_lent(column));
+}
+HV_CALL hv_kind hv_kind_of(const hv_column *column) {
+    return (hv_kind_of)(hv_lent(column));
+}
+HV_CALL uint8_t hv_form(const hv_column *column) {
+    return (hv_form)(hv_lent(column));
+}
+HV_CALL size_t hv_offset(const hv_column *column) {
+    return (hv_offset)(hv_lent(column));
+}
+HV_CALL size_t hv_bytes_used(const hv_column *column) {
+    return (hv_bytes_used)(hv_lent(column));
+}
 
 /* Reading many rows */
+HV_ANSWER hv_read_u8(const hv_column *column, size_t start, uint8_t *items, size_t len, hv_error *error) {
+    hv_error ignored;
+    HV_ITEMS(uint8_t, items, len);
+    return (hv_read_u8)(hv_lent(column), start, items, len, HV_FIELDS);
+}
+HV_ANSWER hv_read_u16(const hv_column *column, size_t start, uint16_t *items, size_t len, hv_error *error) {
+    hv_error ignored;
+    HV_ITEMS(uint16_t, items, len);
+    return (hv_read_u16)(hv_lent(column), start, items, len, HV_FIELDS);
+}
+HV_ANSWER hv_read_u32(const hv_column *column, size_t start, uint32_t *items, size_t len, hv_error *error) {
+    hv_error ignored;
+    HV_ITEMS(uint32_t, items, len);
+    return (hv_read_u32)(hv_lent(column), start, items, len, HV_FIELDS);
+}
+HV_ANSWER hv_read_u64(const hv_column *column, size_t start, uint64_t *items, size_t len, hv_error *error) {
+    hv_error ignored;
+    HV_ITEMS(uint64_t, items, len);
+    return (hv_read_u64)(hv_lent(column), start, items, len, HV_FIELDS);
+}
+HV_ANSWER hv_read_i8(const hv_column *column, size_t start, int8_t *items, size_t len, hv_error *error) {
+    hv_error ignored;
+    HV_ITEMS(int8_t, items, len);
+    return (hv_read_i8)(hv_lent(column), start, items, len, HV_FIELDS);
+}
+HV_ANSWER hv_read_i16(const hv_column *column, size_t start, int16_t *items, size_t len, hv_error *error) {
+    hv_error ignored;
+    HV_ITEMS(int16_t, items, len);
+    return (hv_read_i16)(hv_lent(column), start, items, len, HV_FIELDS);
+}
+HV_ANSWER hv_read_i32(const hv_column *column, size_t start, int32_t *items, size_t len, hv_error *error) {
+    hv_error ignored;
+    HV_ITEMS(int32_t, items, len);
+    return (hv_read_i32)(hv_lent(column), start, items, len, HV_FIELDS);
+}
+HV_ANSWER hv_read_i64(const hv_column *column, size_t start, int64_t *items, size_t len, hv_error *error) {
+    hv_error ignored;
+    HV_ITEMS(int64_t, items, len);
+    return (hv_read_i64)(hv_lent(column), start, items, len, HV_FIELDS);
+}
 HV_ANSWER hv_read_decimals(const hv_column *column, size_t start, hv_pair *pairs, size_t len, hv_error *error) {
     hv_error ignored;
     HV_ITEMS(hv_pair, pairs, len);
@@ -324,7 +403,7 @@ HV_ANSWER hv_list_validity(const hv_column *column, hv_column *out, hv_error *er
     return (hv_list_validity)(hv_lent(column), out, HV_FIELDS);
 }
 
-/* Encodings, and builders */
+/* Encodings of any column, and of rows that come batch by batch */
 HV_ANSWER hv_encode_rows(const hv_column *column, hv_column *out, hv_error *error) {
     hv_error ignored;
     return (hv_encode_rows)(hv_lent(column), out, HV_FIELDS);
@@ -351,13 +430,12 @@ HV_ANSWER hv_finish(hv_builder *builder, hv_column *out, hv_error *error) {
     hv_error ignored;
     return (hv_finish)(builder, out, HV_FIELDS);
 }
-HV_CALL size_t hv_builder_rows(const hv_builder *builder) { return (hv_builder_rows)(hv_lent_builder(builder)); }
-HV_CALL size_t hv_builder_runs(const hv_builder *builder) { return (hv_builder_runs)(hv_lent_builder(builder)); }
-HV_CALL void hv_builder_free(hv_builder *builder) {
-    if (builder) (hv_builder_free)(builder);
+HV_CALL size_t hv_builder_rows(const hv_builder *builder) {
+    return (hv_builder_rows)(hv_lent_builder(builder));
 }
-
-/* Messages */
+HV_CALL size_t hv_builder_runs(const hv_builder *builder) {
+    return (hv_builder_runs)(hv_lent_builder(builder));
+}
 HV_ANSWER hv_write_size(const hv_column *column, size_t *size, hv_error *error) {
     hv_error ignored;
     return (hv_write_size)(hv_lent(column), size, HV_FIELDS);
@@ -372,6 +450,7 @@ HV_ANSWER hv_read_column(const uint8_t *bytes, size_t bytes_len, hv_column *out,
     HV_ITEMS(const uint8_t, bytes, bytes_len);
     return (hv_read_column)(bytes, bytes_len, out, HV_FIELDS);
 }
+/* end of what tools/declarations.py makes */
 
 #undef HV_ITEMS
 #undef HV_BITS

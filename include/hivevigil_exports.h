@@ -26,25 +26,26 @@ typedef struct hv_settings {
     uint8_t kernels[12];
 } hv_settings;
 
+/* made by tools/declarations.py from hivevigil.h */
 HV_EXPORT void hv_session_initial(hv_settings *settings);
-HV_EXPORT void hv_free(hv_column *column);
-
-/* Numbers of each native type: hv_u8 to hv_i64, and hv_read_u8 to hv_read_i64 */
-#define HV_NATIVE(type, suffix) \
-    HV_EXPORT int32_t hv_##suffix(const type *items, size_t len, uint8_t nulls, const uint8_t *bits, size_t bits_len, \
-                                  size_t first, hv_column *out, hv_error *error); \
-    HV_EXPORT int32_t hv_read_##suffix(hv_column *column, size_t start, type *items, size_t len, hv_error *error);
-HV_NATIVE(uint8_t, u8)
-HV_NATIVE(uint16_t, u16)
-HV_NATIVE(uint32_t, u32)
-HV_NATIVE(uint64_t, u64)
-HV_NATIVE(int8_t, i8)
-HV_NATIVE(int16_t, i16)
-HV_NATIVE(int32_t, i32)
-HV_NATIVE(int64_t, i64)
-#undef HV_NATIVE
 
 /* Making columns */
+HV_EXPORT int32_t hv_u8(const uint8_t *items, size_t len, uint8_t nulls, const uint8_t *bits, size_t bits_len,
+                        size_t first, hv_column *out, hv_error *error);
+HV_EXPORT int32_t hv_u16(const uint16_t *items, size_t len, uint8_t nulls, const uint8_t *bits, size_t bits_len,
+                         size_t first, hv_column *out, hv_error *error);
+HV_EXPORT int32_t hv_u32(const uint32_t *items, size_t len, uint8_t nulls, const uint8_t *bits, size_t bits_len,
+                         size_t first, hv_column *out, hv_error *error);
+HV_EXPORT int32_t hv_u64(const uint64_t *items, size_t len, uint8_t nulls, const uint8_t *bits, size_t bits_len,
+                         size_t first, hv_column *out, hv_error *error);
+HV_EXPORT int32_t hv_i8(const int8_t *items, size_t len, uint8_t nulls, const uint8_t *bits, size_t bits_len,
+                        size_t first, hv_column *out, hv_error *error);
+HV_EXPORT int32_t hv_i16(const int16_t *items, size_t len, uint8_t nulls, const uint8_t *bits, size_t bits_len,
+                         size_t first, hv_column *out, hv_error *error);
+HV_EXPORT int32_t hv_i32(const int32_t *items, size_t len, uint8_t nulls, const uint8_t *bits, size_t bits_len,
+                         size_t first, hv_column *out, hv_error *error);
+HV_EXPORT int32_t hv_i64(const int64_t *items, size_t len, uint8_t nulls, const uint8_t *bits, size_t bits_len,
+                         size_t first, hv_column *out, hv_error *error);
 HV_EXPORT int32_t hv_bools(const uint8_t *truths, size_t truths_len, size_t start, size_t count, uint8_t nulls,
                            const uint8_t *bits, size_t bits_len, size_t first, hv_column *out, hv_error *error);
 HV_EXPORT int32_t hv_decimals(const hv_pair *pairs, size_t len, uint8_t precision, int8_t scale, uint8_t nulls,
@@ -105,6 +106,14 @@ HV_EXPORT size_t hv_offset(hv_column *column);
 HV_EXPORT size_t hv_bytes_used(hv_column *column);
 
 /* Reading many rows */
+HV_EXPORT int32_t hv_read_u8(hv_column *column, size_t start, uint8_t *items, size_t len, hv_error *error);
+HV_EXPORT int32_t hv_read_u16(hv_column *column, size_t start, uint16_t *items, size_t len, hv_error *error);
+HV_EXPORT int32_t hv_read_u32(hv_column *column, size_t start, uint32_t *items, size_t len, hv_error *error);
+HV_EXPORT int32_t hv_read_u64(hv_column *column, size_t start, uint64_t *items, size_t len, hv_error *error);
+HV_EXPORT int32_t hv_read_i8(hv_column *column, size_t start, int8_t *items, size_t len, hv_error *error);
+HV_EXPORT int32_t hv_read_i16(hv_column *column, size_t start, int16_t *items, size_t len, hv_error *error);
+HV_EXPORT int32_t hv_read_i32(hv_column *column, size_t start, int32_t *items, size_t len, hv_error *error);
+HV_EXPORT int32_t hv_read_i64(hv_column *column, size_t start, int64_t *items, size_t len, hv_error *error);
 HV_EXPORT int32_t hv_read_decimals(hv_column *column, size_t start, hv_pair *pairs, size_t len, hv_error *error);
 HV_EXPORT int32_t hv_read_bools(hv_column *column, uint64_t *words, size_t len, hv_error *error);
 HV_EXPORT int32_t hv_read_validity(hv_column *column, uint64_t *words, size_t len, hv_error *error);
@@ -135,12 +144,7 @@ HV_EXPORT int32_t hv_list_offsets(hv_column *column, hv_column *out, hv_error *e
 HV_EXPORT int32_t hv_list_sizes(hv_column *column, hv_column *out, hv_error *error);
 HV_EXPORT int32_t hv_list_validity(hv_column *column, hv_column *out, hv_error *error);
 
-/* Messages */
-HV_EXPORT int32_t hv_write_size(hv_column *column, size_t *size, hv_error *error);
-HV_EXPORT int32_t hv_write(hv_column *column, uint8_t *bytes, size_t bytes_len, size_t *size, hv_error *error);
-HV_EXPORT int32_t hv_read_column(const uint8_t *bytes, size_t bytes_len, hv_column *out, hv_error *error);
-
-/* Encodings, and builders */
+/* Encodings of any column, and of rows that come batch by batch */
 HV_EXPORT int32_t hv_encode_rows(hv_column *column, hv_column *out, hv_error *error);
 HV_EXPORT int32_t hv_builder_new(const hv_kind *kind, hv_builder *builder, hv_error *error);
 HV_EXPORT int32_t hv_append(hv_builder *builder, hv_column *column, hv_error *error);
@@ -151,6 +155,10 @@ HV_EXPORT int32_t hv_finish(hv_builder *builder, hv_column *out, hv_error *error
 HV_EXPORT size_t hv_builder_rows(hv_builder *builder);
 HV_EXPORT size_t hv_builder_runs(hv_builder *builder);
 HV_EXPORT void hv_builder_free(hv_builder *builder);
+HV_EXPORT int32_t hv_write_size(hv_column *column, size_t *size, hv_error *error);
+HV_EXPORT int32_t hv_write(hv_column *column, uint8_t *bytes, size_t bytes_len, size_t *size, hv_error *error);
+HV_EXPORT int32_t hv_read_column(const uint8_t *bytes, size_t bytes_len, hv_column *out, hv_error *error);
+HV_EXPORT void hv_free(hv_column *column);
 
 #ifndef HV_EXPORTS_ALONE
 #define hv_session_initial(...) hv_call_session_initial(__VA_ARGS__)
@@ -234,4 +242,5 @@ HV_EXPORT void hv_builder_free(hv_builder *builder);
 #define hv_read_column(...) hv_call_read_column(__VA_ARGS__)
 #define hv_free(...) hv_call_free(__VA_ARGS__)
 #endif
+/* end of what tools/declarations.py makes */
 #endif

@@ -88,48 +88,6 @@ items! {
 /// Digits of the decimals here, and after the point.
 const DIGITS: (u8, i8) = (30, 2);
 
-extern "C" {
-    fn hv_read_decimals(
-        column: *mut Handle,
-        start: usize,
-        pairs: *mut Pair,
-        len: usize,
-        error: *mut Fields,
-    ) -> i32;
-    fn hv_read_bools(column: *mut Handle, words: *mut u64, len: usize, error: *mut Fields) -> i32;
-    fn hv_read_large_offsets(
-        column: *mut Handle,
-        start: usize,
-        offsets: *mut i64,
-        len: usize,
-        error: *mut Fields,
-    ) -> i32;
-    fn hv_read_bytes(
-        column: *mut Handle,
-        start: usize,
-        rows: usize,
-        bytes: *mut u8,
-        len: usize,
-        error: *mut Fields,
-    ) -> i32;
-    fn hv_lists(
-        elements: *mut Handle,
-        offsets: *const u64,
-        offsets_len: usize,
-        sizes: *const u64,
-        sizes_len: usize,
-        nulls: u8,
-        bits: *const u8,
-        bits_len: usize,
-        first: usize,
-        out: *mut Handle,
-        error: *mut Fields,
-    ) -> i32;
-    fn hv_list_elements(column: *mut Handle, out: *mut Handle, error: *mut Fields) -> i32;
-    fn hv_list_offsets(column: *mut Handle, out: *mut Handle, error: *mut Fields) -> i32;
-    fn hv_list_sizes(column: *mut Handle, out: *mut Handle, error: *mut Fields) -> i32;
-}
-
 impl Item for i128 {
     fn column(rows: &Flat<i128>) -> Column {
         let (number, bits, len) = nulls(&rows.flags);
@@ -150,7 +108,7 @@ impl Item for i128 {
     fn read(column: &Column) -> Vec<i128> {
         let mut pairs = vec![Pair::default(); column.len()];
         let (room, count) = (pairs.as_mut_ptr(), pairs.len());
-        done(|fields| unsafe { hv_read_decimals(column.0.get(), 0, room, count, fields) });
+        done(|fields| unsafe { raw::hv_read_decimals(column.0.get(), 0, room, count, fields) });
         pairs
             .iter()
             .map(|pair| i128::from(pair.high) << 64 | i128::from(pair.low))
@@ -204,7 +162,7 @@ impl Column {
         let (number, bits, len) = nulls(&None);
         made(|out, fields| unsafe {
             let (offsets, sizes) = (&lists.offsets.items, &lists.sizes.items);
-            hv_lists(
+            raw::hv_lists(
                 elements.0.get(),
                 offsets.as_ptr(),
                 offsets.len(),
@@ -225,9 +183,9 @@ impl Column {
             made(|out, fields| unsafe { call(self.0.get(), out, fields) })
         };
         Lists {
-            elements: part(hv_list_elements).read_flat(),
-            offsets: part(hv_list_offsets).read_flat(),
-            sizes: part(hv_list_sizes).read_flat(),
+            elements: part(raw::hv_list_elements).read_flat(),
+            offsets: part(raw::hv_list_offsets).read_flat(),
+            sizes: part(raw::hv_list_sizes).read_flat(),
         }
     }
 }
@@ -485,7 +443,7 @@ impl Column {
         let flat = self.decode(&Session::initial());
         let mut bits = Bits::filled(false, self.len());
         let (words, len) = (bits.words.as_mut_ptr(), bits.words.len());
-        done(|fields| unsafe { hv_read_bools(flat.0.get(), words, len, fields) });
+        done(|fields| unsafe { raw::hv_read_bools(flat.0.get(), words, len, fields) });
         Truths {
             bits,
             flags: flat.flags(),
@@ -497,10 +455,14 @@ impl Column {
         let flat = self.decode(&Session::initial());
         let mut offsets = vec![0; self.len() + 1];
         let (starts, count) = (offsets.as_mut_ptr(), offsets.len());
-        done(|fields| unsafe { hv_read_large_offsets(flat.0.get(), 0, starts, count, fields) });
+        done(|fields| unsafe {
+            raw::hv_read_large_offsets(flat.0.get(), 0, starts, count, fields)
+        });
         let mut bytes = vec![0; offsets[self.len()] as usize];
         let (room, size) = (bytes.as_mut_ptr(), bytes.len());
-        done(|fields| unsafe { hv_read_bytes(flat.0.get(), 0, self.len(), room, size, fields) });
+        done(|fields| unsafe {
+            raw::hv_read_bytes(flat.0.get(), 0, self.len(), room, size, fields)
+        });
         (offsets, bytes, flat.flags())
     }
 }

@@ -1,5 +1,5 @@
 //! The exports of hivevigil_exports.h, as Rust declares them.
-#![allow(clippy::too_many_arguments)]
+#![allow(clippy::too_many_arguments, dead_code)]
 
 /// A handle: a column that the library owns, or none.
 #[repr(C)]
@@ -40,35 +40,89 @@ pub struct Pair {
 
 use crate::{Fields, Kind, Session};
 
-macro_rules! numbers {
-    ($($type:ty, $make:ident, $read:ident;)*) => {
-        extern "C" {
-            $(
-                pub fn $make(
-                    items: *const $type, len: usize, nulls: u8, bits: *const u8, bits_len: usize, first: usize,
-                    out: *mut Handle, error: *mut Fields,
-                ) -> i32;
-                pub fn $read(
-                    column: *mut Handle, start: usize, items: *mut $type, len: usize, error: *mut Fields,
-                ) -> i32;
-            )*
-        }
-    };
-}
-
-numbers! {
-    u8, hv_u8, hv_read_u8;
-    u16, hv_u16, hv_read_u16;
-    u32, hv_u32, hv_read_u32;
-    u64, hv_u64, hv_read_u64;
-    i8, hv_i8, hv_read_i8;
-    i16, hv_i16, hv_read_i16;
-    i32, hv_i32, hv_read_i32;
-    i64, hv_i64, hv_read_i64;
-}
-
+// made by tools/declarations.py from hivevigil.h
 extern "C" {
-    pub fn hv_session_initial(session: *mut Session);
+    pub fn hv_session_initial(settings: *mut Session);
+    pub fn hv_u8(
+        items: *const u8,
+        len: usize,
+        nulls: u8,
+        bits: *const u8,
+        bits_len: usize,
+        first: usize,
+        out: *mut Handle,
+        error: *mut Fields,
+    ) -> i32;
+    pub fn hv_u16(
+        items: *const u16,
+        len: usize,
+        nulls: u8,
+        bits: *const u8,
+        bits_len: usize,
+        first: usize,
+        out: *mut Handle,
+        error: *mut Fields,
+    ) -> i32;
+    pub fn hv_u32(
+        items: *const u32,
+        len: usize,
+        nulls: u8,
+        bits: *const u8,
+        bits_len: usize,
+        first: usize,
+        out: *mut Handle,
+        error: *mut Fields,
+    ) -> i32;
+    pub fn hv_u64(
+        items: *const u64,
+        len: usize,
+        nulls: u8,
+        bits: *const u8,
+        bits_len: usize,
+        first: usize,
+        out: *mut Handle,
+        error: *mut Fields,
+    ) -> i32;
+    pub fn hv_i8(
+        items: *const i8,
+        len: usize,
+        nulls: u8,
+        bits: *const u8,
+        bits_len: usize,
+        first: usize,
+        out: *mut Handle,
+        error: *mut Fields,
+    ) -> i32;
+    pub fn hv_i16(
+        items: *const i16,
+        len: usize,
+        nulls: u8,
+        bits: *const u8,
+        bits_len: usize,
+        first: usize,
+        out: *mut Handle,
+        error: *mut Fields,
+    ) -> i32;
+    pub fn hv_i32(
+        items: *const i32,
+        len: usize,
+        nulls: u8,
+        bits: *const u8,
+        bits_len: usize,
+        first: usize,
+        out: *mut Handle,
+        error: *mut Fields,
+    ) -> i32;
+    pub fn hv_i64(
+        items: *const i64,
+        len: usize,
+        nulls: u8,
+        bits: *const u8,
+        bits_len: usize,
+        first: usize,
+        out: *mut Handle,
+        error: *mut Fields,
+    ) -> i32;
     pub fn hv_bools(
         truths: *const u8,
         truths_len: usize,
@@ -93,6 +147,19 @@ extern "C" {
         out: *mut Handle,
         error: *mut Fields,
     ) -> i32;
+    pub fn hv_texts(
+        binary: u8,
+        offsets: *const i32,
+        offsets_len: usize,
+        bytes: *const u8,
+        bytes_len: usize,
+        nulls: u8,
+        bits: *const u8,
+        bits_len: usize,
+        first: usize,
+        out: *mut Handle,
+        error: *mut Fields,
+    ) -> i32;
     pub fn hv_large_texts(
         binary: u8,
         offsets: *const i64,
@@ -106,14 +173,6 @@ extern "C" {
         out: *mut Handle,
         error: *mut Fields,
     ) -> i32;
-    pub fn hv_runs(
-        ends: *mut Handle,
-        values: *mut Handle,
-        offset: usize,
-        count: usize,
-        out: *mut Handle,
-        error: *mut Fields,
-    ) -> i32;
     pub fn hv_constant(
         kind: *const Kind,
         value: *const RawValue,
@@ -123,22 +182,43 @@ extern "C" {
         out: *mut Handle,
         error: *mut Fields,
     ) -> i32;
+    pub fn hv_runs(
+        ends: *mut Handle,
+        values: *mut Handle,
+        offset: usize,
+        count: usize,
+        out: *mut Handle,
+        error: *mut Fields,
+    ) -> i32;
+    pub fn hv_lists(
+        elements: *mut Handle,
+        offsets: *const u64,
+        offsets_len: usize,
+        sizes: *const u64,
+        sizes_len: usize,
+        nulls: u8,
+        bits: *const u8,
+        bits_len: usize,
+        first: usize,
+        out: *mut Handle,
+        error: *mut Fields,
+    ) -> i32;
     pub fn hv_clone(column: *mut Handle, out: *mut Handle, error: *mut Fields) -> i32;
     pub fn hv_compact(column: *mut Handle, out: *mut Handle, error: *mut Fields) -> i32;
     pub fn hv_encode(
-        session: *const Session,
+        settings: *const Session,
         column: *mut Handle,
         out: *mut Handle,
         error: *mut Fields,
     ) -> i32;
     pub fn hv_decode(
-        session: *const Session,
+        settings: *const Session,
         column: *mut Handle,
         out: *mut Handle,
         error: *mut Fields,
     ) -> i32;
     pub fn hv_slice(
-        session: *const Session,
+        settings: *const Session,
         column: *mut Handle,
         start: usize,
         stop: usize,
@@ -146,35 +226,35 @@ extern "C" {
         error: *mut Fields,
     ) -> i32;
     pub fn hv_cast(
-        session: *const Session,
+        settings: *const Session,
         column: *mut Handle,
         kind: *const Kind,
         out: *mut Handle,
         error: *mut Fields,
     ) -> i32;
     pub fn hv_take(
-        session: *const Session,
+        settings: *const Session,
         column: *mut Handle,
         indices: *mut Handle,
         out: *mut Handle,
         error: *mut Fields,
     ) -> i32;
     pub fn hv_filter(
-        session: *const Session,
+        settings: *const Session,
         column: *mut Handle,
         mask: *mut Handle,
         out: *mut Handle,
         error: *mut Fields,
     ) -> i32;
     pub fn hv_take_from(
-        session: *const Session,
+        settings: *const Session,
         codes: *mut Handle,
         dictionary: *mut Handle,
         out: *mut Handle,
         error: *mut Fields,
     ) -> i32;
     pub fn hv_compare(
-        session: *const Session,
+        settings: *const Session,
         column: *mut Handle,
         operator: u8,
         right: *mut Handle,
@@ -182,7 +262,7 @@ extern "C" {
         error: *mut Fields,
     ) -> i32;
     pub fn hv_compare_scalar(
-        session: *const Session,
+        settings: *const Session,
         column: *mut Handle,
         operator: u8,
         value: *const RawValue,
@@ -192,7 +272,7 @@ extern "C" {
         error: *mut Fields,
     ) -> i32;
     pub fn hv_fill(
-        session: *const Session,
+        settings: *const Session,
         column: *mut Handle,
         value: *const RawValue,
         text: *const u8,
@@ -201,26 +281,26 @@ extern "C" {
         error: *mut Fields,
     ) -> i32;
     pub fn hv_sum(
-        session: *const Session,
+        settings: *const Session,
         column: *mut Handle,
         total: *mut RawTotal,
         error: *mut Fields,
     ) -> i32;
     pub fn hv_is_constant(
-        session: *const Session,
+        settings: *const Session,
         column: *mut Handle,
         truth: *mut u8,
         error: *mut Fields,
     ) -> i32;
     pub fn hv_is_sorted(
-        session: *const Session,
+        settings: *const Session,
         column: *mut Handle,
         strict: u8,
         truth: *mut u8,
         error: *mut Fields,
     ) -> i32;
     pub fn hv_extreme(
-        session: *const Session,
+        settings: *const Session,
         column: *mut Handle,
         greatest: u8,
         value: *mut RawValue,
@@ -229,7 +309,7 @@ extern "C" {
         error: *mut Fields,
     ) -> i32;
     pub fn hv_min_max(
-        session: *const Session,
+        settings: *const Session,
         column: *mut Handle,
         least: *mut RawValue,
         least_text: *mut u8,
@@ -252,6 +332,89 @@ extern "C" {
     pub fn hv_form(column: *mut Handle) -> u8;
     pub fn hv_offset(column: *mut Handle) -> usize;
     pub fn hv_bytes_used(column: *mut Handle) -> usize;
+    pub fn hv_read_u8(
+        column: *mut Handle,
+        start: usize,
+        items: *mut u8,
+        len: usize,
+        error: *mut Fields,
+    ) -> i32;
+    pub fn hv_read_u16(
+        column: *mut Handle,
+        start: usize,
+        items: *mut u16,
+        len: usize,
+        error: *mut Fields,
+    ) -> i32;
+    pub fn hv_read_u32(
+        column: *mut Handle,
+        start: usize,
+        items: *mut u32,
+        len: usize,
+        error: *mut Fields,
+    ) -> i32;
+    pub fn hv_read_u64(
+        column: *mut Handle,
+        start: usize,
+        items: *mut u64,
+        len: usize,
+        error: *mut Fields,
+    ) -> i32;
+    pub fn hv_read_i8(
+        column: *mut Handle,
+        start: usize,
+        items: *mut i8,
+        len: usize,
+        error: *mut Fields,
+    ) -> i32;
+    pub fn hv_read_i16(
+        column: *mut Handle,
+        start: usize,
+        items: *mut i16,
+        len: usize,
+        error: *mut Fields,
+    ) -> i32;
+    pub fn hv_read_i32(
+        column: *mut Handle,
+        start: usize,
+        items: *mut i32,
+        len: usize,
+        error: *mut Fields,
+    ) -> i32;
+    pub fn hv_read_i64(
+        column: *mut Handle,
+        start: usize,
+        items: *mut i64,
+        len: usize,
+        error: *mut Fields,
+    ) -> i32;
+    pub fn hv_read_decimals(
+        column: *mut Handle,
+        start: usize,
+        pairs: *mut Pair,
+        len: usize,
+        error: *mut Fields,
+    ) -> i32;
+    pub fn hv_read_bools(
+        column: *mut Handle,
+        words: *mut u64,
+        len: usize,
+        error: *mut Fields,
+    ) -> i32;
+    pub fn hv_read_validity(
+        column: *mut Handle,
+        words: *mut u64,
+        len: usize,
+        error: *mut Fields,
+    ) -> i32;
+    pub fn hv_read_bools_from(
+        column: *mut Handle,
+        start: usize,
+        rows: usize,
+        words: *mut u64,
+        len: usize,
+        error: *mut Fields,
+    ) -> i32;
     pub fn hv_read_validity_from(
         column: *mut Handle,
         start: usize,
@@ -260,6 +423,31 @@ extern "C" {
         len: usize,
         error: *mut Fields,
     ) -> i32;
+    pub fn hv_read_offsets(
+        column: *mut Handle,
+        start: usize,
+        offsets: *mut i32,
+        len: usize,
+        error: *mut Fields,
+    ) -> i32;
+    pub fn hv_read_large_offsets(
+        column: *mut Handle,
+        start: usize,
+        offsets: *mut i64,
+        len: usize,
+        error: *mut Fields,
+    ) -> i32;
+    pub fn hv_read_bytes(
+        column: *mut Handle,
+        start: usize,
+        rows: usize,
+        bytes: *mut u8,
+        len: usize,
+        error: *mut Fields,
+    ) -> i32;
+    pub fn hv_ends(column: *mut Handle, out: *mut Handle, error: *mut Fields) -> i32;
+    pub fn hv_values(column: *mut Handle, out: *mut Handle, error: *mut Fields) -> i32;
+    pub fn hv_run_count(column: *mut Handle, count: *mut usize, error: *mut Fields) -> i32;
     pub fn hv_run(
         column: *mut Handle,
         run: usize,
@@ -271,8 +459,13 @@ extern "C" {
         error: *mut Fields,
     ) -> i32;
     pub fn hv_run_of(column: *mut Handle, row: usize, run: *mut usize, error: *mut Fields) -> i32;
-    pub fn hv_ends(column: *mut Handle, out: *mut Handle, error: *mut Fields) -> i32;
-    pub fn hv_values(column: *mut Handle, out: *mut Handle, error: *mut Fields) -> i32;
+    pub fn hv_read_ends_u64(
+        column: *mut Handle,
+        first: usize,
+        stops: *mut u64,
+        len: usize,
+        error: *mut Fields,
+    ) -> i32;
     pub fn hv_serialize(
         column: *mut Handle,
         bytes: *mut u8,
@@ -290,21 +483,10 @@ extern "C" {
         out: *mut Handle,
         error: *mut Fields,
     ) -> i32;
-    pub fn hv_write_size(column: *mut Handle, size: *mut usize, error: *mut Fields) -> i32;
-    pub fn hv_write(
-        column: *mut Handle,
-        bytes: *mut u8,
-        bytes_len: usize,
-        size: *mut usize,
-        error: *mut Fields,
-    ) -> i32;
-    pub fn hv_read_column(
-        bytes: *const u8,
-        bytes_len: usize,
-        out: *mut Handle,
-        error: *mut Fields,
-    ) -> i32;
-    pub fn hv_free(column: *mut Handle);
+    pub fn hv_list_elements(column: *mut Handle, out: *mut Handle, error: *mut Fields) -> i32;
+    pub fn hv_list_offsets(column: *mut Handle, out: *mut Handle, error: *mut Fields) -> i32;
+    pub fn hv_list_sizes(column: *mut Handle, out: *mut Handle, error: *mut Fields) -> i32;
+    pub fn hv_list_validity(column: *mut Handle, out: *mut Handle, error: *mut Fields) -> i32;
     pub fn hv_encode_rows(column: *mut Handle, out: *mut Handle, error: *mut Fields) -> i32;
     pub fn hv_builder_new(
         kind: *const Kind,
@@ -325,4 +507,20 @@ extern "C" {
     pub fn hv_builder_rows(builder: *mut BuilderHandle) -> usize;
     pub fn hv_builder_runs(builder: *mut BuilderHandle) -> usize;
     pub fn hv_builder_free(builder: *mut BuilderHandle);
+    pub fn hv_write_size(column: *mut Handle, size: *mut usize, error: *mut Fields) -> i32;
+    pub fn hv_write(
+        column: *mut Handle,
+        bytes: *mut u8,
+        bytes_len: usize,
+        size: *mut usize,
+        error: *mut Fields,
+    ) -> i32;
+    pub fn hv_read_column(
+        bytes: *const u8,
+        bytes_len: usize,
+        out: *mut Handle,
+        error: *mut Fields,
+    ) -> i32;
+    pub fn hv_free(column: *mut Handle);
 }
+// end of what tools/declarations.py makes

@@ -1,0 +1,310 @@
+#!/usr/bin/env python3
+"""Declares the calls of the library once: include/hivevigil.h has each with its documentation, and the other
+declarations are made from it.
+
+    python3 tools/declarations.py            names what is out of step; ends in 'N passed, M failed'
+    python3 tools/declarations.py --write    writes the declarations anew
+
+Made are the exports and the inline calls of C (include/), the exports as Rust declares them (rust/src/raw.rs, which the
+bench uses too) and as ctypes does (python/hivevigil/_calls.py), each between two lines that say so. The types in the
+header are held against the functions of crates/hivevigil that are exported.
+"""
+
+import re
+import sys
+from dataclasses import dataclass
+from pathlib import Path
+
+ROOT = Path(__file__).resolve().parent.parent
+HEADER = "include/hivevigil.h"
+BEGIN, END = "made by tools/declarations.py from hivevigil.h", "end of what tools/declarations.py makes"
+WIDTH = 120
+# The inline calls that do more than pass their arguments on: they are written by hand in hivevigil_calls.h.
+BY_HAND = {"hv_session_initial", "hv_free", "hv_builder_free"}
+# What stands for a type of the exports in another language. Rust's and Python's names are those of their modules.
+RUST = {
+    "uint8_t": "u8", "uint16_t": "u16", "uint32_t": "u32", "uint64_t": "u64", "int8_t": "i8", "int16_t": "i16",
+    "int32_t": "i32", "int64_t": "i64", "size_t": "usize", "hv_column": "Handle", "hv_builder": "BuilderHandle",
+    "hv_error": "Fields", "hv_settings": "Session", "hv_kind": "Kind", "hv_value": "RawValue", "hv_total": "RawTotal",
+    "hv_pair": "Pair",
+}  # fmt: skip
+PYTHON = {
+    **{name: f"c_{name.removesuffix('_t')}" for name in RUST if name.endswith("_t")}, "size_t": "c_size_t",
+    "hv_column": "Handle", "hv_builder": "BuilderHandle", "hv_error": "Fields", "hv_settings": "Session",
+    "hv_kind": "Kind", "hv_value": "Value", "hv_total": "Total", "hv_pair": "Pair",
+}  # fmt: skip
+# The types of crates/hivevigil, as C has them. A slice is a pointer and a length.
+RATTLE = {
+    **{rust: c for c, rust in RUST.items()},
+    "Session": "hv_settings", "RowValue": "hv_value", "Total": "hv_total", "ErrorFields": "hv_error",
+    "&mut Handle": "hv_column *", "&mut BuilderHandle": "hv_builder *",
+}  # fmt: skip
+
+
+@dataclass(frozen=True)
+class Parameter:
+    """`type` is written as C writes it, with a blank before the star: `const hv_column *`."""
+
+    type: str
+    name: str
+
+    @property
+    def base(self) -> str:
+        return self.type.removeprefix("const ").removesuffix(" *")
+
+    @property
+    def is_pointer(self) -> bool:
+        return self.type.endswith("*")
+
+    def __str__(self) -> str:
+        return f"{self.type}{self.name}" if self.is_pointer else f"{self.type} {self.name}"
+
+
+@dataclass(frozen=True)
+class Call:
+    """A call as the header declares it, under the heading that stands above it."""
+
+    heading: str
+    answers: str
+    name: str
+    parameters: tuple[Parameter, ...]
+
+    def exported(self) -> list[Parameter]:
+        """What the export takes: a validity in four parts, a session without its size, columns that it may write."""
+        found = []
+        for each in self.parameters:
+            if each.base == "hv_validity":
+                found += [Parameter("uint8_t", "nulls"), Parameter("const uint8_t *", "bits")]
+                found += [Parameter("size_t", "bits_len"), Parameter("size_t", "first")]
+            elif each.base == "hv_session":
+                found.append(Parameter(each.type.replace("hv_session", "hv_settings"), "settings"))
+            elif each.base in ("hv_column", "hv_builder"):
+                found.append(Parameter(f"{each.base} *", each.name))
+            else:
+                found.append(each)
+        return found
+
+    def items(self) -> list[tuple[Parameter, Parameter]]:
+        """Each pointer to items, with the length that follows it."""
+        pairs = zip(self.parameters, self.parameters[1:])
+        return [(each, after) for each, after in pairs if each.is_pointer and after.name in ("len", f"{each.name}_len")]
+
+
+def tested(call: Call) -> list[str]:
+    """What refuses a null pointer to items, in the order of the parameters."""
+    lengths = {items.name: length.name for items, length in call.items()}
+    lines = []
+    for each in call.parameters:
+        if each.name in lengths:
+            lines.append(f"    HV_ITEMS({each.type.removesuffix(' *')}, {each.name}, {lengths[each.name]});")
+        elif each.base == "hv_validity":
+            lines.append(f"    HV_BITS({each.name});")
+    return lines
+
+
+def passed(parameter: Parameter) -> str:
+    """What the inline call passes to the export for one of its own parameters."""
+    name = parameter.name
+    if parameter.base == "hv_validity":
+        return f"HV_PARTS({name})"
+    if parameter.base == "hv_session":
+        return f"hv_settings_of({name})"
+    if parameter.type == "const hv_column *":
+        return f"hv_lent({name})"
+    if parameter.type == "const hv_builder *":
+        return f"hv_lent_builder({name})"
+    return "HV_FIELDS" if parameter.base == "hv_error" else name
+
+
+def calls_of(header: str) -> list[Call]:
+    """The calls that hivevigil.h declares, in its order; functions with a body there are none of the library's."""
+    calls, heading = [], ""
+    pattern = r"/\* ---- (.*?) ----|^(?:HV_CALL (\w+)|(HV_ANSWER)) (hv_\w+)\(([^;{]*?)\);"
+    for title, answers, refused, name, parameters in re.findall(pattern, header, re.M | re.S):
+        if title:
+            heading = title.split(":")[0].strip()
+            continue
+        calls.append(Call(heading, "int32_t" if refused else answers, name, tuple(map(parameter_of, parameters.split(",")))))
+    return calls
+
+
+def parameter_of(text: str) -> Parameter:
+    found = re.fullmatch(r"\s*(.*?)\s*(\*?)(\w+)\s*", text, re.S)
+    if not found:
+        raise ValueError(f"no parameter of C: {text!r}")
+    words, star, name = found.groups()
+    return Parameter(f"{words} *" if star else words, name)
+
+
+# ---- what is made of them
+
+
+def filled(head: str, words: list[str], tail: str, indent: int) -> str:
+    """`head`, the words with commas between, and `tail`, in lines of at most WIDTH, the later ones indented."""
+    lines, line = [], head
+    for number, word in enumerate(words):
+        last = number == len(words) - 1
+        text = word + (tail if last else ",")
+        gap = "" if line in (head, " " * indent) else " "
+        if len(line) + len(gap) + len(text) > WIDTH and line != " " * indent:
+            lines.append(line)
+            line, gap = " " * indent, ""
+        line += gap + text
+    return "\n".join([*lines, line])
+
+
+def under_headings(calls: list[Call], made) -> str:
+    """What is made of each call, under the heading of its part of the header."""
+    lines, heading = [], None
+    for call in calls:
+        if call.heading and call.heading != heading:
+            heading = call.heading
+            lines += ["", f"/* {heading} */"]
+        lines.append(made(call))
+    return "\n".join(lines).strip("\n")
+
+
+def export(call: Call) -> str:
+    head = f"HV_EXPORT {call.answers} {call.name}("
+    return filled(head, [str(each) for each in call.exported()], ");", len(head))
+
+
+def exports(calls: list[Call]) -> str:
+    macros = [f"#define {call.name}(...) hv_call_{call.name[3:]}(__VA_ARGS__)" for call in calls]
+    return "\n".join([under_headings(calls, export), "", "#ifndef HV_EXPORTS_ALONE", *macros, "#endif"])
+
+
+def inline(call: Call) -> str:
+    answer = call.answers == "int32_t" and any(each.base == "hv_error" for each in call.parameters)
+    head = f"{'HV_ANSWER' if answer else f'HV_CALL {call.answers}'} {call.name}("
+    shown = filled(head, [str(each) for each in call.parameters], ") {", len(head))
+    body = f"    return ({call.name})("
+    lines = ["    hv_error ignored;", *tested(call)] if answer else []
+    lines.append(filled(body, [passed(each) for each in call.parameters], ");", len(body)))
+    return "\n".join([shown, *lines, "}"])
+
+
+def inlines(calls: list[Call]) -> str:
+    return under_headings([call for call in calls if call.name not in BY_HAND], inline)
+
+
+def rust_type(type: str) -> str:
+    base = RUST[Parameter(type, "").base]
+    if not type.endswith("*"):
+        return base
+    return f"*const {base}" if type.startswith("const ") else f"*mut {base}"
+
+
+def rust_call(call: Call) -> str:
+    words = [f"{each.name.rstrip('_')}: {rust_type(each.type)}" for each in call.exported()]
+    tail = "" if call.answers == "void" else f" -> {rust_type(call.answers)}"
+    line = f"    pub fn {call.name}({', '.join(words)}){tail};"
+    if len(line) <= 100:
+        return line
+    return "\n".join([f"    pub fn {call.name}(", *(f"        {word}," for word in words), f"    ){tail};"])
+
+
+def rust(calls: list[Call]) -> str:
+    return "\n".join(["extern \"C\" {", *map(rust_call, calls), "}"])
+
+
+def python_type(parameter: Parameter) -> str:
+    """As ctypes takes it: bytes and buffers of C as they are, anything else by a pointer to its type."""
+    base = PYTHON[parameter.base]
+    if not parameter.is_pointer:
+        return base
+    if parameter.type == "const uint8_t *" and parameter.name != "items" or parameter.name == "bytes":
+        return "c_char_p"
+    return "c_void_p" if parameter.name.endswith("text") else f"POINTER({base})"
+
+
+def python_call(call: Call) -> str:
+    answers = "None" if call.answers == "void" else PYTHON[call.answers]
+    head = f'    "{call.name}": (['
+    words = [python_type(each) for each in call.exported()]
+    line = filled(head, words, f"], {answers}),", 8)
+    return line if "\n" not in line else "\n".join([head, filled(" " * 8, words, ",", 8), f"    ], {answers}),"])
+
+
+def python(calls: list[Call]) -> str:
+    return "\n".join(["CALLS: dict[str, tuple[list[Any], Any]] = {", *map(python_call, calls), "}"])
+
+
+# By file what is made for it, and how its language begins and ends a comment.
+MADE = {
+    "include/hivevigil_exports.h": (exports, "/* ", " */"),
+    "include/hivevigil_calls.h": (inlines, "/* ", " */"),
+    "rust/src/raw.rs": (rust, "// ", ""),
+    "python/hivevigil/_calls.py": (python, "# ", ""),
+}
+
+
+def renewed(text: str, made: str, opens: str, closes: str) -> str:
+    """The text of a file with what is made in place of what was between its two lines."""
+    begin, end = f"{opens}{BEGIN}{closes}\n", f"{opens}{END}{closes}\n"
+    if text.count(begin) != 1 or text.count(end) != 1:
+        raise ValueError(f"one line {begin.strip()!r} and one {end.strip()!r} are due")
+    before, rest = text.split(begin)
+    return before + begin + made + "\n" + end + rest.split(end)[1]
+
+
+# ---- the library's own types
+
+
+def rattle_calls(source: str) -> dict[str, tuple[list[str], str]]:
+    """By name the types, as C has them, that each exported function of a file takes, and that of its answer."""
+    found = re.findall(r'pub extern "C" fn (hv_\w+)\((.*?)\)(?: -> (\w+))?\s*(?:ensures|requires|\{)', source, re.S)
+    return {name: (list(rattle_types(takes)), RATTLE.get(answers, "void")) for name, takes, answers in found}
+
+
+def rattle_types(parameters: str):
+    for text in filter(None, (each.strip() for each in re.sub(r"\s+", " ", parameters).split(","))):
+        type = text.split(": ", 1)[1]
+        slice = re.fullmatch(r"&(mut )?\[(\w+)\]", type)
+        if slice:
+            yield f"{'' if slice[1] else 'const '}{RATTLE[slice[2]]} *"
+            yield "size_t"
+        elif type in RATTLE:
+            yield RATTLE[type]
+        elif type.startswith("&"):
+            changes = type.startswith("&mut ")
+            yield f"{'' if changes else 'const '}{RATTLE[type.removeprefix('&').removeprefix('mut ')]} *"
+        elif type != "Global":
+            raise ValueError(f"no type of C stands for {type}")
+
+
+def out_of_step(calls: list[Call], exported: dict[str, tuple[list[str], str]]) -> list[str]:
+    """The calls that the header and the library have otherwise."""
+    declared = {call.name: ([each.type for each in call.exported()], call.answers) for call in calls}
+    names = [*declared, *(name for name in exported if name not in declared)]
+    return [
+        f"{name}: the header has {declared.get(name)}, the library {exported.get(name)}"
+        for name in names
+        if declared.get(name) != exported.get(name)
+    ]
+
+
+def main() -> int:
+    text_of = lambda path: (ROOT / path).read_text(encoding="utf-8")
+    calls = calls_of(text_of(HEADER))
+    exported: dict[str, tuple[list[str], str]] = {}
+    for path in sorted((ROOT / "crates/hivevigil/src").glob("*.rt")):
+        exported |= rattle_calls(path.read_text(encoding="utf-8"))
+    # these two are plain functions in the header too
+    faults = out_of_step(calls, {name: exported[name] for name in exported if name not in ("hv_version", "hv_abi")})
+    for path, (make, opens, closes) in MADE.items():
+        text = text_of(path)
+        made = renewed(text, make(calls), opens, closes)
+        if made != text and "--write" in sys.argv[1:]:
+            (ROOT / path).write_text(made, encoding="utf-8")
+        elif made != text:
+            faults.append(f"{path} is out of step with {HEADER}: run python3 tools/declarations.py --write")
+    for fault in faults:
+        print(fault)
+    total = len(calls) + len(MADE)
+    print(f"{total - len(faults)} passed, {len(faults)} failed")
+    return 1 if faults else 0
+
+
+if __name__ == "__main__":
+    sys.exit(main())
