@@ -12,7 +12,7 @@ static inline void *hv_nowhere(void) {
     static const uint64_t nothing = 0;
     return (void *)(uintptr_t)&nothing;
 }
-/* the refusal of a null pointer beside a length above 0: so many items are wanted, and none is there */
+/* the refusal of a null pointer next to a length above 0: that many items are wanted, and none is there */
 static inline int32_t hv_missing(size_t len, hv_error *error) {
     error->first = len;
     error->second = error->third = 0;
