@@ -122,6 +122,13 @@ shown_fault r left right_dtype count left_type left_rows none =
     let left_count : length (leaf_rows left) ≡ r.count = sym (length-single_rows left) ∙ ap length left_rows ∙ length-run_rows r.ends (column_rows r.values) r.offset r.count in
     ap (λ (t : DType). compare_column_fault t right_dtype (length (leaf_rows left)) count) left_type ∙ ap (λ (n : ℕ). compare_column_fault (column_dtype r.values) right_dtype n count) left_count ∙ none
 
+-- runs beside runs have the fault of the two columns
+pub runs_fault : (left : DType) (count : ℕ) (c : Column) (r : Runs) → c ≡ column_of_runs r → compare_column_fault left (column_dtype c) count (length (column_rows c)) ≡ None
+    → compare_column_fault left (column_dtype r.values) count r.count ≡ None
+runs_fault left count c r is none =
+    ap (λ (n : ℕ). compare_column_fault left (column_dtype r.values) count n) (sym (length-run_rows r.ends (column_rows r.values) r.offset r.count))
+    ∙ ap (λ (x : Column). compare_column_fault left (column_dtype x) count (length (column_rows x))) (sym is) ∙ none
+
 -- what has no fault is refused for want of memory alone
 pub memory_alone : {T : Type 0} (fault : Option VortexError) (result : Result T VortexError) → fault ≡ None → IsRefusedBy fault result → IsOkUnless result OutOfMemory
 memory_alone fault (Ok value) none refused = tt

@@ -1,6 +1,7 @@
 pub mod CastRows
 pub mod CodeRows
 pub mod ComparedRows
+pub mod PairedRuns
 pub mod FilledRows
 pub mod FirstFaults
 pub mod KeptRows

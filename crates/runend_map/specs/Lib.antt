@@ -1,5 +1,6 @@
 pub mod MapInputs
 pub mod Codes
 pub mod ComparisonForm
+pub mod ShownRuns
 pub mod MapResult
 pub mod TakenForm

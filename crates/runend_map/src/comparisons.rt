@@ -1,4 +1,5 @@
-//! Run columns compared: with a constant by visible runs, with other columns row by row.
+//! Run columns compared: with a constant by visible runs, with other run columns by the visible runs of both, with
+//! other columns row by row.
 ghost use Rattle.std.specs.Prelude.{◌≡◌, ◌≢◌, ◌<◌, ◌↔◌, Err, None, length, option_map, IfOk, IsOkUnless, IsTrue};
 ghost use Rattle.column_base.specs.declared.dtype.DType.TheVariants as column;
 ghost use Rattle.column_base.specs.declared.dtype.Nullability.TheVariants.{Nullable};
@@ -16,6 +17,7 @@ ghost use Rattle.runend_array.specs.Column.{OfConstant, column_dtype, column_of_
 ghost use Rattle.runend_array.specs.Encoding.{IsComputedFlat, IsDecodedForm};
 ghost use Rattle.runend_map.specs.ComparisonForm.{IsComparisonForm, IsNullConstant};
 
+use crate::pairs::compare_runs;
 use crate::visible::{shown_rows, shown_truths};
 use array_rowwise::flat_rows;
 use column_core::{
@@ -29,7 +31,8 @@ use std::alloc::Allocator;
 /// Does the operator hold of each row and the row of `right` beside it? Null where either row is null. The
 /// answer has null where either type has. A right side that is a constant is compared with each visible run
 /// once, and the answer is a constant null where there is a row and all answers are null; else, and with
-/// every other right side, it is flat. With a constant null no value is looked at, and no memory is taken
+/// every other right side, it is flat. Of a right side in runs each visible run is compared once with each
+/// visible run beside it. With a constant null no value is looked at, and no memory is taken
 /// where there is a row.
 ///
 /// Refused as `Unsupported` for lists; then as `TypeMismatch` where the two types differ in more than
@@ -56,6 +59,7 @@ pub fn compare<A: Allocator + Copy>(
     }
     match right {
         ArrayRef::Constant(constant) => compare_to_scalar(array, operator, constant.scalar(), ctx),
+        ArrayRef::RunEnd(runs) => compare_runs(array, operator, runs, ctx),
         _ => compare_beside(array, operator, right, ctx),
     }
 }
@@ -142,8 +146,8 @@ fn compare_flat<A: Allocator + Copy>(
     truths
 }
 
-// Each row compared with the one beside it. The answer has a boolean for each row, so that to write
-// both columns row by row costs no more than to walk runs beside rows.
+// Each row compared with the one beside it, which is in no run. The answer has a boolean for each row, so that to
+// write both columns row by row costs no more than to walk runs beside rows.
 fn compare_beside<A: Allocator + Copy>(
     array: &RunEndArray<A>,
     operator: CompareOperator,

@@ -9,7 +9,9 @@ mod codes;
 mod comparisons;
 mod dictionary;
 mod fill;
+mod pairs;
 mod scalar_fn;
+mod shown_runs;
 mod visible;
 
 pub use array_rowwise::{cast_rows, fill_rows};

@@ -1,16 +1,17 @@
 use Rattle.std.proofs.Common.{◌≡◌, ◌∙◌, length, refl, sym, ap, inr, subst}
+use Rattle.std.specs.Arc.{arc_value}
 use Rattle.std.specs.Prelude.{option_map}
 use Rattle.std.proofs.lemmas.List.{length-replicate}
 use Rattle.column_core.specs.ScalarForm.{ScalarForm}
 use Rattle.column_core.specs.Value.{FlatValue, Single}
 use Rattle.column_order.specs.Comparing.{compare_rows, compare_with, compare_dtype}
 use Rattle.runend_array.specs.declared.array_ref.ArrayRef.{ArrayRef}
-use Rattle.runend_array.specs.declared.array_ref.ArrayRef.TheVariants.{Constant}
+use Rattle.runend_array.specs.declared.array_ref.ArrayRef.TheVariants.{Constant, RunEnd}
 use Rattle.runend_windows.proofs.RunRows.{length-run_rows}
 use Rattle.runend_array.specs.Array.{dtype_of, rows, column_of}
-use Rattle.runend_array.specs.Column.{OfConstant, column_dtype, column_of_runs, column_rows, Column}
+use Rattle.runend_array.specs.Column.{OfConstant, Runs, column_dtype, column_of_runs, column_rows, Column}
 use Rattle.runend_array.specs.Encoding.{IsComputedFlat}
-use Rattle.runend_map.proofs.ComparedRows.{constant_rows}
+use Rattle.runend_map.proofs.ComparedRows.{constant_rows, runs_fault}
 use Rattle.runend_map.proofs.KeptRows.{if_ok}
 use Rattle.runend_map.proofs.OneKind.{no_column_fault, no_fault}
 use Rattle.runend_map.specs.ComparisonForm.{IsComparisonForm}
@@ -74,3 +75,34 @@ returns-in_default-right-clause-rows g c = c.compare_beside.ensures.rows
 
 pub returns-in_default-right-clause-dtype : goal.returns-in_default-right-clause-dtype
 returns-in_default-right-clause-dtype g c = c.compare_beside.ensures.dtype
+
+-- beside runs
+right_runs : {A : Type 0} (right : ArrayRef A) (r : Runs) (runs : _) → right ≡ RunEnd runs → r ≡ arc_value runs → column_of right ≡ column_of_runs r
+right_runs right r runs is same = ap (λ (array : ArrayRef _). column_of array) is ∙ ap column_of_runs (sym same)
+
+pub compare_runs-requires : goal.compare_runs-requires
+compare_runs-requires g c =
+    let r = c.args.array.now in
+    let right = right_runs c.args.right.now c.deref.result.now c.in-RunEnd.runs c.in-RunEnd.is c.deref.ensures in
+    record { kind = runs_fault (column_dtype r.values) r.count (column_of c.args.right.now) c.deref.result.now right (sym c.fault_beside.ensures ∙ c.in_default.is) }
+
+pub returns-in-RunEnd-clause-refused : goal.returns-in-RunEnd-clause-refused
+returns-in-RunEnd-clause-refused g c =
+    rw length-run_rows (no_fault _ c.compare_runs.result (sym c.fault_beside.ensures ∙ c.in_default.is) c.compare_runs.ensures.only)
+
+pub returns-in-RunEnd-clause-rows : goal.returns-in-RunEnd-clause-rows
+returns-in-RunEnd-clause-rows g c =
+    let left = column_rows (column_of_runs c.args.array.now) in
+    let right = right_runs c.args.right.now c.deref.result.now c.in-RunEnd.runs c.in-RunEnd.is c.deref.ensures in
+    if_ok c.compare_runs.result (λ truths same. same ∙ ap (λ (x : Column). compare_rows c.args.operator left (column_rows x)) (sym right)) c.compare_runs.ensures.rows
+
+pub returns-in-RunEnd-clause-dtype : goal.returns-in-RunEnd-clause-dtype
+returns-in-RunEnd-clause-dtype g c =
+    let left = column_dtype c.args.array.now.values in
+    let right = right_runs c.args.right.now c.deref.result.now c.in-RunEnd.runs c.in-RunEnd.is c.deref.ensures in
+    if_ok c.compare_runs.result (λ truths same. same ∙ ap (λ (x : Column). compare_dtype left (column_dtype x)) (sym right)) c.compare_runs.ensures.dtype
+
+pub returns-in-RunEnd-clause-form : goal.returns-in-RunEnd-clause-form
+returns-in-RunEnd-clause-form g c =
+    let right = right_runs c.args.right.now c.deref.result.now c.in-RunEnd.runs c.in-RunEnd.is c.deref.ensures in
+    if_ok c.compare_runs.result (λ truths form. subst (λ (x : Column). IsComparisonForm x (column_of truths)) (sym right) form) c.compare_runs.ensures.form
