@@ -9,12 +9,13 @@ use Rattle.column_base.specs.declared.dtype.DType.{DType}
 use Rattle.column_base.specs.declared.error.VortexError.{VortexError}
 use Rattle.column_core.specs.Refusal.{first_fault}
 use Rattle.column_core.specs.Value.{Value}
-use Rattle.column_ops.specs.Cast.{can_cast, cast_fault, cast_row_fault}
+use Rattle.column_ops.specs.Cast.{can_cast, cast_fault, cast_row_fault, is_numbers}
+use Rattle.column_ops.specs.Codes.{code_number, code_numbers}
 use Rattle.column_ops.specs.Fill.{fill_rows}
 use Rattle.column_ops.specs.Filter.{filter_fault, filter_rows}
-use Rattle.column_ops.specs.Take.{take_rows, taken_row}
+use Rattle.column_ops.specs.Take.{index_fault, take_fault, take_rows, taken_row}
 use Rattle.column_order.specs.Comparing.{compare_with, compared}
-use Rattle.chunk_laws.specs.Rows.{CastOfJoined, ComparisonOfJoined, FillOfJoined, FilterOfJoined, SliceOfJoined, TakeOfParts, column_with}
+use Rattle.chunk_laws.specs.Rows.{CastOfJoined, CodesOfJoined, ComparisonOfJoined, FillOfJoined, FilterOfJoined, SliceOfJoined, TakeOfParts, column_with}
 
 -- lists of equal lengths are filtered part by part
 filtered : {X : Type 0} (mask mask' : List Bool) (xs ys : List X) → length mask ≡ length xs
@@ -132,3 +133,10 @@ chosen false error all a b same = refl
 
 pub cast_of_joined : CastOfJoined
 cast_of_joined from to rows rows' = chosen (can_cast from to) _ _ _ _ (first_of_joined (cast_row_fault to) rows rows')
+
+pub codes_of_joined : CodesOfJoined
+codes_of_joined dtype dictionary codes codes' count =
+    let numbers = map-append code_number codes codes' in (
+      ap (take_rows dictionary) numbers ∙ map-append (taken_row dictionary) (code_numbers codes) (code_numbers codes'),
+      chosen (is_numbers dtype) _ _ _ _ (ap (λ xs. take_fault xs count) numbers ∙ first_of_joined (index_fault count) (code_numbers codes) (code_numbers codes')),
+    )

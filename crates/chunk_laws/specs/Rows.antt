@@ -4,6 +4,7 @@ use Rattle.std.specs.Option.{option_or}
 use Rattle.column_base.specs.declared.dtype.DType.{DType}
 use Rattle.column_core.specs.Value.{PlainColumn, Value}
 use Rattle.column_ops.specs.Cast.{cast_fault}
+use Rattle.column_ops.specs.Codes.{code_fault, code_rows}
 use Rattle.column_ops.specs.Fill.{fill_rows}
 use Rattle.column_ops.specs.Filter.{filter_fault, filter_rows}
 use Rattle.column_ops.specs.Take.{take_rows}
@@ -35,6 +36,12 @@ FillOfJoined = (rows rows' : List (Option Value)) (value : Value) → fill_rows 
 abbrev pub CastOfJoined : Type 0
 CastOfJoined = (from to : DType) (rows rows' : List (Option Value))
     → cast_fault (column_with from (rows ++ rows')) to ≡ option_or (cast_fault (column_with from rows) to) (cast_fault (column_with from rows') to)
+
+-- joined codes are looked up in a dictionary as the parts are, and are refused as the first part that is refused
+abbrev pub CodesOfJoined : Type 0
+CodesOfJoined = (dtype : DType) (dictionary codes codes' : List (Option Value)) (count : ℕ)
+    → (code_rows dictionary (codes ++ codes') ≡ code_rows dictionary codes ++ code_rows dictionary codes')
+    × (code_fault (column_with dtype (codes ++ codes')) count ≡ option_or (code_fault (column_with dtype codes) count) (code_fault (column_with dtype codes') count))
 
 -- joined rows compared with one optional value
 abbrev pub ComparisonOfJoined : Type 0

@@ -7,7 +7,7 @@
 
 ghost use Rattle.chunk_laws.specs.Encodings.{EncodingOfJoined};
 ghost use Rattle.chunk_laws.specs.Orders.{ConstantOfJoined, ExtremesOfJoined, SortedOfJoined};
-ghost use Rattle.chunk_laws.specs.Rows.{CastOfJoined, ComparisonOfJoined, FillOfJoined, FilterOfJoined, SliceOfJoined, TakeOfParts};
+ghost use Rattle.chunk_laws.specs.Rows.{CastOfJoined, CodesOfJoined, ComparisonOfJoined, FillOfJoined, FilterOfJoined, SliceOfJoined, TakeOfParts};
 ghost use Rattle.chunk_laws.specs.Sums.{SumFromAnySum, SumFromThreeNumbers, SumOfJoined, SumOfJoinedNaturals, ThreeNumbersOfJoined};
 
 /// A filter of joined rows by joined masks, each as long as its part, is the joined filtered parts.
@@ -28,6 +28,11 @@ pub fn fill_of_joined()
 /// A cast of joined rows keeps them, and is refused as the first part that is refused.
 pub fn cast_of_joined()
     ensures { CastOfJoined }
+{}
+
+/// Joined codes are looked up as the parts are, and are refused as the first part that is refused.
+pub fn codes_of_joined()
+    ensures { CodesOfJoined }
 {}
 
 /// Joined rows compared with a constant are the joined compared parts.

@@ -1,11 +1,20 @@
--- The laws of encodings, stated over lists of optional values, so of integers too.
-use Rattle.std.specs.Prelude.{IsTrue, ◌≡◌, ◌≢◌, ◌+◌, ◌≤◌, ◌↔◌, ℕ, ℤ, List, Option, Some, None, length, slice_get, slice_range}
+-- The laws of encodings, stated over lists of optional values, so of integers too, and those of columns as bytes.
+use Rattle.std.specs.Prelude.{IsTrue, ◌≡◌, ◌≢◌, ◌+◌, ◌^◌, ◌<◌, ◌≤◌, ◌↔◌, ℕ, ℤ, List, Option, Some, None, length, slice_get, slice_range}
 use Rattle.column_core.specs.Refusal.{range_fault}
 use Rattle.column_core.specs.Value.{Value}
 use Rattle.column_ops.specs.Fill.{fill_rows}
 use Rattle.column_ops.specs.Take.{take_rows, take_fault}
 use Rattle.runend_windows.specs.Cover.{Covers, IsTightCover}
 use Rattle.runend_column.specs.Data.{data_eq, data_writes}
+use Rattle.column_bytes.specs.Bytes.{column_bytes}
+use Rattle.column_bytes.specs.Read.{IsMessage, IsWritable}
+use Rattle.runend_array.specs.Array.{column_of}
+use Rattle.runend_array.specs.declared.array_ref.ArrayRef.{ArrayRef}
+use Rattle.runend_commands.specs.Laws.{AreNeverShort}
+use Rattle.runend_commands.specs.Meaning.{plain}
+use Rattle.runend_commands.specs.Step.{IsExecution}
+use Rattle.runend_commands.specs.declared.command.Answer.{Answer}
+use Rattle.runend_commands.specs.declared.command.Command.{Command}
 
 -- two tight exact covers of a list have equal ends and equal optional values
 abbrev pub TightCoverIsUnique : Type 0
@@ -55,3 +64,13 @@ abbrev pub FillThenSlice : Type 0
 FillThenSlice = (rows : List (Option Value)) (value : Value) (start stop : ℕ)
     → (slice_range (fill_rows rows value) start stop ≡ fill_rows (slice_range rows start stop) value)
     × (range_fault start stop (length (fill_rows rows value)) ≡ range_fault start stop (length rows))
+
+-- ---- columns as bytes
+
+-- a run of commands on a column, and a run of the same on what is read from its message, where neither is short of
+-- memory, have equal answers and end in equal plain columns
+abbrev pub ReadRunsAsWritten : Type 0 → Type 0
+ReadRunsAsWritten A = (written read written_after read_after : ArrayRef A) (bytes : List ℕ) (commands : List (Command A)) (answers others : List (Answer A))
+    → IsWritable 16 (column_of written) → bytes ≡ column_bytes (column_of written) → length bytes < 2 ^ 64 → IsMessage 16 bytes (column_of read)
+    → IsExecution written commands answers written_after → IsExecution read commands others read_after
+    → AreNeverShort answers → AreNeverShort others → (answers ≡ others) × (plain written_after ≡ plain read_after)

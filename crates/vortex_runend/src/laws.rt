@@ -1,7 +1,8 @@
 //! The laws of encodings, and of rows that are sliced, taken and filled, each proved of every list of
 //! optional values, so of integers too, the law of what a run column holds beside its slots, and
-//! those of native types, of commands and of the metadata record. Those of filter, of strategies of a take, of
-//! commands, of sums, of the record and of columns cut into chunks stand in the crates below.
+//! those of commands over chunks and over what was read, of native types and of encodings that are decoded. Those of
+//! filter, of strategies of a take, of commands, of sums, of the record, of bytes and of joined rows are in the crates
+//! below.
 //!
 //! An encoding of a list is its tight exact cover: runs of which none is empty, none can be joined
 //! with the next, and none is hidden. But for the last three, each function here does nothing: its clause is
@@ -11,13 +12,17 @@ ghost use Rattle.column_base.specs.Number.{IsNumbered, Narrows};
 ghost use Rattle.column_base.specs.Types.{HasNumber};
 ghost use Rattle.runend_array.specs.Array.{column_of, dtype_of, rows};
 ghost use Rattle.runend_array.specs.Encoding.{IsPlainNumbers};
-ghost use Rattle.vortex_runend.specs.Laws.{DecodingAnEncoding, EqualListsEqualEncodings, NeighboursDiffer, NoCoverIsShorter, SliceOfSlice, TakeOfTake, FillThenSlice, TightCoverIsUnique, EqualDataHashEqually};
+ghost use Rattle.vortex_runend.specs.Chunks.{ChunksAgree};
+ghost use Rattle.vortex_runend.specs.Laws.{DecodingAnEncoding, EqualListsEqualEncodings, NeighboursDiffer, NoCoverIsShorter, SliceOfSlice, TakeOfTake, FillThenSlice, TightCoverIsUnique, EqualDataHashEqually, ReadRunsAsWritten};
 
 pub use chunk_laws::{
-    cast_of_joined, comparison_of_joined, constant_of_joined, encoding_of_joined,
+    cast_of_joined, codes_of_joined, comparison_of_joined, constant_of_joined, encoding_of_joined,
     extremes_of_joined, fill_of_joined, filter_of_joined, slice_of_joined, sorted_of_joined,
     sum_from_any_sum, sum_from_three_numbers, sum_of_joined, sum_of_joined_naturals, take_of_parts,
     three_numbers_of_joined,
+};
+pub use column_bytes::laws::{
+    equal_bytes_equal_rows, equal_rows_equal_bytes, read_takes_few_bytes, written_is_a_message,
 };
 pub use runend_aggregate::laws::{sum_in_four_runs, sum_of_four_runs};
 pub use runend_aggregate::{sum_signed_runs, sum_unsigned_runs};
@@ -83,11 +88,27 @@ pub fn fill_then_slice()
     ensures { FillThenSlice }
 {}
 
+/// A list of filters, comparisons with a constant, casts, fills, looked-up codes, encodings and decodings, done on two
+/// parts of a column, leaves parts of what it leaves of the whole, whatever the forms, kernels and thresholds. The masks
+/// of the whole are those of the first part and then those of the second. What a sum, a least or a greatest row, a
+/// constant or sorted column is of the joined rows, the laws of joined rows say.
+/// For engines that run chunk by chunk: the answer over the chunks is the answer over the column.
+pub fn chunks_agree<A: Allocator>()
+    ensures { ChunksAgree A }
+{}
+
 /// `RunEndData::array_eq` is equality of offsets, and data that it finds equal hash equally: `array_hash`
 /// makes the same writes for both, whichever hasher it is given.
 /// For caches: looking data up by its hash misses none that is equal.
 pub fn equal_data_hash_equally()
     ensures { EqualDataHashEqually }
+{}
+
+/// A list of commands on a column, and the same list on what was read from its message, have the same answers and
+/// leave the same rows, where no answer is `OutOfMemory`, whatever the kernels and thresholds of either.
+/// For file writers and servers: it does not matter on which side of a file or a wire a command is done.
+pub fn read_runs_as_written<A: Allocator>()
+    ensures { ReadRunsAsWritten A }
 {}
 
 /// Of every native type: values are equal, and ordered, as their numbers are, a number has at most one value, and the
