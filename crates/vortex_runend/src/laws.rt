@@ -88,10 +88,10 @@ pub fn fill_then_slice()
     ensures { FillThenSlice }
 {}
 
-/// A list of filters, comparisons with a constant, casts, fills, looked-up codes, encodings and decodings, done on two
-/// parts of a column, leaves parts of what it leaves of the whole, whatever the forms, kernels and thresholds. Masks of
-/// the whole are those of the first part and then those of the second. What a sum, a least or a greatest row, a constant
-/// or a sorted column is of the joined rows, the laws of joined rows say.
+/// A list of filters, comparisons with a constant, casts, fills, looked-up codes, encodings and decodings, done on
+/// two parts of a column, leaves parts of what it leaves of the whole, whatever the forms, kernels and thresholds.
+/// Masks of the whole are those of the first part and then those of the second. What a sum, a least or a greatest
+/// row, a constant or a sorted column is of the joined rows, the laws of joined rows say.
 /// For engines that run chunk by chunk: the answer over the chunks is the answer over the column.
 pub fn chunks_agree<A: Allocator>()
     ensures { ChunksAgree A }
