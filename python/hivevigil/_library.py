@@ -86,7 +86,7 @@ session = initial_session()
 # what calls are called here that have another name
 _METHODS = {
     "extreme": "min and max", "compare_scalar": "compare", "serialize": "record", "deserialize": "from_record",
-    "runs": "from_runs (at most 64 levels of runs)", "lists": "from_lists", "clone": "copy", "concat_columns": "concat",
+    "runs": "from_runs", "lists": "from_lists", "clone": "copy", "concat_columns": "concat",
     "export_with": "to_arrow",
     "export_stream": "to_arrow", "encode_rows": "to_runs", "read_bools": "truths", "read_validity": "validity",
     "write_size": "to_bytes (at most 16 levels of runs)", "read_column": "from_bytes",
