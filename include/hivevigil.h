@@ -93,7 +93,8 @@ enum {
     HV_COLUMN_LENGTH = 11,          /* left, right: two lengths that belong together; of room: needed, there; of a
                                        null pointer to items: their number, 0 */
     HV_TYPE_MISMATCH = 12,
-    HV_UNSUPPORTED = 13,            /* the call does not serve columns of this type, or of this form */
+    HV_UNSUPPORTED = 13,            /* the call does not serve columns of this type or of this form, or there would be
+                                       more than 64 levels of runs */
     HV_CAST_OUT_OF_RANGE = 14,
     HV_NULL_NOT_ALLOWED = 15,
     HV_NULL_FILL = 16,
@@ -211,8 +212,10 @@ HV_ANSWER hv_large_texts(uint8_t binary, const int64_t *offsets, size_t offsets_
 HV_ANSWER hv_constant(const hv_kind *kind, const hv_value *value, const uint8_t *text, size_t text_len, size_t count,
                       hv_column *out, hv_error *error);
 /* The run column of these ends and one value for each, of which `count` rows from row `offset` on are shown. Ends are
- * a flat column of an unsigned type without null, each above the one before. Both are shared. Refused by the first
- * fault of 1 to 7 in their order, or as 21. Where `count` is 0 neither 6 nor 7 comes: the offset may then be any. */
+ * a flat column of an unsigned type without null, each above the one before. The column is over clones of both. 13
+ * where there would be more than 64 levels of runs one in the other, which is what every call serves, and no call makes
+ * more (lists whose offsets, sizes or validity are in runs count as two); then the first fault of 1 to 7 in their
+ * order, or 21. Where `count` is 0 neither 6 nor 7 comes: the offset may then be any. */
 HV_ANSWER hv_runs(const hv_column *ends, const hv_column *values, size_t offset, size_t count, hv_column *out,
                   hv_error *error);
 /* Lists: row i is the sizes[i] items of `elements` from item offsets[i] on, and lists may lie in any order and
@@ -357,7 +360,7 @@ HV_ANSWER hv_read_ends_u64(const hv_column *column, size_t first, uint64_t *stop
 HV_ANSWER hv_serialize(const hv_column *column, uint8_t *bytes, size_t bytes_len, size_t *size, hv_error *error);
 /* The run column of `count` rows of this type by its record, over clones of these ends and values; 17 for bytes that
  * are no record, 18 (number), 12 for ends that are not of the type that it states or values that are not of this one,
- * 19 (stated, found), 23 where kind names no type, or as hv_runs. */
+ * 19 (stated, found), 23 where kind names no type, or as hv_runs, whose 13 comes before these. */
 HV_ANSWER hv_deserialize(const hv_kind *kind, size_t count, const uint8_t *bytes, size_t bytes_len,
                          const hv_column *ends, const hv_column *values, hv_column *out, hv_error *error);
 

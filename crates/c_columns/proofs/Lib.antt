@@ -8,13 +8,16 @@ pub mod FlatParts
 pub mod Forms
 pub mod Fronts
 pub mod Left
+mod LevelCounts
 mod ListsPassed
 pub mod LookUps
 mod MachineValues
 pub mod MaskRows
 pub mod Passed
 pub mod ReadRefusals
+mod RunsServed
 pub mod RunsTold
+mod Served
 pub mod Short
 pub mod TextRows
 pub mod Told

@@ -15,7 +15,7 @@ use Rattle.runend_commands.specs.Extremes.{HasBytes}
 use Rattle.c_columns.specs.Ending.{HasFields}
 use Rattle.c_columns.specs.InPlace.{IsExtremeNeverShortOn, IsNeverShortOn}
 use Rattle.c_columns.specs.Sessions.{IsReadInPlaceIn}
-use Rattle.c_columns.specs.Values.{IsRoomFault}
+use Rattle.c_columns.specs.Values.{IsRoomFault, IsRoomThere}
 use Rattle.c_columns.specs.declared.error_fields.ErrorFields.{ErrorFields}
 use Rattle.c_columns.specs.declared.sessions.Session.{Session}
 
@@ -106,7 +106,7 @@ row_not_short value room (Ok found) fault = λ short. absurd (cc)
 row_not_short value room (Err error) fault = λ short. room_not_short value room error fault (cc)
 
 pub rows_not_short : {T : Type 0} (first last : Option Value) (first_room last_room : ℕ) (outcome : Result T VortexError)
-    → IfErr outcome (λ error. IsRoomFault first first_room error ⊎ IsRoomFault last last_room error) → outcome ≢ Err OutOfMemory
+    → IfErr outcome (λ error. IsRoomFault first first_room error ⊎ (IsRoomThere first first_room × IsRoomFault last last_room error)) → outcome ≢ Err OutOfMemory
 rows_not_short first last first_room last_room (Ok found) fault = λ short. absurd (cc)
 rows_not_short first last first_room last_room (Err error) (inl fault) = λ short. room_not_short first first_room error fault (cc)
-rows_not_short first last first_room last_room (Err error) (inr fault) = λ short. room_not_short last last_room error fault (cc)
+rows_not_short first last first_room last_room (Err error) (inr fault) = λ short. room_not_short last last_room error fault.1 (cc)

@@ -18,10 +18,10 @@ use Rattle.column_order.specs.OrderFacts as order
 use Rattle.runend_commands.specs.Extremes.{AreExtremes, shown}
 use Rattle.runend_commands.specs.Refusal.{refusal}
 use Rattle.runend_commands.specs.declared.command.Command.TheVariants.{MinMax}
-use Rattle.c_columns.specs.Ending.{IsEndsFault}
+use Rattle.c_columns.specs.Ending.{HasNoRoomFor, HasRoomFor, IsEndsFault}
 use Rattle.c_columns.specs.Flags.{byte_of}
 use Rattle.c_columns.specs.declared.questions.Extremes.{Extremes}
-use Rattle.c_columns.specs.Values.{IsExtremeOf, IsFurthestRow, IsRoomFault, IsScalarTold, IsShownAt, IsTold, TellsView, halves}
+use Rattle.c_columns.specs.Values.{IsExtremeOf, IsFurthestRow, IsRoomFault, IsRoomThere, IsScalarTold, IsShownAt, IsTold, TellsView, halves}
 use Rattle.c_columns.specs.declared.row_value.RowValue.{RowValue}
 
 pub null_told : (value : RowValue) (text : List ℕ) → value.kind ≡ 0 → TellsView value text view.Null
@@ -106,14 +106,16 @@ greatest_of_both before text (Err error) scalar other ends told = tt
 
 -- one of both has no room
 short_ends : (before : PlainColumn) (least_room greatest_room : ℕ) (error : VortexError) (first last : ScalarForm) → refusal {A = Global} before MinMax ≡ None → AreExtremes before first last
-    → IsRoomFault (shown first) least_room error ⊎ IsRoomFault (shown last) greatest_room error → IsEndsFault before least_room greatest_room error
+    → IsRoomFault (shown first) least_room error ⊎ (IsRoomThere (shown first) least_room × IsRoomFault (shown last) greatest_room error) → IsEndsFault before least_room greatest_room error
 short_ends before least_room greatest_room error first last accepted ends (inl short) =
     inl (inr (accepted, record { value = shown first; furthest = least_row before.rows (shown first) ends.least; short = short }))
 short_ends before least_room greatest_room error first last accepted ends (inr short) =
-    inr (inr (accepted, record { value = shown last; furthest = greatest_row before.rows (shown last) ends.greatest; short = short }))
+    let least : HasRoomFor false before.rows least_room = record { value = shown first; furthest = least_row before.rows (shown first) ends.least; fits = short.0 } in
+    let greatest : HasNoRoomFor true before.rows greatest_room error = record { value = shown last; furthest = greatest_row before.rows (shown last) ends.greatest; short = short.1 } in
+    inr (accepted, record { least = least; greatest = greatest })
 
 pub both_short : (before : PlainColumn) (least_room greatest_room : ℕ) (outcome : Result Extremes VortexError) (first last : ScalarForm) → refusal {A = Global} before MinMax ≡ None → AreExtremes before first last
-    → IfErr outcome (λ error. IsRoomFault (shown first) least_room error ⊎ IsRoomFault (shown last) greatest_room error) → IfErr outcome (λ error. IsEndsFault before least_room greatest_room error)
+    → IfErr outcome (λ error. IsRoomFault (shown first) least_room error ⊎ (IsRoomThere (shown first) least_room × IsRoomFault (shown last) greatest_room error)) → IfErr outcome (λ error. IsEndsFault before least_room greatest_room error)
 both_short before least_room greatest_room (Ok both) first last accepted ends short = tt
 both_short before least_room greatest_room (Err error) first last accepted ends short = short_ends before least_room greatest_room error first last accepted ends short
 

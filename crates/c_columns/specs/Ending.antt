@@ -14,7 +14,7 @@ use Rattle.runend_commands.specs.Meaning.{plain}
 use Rattle.runend_array.specs.Array.{column_of, dtype_of}
 use Rattle.c_columns.specs.Calls.{Leaves}
 use Rattle.c_columns.specs.RunParts.{no_runs_fault}
-use Rattle.c_columns.specs.Values.{IsFurthestRow, IsPassed, IsRoomFault}
+use Rattle.c_columns.specs.Values.{IsFurthestRow, IsPassed, IsRoomFault, IsRoomThere}
 use Rattle.c_columns.specs.declared.row_value.RowValue.{RowValue}
 use Rattle.c_columns.specs.declared.error_fields.ErrorFields.{ErrorFields}
 use Rattle.c_columns.specs.declared.sessions.Session.{Session}
@@ -59,7 +59,7 @@ IsShortOr Fault error = (error ≡ OutOfMemory) ⊎ Fault error
 abbrev pub EndsAs : (VortexError → Type 0) → ℤ → ErrorFields → Type 0
 EndsAs Fault code fields = (code ≡ pos 0) ⊎ ((error : VortexError) × IsShortOr Fault error × IsRefusedAs error code fields)
 
--- the call ends with 0, and there is no fault of this kind; or for want of memory, or by such a fault
+-- the call ends with 0, and has no fault of this kind; or for want of memory, or by such a fault
 abbrev pub EndsUnless : (VortexError → Type 0) → ℤ → ErrorFields → Type 0
 EndsUnless Fault code fields =
     ((code ≡ pos 0) × ((error : VortexError) → ¬ Fault error)) ⊎ ((error : VortexError) × IsShortOr Fault error × IsRefusedAs error code fields)
@@ -140,9 +140,21 @@ abbrev pub EndsOnExtreme : Bool → ℕ → Option (ArrayRef Global) → ℤ →
 EndsOnExtreme greatest room None code fields = code ≡ pos 22
 EndsOnExtreme greatest room (Some c) code fields = EndsBy (refusal {A = Global} (plain c) MinMax) code fields ⊎ ((error : VortexError) × HasNoRoomFor greatest (plain c).rows room error × IsRefusedAs error code fields)
 
--- why the least and the greatest row are not shown: one of them is not
+-- the least or the greatest row has room
+pub record HasRoomFor (greatest : Bool) (rows : List (Option Value)) (room : ℕ) : Type 0 where
+  pub value : Option Value
+  pub furthest : IsFurthestRow greatest rows value
+  pub fits : IsRoomThere value room
+
+-- the least row has room, and the greatest has none
+pub record HasNoRoomAfter (rows : List (Option Value)) (least_room greatest_room : ℕ) (error : VortexError) : Type 0 where
+  pub least : HasRoomFor false rows least_room
+  pub greatest : HasNoRoomFor true rows greatest_room error
+
+-- why the least and the greatest row are not shown: the least is not; or it is, and the greatest has no room
 abbrev pub IsEndsFault : PlainColumn → ℕ → ℕ → VortexError → Type 0
-IsEndsFault before least_room greatest_room error = IsExtremeFault false before least_room error ⊎ IsExtremeFault true before greatest_room error
+IsEndsFault before least_room greatest_room error =
+    IsExtremeFault false before least_room error ⊎ ((refusal {A = Global} before MinMax ≡ None) × HasNoRoomAfter before.rows least_room greatest_room error)
 
 -- how the call of both ends
 abbrev pub EndsOnEnds : ℕ → ℕ → Option (ArrayRef Global) → ℤ → ErrorFields → Type 0
@@ -165,8 +177,13 @@ abbrev pub EndsOnHeld : (ArrayRef Global → VortexError → Type 0) → Option 
 EndsOnHeld Fault None code fields = code ≡ pos 22
 EndsOnHeld Fault (Some c) code fields = EndsAs (Fault c) code fields
 
+-- how a call ends on a column that ends with 0 only where it has none of these faults
+abbrev pub EndsOnHeldUnless : (ArrayRef Global → VortexError → Type 0) → Option (ArrayRef Global) → ℤ → ErrorFields → Type 0
+EndsOnHeldUnless Fault None code fields = code ≡ pos 22
+EndsOnHeldUnless Fault (Some c) code fields = EndsUnless (Fault c) code fields
+
 -- how a call on two columns ends: with 22 where one of the two handles is empty
 abbrev pub EndsOnParts : (ArrayRef Global → ArrayRef Global → VortexError → Type 0) → Option (ArrayRef Global) → Option (ArrayRef Global) → ℤ → ErrorFields → Type 0
 EndsOnParts Fault None values code fields = code ≡ pos 22
 EndsOnParts Fault (Some ends) None code fields = code ≡ pos 22
-EndsOnParts Fault (Some ends) (Some values) code fields = EndsAs (Fault ends values) code fields
+EndsOnParts Fault (Some ends) (Some values) code fields = EndsUnless (Fault ends values) code fields

@@ -1,13 +1,15 @@
 -- The message of a column: where it goes, why it is not written, and why bytes are none.
-use Rattle.std.specs.Prelude.{◌≡◌, ◌<◌, ◌⊎◌, ℕ, List, length, take}
+use Rattle.std.specs.Prelude.{◌≡◌, ◌^◌, ◌<◌, ◌≤◌, ◌⊎◌, ℕ, ℤ, pos, List, length, take, Option, Some, None}
 use Rattle.std.specs.Global.{Global}
 use Rattle.column_base.specs.declared.error.VortexError.{VortexError}
-use Rattle.column_base.specs.declared.error.VortexError.TheVariants.{BadMetadata, ColumnLength, Unsupported}
+use Rattle.column_base.specs.declared.error.VortexError.TheVariants.{BadMetadata, ColumnLength, OutOfMemory, Unsupported}
 use Rattle.column_bytes.specs.Bytes.{column_bytes}
 use Rattle.column_bytes.specs.Read.{IsMessage, IsNoMessage, IsWritable}
 use Rattle.runend_array.specs.Array.{column_of}
 use Rattle.runend_array.specs.Column.{Column}
 use Rattle.runend_array.specs.declared.array_ref.ArrayRef.{ArrayRef}
+use Rattle.c_columns.specs.Ending.{IsRefusedAs}
+use Rattle.c_columns.specs.declared.error_fields.ErrorFields.{ErrorFields}
 
 -- the column has a message of so many bytes
 pub record HasMessage (column : Column) (size : ℕ) : Type 0 where
@@ -24,16 +26,28 @@ pub record IsUnwritable (column : Column) (error : VortexError) : Type 0 where
   pub told : error ≡ Unsupported
   pub none : ¬ IsWritable 16 column
 
+-- no count of 64 bits holds how many bytes the message has
+pub record IsUncounted (column : Column) (error : VortexError) : Type 0 where
+  pub told : error ≡ OutOfMemory
+  pub past : 2 ^ 64 ≤ length (column_bytes column)
+
 -- the message has no room, told with its number of bytes and the room
 pub record HasNoMessageRoom (column : Column) (room : ℕ) (error : VortexError) : Type 0 where
   pub writable : IsWritable 16 column
   pub told : error ≡ ColumnLength (length (column_bytes column)) room
   pub short : room < length (column_bytes column)
 
--- why no message is told or written
+-- why a call does not say how many bytes the message has
 abbrev pub SizeFault : ArrayRef Global → VortexError → Type 0
-SizeFault c error = IsUnwritable (column_of c) error
+SizeFault c error = IsUnwritable (column_of c) error ⊎ IsUncounted (column_of c) error
 
+-- how a call ends that says how many bytes these are: with 0 exactly where there is none of these faults
+abbrev pub EndsOnSize : Option (ArrayRef Global) → ℤ → ErrorFields → Type 0
+EndsOnSize None code fields = code ≡ pos 22
+EndsOnSize (Some c) code fields =
+    ((code ≡ pos 0) × ((error : VortexError) → ¬ SizeFault c error)) ⊎ ((error : VortexError) × SizeFault c error × IsRefusedAs error code fields)
+
+-- why no message is written
 abbrev pub MessageFault : ℕ → ArrayRef Global → VortexError → Type 0
 MessageFault room c error = IsUnwritable (column_of c) error ⊎ HasNoMessageRoom (column_of c) room error
 

@@ -1,12 +1,12 @@
 -- What run columns are made of, taken apart and written as, and why that is refused.
-use Rattle.std.specs.Prelude.{◌≡◌, ℕ, ◌<◌, List, length, take, Option, Some, None}
+use Rattle.std.specs.Prelude.{◌≡◌, ◌⊎◌, ℕ, ◌<◌, ◌≤◌, List, length, take, Option, Some, None}
 use Rattle.std.specs.Global.{Global}
 use Rattle.column_base.specs.declared.dtype.DType.{DType}
 use Rattle.column_base.specs.declared.dtype.PType.{PType}
 use Rattle.column_base.specs.declared.error.VortexError.{VortexError}
 use Rattle.column_base.specs.declared.error.VortexError.TheVariants.{ColumnLength, Unsupported}
 use Rattle.runend_array.specs.Array.{column_of}
-use Rattle.runend_array.specs.Column.{Column, OfLeaf, OfConstant, OfLists, OfRuns, IsPlainEnds, Runs, end_ptype, end_numbers, runs_with}
+use Rattle.runend_array.specs.Column.{Column, OfLeaf, OfConstant, OfLists, OfRuns, IsPlainEnds, Runs, depth, end_ptype, end_numbers, runs_with}
 use Rattle.runend_array.specs.Fault.{PartsFault}
 use Rattle.runend_array.specs.declared.array_ref.ArrayRef.{ArrayRef}
 use Rattle.runend_column.specs.Fault.{RecordFault}
@@ -14,13 +14,21 @@ use Rattle.runend_column.specs.Record.{record_of}
 use Rattle.runend_metadata.specs.Fields.{Means}
 use Rattle.runend_metadata.specs.Written.{IsWritten}
 
+-- how many levels of runs a column that C makes has at most
+abbrev pub most_levels : ℕ
+most_levels = 64
+
+-- runs over these values would have more levels; or they have not, and there is a fault of the parts
+abbrev pub IsFaultOver : Column → (VortexError → Type 0) → VortexError → Type 0
+IsFaultOver values Fault error = ((error ≡ Unsupported) × (most_levels ≤ depth values)) ⊎ ((depth values < most_levels) × Fault error)
+
 -- the first fault of the parts of a run column
 abbrev pub RunsFault : ℕ → ℕ → ArrayRef Global → ArrayRef Global → VortexError → Type 0
-RunsFault offset count ends values error = PartsFault (column_of ends) (column_of values) offset count error
+RunsFault offset count ends values error = IsFaultOver (column_of values) (PartsFault (column_of ends) (column_of values) offset count) error
 
 -- the first fault of such parts under a record
 abbrev pub RecordedFault : List ℕ → DType → ℕ → ArrayRef Global → ArrayRef Global → VortexError → Type 0
-RecordedFault bytes dtype count ends values error = RecordFault bytes dtype count (column_of ends) (column_of values) error
+RecordedFault bytes dtype count ends values error = IsFaultOver (column_of values) (RecordFault bytes dtype count (column_of ends) (column_of values)) error
 
 -- only a run column is taken apart
 abbrev pub no_runs_fault : Column → Option VortexError

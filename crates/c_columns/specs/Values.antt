@@ -1,5 +1,5 @@
 -- Values, as C reads and writes them.
-use Rattle.std.specs.Prelude.{◌≡◌, ◌^◌, ℕ, ◌<◌, zero, suc, ℤ, ◌+ℤ◌, ◌*ℤ◌, pos, List, All, Bool, true, false, length, take, slice_get, Option, Some, None, option_map}
+use Rattle.std.specs.Prelude.{◌≡◌, ◌^◌, ℕ, ◌<◌, ◌≤◌, zero, suc, ℤ, ◌+ℤ◌, ◌*ℤ◌, pos, List, All, Bool, true, false, length, take, slice_get, Option, Some, None, option_map}
 use Rattle.std.specs.Global.{Global}
 use Rattle.std.specs.Str.{IsUtf8}
 use Rattle.column_base.specs.declared.dtype.DType.{DType}
@@ -97,6 +97,13 @@ IsRoomFault (Some (Single (Text bytes))) room error = (error ≡ ColumnLength (l
 IsRoomFault (Some (Single (Bytes bytes))) room error = (error ≡ ColumnLength (length bytes) room) × (room < length bytes)
 IsRoomFault (Some (Items items)) room error = error ≡ Unsupported
 IsRoomFault value room error = ⊥
+
+-- the room is enough for a text or bytes, and any other value but a list needs none
+abbrev pub IsRoomThere : Option Value → ℕ → Type 0
+IsRoomThere (Some (Single (Text bytes))) room = length bytes ≤ room
+IsRoomThere (Some (Single (Bytes bytes))) room = length bytes ≤ room
+IsRoomThere (Some (Items items)) room = ⊥
+IsRoomThere value room = Unit {0}
 
 -- the least or the greatest row that is not null, or null where all are
 abbrev pub IsFurthestRow : Bool → List (Option Value) → Option Value → Type 0

@@ -13,6 +13,7 @@ pub mod flat;
 mod front;
 pub mod handle;
 pub mod kinds;
+mod levels;
 pub mod lists;
 mod masks;
 pub mod messages;

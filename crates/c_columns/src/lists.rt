@@ -1,5 +1,5 @@
 //! Columns of lists of what C passes, and what columns of lists consist of.
-ghost use Rattle.std.specs.Prelude.{length, IfErr, IfOk};
+ghost use Rattle.std.specs.Prelude.{length, IfErr, IfOk, OnOk};
 ghost use Rattle.column_core.specs.Refusal.{IsRefusedBy};
 ghost use Rattle.runend_array.specs.Array.{column_of};
 ghost use Rattle.array_parts.specs.ListParts.{AreElementsOf, AreFlagsOf, AreOffsetsOf, AreSizesOf, no_lists_fault};
@@ -11,7 +11,7 @@ use crate::bits::validity_of;
 use crate::flat::{Boxed, boxed};
 use crate::sessions::plain_context;
 use array_parts::{list_elements, list_offsets, list_sizes, list_validity, lists_over};
-use column_core::VortexResult;
+use column_core::{VortexError, VortexResult};
 use runend_array::ArrayRef;
 use std::alloc::Global;
 
@@ -31,6 +31,8 @@ pub fn lists(
         (validity_by nulls bits.now first (length offsets.now)) elements.now made.value) }
     ensures refused { IfErr result
         (λ error. IsShortOr (PassedListsFault offsets.now sizes.now nulls bits.now first elements.now) error) }
+    ensures served { OnOk result ((error : VortexError)
+        → ¬ (PassedListsFault offsets.now sizes.now nulls bits.now first elements.now error)) }
 {
     let validity = validity_of(alloc, nulls, bits, first, offsets.len())?;
     let mut ctx = plain_context(alloc);

@@ -1,5 +1,5 @@
 //! Columns as messages, and columns of messages.
-ghost use Rattle.std.specs.Prelude.{◌≡◌, ◌≢◌, length, IfOk, IfErr};
+ghost use Rattle.std.specs.Prelude.{◌≡◌, ◌≢◌, length, IfOk, IfErr, OnOk};
 ghost use Rattle.runend_array.specs.Array.{column_of};
 ghost use Rattle.c_columns.specs.Ending.{IsShortOr};
 ghost use Rattle.c_columns.specs.Messages.{HasMessage, IsColumnOfMessage, IsMessageAtFront, IsUnreadable, MessageFault, SizeFault};
@@ -12,10 +12,12 @@ use runend_array::ArrayRef;
 use std::alloc::Global;
 
 /// How many bytes the message of a column has. Takes no memory. Refused as `Unsupported` where the version writes no
-/// message of it, else for want of memory, where no count tells so many bytes.
+/// message of it, and as `OutOfMemory` only where it has 2^64 bytes or more.
+#[tactic(auto, using(crate::proofs::MessageEndings::size_served))]
 pub fn message_size(array: &ArrayRef<Global>) -> VortexResult<usize>
     ensures told { IfOk result (λ size. HasMessage (column_of array.now) size) }
-    ensures refused { IfErr result (λ error. IsShortOr (SizeFault array.now) error) }
+    ensures refused { IfErr result (λ error. SizeFault array.now error) }
+    ensures served { OnOk result ((error : VortexError) → ¬ (SizeFault array.now error)) }
 {
     match column_bytes::message_size(array) {
         Ok(size) => Ok(size),

@@ -13,7 +13,7 @@ ghost use Rattle.c_columns.specs.Flags.{Tells, byte_of as byte_of_truth};
 ghost use Rattle.c_columns.specs.Sessions.{IsReadInPlaceIn};
 ghost use Rattle.c_columns.specs.Totals.{IsTotalOf};
 ghost use Rattle.runend_commands.specs.Extremes.{HasBytes, shown as shown_by};
-ghost use Rattle.c_columns.specs.Values.{IsExtremeOf, IsRoomFault, IsScalarTold, IsShownAt};
+ghost use Rattle.c_columns.specs.Values.{IsExtremeOf, IsRoomFault, IsRoomThere, IsScalarTold, IsShownAt};
 ghost use Rattle.c_columns.specs.Ending.{IsEndsFault, IsExtremeFault, IsLookUpFault};
 
 use crate::row_value::{self, RowValue, row_value_of};
@@ -111,8 +111,8 @@ pub fn extreme_of(
 }
 
 /// The least and the greatest row that are not null, or null twice where all are. A text or bytes of each go to the
-/// front of a buffer of its own. Refused as `Unsupported` for lists, and as `row_value_of`; but for texts and bytes
-/// never for want of memory where the rows are read in place.
+/// front of a buffer of its own. Refused as `Unsupported` for lists, and as `row_value_of`, of the least where neither
+/// has room; but for texts and bytes never for want of memory where the rows are read in place.
 #[tactic(auto, using(crate::proofs::Told::least_of_both, crate::proofs::Told::greatest_of_both, crate::proofs::Told::both_short, crate::proofs::Told::both_refused, crate::proofs::Told::both_accepted, crate::proofs::Told::none_told))]
 pub fn extremes_of(
     alloc: Global,
@@ -160,7 +160,7 @@ pub fn row_at(array: &ArrayRef<Global>, row: usize, text: &mut [u8]) -> VortexRe
     row_value_of(view, text)
 }
 
-// Both scalars, each with a buffer of its own.
+// Both scalars, each with a buffer of its own, the least first.
 fn both_told(
     least: &Scalar<Global>,
     greatest: &Scalar<Global>,
@@ -171,7 +171,8 @@ fn both_told(
     ensures greatest { IfOk result (λ ends. IsScalarTold greatest.now ends.greatest greatest_text.new) }
     ensures refused { IfErr result
         (λ error. IsRoomFault (shown_by least.now) (length least_text.old) error
-        ⊎ IsRoomFault (shown_by greatest.now) (length greatest_text.old) error) }
+        ⊎ (IsRoomThere (shown_by least.now) (length least_text.old)
+        × IsRoomFault (shown_by greatest.now) (length greatest_text.old) error)) }
     ensures least_len { length least_text.new ≡ length least_text.old }
     ensures greatest_len { length greatest_text.new ≡ length greatest_text.old }
 {
@@ -183,6 +184,7 @@ fn both_told(
 fn scalar_told(scalar: &Scalar<Global>, text: &mut [u8]) -> VortexResult<RowValue>
     ensures told { IfOk result (λ value. IsScalarTold scalar.now value text.new) }
     ensures room { IfErr result (λ error. IsRoomFault (shown_by scalar.now) (length text.old) error) }
+    ensures fits { IfOk result (λ _. IsRoomThere (shown_by scalar.now) (length text.old)) }
     ensures len { length text.new ≡ length text.old }
 {
     row_value_of(scalar.view(), text)

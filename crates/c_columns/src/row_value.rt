@@ -1,5 +1,5 @@
 //! One value of a row, as C reads and writes it.
-ghost use Rattle.std.specs.Prelude.{◌≡◌, ◌<◌, ◌⊎◌, ◌↔◌, length, take, IfOk, IfErr, OnOk, Some};
+ghost use Rattle.std.specs.Prelude.{◌≡◌, ◌<◌, ◌≤◌, ◌⊎◌, ◌↔◌, length, take, IfOk, IfErr, OnOk, Some};
 ghost use Rattle.std.specs.Str.{IsUtf8};
 ghost use Rattle.column_base.specs.declared.dtype.DType.{DType};
 ghost use Rattle.column_core.specs.Value.{Text};
@@ -8,7 +8,7 @@ ghost use Rattle.column_core.specs.ScalarView.{sees};
 ghost use Rattle.runend_array.specs.Array.{dtype_of};
 ghost use Rattle.c_columns.specs.Ending.{IsShortOr};
 ghost use Rattle.c_columns.specs.Makers.{ConstantFault};
-ghost use Rattle.c_columns.specs.Values.{IsPassed, IsPassedIn, IsRoomFault, TellsView, scalar_in, value_in};
+ghost use Rattle.c_columns.specs.Values.{IsPassed, IsPassedIn, IsRoomFault, IsRoomThere, TellsView, scalar_in, value_in};
 
 use crate::pairs::{Pair, number_of, pair_of};
 use column_core::{DType, Nullability, Scalar, ScalarValue, ScalarView, VortexError, VortexResult};
@@ -31,6 +31,7 @@ pub struct RowValue {
 pub fn row_value_of(view: ScalarView<'_, Global>, text: &mut [u8]) -> VortexResult<RowValue>
     ensures told { IfOk result (λ value. TellsView value text.new view.entry) }
     ensures room { IfErr result (λ error. IsRoomFault (sees view.entry) (length text.old) error) }
+    ensures fits { IfOk result (λ _. IsRoomThere (sees view.entry) (length text.old)) }
     ensures len { length text.new ≡ length text.old }
 {
     match view {
@@ -59,6 +60,7 @@ pub fn null() -> RowValue
 /// number and the room, where there is no room for all.
 pub fn put_bytes(bytes: &[u8], room: &mut [u8]) -> VortexResult<u64>
     ensures put { IfOk result (λ size. (size ≡ length bytes.now) × (take size room.new ≡ bytes.now)) }
+    ensures fits { IfOk result (λ _. length bytes.now ≤ length room.old) }
     ensures refused { IfErr result
         (λ error. (error ≡ VortexError.ColumnLength (length bytes.now) (length room.old))
         × (length room.old < length bytes.now)) }

@@ -1,5 +1,5 @@
 //! Run columns of what other handles hold, and what run columns consist of.
-ghost use Rattle.std.specs.Prelude.{◌≡◌, [], length, IfOk, IfErr, IsOkUnless};
+ghost use Rattle.std.specs.Prelude.{◌≡◌, [], length, IfOk, IfErr, IsOkUnless, OnOk};
 ghost use Rattle.column_base.specs.ValidityForm.{NeverNull};
 ghost use Rattle.column_base.specs.declared.dtype.PType.TheVariants.{U8};
 ghost use Rattle.column_core.specs.Leaf.{OfNumbers};
@@ -13,6 +13,7 @@ ghost use Rattle.c_columns.specs.Reads.{AreRunValuesOf, form_number, offset_in};
 ghost use Rattle.c_columns.specs.RunParts.{AreEndsOf, IsRecordAtFront, RecordedFault, RunsFault, SerializeFault, no_runs_fault};
 
 use crate::flat::{Boxed, boxed};
+use crate::levels::check_levels;
 use crate::row_value::put_bytes;
 use crate::sessions::plain_context;
 use column_core::{DType, NativePType, PrimitiveArray, Validity, VortexError, VortexResult};
@@ -51,8 +52,9 @@ fn compact(alloc: Global, array: &ArrayRef<Global>) -> VortexResult<ArrayRef<Glo
     array.compact(&mut plain_context(alloc))
 }
 
-/// The run column of copies of these parts. Refused as `RunEnd::try_new_offset_length` refuses, or for want
-/// of memory.
+/// The run column of copies of these parts. Refused as `Unsupported` where it would have more than 64 levels of runs,
+/// then as `RunEnd::try_new_offset_length` refuses, or for want of memory.
+#[tactic(auto, using(crate::proofs::RunsServed::runs_too_deep, crate::proofs::RunsServed::runs_refused, crate::proofs::RunsServed::runs_served))]
 pub fn run_column(
     alloc: Global,
     ends: &ArrayRef<Global>,
@@ -62,7 +64,9 @@ pub fn run_column(
 ) -> VortexResult<Boxed>
     ensures made { IfOk result (λ made. AreRunsOf offset count ends.now values.now made.value) }
     ensures refused { IfErr result (λ error. IsShortOr (RunsFault offset count ends.now values.now) error) }
+    ensures served { OnOk result ((error : VortexError) → ¬ (RunsFault offset count ends.now values.now error)) }
 {
+    check_levels(values)?;
     let (ends, values) = copies(alloc, ends, values)?;
     let runs = RunEnd::try_new_offset_length(
         ends,
@@ -74,8 +78,9 @@ pub fn run_column(
     boxed_runs(alloc, runs)
 }
 
-/// The run column of copies of these parts, by its record. Refused as `deserialize` refuses, or for want of
-/// memory.
+/// The run column of copies of these parts, by its record. Refused as `Unsupported` where it would have more than 64
+/// levels of runs, then as `deserialize` refuses, or for want of memory.
+#[tactic(auto, using(crate::proofs::RunsServed::record_too_deep, crate::proofs::RunsServed::record_refused))]
 pub fn recorded_column(
     alloc: Global,
     dtype: DType,
@@ -87,7 +92,10 @@ pub fn recorded_column(
     ensures made { IfOk result (λ made. AreRecordedRuns bytes.now dtype count ends.now values.now made.value) }
     ensures refused { IfErr result
         (λ error. IsShortOr (RecordedFault bytes.now dtype count ends.now values.now) error) }
+    ensures served { OnOk result
+        ((error : VortexError) → ¬ (RecordedFault bytes.now dtype count ends.now values.now error)) }
 {
+    check_levels(values)?;
     let (ends, values) = copies(alloc, ends, values)?;
     let runs = deserialize(dtype, count, bytes, ends, values, &mut plain_context(alloc))?;
     boxed_runs(alloc, runs)
@@ -143,6 +151,7 @@ pub fn form_of_array(array: &ArrayRef<Global>) -> u8
 pub fn put_record(alloc: Global, array: &ArrayRef<Global>, room: &mut [u8]) -> VortexResult<usize>
     ensures put { IfOk result (λ size. IsRecordAtFront (column_of array.now) size room.new) }
     ensures refused { IfErr result (λ error. IsShortOr (SerializeFault (length room.old) array.now) error) }
+    ensures served { OnOk result ((error : VortexError) → ¬ (SerializeFault (length room.old) array.now error)) }
     ensures len { length room.new ≡ length room.old }
 {
     let ArrayRef::RunEnd(runs) = array else {

@@ -1,8 +1,8 @@
 //! Flat columns of the texts and bytes that C passes, one behind the other, with offsets.
-ghost use Rattle.std.specs.Prelude.{◌≡◌, ◌+◌, ◌-◌, [], ◌∷◌, map, length, pos, IfErr, IfOk, IfSome, IsOkUnless, MatchOption};
+ghost use Rattle.std.specs.Prelude.{◌≡◌, ◌+◌, ◌-◌, ◌<◌, ℕ, [], ◌∷◌, map, length, pos, IfErr, IfOk, IfSome, IsOkUnless, MatchOption, OnOk};
 ghost use Rattle.c_columns.specs.Bits.{validity_by};
 ghost use Rattle.c_columns.specs.Ending.{IsShortOr};
-ghost use Rattle.c_columns.specs.Makers.{AreCuts, AreTextsOf, CutsFault, IsCut, TextsFault};
+ghost use Rattle.c_columns.specs.Makers.{AreCuts, AreTextsOf, CutsFault, IsCut, IsRowCut, TextsFault};
 
 use crate::bits::validity_of;
 use crate::flat::{Boxed, boxed};
@@ -28,6 +28,8 @@ pub fn texts<T: NativePType>(
         (validity_by nulls bits.now first (length offsets.now - 1)) made.value) }
     ensures refused { IfErr result
         (λ error. IsShortOr (TextsFault kind (map T.number offsets.now) bytes.now nulls bits.now first) error) }
+    ensures served { OnOk result ((error : VortexError)
+        → ¬ (TextsFault kind (map T.number offsets.now) bytes.now nulls bits.now first error)) }
 {
     let views = views_between(alloc, offsets)?;
     let validity = validity_of(alloc, nulls, bits, first, views.len())?;
@@ -40,6 +42,8 @@ pub fn texts<T: NativePType>(
 #[tactic(auto, using(crate::proofs::Cuts::first_uncut))]
 fn views_between<T: NativePType>(alloc: Global, offsets: &[T]) -> VortexResult<Vec<View>>
     ensures cuts { IfOk result (λ views. AreCuts (map T.number offsets.now) views.items) }
+    ensures each { IfOk result
+        (λ views. (row : ℕ) → row < length views.items → IsRowCut (map T.number offsets.now) row) }
     ensures refused { IfErr result (λ error. IsShortOr (CutsFault (map T.number offsets.now)) error) }
 {
     if offsets.is_empty() {

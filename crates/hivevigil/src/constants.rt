@@ -1,6 +1,6 @@
 //! The call that makes a column of one value.
 ghost use Rattle.std.specs.Prelude.{◌≡◌, ◌≢◌, IsSomeAnd, MatchOption, pos};
-ghost use Rattle.c_columns.specs.Ending.{EndsAs};
+ghost use Rattle.c_columns.specs.Ending.{EndsUnless};
 ghost use Rattle.c_columns.specs.Kinds.{dtype_by};
 ghost use Rattle.c_columns.specs.Makers.{ConstantFault, IsConstantOf};
 
@@ -14,7 +14,7 @@ use std::alloc::Global;
 
 /// The value, of this type, in each of `count` rows. Answers 23 where the number is of no type, or of lists; else
 /// refused as `constants::constant` says.
-#[tactic(auto, using(crate::proofs::PartEndings::as_done, crate::proofs::PartEndings::as_refused))]
+#[tactic(auto, using(crate::proofs::PartEndings::unless_done, crate::proofs::PartEndings::unless_refused))]
 #[unsafe(no_mangle)]
 pub extern "C" fn hv_constant(
     alloc: Global,
@@ -30,7 +30,7 @@ pub extern "C" fn hv_constant(
         (λ c. IsConstantOf dtype value.now text.now count c)) }
     ensures kept { result ≢ pos 0 → out.new.column ≡ out.old.column }
     ensures ended { MatchOption (dtype_by kind.now.number kind.now) (result ≡ pos 23)
-        (λ dtype. EndsAs (ConstantFault dtype value.now text.now) result error.new) }
+        (λ dtype. EndsUnless (ConstantFault dtype value.now text.now) result error.new) }
 {
     match kinds::dtype_of(kind) {
         Some(dtype) => answer(

@@ -3,7 +3,7 @@ ghost use Rattle.std.specs.Prelude.{◌≡◌, ◌≢◌, length, pos};
 ghost use Rattle.runend_array.specs.Array.{column_of};
 ghost use Rattle.array_parts.specs.ListParts.{AreElementsOf, AreFlagsOf, AreOffsetsOf, AreSizesOf, no_lists_fault};
 ghost use Rattle.c_columns.specs.Bits.{validity_by};
-ghost use Rattle.c_columns.specs.Ending.{EndsOnHeld, WhereBoth};
+ghost use Rattle.c_columns.specs.Ending.{EndsOnHeldUnless, WhereBoth};
 ghost use Rattle.c_columns.specs.Lists.{ArePassedLists, PassedListsFault};
 ghost use Rattle.c_columns.specs.ReadFaults.{EndsOnWindow};
 
@@ -15,7 +15,7 @@ use std::alloc::Global;
 
 /// The lists of which row i has `sizes[i]` of the elements, from element `offsets[i]` on. The elements are shared, and
 /// stay. Nulls are told as to `hv_u8`. Refused as `lists::lists` says.
-#[tactic(auto, using(crate::proofs::PartEndings::held_empty, crate::proofs::PartEndings::held_done, crate::proofs::PartEndings::held_refused))]
+#[tactic(auto, using(crate::proofs::PartEndings::held_unless_empty, crate::proofs::PartEndings::held_unless_done, crate::proofs::PartEndings::held_unless_refused))]
 #[unsafe(no_mangle)]
 pub extern "C" fn hv_lists(
     alloc: Global,
@@ -32,7 +32,7 @@ pub extern "C" fn hv_lists(
     ensures made { result ≡ pos 0 → WhereBoth (ArePassedLists offsets.now sizes.now
         (validity_by nulls bits.now first (length offsets.now))) elements.old.column out.new.column }
     ensures kept { result ≢ pos 0 → out.new.column ≡ out.old.column }
-    ensures ended { EndsOnHeld (PassedListsFault offsets.now sizes.now nulls bits.now first)
+    ensures ended { EndsOnHeldUnless (PassedListsFault offsets.now sizes.now nulls bits.now first)
         elements.old.column result error.new }
 {
     let Some(array) = elements.take(alloc) else {

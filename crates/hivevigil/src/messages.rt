@@ -2,7 +2,7 @@
 ghost use Rattle.std.specs.Prelude.{◌≡◌, ◌≢◌, IsSomeAnd, length, pos};
 ghost use Rattle.runend_array.specs.Array.{column_of};
 ghost use Rattle.c_columns.specs.Ending.{EndsAs, EndsOnHeld};
-ghost use Rattle.c_columns.specs.Messages.{HasMessage, IsColumnOfMessage, IsMessageAtFront, IsUnreadable, MessageFault, SizeFault};
+ghost use Rattle.c_columns.specs.Messages.{EndsOnSize, HasMessage, IsColumnOfMessage, IsMessageAtFront, IsUnreadable, MessageFault, SizeFault};
 
 use c_columns::commands::answer;
 use c_columns::error_fields::{ErrorFields, NO_COLUMN, write_answer};
@@ -11,8 +11,8 @@ use c_columns::messages;
 use std::alloc::Global;
 
 /// How many bytes the message of a column has: `size` says it. Takes no memory. Refused as `Unsupported` where there is
-/// none.
-#[tactic(auto, using(crate::proofs::PartEndings::held_empty, crate::proofs::PartEndings::held_done, crate::proofs::PartEndings::held_refused))]
+/// none, and as `OutOfMemory` only where it has 2^64 bytes or more.
+#[tactic(auto, using(crate::proofs::PartEndings::size_empty, crate::proofs::PartEndings::size_done, crate::proofs::PartEndings::size_refused))]
 #[unsafe(no_mangle)]
 pub extern "C" fn hv_write_size(
     alloc: Global,
@@ -22,7 +22,7 @@ pub extern "C" fn hv_write_size(
 ) -> i32
     ensures same { column.new.column ≡ column.old.column }
     ensures told { result ≡ pos 0 → IsSomeAnd column.old.column (λ c. HasMessage (column_of c) size.new) }
-    ensures ended { EndsOnHeld SizeFault column.old.column result error.new }
+    ensures ended { EndsOnSize column.old.column result error.new }
 {
     let Some(array) = column.take(alloc) else {
         return NO_COLUMN;

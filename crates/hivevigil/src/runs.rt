@@ -2,7 +2,7 @@
 ghost use Rattle.std.specs.Prelude.{◌≡◌, ◌≢◌, IsSomeAnd, MatchOption, None, length, pos};
 ghost use Rattle.runend_array.specs.Array.{column_of};
 ghost use Rattle.runend_array.specs.SessionForm.{crate_thresholds};
-ghost use Rattle.c_columns.specs.Ending.{EndsAlways, EndsOnHeld, EndsOnParts, EndsOnRuns, WhereAll, WhereBoth};
+ghost use Rattle.c_columns.specs.Ending.{EndsAlways, EndsOnHeldUnless, EndsOnParts, EndsOnRuns, WhereAll, WhereBoth};
 ghost use Rattle.c_columns.specs.Kinds.{dtype_by};
 ghost use Rattle.c_columns.specs.Makers.{AreRecordedRuns, AreRunsOf, IsCopyOf};
 ghost use Rattle.c_columns.specs.Reads.{AreRunValuesOf};
@@ -17,8 +17,9 @@ use c_columns::runs;
 use c_columns::sessions::{self, Session};
 use std::alloc::Global;
 
-/// The run column of these ends and values, of which `count` rows from row `offset` on are shown. Both are copied,
-/// and stay. Refused as the run column of such parts is.
+/// Makes the run column of these ends and values, of which `count` rows from row `offset` on are shown. Both stay in
+/// their handles: the new column has clones of them. Refused as `Unsupported` where it would have more than 64 levels
+/// of runs, then as the run column of such parts is.
 #[tactic(auto, using(crate::proofs::PartEndings::no_ends, crate::proofs::PartEndings::no_values, crate::proofs::PartEndings::parts_done, crate::proofs::PartEndings::parts_refused))]
 #[unsafe(no_mangle)]
 pub extern "C" fn hv_runs(
@@ -49,8 +50,8 @@ pub extern "C" fn hv_runs(
     answer(outcome, out, error)
 }
 
-/// The run column of copies of these parts, `count` rows of this type, by its record. Answers 23 where the number
-/// is of no type, or of lists; else refused as the record of such parts is.
+/// Makes the run column of clones of these parts, `count` rows of this type, by its record. Answers 23 where the number
+/// is of no type, or of lists; else refused as `hv_runs` for too many levels, and then as the record of such parts is.
 #[tactic(auto, using(crate::proofs::PartEndings::no_ends, crate::proofs::PartEndings::no_values, crate::proofs::PartEndings::parts_done, crate::proofs::PartEndings::parts_refused))]
 #[unsafe(no_mangle)]
 pub extern "C" fn hv_deserialize(
@@ -91,7 +92,7 @@ pub extern "C" fn hv_deserialize(
 
 /// The record of a run column: its bytes go to the front of `bytes`, and `size` says how many they are. Answers 11,
 /// with their number and the room, where they have no room there.
-#[tactic(auto, using(crate::proofs::PartEndings::held_empty, crate::proofs::PartEndings::held_done, crate::proofs::PartEndings::held_refused))]
+#[tactic(auto, using(crate::proofs::PartEndings::held_unless_empty, crate::proofs::PartEndings::held_unless_done, crate::proofs::PartEndings::held_unless_refused))]
 #[unsafe(no_mangle)]
 pub extern "C" fn hv_serialize(
     alloc: Global,
@@ -103,7 +104,7 @@ pub extern "C" fn hv_serialize(
     ensures same { column.new.column ≡ column.old.column }
     ensures told { result ≡ pos 0
         → IsSomeAnd column.old.column (λ c. IsRecordAtFront (column_of c) size.new bytes.new) }
-    ensures ended { EndsOnHeld (SerializeFault (length bytes.old)) column.old.column result error.new }
+    ensures ended { EndsOnHeldUnless (SerializeFault (length bytes.old)) column.old.column result error.new }
 {
     let Some(array) = column.take(alloc) else {
         return NO_COLUMN;
@@ -113,7 +114,7 @@ pub extern "C" fn hv_serialize(
     write_answer(outcome, size, error)
 }
 
-/// The ends of a run column, copied.
+/// Clones the ends of a run column. Refused as `Unsupported` where the column is of another form.
 #[tactic(auto, using(crate::proofs::PartEndings::runs_empty, crate::proofs::PartEndings::runs_done, crate::proofs::PartEndings::runs_refused))]
 #[unsafe(no_mangle)]
 pub extern "C" fn hv_ends(
@@ -136,7 +137,7 @@ pub extern "C" fn hv_ends(
     answer(outcome, out, error)
 }
 
-/// The values of a run column, copied.
+/// Clones the values of a run column. Refused as `hv_ends`.
 #[tactic(auto, using(crate::proofs::PartEndings::runs_empty, crate::proofs::PartEndings::runs_done, crate::proofs::PartEndings::runs_refused))]
 #[unsafe(no_mangle)]
 pub extern "C" fn hv_values(
@@ -159,7 +160,8 @@ pub extern "C" fn hv_values(
     answer(outcome, out, error)
 }
 
-/// A copy in the same form. Refused for want of memory alone.
+/// Clones the column: the same in the same form, which shares what holds 32 items or more. Refused only where memory
+/// is refused.
 #[tactic(auto, using(c_columns::proofs::Extremes::always_empty, c_columns::proofs::Extremes::always_done, c_columns::proofs::Extremes::always_short))]
 #[unsafe(no_mangle)]
 pub extern "C" fn hv_clone(
@@ -181,8 +183,8 @@ pub extern "C" fn hv_clone(
     answer(outcome, out, error)
 }
 
-/// A copy in the same form, in buffers that no other column shares: those that this one shows a part of may then be
-/// freed. Refused for want of memory alone.
+/// Copies the column in the same form into buffers that no other column shares: those that this one shows a part of
+/// may then be freed. Refused only where memory is refused.
 #[tactic(auto, using(c_columns::proofs::Extremes::always_empty, c_columns::proofs::Extremes::always_done, c_columns::proofs::Extremes::always_short))]
 #[unsafe(no_mangle)]
 pub extern "C" fn hv_compact(

@@ -1,7 +1,7 @@
 //! Calls that make flat columns of texts and bytes.
 ghost use Rattle.std.specs.Prelude.{◌≡◌, ◌≢◌, ◌-◌, IsSomeAnd, length, pos};
 ghost use Rattle.c_columns.specs.Bits.{validity_by};
-ghost use Rattle.c_columns.specs.Ending.{EndsAs};
+ghost use Rattle.c_columns.specs.Ending.{EndsUnless};
 ghost use Rattle.c_columns.specs.Kinds.{varbin_kind_by};
 ghost use Rattle.c_columns.specs.Makers.{AreTextsOf, TextsFault};
 
@@ -14,7 +14,6 @@ use std::alloc::Global;
 
 /// The flat column of texts, or of bytes where `binary` is not 0, whose row i is the bytes from offset i up to
 /// offset i + 1. Nulls are told as to `hv_u8`. Refused as `texts::texts` says.
-#[tactic(auto, using(crate::proofs::PartEndings::as_done, crate::proofs::PartEndings::as_refused))]
 #[unsafe(no_mangle)]
 pub extern "C" fn hv_texts(
     alloc: Global,
@@ -31,7 +30,7 @@ pub extern "C" fn hv_texts(
         → IsSomeAnd out.new.column (λ c. AreTextsOf (varbin_kind_by binary) offsets.now bytes.now
         (validity_by nulls bits.now first (length offsets.now - 1)) c) }
     ensures kept { result ≢ pos 0 → out.new.column ≡ out.old.column }
-    ensures ended { EndsAs (TextsFault
+    ensures ended { EndsUnless (TextsFault
         (varbin_kind_by binary) offsets.now bytes.now nulls bits.now first) result error.new }
 {
     answer(
@@ -51,7 +50,6 @@ pub extern "C" fn hv_texts(
 
 /// The flat column of texts, or of bytes where `binary` is not 0, whose row i is the bytes from offset i up to
 /// offset i + 1. Nulls are told as to `hv_u8`. Refused as `texts::texts` says.
-#[tactic(auto, using(crate::proofs::PartEndings::as_done, crate::proofs::PartEndings::as_refused))]
 #[unsafe(no_mangle)]
 pub extern "C" fn hv_large_texts(
     alloc: Global,
@@ -68,7 +66,7 @@ pub extern "C" fn hv_large_texts(
         → IsSomeAnd out.new.column (λ c. AreTextsOf (varbin_kind_by binary) offsets.now bytes.now
         (validity_by nulls bits.now first (length offsets.now - 1)) c) }
     ensures kept { result ≢ pos 0 → out.new.column ≡ out.old.column }
-    ensures ended { EndsAs (TextsFault
+    ensures ended { EndsUnless (TextsFault
         (varbin_kind_by binary) offsets.now bytes.now nulls bits.now first) result error.new }
 {
     answer(
