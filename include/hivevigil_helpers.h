@@ -72,11 +72,13 @@ HV_TAKE_OF(int64_t, i64)
 #undef HV_TAKE_OF
 
 /* The encoding of the rows of `count` columns of one type, which is not a list, one after the other: 12 for a column of
- * another type than the first, 22 where there is none, 13 for lists, 5 for 2^64 rows or more. What is held goes by runs
- * and not by rows. */
+ * another type than the first, 22 where there is none, 11 (count, 0) where `columns` is a null pointer to some, 13 for
+ * lists, 5 for 2^64 rows or more. What is held goes by runs and not by rows. */
 HV_ANSWER hv_concat(const hv_column *columns, size_t count, hv_column *out, hv_error *error) {
     hv_builder builder = HV_EMPTY;
+    hv_error ignored;
     int32_t answer = HV_NO_COLUMN;
+    if (!columns && count) return hv_missing(count, error ? error : &ignored);
     if (count && columns->at) {
         const hv_kind kind = hv_kind_of(columns);
         answer = kind.number == HV_LIST ? hv_encode_rows(columns, out, error) /* which is refused */

@@ -89,7 +89,7 @@ _METHODS = {
     "runs": "from_runs", "lists": "from_lists", "clone": "copy", "concat_columns": "concat",
     "export_with": "to_arrow",
     "export_stream": "to_arrow", "encode_rows": "to_runs", "read_bools": "truths", "read_validity": "validity",
-    "write_size": "to_bytes (at most 16 levels of runs)", "read_column": "from_bytes",
+    "write_size": "to_bytes", "read_column": "from_bytes",
 }
 
 

@@ -138,7 +138,8 @@ class Column:
     @classmethod
     def from_runs(cls, ends: Any, values: Any, offset: int = 0, rows: Optional[int] = None) -> Column:
         """The runs that end before these rows, with a value for each, of which `rows` rows from row `offset` on are
-        shown; without `rows` all to the last end. Both are copied; ends are integers without sign."""
+        shown; without `rows` all to the last end. Both are copied; ends are integers without sign. More than 64 levels
+        of runs are refused, as `Unsupported`."""
         end_column = ends if isinstance(ends, Column) else cls.of(ends, None if hasattr(ends, "dtype") else "u64")
         end_column = end_column._as(kind_of("u64"), "from_runs, ends") if end_column.type in SIGNED else end_column
         value_column = values if isinstance(values, Column) else cls.of(values)

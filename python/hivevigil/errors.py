@@ -114,11 +114,15 @@ class TypeMismatch(HivevigilError, TypeError):
 
 class Unsupported(HivevigilError, TypeError):
     number, sentence = 13, "the call does not serve columns of this type or form"
+    # the calls that are refused so only for the levels of runs, and how many there may be
+    most_levels = {"from_runs": 64, "from_record": 64, "to_bytes": 16}
 
     def _in_words(self) -> str:
         if not self.columns:
             return super()._in_words()
-        return f"{self.call} does not serve columns of {' and of '.join(self.columns)}"
+        most = self.most_levels.get(self.call)
+        limit = f" (at most {most} levels of runs)" if most else ""
+        return f"{self.call}{limit} does not serve columns of {' and of '.join(self.columns)}"
 
 
 class CastOutOfRange(HivevigilError, OverflowError):

@@ -97,6 +97,27 @@ def test_more_levels_of_runs_than_bytes_have_are_pickled():
     assert levels == 40
 
 
+def test_runs_have_at_most_64_levels():
+    column = Column.of([7, None])
+    for _ in range(64):
+        column = Column.from_runs([1, 3], column, rows=2)
+    assert column.to_list() == column[:].copy().to_list() == [7, None]
+    ends, record = Column.of([1, 3], "u64"), Column.from_runs([1, 3], [7, 8]).record()
+    for call, again in (
+        ("from_runs", lambda: Column.from_runs(ends, column, rows=2)),
+        ("from_record", lambda: Column.from_record(column.type, 2, record, ends, column)),
+        ("from_runs", lambda: Column.from_runs([5, 4], column)),  # before what is wrong with the ends
+    ):
+        with pytest.raises(errors.Unsupported) as refused:
+            again()
+        assert str(refused.value) == (
+            f"{call} (at most 64 levels of runs) does not serve columns of u64 (flat) and of i64? (runs)"
+        )
+    assert column.to_list() == [7, None] and ends.to_list() == [1, 3]
+    below = column.values()
+    assert Column.from_record(below.type, 2, record, ends, below).to_list() == [7, None]
+
+
 @given(samples(types=tuple(TYPES[:9])))
 def test_numpy_of_numbers_and_truths(sample):
     items = sample.column.to_numpy()
