@@ -4,6 +4,7 @@ pub mod ListRows
 pub mod ListParts
 pub mod ListRuns
 pub mod ListSlice
+pub mod RunParts
 pub mod ListWalks
 pub mod FlatLists
 pub mod ListTake

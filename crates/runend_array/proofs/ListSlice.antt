@@ -1,26 +1,22 @@
 -- Ranges of lists, and of what they are made of.
-use Rattle.std.proofs.Common.{◌≡◌, ◌≢◌, ◌+◌, ◌-◌, ◌<◌, ◌≤◌, ℕ, pos, List, [], ◌∷◌, ◌++◌, Bool, true, Option, Some, None, cond, length, map, refl, sym, ◌∙◌, ap, arith}
+use Rattle.std.proofs.Common.{◌≡◌, ◌+◌, ◌-◌, ◌<◌, ◌≤◌, ℕ, pos, List, [], ◌∷◌, ◌++◌, Bool, true, Option, Some, None, cond, length, map, refl, sym, ◌∙◌, ap, arith}
 use Rattle.std.specs.List.{slice_get, range_with_len}
-use Rattle.std.specs.Prelude.{slice_range, All, ◌↔◌, IsNone}
+use Rattle.std.specs.Prelude.{slice_range, All, ◌↔◌}
 use Rattle.std.proofs.lemmas.List.FromFn.{length-map-range_with_len, get_or-map-range_with_len, map-range_with_len_more}
 use Rattle.std.proofs.lemmas.Option.{slice_get-get_or}
 use Rattle.column_base.proofs.Ranges.{length-slice_range, get_or-slice_range}
 use Rattle.column_base.proofs.ValidityRows.{flags-at, nullable-of_bits}
-use Rattle.column_base.specs.ValidityForm.{ValidityForm, NeverNull, NoneNull, HasLength, IsNormal, flags, flag_at}
+use Rattle.column_base.specs.ValidityForm.{ValidityForm, NeverNull, NoneNull, ByBits, HasLength, IsNormal, flags, flag_at}
 use Rattle.column_base.specs.declared.dtype.DType.TheVariants as column
-use Rattle.column_base.specs.declared.dtype.Nullability.TheVariants.{Nullable}
 use Rattle.column_base.specs.declared.dtype.PType.TheVariants.{U64}
 use Rattle.column_core.specs.Value.{Value, Items}
 use Rattle.column_core.specs.PrimitiveForm.{PrimitiveForm, primitive_with}
 use Rattle.column_core.specs.Leaf.{Leaf, leaf_dtype, leaf_rows}
-use Rattle.runend_array.specs.Array.{validity_of}
 use Rattle.runend_windows.specs.Ends.{ends_of}
-use Rattle.runend_array.specs.Fault.{rows_told}
-use Rattle.runend_array.specs.declared.validities.row_validity.RowValidity.{RowValidity}
-use Rattle.runend_array.specs.declared.validities.row_validity.RowValidity.TheVariants as told
-use Rattle.runend_array.specs.Lists.{AreLists, ByRows, Index, Lists, PlainIndex, RowValidityForm, index_at, index_count, index_numbers, list_at, list_count, list_dtype, list_rows, row_flag_at, row_nullability}
+use Rattle.runend_array.specs.Lists.{AreLists, ByRows, Index, Lists, PlainIndex, RowValidityForm, index_at, index_count, list_at, list_count, list_dtype, list_rows, row_flag_at, row_nullability}
 use Rattle.column_core.specs.Value.{element_of}
-use Rattle.runend_array.specs.ListSlice.{AreListsInRange, IsValidityInRange}
+use Rattle.runend_array.specs.Column.{Column, OfLeaf, OfConstant, OfLists, OfRuns, IsPlainIndex, end_numbers, index_of, leaf_ends}
+use Rattle.runend_array.specs.ListSlice.{AreListsInRange, IsIndexInRange, IsValidityInRange}
 use Rattle.runend_windows.proofs.Lists.{equal_by_slice_get}
 use Rattle.runend_array.proofs.ListRows.{slice_get-made}
 use Rattle.runend_windows.proofs.StoredNumbers.{naturals-of_pos}
@@ -52,54 +48,55 @@ slice_range-made f n start stop ordered within =
     ∙ ap Some (get_or-slice_range all start stop k (f k) there ∙ get_or-map-range_with_len f 0 n (start + k) (start + k) (f k) (omega arith) (omega arith))
     ∙ sym (slice_get-made_from f start (stop - start) k there))
 
--- a number of a range of an index
-index-at : (whole part : Index) (start stop i : ℕ) → stop ≤ index_count whole → part ≡ PlainIndex (slice_range (index_numbers whole) start stop) → i < stop - start
-    → index_at part i ≡ index_at whole (start + i)
-index-at whole part start stop i within cut h =
-    ap (λ index. index_at index i) cut ∙ get_or-slice_range (index_numbers whole) start stop i 0 h
-    ∙ get_or-map-range_with_len (index_at whole) 0 (index_count whole) (start + i) (start + i) 0 (omega arith) (omega arith)
+-- a range of numbers that are stored one by one
+IsIndexInRange-plain : (numbers : List ℕ) (part : Index) (start stop : ℕ) → start ≤ stop → stop ≤ length numbers → part ≡ PlainIndex (slice_range numbers start stop)
+    → IsIndexInRange (PlainIndex numbers) start stop part
+IsIndexInRange-plain numbers part start stop ordered within cut = record {
+  form = cut;
+  counted = ap index_count cut ∙ length-slice_range numbers start stop ordered within;
+  numbers = λ i h. ap (λ index. index_at index i) cut ∙ get_or-slice_range numbers start stop i 0 h;
+}
 
--- how many numbers it has
-index-count : (whole part : Index) (start stop : ℕ) → start ≤ stop → stop ≤ index_count whole → part ≡ PlainIndex (slice_range (index_numbers whole) start stop)
-    → index_count part ≡ stop - start
-index-count whole part start stop ordered within cut =
-    let long = length-map-range_with_len (index_at whole) 0 (index_count whole) in
-    ap index_count cut ∙ length-slice_range (index_numbers whole) start stop ordered (omega arith)
+-- so a flat column of them
+pub IsIndexInRange-flat : (whole : Column) (part : Index) (start stop : ℕ) → IsPlainIndex whole → start ≤ stop → stop ≤ index_count (index_of whole)
+    → part ≡ PlainIndex (slice_range (end_numbers whole) start stop) → IsIndexInRange (index_of whole) start stop part
+IsIndexInRange-flat (OfLeaf leaf) part start stop plain ordered within cut = IsIndexInRange-plain (leaf_ends leaf) part start stop ordered within cut
+IsIndexInRange-flat (OfConstant constant) part start stop plain ordered within cut = absurd plain
+IsIndexInRange-flat (OfLists lists) part start stop plain ordered within cut = absurd plain
+IsIndexInRange-flat (OfRuns ends_type ends values offset count) part start stop plain ordered within cut = absurd plain
 
--- unsigned numbers without null of that range hold its numbers
-pub PlainIndex-numbers : (form : PrimitiveForm) (items : List ℕ) (whole : Index) (start stop : ℕ) → form ≡ primitive_with U64 (map (λ (n : ℕ). pos n) items) NeverNull
-    → items ≡ map (index_at whole) (range_with_len start (stop - start)) → start ≤ stop → stop ≤ index_count whole
-    → PlainIndex (ends_of form) ≡ PlainIndex (slice_range (index_numbers whole) start stop)
-PlainIndex-numbers form items whole start stop is made ordered within =
-    ap (λ f. PlainIndex (ends_of f)) is ∙ ap PlainIndex (naturals-of_pos items ∙ made ∙ sym (slice_range-made (index_at whole) (index_count whole) start stop ordered within))
+-- unsigned numbers without null hold these numbers
+pub PlainIndex-numbers : (form : PrimitiveForm) (items numbers : List ℕ) → form ≡ primitive_with U64 (map (λ (n : ℕ). pos n) items) NeverNull → items ≡ numbers
+    → PlainIndex (ends_of form) ≡ PlainIndex numbers
+PlainIndex-numbers form items numbers is made = ap (λ f. PlainIndex (ends_of f)) is ∙ ap PlainIndex (naturals-of_pos items ∙ made)
 
--- a validity of another form than these three is stored for so many rows, of a type with null
-pub is_stored : {A : Type 0} (validity : RowValidity A) → validity ≢ told.NonNullable → validity ≢ told.AllValid → validity ≢ told.AllInvalid
-    → (¬ IsNone (rows_told (validity_of validity))) × (row_nullability (validity_of validity) ≡ Nullable)
-is_stored told.NonNullable a b c = absurd (a refl)
-is_stored told.AllValid a b c = absurd (b refl)
-is_stored told.AllInvalid a b c = absurd (c refl)
-is_stored (told.Bits bits) a b c = ((λ none. cc), refl)
-is_stored (told.Runs runs) a b c = ((λ none. cc), refl)
-
--- a validity made of the flags of a range of rows is the validity of that range
-pub IsValidityInRange-flags : (whole part : RowValidityForm) (form : ValidityForm) (bits : List Bool) (start stop : ℕ) → (¬ IsNone (rows_told whole)) × (row_nullability whole ≡ Nullable)
-    → part ≡ ByRows form → bits ≡ map (row_flag_at whole) (range_with_len start (stop - start))
+-- bits of which a range is made into a validity
+IsValidityInRange-bits : (told : List Bool) (part : RowValidityForm) (form : ValidityForm) (bits : List Bool) (start stop : ℕ)
+    → part ≡ ByRows form → bits ≡ map (row_flag_at (ByRows (ByBits told))) (range_with_len start (stop - start))
     → flags form (length bits) ≡ bits → HasLength form (length bits) → IsNormal form → (form ≡ NoneNull) ↔ All (λ bit. bit ≡ true) bits
-    → IsValidityInRange whole start stop part
-IsValidityInRange-flags whole part form bits start stop stored is made flagged fits normal valid =
+    → IsValidityInRange (ByRows (ByBits told)) start stop part
+IsValidityInRange-bits told part form bits start stop is made flagged fits normal valid =
+    let whole = ByRows (ByBits told) in
     let long : length bits ≡ stop - start = ap length made ∙ length-map-range_with_len (row_flag_at whole) start (stop - start) in
     record {
-      kept = λ none. absurd (stored.0 none);
-      normal = rw is normal;
+      kept = λ none. cc;
+      stored = rw is normal;
       counted = rw is (rw long at fits);
       flags = λ i h.
-          let told : slice_get bits i ≡ Some (flag_at form i) = ap (λ bs. slice_get bs i) (sym flagged) ∙ flags-at form (length bits) i fits (rw long h) in
+          let told_flag : slice_get bits i ≡ Some (flag_at form i) = ap (λ bs. slice_get bs i) (sym flagged) ∙ flags-at form (length bits) i fits (rw long h) in
           let shown : slice_get bits i ≡ Some (row_flag_at whole (start + i)) = ap (λ bs. slice_get bs i) made ∙ slice_get-made_from (row_flag_at whole) start (stop - start) i h in
           let same : flag_at form i ≡ row_flag_at whole (start + i) = cc in
           ap (λ v. row_flag_at v i) is ∙ same;
-      nullability = ap row_nullability is ∙ nullable-of_bits form bits flagged valid ∙ sym stored.1;
+      nullability = ap row_nullability is ∙ nullable-of_bits form bits flagged valid;
     }
+
+-- a validity made of the flags of a range of rows, which are bits, is the validity of that range
+pub IsValidityInRange-flags : (whole part : RowValidityForm) (told : List Bool) (form : ValidityForm) (bits : List Bool) (start stop : ℕ) → whole ≡ ByRows (ByBits told)
+    → part ≡ ByRows form → bits ≡ map (row_flag_at whole) (range_with_len start (stop - start))
+    → flags form (length bits) ≡ bits → HasLength form (length bits) → IsNormal form → (form ≡ NoneNull) ↔ All (λ bit. bit ≡ true) bits
+    → IsValidityInRange whole start stop part
+IsValidityInRange-flags whole part told form bits start stop of_bits is made flagged fits normal valid =
+    rw of_bits (IsValidityInRange-bits told part form bits start stop is (rw of_bits at made) flagged fits normal valid)
 
 -- a row by its parts
 abbrev row_with : Leaf → ℕ → ℕ → Bool → Option Value
@@ -111,13 +108,13 @@ module _ (whole part : Lists) (start stop : ℕ)
     (were : AreLists whole)
     (cut : AreListsInRange whole start stop part) where
   counted : list_count part ≡ stop - start
-  counted = index-count whole.offsets part.offsets start stop ordered in_bounds cut.offsets
+  counted = cut.offsets.counted
 
   offset-at : (i : ℕ) → i < stop - start → index_at part.offsets i ≡ index_at whole.offsets (start + i)
-  offset-at i h = index-at whole.offsets part.offsets start stop i in_bounds cut.offsets h
+  offset-at i h = cut.offsets.numbers i h
 
   size-at : (i : ℕ) → i < stop - start → index_at part.sizes i ≡ index_at whole.sizes (start + i)
-  size-at i h = index-at whole.sizes part.sizes start stop i (rw were.sized in_bounds) cut.sizes h
+  size-at i h = cut.sizes.numbers i h
 
   -- a row is the list at its place
   list-at : (i : ℕ) → i < stop - start → list_at part i ≡ list_at whole (start + i)
@@ -141,7 +138,7 @@ module _ (whole part : Lists) (start stop : ℕ)
   -- they are lists
   pub AreLists-in_range : AreLists part
   AreLists-in_range = record {
-    sized = index-count whole.sizes part.sizes start stop ordered (rw were.sized in_bounds) cut.sizes ∙ sym counted;
+    sized = cut.sizes.counted ∙ sym counted;
     flagged = rw counted cut.validity.counted;
     within = λ i h valid.
         let there : i < stop - start = rw counted at h in
@@ -156,7 +153,7 @@ module _ (whole part : Lists) (start stop : ℕ)
 
 -- parts of that range make lists of it
 pub AreListsInRange-of_parts : (whole same part : Lists) (start stop : ℕ) → same ≡ whole → part.elements ≡ same.elements
-    → part.offsets ≡ PlainIndex (slice_range (index_numbers same.offsets) start stop) → part.sizes ≡ PlainIndex (slice_range (index_numbers same.sizes) start stop)
+    → IsIndexInRange same.offsets start stop part.offsets → IsIndexInRange same.sizes start stop part.sizes
     → IsValidityInRange same.validity start stop part.validity → AreListsInRange whole start stop part
 AreListsInRange-of_parts whole same part start stop is elements offsets sizes validity =
     rw (← is) (record { elements = elements; offsets = offsets; sizes = sizes; validity = validity })

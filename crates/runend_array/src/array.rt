@@ -5,6 +5,7 @@ ghost use Rattle.runend_windows.specs.Window.{run_at};
 ghost use Rattle.runend_array.specs.Column.{AreParts, AreRuns, IsPlainEnds, Runs, column_dtype, end_numbers, end_ptype, runs_of};
 
 mod encoding;
+mod index_parts;
 mod index_rows;
 mod rows;
 

@@ -6,7 +6,9 @@ ghost use Rattle.runend_array.specs.Lists.{IsRunUpTo, PlainIndex, index_at as nu
 
 use crate::array_ref::ArrayRef;
 use crate::lists::stretch::Stretch;
-use column_core::{Buffer, DType, Nullability, PType, PrimitiveValues, VortexError, VortexResult};
+use column_core::{
+    BitBuffer, Buffer, DType, Nullability, PType, PrimitiveValues, VortexError, VortexResult,
+};
 use std::alloc::Allocator;
 
 /// Is it a flat column of u64 without null?
@@ -72,6 +74,26 @@ pub(crate) fn plain_numbers_between<A: Allocator + Copy>(
             PrimitiveValues::U64(items) => Ok(items.slice(alloc, start..stop)?),
             _ => unreachable!(),
         },
+        _ => unreachable!(),
+    }
+}
+
+/// Returns the bits of a flat column of booleans from row `start` to row `stop - 1`, shared with it where they
+/// are shared and the range is one of whole words. Refused only as `OutOfMemory`.
+pub(crate) fn plain_truths_between<A: Allocator + Copy>(
+    alloc: A,
+    column: &ArrayRef<A>,
+    start: usize,
+    stop: usize,
+) -> VortexResult<BitBuffer<A>>
+    requires plain { IsPlainTruths (column_of column.now) }
+    requires ordered { start ≤ stop }
+    requires in_bounds { stop ≤ length (truths_of (column_of column.now)) }
+    ensures only { IsOkUnless result VortexError.OutOfMemory }
+    ensures truths { IfOk result (λ bits. bits ≡ slice_range (truths_of (column_of column.now)) start stop) }
+{
+    match column {
+        ArrayRef::Bool(truths) => truths.values().slice(alloc, start..stop),
         _ => unreachable!(),
     }
 }

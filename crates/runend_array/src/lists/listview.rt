@@ -234,11 +234,12 @@ impl<A: Allocator + Copy> ListViewArray<A> {
         }
     }
 
-    /// The rows from `range.start` to `range.end - 1`: lists over the same elements, with flat offsets
-    /// and sizes as they are stored, and bits of validity only where some row is null and some is not.
+    /// Returns the rows from `range.start` to `range.end - 1`: lists over the same elements. Offsets, sizes and
+    /// validity stay in their form: those in runs are cut to the runs of these rows, others are a range of
+    /// what is stored, with bits of validity only where some row is null and some is not.
     /// Refused as `BadRange`, with both bounds and the number of rows, exactly where the range begins
-    /// after its end or ends after the last row, and that before any memory is taken; else as
-    /// `OutOfMemory` alone.
+    /// after its end or ends after the last row, and that before any memory is taken; else only as
+    /// `OutOfMemory`.
     pub fn slice(&self, alloc: A, range: Range<usize>) -> VortexResult<ListViewArray<A>>
         ensures refused { let count = list_count self.now in
             IsErrOf result (VortexError.BadRange range.start range.end count) ↔ IsBadRange range.start range.end count }

@@ -1,10 +1,10 @@
 //! Offsets, sizes and validity of a range of lists.
-ghost use Rattle.std.specs.Prelude.{◌≡◌, ◌-◌, ◌≤◌, map, replicate, slice_range, IfOk, IsOkUnless};
+ghost use Rattle.std.specs.Prelude.{◌≡◌, ◌-◌, ◌≤◌, length, map, replicate, slice_range, IfOk, IsOkUnless};
 ghost use Rattle.std.specs.List.{range_with_len};
 ghost use Rattle.runend_array.specs.Array.{IsRowValidity, column_of, validity_of};
-ghost use Rattle.runend_array.specs.Column.{IsIndex, index_of};
-ghost use Rattle.runend_array.specs.ListSlice.{IsValidityInRange};
-ghost use Rattle.runend_array.specs.Lists.{HasRows, PlainIndex, index_at as number_in_row, index_count, index_numbers, row_flag_at};
+ghost use Rattle.runend_array.specs.Column.{IsIndex, IsPlainIndex, end_numbers, index_of};
+ghost use Rattle.runend_array.specs.ListSlice.{IsIndexInRange, IsValidityInRange};
+ghost use Rattle.runend_array.specs.Lists.{HasRows, PlainIndex, index_at as number_in_row, index_count, row_flag_at};
 
 use crate::array_ref::ArrayRef;
 use crate::lists::index::plain_numbers_between;
@@ -76,7 +76,8 @@ fn same_flags<A: Allocator + Copy>(alloc: A, flag: bool, count: usize) -> Vortex
     Ok(bits.freeze())
 }
 
-/// The numbers of an index from row `start` to row `stop - 1`, flat. Refused as `OutOfMemory` alone.
+/// Cuts an index to the rows from `start` to `stop - 1`: a flat one stays flat, and of runs the runs of these
+/// rows are left. Refused only as `OutOfMemory`.
 pub(crate) fn index_between<A: Allocator + Copy>(
     alloc: A,
     index: &ArrayRef<A>,
@@ -88,18 +89,47 @@ pub(crate) fn index_between<A: Allocator + Copy>(
     requires in_bounds { stop ≤ index_count (index_of (column_of index.now)) }
     ensures only { IsOkUnless result VortexError.OutOfMemory }
     ensures index { IfOk result (λ part. IsIndex (column_of part)) }
-    ensures form { IfOk result (λ part. index_of (column_of part) ≡
-        PlainIndex (slice_range (index_numbers (index_of (column_of index.now))) start stop)) }
+    ensures form { IfOk result (λ part.
+        IsIndexInRange (index_of (column_of index.now)) start stop (index_of (column_of part))) }
 {
-    let numbers = numbers_between(alloc, index, start, stop)?;
+    match index {
+        ArrayRef::Primitive(_) => {
+            let flat = plain_index_between(alloc, index, start, stop)?;
+            Ok(flat)
+        }
+        ArrayRef::RunEnd(runs) => {
+            let part = runs.index_between(alloc, start, stop)?;
+            let shown = ArrayRef::of_runs(alloc, part)?;
+            Ok(shown)
+        }
+        _ => unreachable!(),
+    }
+}
+
+// A flat index from row `start` to row `stop - 1`.
+fn plain_index_between<A: Allocator + Copy>(
+    alloc: A,
+    index: &ArrayRef<A>,
+    start: usize,
+    stop: usize,
+) -> VortexResult<ArrayRef<A>>
+    requires plain { IsPlainIndex (column_of index.now) }
+    requires ordered { start ≤ stop }
+    requires in_bounds { stop ≤ length (end_numbers (column_of index.now)) }
+    ensures only { IsOkUnless result VortexError.OutOfMemory }
+    ensures index { IfOk result (λ part. IsIndex (column_of part)) }
+    ensures form { IfOk result (λ part. index_of (column_of part) ≡
+        PlainIndex (slice_range (end_numbers (column_of index.now)) start stop)) }
+{
+    let numbers = plain_numbers_between(alloc, index, start, stop)?;
     let values = PrimitiveValues::U64(numbers);
     let flat = PrimitiveArray::new_unchecked(values, Validity::NonNullable);
     Ok(ArrayRef::Primitive(flat))
 }
 
-/// The validity of the rows from `start` to `stop - 1`, of `count` rows: as it stands where it serves
-/// any number of rows, else with bits only where some of these rows is null and some is not. Refused as
-/// `OutOfMemory` alone.
+/// Cuts a validity of `count` rows to the rows from `start` to `stop - 1`: it stays as it is where it serves
+/// any number of rows; of runs the runs of these rows are left; else there are bits only where some of these
+/// rows is null and some is not. Refused only as `OutOfMemory`.
 pub(crate) fn validity_between<A: Allocator + Copy>(
     alloc: A,
     validity: &RowValidity<A>,
@@ -119,9 +149,14 @@ pub(crate) fn validity_between<A: Allocator + Copy>(
         RowValidity::NonNullable => Ok(RowValidity::NonNullable),
         RowValidity::AllValid => Ok(RowValidity::AllValid),
         RowValidity::AllInvalid => Ok(RowValidity::AllInvalid),
-        _ => {
+        RowValidity::Bits(_) => {
             let flags = flags_between(alloc, validity, count, start, stop)?;
             Ok(rows_of_validity(Validity::from_bits(flags)))
+        }
+        RowValidity::Runs(runs) => {
+            let part = runs.flags_in_range(alloc, start, stop)?;
+            let boxed = Box::new(alloc, part)?;
+            Ok(RowValidity::Runs(boxed))
         }
     }
 }

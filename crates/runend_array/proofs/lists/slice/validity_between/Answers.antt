@@ -1,10 +1,10 @@
+use Rattle.std.proofs.Common.{ap}
 use Rattle.column_base.specs.Validity.{form_of}
 use Rattle.runend_array.specs.Array.{validity_of}
-use Rattle.runend_array.proofs.ListSlice.{IsValidityInRange-flags, is_stored}
+use Rattle.runend_array.proofs.ListSlice.{IsValidityInRange-flags}
 use Rattle.runend_array.proofs.lists.slice.validity_between.Goals as goal
 
-pub returns-in_ok-flags-in_default-clause-form : goal.returns-in_ok-flags-in_default-clause-form
-returns-in_ok-flags-in_default-clause-form g c =
-    let stored = is_stored c.args.validity.now c.in_default.not-NonNullable c.in_default.not-AllValid c.in_default.not-AllInvalid in
-    IsValidityInRange-flags (validity_of c.args.validity.now) (validity_of c.rows_of_validity.result) (form_of c.from_bits.result) c.in_ok-flags-in_default.flags c.args.start c.args.stop stored
-    c.rows_of_validity.ensures.form c.in_ok-flags-in_default.ensures.flags c.from_bits.ensures.flags c.from_bits.ensures.fits c.from_bits.ensures.normal c.from_bits.ensures.all_valid
+pub returns-in_ok-flags-in-Bits-clause-form : goal.returns-in_ok-flags-in-Bits-clause-form
+returns-in_ok-flags-in-Bits-clause-form g c =
+    IsValidityInRange-flags (validity_of c.args.validity.now) (validity_of c.rows_of_validity.result) _ (form_of c.from_bits.result) c.in_ok-flags-in-Bits.flags c.args.start c.args.stop
+    (ap validity_of c.in-Bits.is) c.rows_of_validity.ensures.form c.in_ok-flags-in-Bits.ensures.flags c.from_bits.ensures.flags c.from_bits.ensures.fits c.from_bits.ensures.normal c.from_bits.ensures.all_valid
