@@ -54,7 +54,7 @@ pub struct Session {
     pub filter_factor: usize,
     /// A take by sorted indices merges them with the ends up to this many runs for each index.
     pub sorted_runs_per_index: usize,
-    /// A take makes a table of the run of each row up to this many rows for each index.
+    /// A take makes a bit for each row, set where a run ends, up to this many rows for each index.
     pub table_len_per_index: usize,
     /// A take by indices that are not sorted sorts them from this many runs on.
     pub unsorted_min_runs: usize,

@@ -26,7 +26,7 @@ pub use filter::{filter, filter_by_fours, filter_joined, filter_truths, Kept};
 pub use look::{look_up, look_up_by_halves, run_of, slice, window, Slice};
 pub use map::{cast, fill, take_from};
 pub use shared::{cast_shared, fill_shared, take_from_shared, SharedRuns, SharedSlice};
-pub use take::{take, take_by_blocks, take_by_fours, take_truths};
+pub use take::{take, take_by_blocks, take_by_fours, take_by_ranks, take_truths};
 
 /// Marks calls that are timed: they stay calls, as those of the library are.
 pub use std::hint::black_box;

@@ -2,7 +2,8 @@
 use super::{same_runs, session, shape, Number};
 use crate::bits::Bits;
 use crate::data::{Flat, Runs, Truths};
-use crate::kernels::{filter_by_fours, filter_joined, take, take_by_blocks, take_by_fours, Kept};
+use crate::kernels::{filter_by_fours, filter_joined, take, Kept};
+use crate::kernels::{take_by_blocks, take_by_fours, take_by_ranks};
 use crate::library::{Column, Item};
 use crate::line::Bench;
 use crate::load::{Load, Random};
@@ -75,12 +76,12 @@ fn takes<T: Number>(bench: &mut Bench, load: &Load, column: &Column, runs: &Runs
         let same = |ours: &Column, rust: &Flat<T>| ours.read_flat::<T>().same_rows(rust);
         let rust = || take(&runs.ends, &runs.values, &indices);
         bench.line(shape(load, name, T::NAME), units, ours, rust, same);
-        let faster = match (every, ordered) {
-            (FEW, false) => Some(("fours", take_by_fours as Take<T>)),
-            (_, false) => Some(("blocks", take_by_blocks as Take<T>)),
-            _ => None,
+        let faster: &[(&str, Take<T>)] = match (every, ordered) {
+            (FEW, false) => &[("fours", take_by_fours)],
+            (_, false) => &[("blocks", take_by_blocks), ("ranks", take_by_ranks)],
+            _ => &[],
         };
-        if let Some((idea, take)) = faster {
+        for (idea, take) in faster {
             let (name, rust) = (format!("{name}, beside {idea}"), || {
                 take(&runs.ends, &runs.values, &indices)
             });

@@ -37,8 +37,9 @@ const TAKE_RUNS_PER_SELECTED_ROW: usize = 10;
 /// runs for each index. Up to this many runs for each index, the merge is less work.
 const SORTED_RUNS_PER_INDEX: usize = 16;
 
-/// A table of the run of each row costs by the row, and then gives the run of an index in one read.
-/// Up to this many rows for each index, that is less work than a search for each.
+/// A bit for each row, set where a run ends, costs by the word of 64 rows and by the run, and then gives
+/// the run of an index by a count. Up to this many rows for each index, that is less work than a search
+/// for each.
 const TABLE_LEN_PER_INDEX: usize = 8;
 
 /// Ends that stay in the processor's cache are searched faster than indices are sorted. From this many

@@ -3,5 +3,6 @@ pub mod Bounds
 pub mod Casts
 pub mod Sorted
 pub mod PlacedRows
-pub mod TableRows
 pub mod TableRuns
+pub mod RunBits
+pub mod IndexRows

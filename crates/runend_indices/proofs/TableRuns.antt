@@ -2,7 +2,7 @@
 use Rattle.std.proofs.Common.{◌≡◌, ℕ, zero, suc, ◌+◌, ◌-◌, ◌<◌, ◌≤◌, List, [], ◌∷◌, ◌++◌, length, map, min, replicate, slice_index, refl, sym, ◌∙◌, ap, arith, add-one, inl, inr}
 use Rattle.std.specs.List.{range_with_len}
 use Rattle.std.proofs.lemmas.Bool.{cases_lt}
-use Rattle.std.proofs.lemmas.List.{append_assoc, append-nil, length-map, map-append, replicate_more}
+use Rattle.std.proofs.lemmas.List.{append_assoc, append-nil, replicate_more}
 use Rattle.std.proofs.lemmas.List.FromFn.{length-map-range_with_len, map-range_with_len_more}
 use Rattle.runend_windows.specs.Window.{IsWindow, run_at}
 use Rattle.runend_windows.proofs.RunAt.{ends_after, run_at-le, run_of_row_within}
@@ -101,19 +101,3 @@ reached_all ends offset count run rows window past so_far = elim (cases_lt rows 
       absurd (omega arith)
   | inr from ↦ let within = so_far.within in omega arith
 ]
-
--- rows that are written as positions
-map_copies : {P : Type 0} (natural : P → ℕ) (more : ℕ) (position : P) → map natural (replicate more position) ≡ replicate more (natural position)
-map_copies natural zero position = refl
-map_copies natural (suc more) position = ap (λ xs. natural position ∷ xs) (map_copies natural more position)
-
-copies_named : {P : Type 0} (natural : P → ℕ) (rows : List P) (more : ℕ) (position : P) → map natural (rows ++ replicate more position) ≡ map natural rows ++ replicate more (natural position)
-copies_named natural rows more position = map-append natural rows (replicate more position) ∙ ap (λ xs. map natural rows ++ xs) (map_copies natural more position)
-
-pub writes : {P : Type 0} (natural : P → ℕ) (rows rows' : List P) (reach run : ℕ) (position : P) → rows' ≡ rows ++ replicate (reach - length rows) position → natural position ≡ run
-    → map natural rows' ≡ map natural rows ++ replicate (reach - length (map natural rows)) run
-writes natural rows rows' reach run position written named =
-    let long = length-map rows natural in
-    let missing : reach - length rows ≡ reach - length (map natural rows) = omega arith in
-    ap (map natural) written ∙ copies_named natural rows (reach - length rows) position
-    ∙ ap (λ x. map natural rows ++ replicate (reach - length rows) x) named ∙ ap (λ n. map natural rows ++ replicate n run) missing

@@ -2,3 +2,4 @@ pub mod Indices
 pub mod Placed
 pub mod Pick
 pub mod Laws
+pub mod Ranks

@@ -11,7 +11,7 @@ use Rattle.runend_indices.specs.Indices.{AreSorted, runs_of, valid_count}
 abbrev pub PrefersSortedMerge : List (Option ℤ) → ℕ → TakeThresholds → Type 0
 PrefersSortedMerge indices runs thresholds = AreSorted indices × (runs ≤ valid_count indices * thresholds.sorted_runs_per_index)
 
--- a table of all rows serves, where there are few rows for each valid index
+-- a bit for each row pays, where there are few rows for each valid index
 abbrev pub PrefersTable : List (Option ℤ) → ℕ → TakeThresholds → Type 0
 PrefersTable indices count thresholds = count ≤ valid_count indices * thresholds.table_len_per_index
 
@@ -29,7 +29,7 @@ IsPicked indices runs count thresholds SortAndMerge =
 IsPicked indices runs count thresholds Binary =
     (¬ PrefersSortedMerge indices runs thresholds) × (¬ PrefersTable indices count thresholds) × (¬ PrefersSortAndMerge indices runs thresholds)
 
--- the run that a strategy answers at a null index: that of row 0 out of a table, else 0
+-- the run that a strategy answers at a null index: that of row 0 by `Table`, else 0
 abbrev pub run_of_null : Strategy → List ℕ → ℕ → ℕ
 run_of_null SortedMerge ends offset = 0
 run_of_null Table ends offset = run_at ends offset

@@ -3,9 +3,11 @@
 #![tactic(auto)]
 
 mod binary_search;
+mod by_rank;
 pub mod laws;
 mod linear_scan;
 mod picked;
+mod ranks;
 mod rows;
 mod strategy;
 mod table;

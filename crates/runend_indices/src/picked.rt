@@ -8,10 +8,10 @@ ghost use Rattle.runend_indices.specs.Indices.{AreInBounds, AreSorted, optional_
 ghost use Rattle.runend_indices.specs.Pick.{IsPicked, PrefersSortedMerge, answer_of, most_tests};
 
 use crate::binary_search::physical_indices_binary;
+use crate::by_rank::runs_by_rank;
 use crate::linear_scan::{physical_indices_linear_sorted, physical_indices_linear_unsorted};
 use crate::rows::are_sorted;
 use crate::strategy::{Strategy, TakeThresholds};
-use crate::table::runs_by_table;
 use column_core::{CountedEnds, Mask, NativePType, UnsignedPType, VortexError, VortexResult};
 use std::alloc::Allocator;
 
@@ -41,10 +41,10 @@ pub fn picked_strategy<T: NativePType, A: Allocator>(
     Strategy::Binary
 }
 
-/// The run of each valid index among `length` rows, where `offset` is the position of row 0, by the
-/// strategy that the thresholds pick. At a null index that is the run of row 0 out of a table, and
-/// else 0. It tests no more ends than the picked strategy; a table costs the tests that it takes to
-/// make it. Refused as `OutOfMemory` alone, before any test.
+/// Returns the run of each valid index among `length` rows, where `offset` is the position of row 0, by
+/// the strategy that the thresholds pick. At a null index that is the run of row 0 by `Strategy::Table`,
+/// and else 0. It tests no more ends than the picked strategy. Refused only as `OutOfMemory`, before any
+/// test.
 pub fn physical_indices<E: UnsignedPType, T: NativePType, A: Allocator + Copy>(
     alloc: A,
     ends: &mut CountedEnds<'_, E>,
@@ -133,7 +133,7 @@ fn physical_indices_by<E: UnsignedPType, T: NativePType, A: Allocator + Copy>(
 {
     match strategy {
         Strategy::SortedMerge => physical_indices_linear_sorted(alloc, ends, offset, indices, mask),
-        Strategy::Table => runs_by_table(alloc, ends, offset, length, indices, mask),
+        Strategy::Table => runs_by_rank(alloc, ends, offset, length, indices, mask),
         Strategy::SortAndMerge => {
             physical_indices_linear_unsorted(alloc, ends, offset, indices, mask)
         }

@@ -5,7 +5,8 @@
 pub enum Strategy {
     /// Indices that are sorted are merged with the ends, in one walk over both.
     SortedMerge,
-    /// The run of every row is written down, and looked up for each index.
+    /// Each row gets a bit, which says whether a run ends there. The run of an index is how many bits are set up to its
+    /// row: what a table of the runs of all rows would say, in 16 bytes for 64 rows.
     Table,
     /// Indices are sorted, and then merged with the ends.
     SortAndMerge,
@@ -19,7 +20,7 @@ pub enum Strategy {
 pub struct TakeThresholds {
     /// The most runs for each valid index at which sorted indices are merged.
     pub sorted_runs_per_index: usize,
-    /// The most rows for each valid index at which a table is made.
+    /// The most rows for each valid index at which all rows get a bit (`Strategy::Table`).
     pub table_len_per_index: usize,
     /// The least runs at which indices are sorted: below, the ends stay in the processor's caches
     /// and a search by halves is faster.

@@ -12,10 +12,10 @@ use runend_array::{ExecutionCtx, Thresholds};
 use runend_indices::TakeThresholds;
 use std::alloc::Allocator;
 
-/// The run of each valid index among `length` rows, where `offset` is the position of row 0, by the
-/// strategy that the thresholds of the session pick. At a null index that is the run of row 0 out of a
-/// table, and else 0. It tests no more ends than the picked strategy; a table costs the tests that it
-/// takes to make it. Refused as `OutOfMemory` alone, before any test.
+/// Returns the run of each valid index among `length` rows, where `offset` is the position of row 0, by
+/// the strategy that the thresholds of the session pick. At a null index that is the run of row 0 by
+/// `Strategy::Table`, and else 0. It tests no more ends than the picked strategy. Refused only as
+/// `OutOfMemory`, before any test.
 pub fn physical_indices<E: UnsignedPType, T: NativePType, A: Allocator + Copy>(
     ends: &mut CountedEnds<'_, E>,
     offset: usize,

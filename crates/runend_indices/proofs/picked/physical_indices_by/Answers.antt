@@ -1,10 +1,10 @@
 use Rattle.runend_indices.proofs.picked.physical_indices_by.Goals as goal
 
 pub returns-in-Table-clause-runs : goal.returns-in-Table-clause-runs
-returns-in-Table-clause-runs g c = rw c.in-Table.is c.runs_by_table.ensures.runs
+returns-in-Table-clause-runs g c = rw c.in-Table.is c.runs_by_rank.ensures.runs
 
 pub returns-in-Table-clause-cost : goal.returns-in-Table-clause-cost
-returns-in-Table-clause-cost g c = rw c.in-Table.is c.runs_by_table.ensures.cost
+returns-in-Table-clause-cost g c = rw c.in-Table.is c.runs_by_rank.ensures.cost
 
 pub physical_indices_linear_sorted-requires-clause-in_window : goal.physical_indices_linear_sorted-requires-clause-in_window
 physical_indices_linear_sorted-requires-clause-in_window g c = (c.args.length, c.requires.window, c.requires.in_bounds)
@@ -37,7 +37,7 @@ pub returns-in-Binary-clause-cost : goal.returns-in-Binary-clause-cost
 returns-in-Binary-clause-cost g c = rw c.in-Binary.is c.physical_indices_binary.ensures.cost
 
 pub returns-in-Table-clause-untested : goal.returns-in-Table-clause-untested
-returns-in-Table-clause-untested g c = c.runs_by_table.ensures.untested
+returns-in-Table-clause-untested g c = c.runs_by_rank.ensures.untested
 
 pub returns-in-SortedMerge-clause-untested : goal.returns-in-SortedMerge-clause-untested
 returns-in-SortedMerge-clause-untested g c = c.physical_indices_linear_sorted.ensures.untested

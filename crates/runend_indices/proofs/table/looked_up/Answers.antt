@@ -1,10 +1,10 @@
-use Rattle.std.proofs.Common.{◌+◌, ◌<◌, ◌^◌, pos, length, map, ℕ, ap, ◌∙◌, arith}
+use Rattle.std.proofs.Common.{◌+◌, ◌<◌, ◌^◌, pos, length, ℕ, ap, ◌∙◌, arith}
 use Rattle.std.specs.Prelude.{option_map, slice_index}
 use Rattle.column_base.specs.Mask.{mask_bits}
 use Rattle.runend_indices.specs.Indices.{item_of, optional_indices}
 use Rattle.runend_indices.proofs.Bounds.{AreInBounds-wider}
 use Rattle.runend_indices.proofs.Places.{answered-all, answered-more, item_at, length-optional_indices}
-use Rattle.runend_indices.proofs.TableRows.{named_within, position_read}
+use Rattle.runend_indices.proofs.IndexRows.{named_within}
 use Rattle.runend_indices.proofs.table.looked_up.Goals as goal
 
 pub named_row-requires-clause-in_bounds : goal.named_row-requires-clause-in_bounds
@@ -13,16 +13,14 @@ named_row-requires-clause-in_bounds g c =
 
 pub loop-place-preserved : goal.loop-place-preserved
 loop-place-preserved g c =
-    let natural = g.P.UnsignedPType.natural in
     let indices = optional_indices g.T.NativePType.number c.args.indices.now (mask_bits c.args.mask.now) in
     let table = c.args.table.now in
     let row = c.named_row.result in
     let inv = c.loop-place.invariant in
     let within : c.unwrap_or-row.result < length table = rw c.unwrap_or-row.ensures (named_within indices (length table) c.loop-place.place row c.requires.some c.requires.in_bounds c.named_row.ensures) in
-    let read = c.to_u64.ensures ∙ position_read natural table c.unwrap_or-row.result c.index-table-row.result within c.index-table-row.is in
-    let item = read ∙ ap (slice_index (map natural table)) c.unwrap_or-row.ensures ∙ item_at (map natural table) row in
+    let item = ap (slice_index table) c.unwrap_or-row.ensures ∙ item_at table row in
     record {
-      answered = rw c.push_reserved.ensures.items (answered-more (item_of (map natural table)) indices c.loop-place.runs.items c.loop-place.place c.to_u64.result
+      answered = rw c.push_reserved.ensures.items (answered-more (item_of table) indices c.loop-place.runs.items c.loop-place.place (slice_index table c.unwrap_or-row.result)
           (option_map (λ (n : ℕ). pos n) row) c.named_row.ensures inv.answered item);
       counted = c.push_reserved.ensures.len ∙ ap (λ n. n + 1) inv.counted;
       room = rw c.push_reserved.ensures.capacity inv.room;
@@ -32,4 +30,4 @@ pub returns : goal.returns
 returns g c =
     let indices = optional_indices g.T.NativePType.number c.args.indices.now (mask_bits c.args.mask.now) in
     let counted = length-optional_indices g.T.NativePType.number c.args.indices.now (mask_bits c.args.mask.now) c.requires.masked in
-    answered-all (item_of (map g.P.UnsignedPType.natural c.args.table.now)) indices c.loop-place.runs.items c.loop-place.place (omega arith) c.loop-place.invariant.answered
+    answered-all (item_of c.args.table.now) indices c.loop-place.runs.items c.loop-place.place (omega arith) c.loop-place.invariant.answered

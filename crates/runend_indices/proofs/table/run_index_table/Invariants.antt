@@ -1,12 +1,12 @@
-use Rattle.std.proofs.Common.{◌≡◌, ◌+◌, ◌-◌, ◌<◌, ◌≤◌, map}
+use Rattle.std.proofs.Common.{◌≡◌, ◌+◌, ◌-◌, ◌<◌, ◌≤◌}
 use Rattle.runend_indices.specs.Indices.{runs_of_rows}
 use Rattle.runend_indices.proofs.TableRuns.{AreReached}
-use Rattle.runend_indices.proofs.table.table_of.Given as goal
+use Rattle.runend_indices.proofs.table.run_index_table.Given as goal
 
 -- the rows that the runs before this one reach are in the table; each of these rows took one test, and so did the end of each of these runs, but that of a run which reaches the last row
 abbrev pub invariant-loop-run : goal.invariant-loop-run
 invariant-loop-run g l = record {
-  filled : map g.P.UnsignedPType.natural l.table.rows ≡ runs_of_rows l.initial.ends.ends l.offset l.reach;
+  filled : l.table.rows ≡ runs_of_rows l.initial.ends.ends l.offset l.reach;
   limit : l.table.limit ≡ l.length;
   reached : AreReached l.initial.ends.ends l.offset l.length l.run l.reach;
   same : l.ends.ends ≡ l.initial.ends.ends;
