@@ -12,11 +12,12 @@
 extern "C" {
 #endif
 
-/* Each number with its sentence, in which %1, %2 and %3 stand for the fields. */
+/* Each number with its sentence, in which %1, %2 and %3 stand for the fields. Rust and Python take their sentences from
+ * here (tools/declarations.py). */
 #define HV_ERRORS(X) \
     X(HV_OK, "done") \
     X(HV_ENDS_NOT_UNSIGNED, "ends of runs are a flat column of an unsigned type without null") \
-    X(HV_LENGTHS_DIFFER, "%1 ends and %2 values: each run has one of both") \
+    X(HV_LENGTHS_DIFFER, "there are %1 ends and %2 values: each run has one of both") \
     X(HV_NO_RUNS_WINDOW, "there is no run, yet a window of %2 rows from row %1 on") \
     X(HV_ENDS_NOT_STRICT, "the end of run %1 is not above the end before it") \
     X(HV_WINDOW_OVERFLOW, "offset and length, or all rows together, are 2^64 or more") \
@@ -24,7 +25,7 @@ extern "C" {
     X(HV_LAST_END_BELOW_WINDOW, "the last run ends before row %1, the window before row %2") \
     X(HV_OUT_OF_BOUNDS, "row %1 is not among %2 rows") \
     X(HV_BAD_RANGE, "rows %1 to %2 are not among %3 rows") \
-    X(HV_MASK_LENGTH, "a mask of %1 rows over %2 rows") \
+    X(HV_MASK_LENGTH, "a mask of %1 rows over a column of %2 rows") \
     X(HV_COLUMN_LENGTH, "a length of %1 next to one of %2") \
     X(HV_TYPE_MISMATCH, "the types do not match") \
     X(HV_UNSUPPORTED, "the call does not serve columns of this type or form") \
@@ -37,7 +38,7 @@ extern "C" {
     X(HV_ONLY_PRIMITIVE, "only integers are encoded by this call") \
     X(HV_OUT_OF_MEMORY, "a request for memory was refused") \
     X(HV_NO_COLUMN, "there is no column: it was never made, freed, moved away, or lent twice to one call") \
-    X(HV_BAD_NUMBER, "the number is not that of a type, or of an operator")
+    X(HV_BAD_NUMBER, "the number is not that of a type or of an operator")
 
 /* Room for every sentence: the longest, with three numbers of 20 digits. */
 enum { HV_ERROR_TEXT = 160 };

@@ -7,7 +7,8 @@ declarations are made from it.
 
 Made are the exports and the inline calls of C (include/), the exports as Rust declares them (rust/src/raw.rs, which the
 bench uses too) and as ctypes does (python/hivevigil/_calls.py), each between two lines that say so. The types in the
-header are held against the functions of crates/hivevigil that are exported.
+header are held against the functions of crates/hivevigil that are exported. The sentences of refusals are those of
+include/hivevigil_errors.h: Rust's (rust/src/error.rs) and Python's (python/hivevigil/_sentences.py) are made of them.
 """
 
 import re
@@ -16,8 +17,8 @@ from dataclasses import dataclass
 from pathlib import Path
 
 ROOT = Path(__file__).resolve().parent.parent
-HEADER = "include/hivevigil.h"
-BEGIN, END = "made by tools/declarations.py from hivevigil.h", "end of what tools/declarations.py makes"
+HEADER, ERRORS = "include/hivevigil.h", "include/hivevigil_errors.h"
+BEGIN, END = "made by tools/declarations.py from", "end of what tools/declarations.py makes"
 WIDTH = 120
 # The inline calls that do more than pass their arguments on: they are written by hand in hivevigil_calls.h.
 BY_HAND = {"hv_session_initial", "hv_free", "hv_builder_free"}
@@ -230,18 +231,51 @@ def python(calls: list[Call]) -> str:
     return "\n".join(["CALLS: dict[str, tuple[list[Any], Any]] = {", *map(python_call, calls), "}"])
 
 
-# By file what is made for it, and how its language begins and ends a comment.
+# ---- sentences of refusals
+
+
+@dataclass(frozen=True)
+class Refusal:
+    """A number of hivevigil.h, its name there, and its sentence, where %1, %2 and %3 are the fields."""
+
+    number: int
+    name: str
+    sentence: str
+
+
+def refusals_of(header: str, errors: str) -> list[Refusal]:
+    """The refusals of hivevigil_errors.h, with the numbers that hivevigil.h gives them; HV_OK is none."""
+    numbers = dict(re.findall(r"^\s*(HV_[A-Z_]+) = (\d+),?", header, re.M))
+    found = re.findall(r'^    X\((HV_[A-Z_]+), "(.*?)"\)', errors, re.M)
+    return [Refusal(int(numbers[name]), name, sentence) for name, sentence in found if numbers[name] != "0"]
+
+
+def rust_sentences(refusals: list[Refusal]) -> str:
+    names = ["".join(map(str.capitalize, each.name.split("_")[1:])) for each in refusals]
+    lines = [f'    {name} = {each.number}, "{each.sentence}";' for name, each in zip(names, refusals)]
+    return "\n".join(["errors! {", *lines, "}"])
+
+
+def python_sentences(refusals: list[Refusal]) -> str:
+    texts = [re.sub(r"%([123])", lambda it: f"{{{int(it[1]) - 1}}}", each.sentence).replace("^", "**") for each in refusals]
+    lines = [f'    {each.number}: "{text}",' for each, text in zip(refusals, texts)]
+    return "\n".join(["SENTENCES: dict[int, str] = {", *lines, "}"])
+
+
+# By file what is made for it, of which header, and how its language begins and ends a comment.
 MADE = {
-    "include/hivevigil_exports.h": (exports, "/* ", " */"),
-    "include/hivevigil_calls.h": (inlines, "/* ", " */"),
-    "rust/src/raw.rs": (rust, "// ", ""),
-    "python/hivevigil/_calls.py": (python, "# ", ""),
+    "include/hivevigil_exports.h": (exports, HEADER, "/* ", " */"),
+    "include/hivevigil_calls.h": (inlines, HEADER, "/* ", " */"),
+    "rust/src/raw.rs": (rust, HEADER, "// ", ""),
+    "python/hivevigil/_calls.py": (python, HEADER, "# ", ""),
+    "rust/src/error.rs": (rust_sentences, ERRORS, "// ", ""),
+    "python/hivevigil/_sentences.py": (python_sentences, ERRORS, "# ", ""),
 }
 
 
-def renewed(text: str, made: str, opens: str, closes: str) -> str:
-    """The text of a file with what is made in place of what was between its two lines."""
-    begin, end = f"{opens}{BEGIN}{closes}\n", f"{opens}{END}{closes}\n"
+def renewed(text: str, made: str, header: str, opens: str, closes: str) -> str:
+    """The text of a file with what is made of a header in place of what was between its two lines."""
+    begin, end = f"{opens}{BEGIN} {Path(header).name}{closes}\n", f"{opens}{END}{closes}\n"
     if text.count(begin) != 1 or text.count(end) != 1:
         raise ValueError(f"one line {begin.strip()!r} and one {end.strip()!r} are due")
     before, rest = text.split(begin)
@@ -287,18 +321,19 @@ def out_of_step(calls: list[Call], exported: dict[str, tuple[list[str], str]]) -
 def main() -> int:
     text_of = lambda path: (ROOT / path).read_text(encoding="utf-8")
     calls = calls_of(text_of(HEADER))
+    read = {HEADER: calls, ERRORS: refusals_of(text_of(HEADER), text_of(ERRORS))}
     exported: dict[str, tuple[list[str], str]] = {}
     for path in sorted((ROOT / "crates/hivevigil/src").glob("*.rt")):
         exported |= rattle_calls(path.read_text(encoding="utf-8"))
     # these two are plain functions in the header too
     faults = out_of_step(calls, {name: exported[name] for name in exported if name not in ("hv_version", "hv_abi")})
-    for path, (make, opens, closes) in MADE.items():
+    for path, (make, header, opens, closes) in MADE.items():
         text = text_of(path)
-        made = renewed(text, make(calls), opens, closes)
+        made = renewed(text, make(read[header]), header, opens, closes)
         if made != text and "--write" in sys.argv[1:]:
             (ROOT / path).write_text(made, encoding="utf-8")
         elif made != text:
-            faults.append(f"{path} is out of step with {HEADER}: run python3 tools/declarations.py --write")
+            faults.append(f"{path} is out of step with {header}: run python3 tools/declarations.py --write")
     for fault in faults:
         print(fault)
     total = len(calls) + len(MADE)

@@ -77,10 +77,24 @@ class Declarations(unittest.TestCase):
         self.assertEqual(len(out_of_step(self.calls, {"hv_sum": exported["hv_sum"]})), 3)
 
     def test_only_what_is_between_the_two_lines_is_written_anew(self) -> None:
-        text = f"a\n// {declarations.BEGIN}\nold\n// {declarations.END}\nz\n"
-        self.assertEqual(renewed(text, "new", "// ", ""), text.replace("old", "new"))
+        text = f"a\n// {declarations.BEGIN} hivevigil.h\nold\n// {declarations.END}\nz\n"
+        self.assertEqual(renewed(text, "new", "include/hivevigil.h", "// ", ""), text.replace("old", "new"))
         with self.assertRaises(ValueError):
-            renewed("a\n", "new", "// ", "")
+            renewed(text, "new", "include/hivevigil_errors.h", "// ", "")
+        with self.assertRaises(ValueError):
+            renewed("a\n", "new", "include/hivevigil.h", "// ", "")
+
+    def test_sentences_are_those_of_the_header_in_each_language(self) -> None:
+        numbers = "    HV_OK = 0,\n    HV_BAD_RANGE = 9,   /* start */\n    HV_NULL_FILL = 16\n"
+        errors = """#define HV_ERRORS(X) \\
+    X(HV_OK, "done") \\
+    X(HV_BAD_RANGE, "rows %1 to %2 are not among %3 rows, or 2^64") \\
+    X(HV_NULL_FILL, "nulls want a value")
+"""
+        refusals = declarations.refusals_of(numbers, errors)
+        self.assertEqual([(each.number, each.name) for each in refusals], [(9, "HV_BAD_RANGE"), (16, "HV_NULL_FILL")])
+        self.assertIn('    BadRange = 9, "rows %1 to %2 are not among %3 rows, or 2^64";', declarations.rust_sentences(refusals))
+        self.assertIn('    9: "rows {0} to {1} are not among {2} rows, or 2**64",', declarations.python_sentences(refusals))
 
 
 if __name__ == "__main__":

@@ -7,6 +7,7 @@ from __future__ import annotations
 
 from typing import Any, ClassVar
 
+from ._sentences import SENTENCES
 
 _LETTERS, _BITS = 60, 1024  # of a value in a sentence, and of a number that is written out
 
@@ -33,6 +34,10 @@ class HivevigilError(Exception):
     columns: tuple[str, ...] = ()
     said: str = ""  # the sentence, where more is known than the number and the fields: a row, a value, a type
 
+    def __init_subclass__(cls) -> None:
+        """Gives the class the sentence of its number, unless it has one of its own."""
+        cls.sentence = vars(cls).get("sentence", SENTENCES.get(cls.number, cls.sentence))
+
     def __init__(self, *fields: int) -> None:
         super().__init__(*fields)
         self.fields: tuple[int, ...] = (*fields, 0, 0, 0)[:3]
@@ -55,35 +60,35 @@ class HivevigilError(Exception):
 
 
 class EndsNotUnsigned(HivevigilError, TypeError):
-    number, sentence = 1, "ends of runs are a flat column of an unsigned type without null"
+    number = 1
 
 
 class LengthsDiffer(HivevigilError, ValueError):
-    number, sentence = 2, "there are {0} ends and {1} values: each run has one of both"
+    number = 2
 
 
 class NoRunsWindow(HivevigilError, ValueError):
-    number, sentence = 3, "there is no run, yet a window of {1} rows from row {0} on"
+    number = 3
 
 
 class EndsNotStrict(HivevigilError, ValueError):
-    number, sentence = 4, "the end of run {0} is not above the end before it"
+    number = 4
 
 
 class WindowOverflow(HivevigilError, OverflowError):
-    number, sentence = 5, "offset and length, or all rows together, are 2**64 or more"
+    number = 5
 
 
 class FirstEndBelowOffset(HivevigilError, ValueError):
-    number, sentence = 6, "the first run ends before row {0}, below the offset {1}"
+    number = 6
 
 
 class LastEndBelowWindow(HivevigilError, ValueError):
-    number, sentence = 7, "the last run ends before row {0}, the window before row {1}"
+    number = 7
 
 
 class OutOfBounds(HivevigilError, IndexError):
-    number, sentence = 8, "row {0} is not among {1} rows"
+    number = 8
 
     def _in_words(self) -> str:
         if self.fields[0] == 2**64 - 1:
@@ -92,11 +97,11 @@ class OutOfBounds(HivevigilError, IndexError):
 
 
 class BadRange(HivevigilError, IndexError):
-    number, sentence = 9, "rows {0} to {1} are not among {2} rows"
+    number = 9
 
 
 class MaskLength(HivevigilError, ValueError):
-    number, sentence = 10, "a mask of {0} rows over a column of {1} rows"
+    number = 10
 
 
 class ColumnLength(HivevigilError, ValueError):
@@ -104,7 +109,7 @@ class ColumnLength(HivevigilError, ValueError):
 
 
 class TypeMismatch(HivevigilError, TypeError):
-    number, sentence = 12, "the types do not match"
+    number = 12
 
     def _in_words(self) -> str:
         if len(self.columns) < 2:
@@ -113,7 +118,7 @@ class TypeMismatch(HivevigilError, TypeError):
 
 
 class Unsupported(HivevigilError, TypeError):
-    number, sentence = 13, "the call does not serve columns of this type or form"
+    number = 13
     # the calls that are refused so only for the levels of runs, and how many there may be
     most_levels = {"from_runs": 64, "from_record": 64, "to_bytes": 16}
 
@@ -126,19 +131,19 @@ class Unsupported(HivevigilError, TypeError):
 
 
 class CastOutOfRange(HivevigilError, OverflowError):
-    number, sentence = 14, "a row does not fit the type"
+    number = 14
 
 
 class NullNotAllowed(HivevigilError, ValueError):
-    number, sentence = 15, "a row is null, and the type has no null"
+    number = 15
 
 
 class NullFill(HivevigilError, ValueError):
-    number, sentence = 16, "nulls are filled with a value, and null is not one"
+    number = 16
 
 
 class BadMetadata(HivevigilError, ValueError):
-    number, sentence = 17, "the bytes are not a metadata record, or not a column"
+    number = 17
 
     def _in_words(self) -> str:
         what = {"from_bytes": "not what to_bytes writes", "from_record": "not a metadata record"}.get(self.call)
@@ -146,11 +151,11 @@ class BadMetadata(HivevigilError, ValueError):
 
 
 class EndsTypeNumber(HivevigilError, ValueError):
-    number, sentence = 18, "{0} is not the number of a type of ends"
+    number = 18
 
 
 class RunCount(HivevigilError, ValueError):
-    number, sentence = 19, "the record says {0} runs, and there are {1}"
+    number = 19
 
 
 class OnlyPrimitive(HivevigilError, TypeError):
@@ -158,7 +163,7 @@ class OnlyPrimitive(HivevigilError, TypeError):
 
 
 class OutOfMemory(HivevigilError, MemoryError):
-    number, sentence = 21, "a request for memory was refused"
+    number = 21
 
 
 class NoColumn(HivevigilError, ValueError):
@@ -166,7 +171,7 @@ class NoColumn(HivevigilError, ValueError):
 
 
 class BadNumber(HivevigilError, ValueError):
-    number, sentence = 23, "the number is not that of a type or of an operator"
+    number = 23
 
 
 class ArrowInvalid(HivevigilError, ValueError):

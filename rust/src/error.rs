@@ -111,9 +111,10 @@ macro_rules! errors {
     };
 }
 
+// made by tools/declarations.py from hivevigil_errors.h
 errors! {
     EndsNotUnsigned = 1, "ends of runs are a flat column of an unsigned type without null";
-    LengthsDiffer = 2, "%1 ends and %2 values: each run has one of both";
+    LengthsDiffer = 2, "there are %1 ends and %2 values: each run has one of both";
     NoRunsWindow = 3, "there is no run, yet a window of %2 rows from row %1 on";
     EndsNotStrict = 4, "the end of run %1 is not above the end before it";
     WindowOverflow = 5, "offset and length, or all rows together, are 2^64 or more";
@@ -121,7 +122,7 @@ errors! {
     LastEndBelowWindow = 7, "the last run ends before row %1, the window before row %2";
     OutOfBounds = 8, "row %1 is not among %2 rows";
     BadRange = 9, "rows %1 to %2 are not among %3 rows";
-    MaskLength = 10, "a mask of %1 rows over %2 rows";
+    MaskLength = 10, "a mask of %1 rows over a column of %2 rows";
     ColumnLength = 11, "a length of %1 next to one of %2";
     TypeMismatch = 12, "the types do not match";
     Unsupported = 13, "the call does not serve columns of this type or form";
@@ -134,8 +135,9 @@ errors! {
     OnlyPrimitive = 20, "only integers are encoded by this call";
     OutOfMemory = 21, "a request for memory was refused";
     NoColumn = 22, "there is no column: it was never made, freed, moved away, or lent twice to one call";
-    BadNumber = 23, "the number is not that of a type, or of an operator";
+    BadNumber = 23, "the number is not that of a type or of an operator";
 }
+// end of what tools/declarations.py makes
 
 impl Error {
     /// Returns what the refusal is; `None` for a number that `hivevigil.h` does not list.
