@@ -298,6 +298,12 @@ public:
         return truth != 0;
     }
 
+    // Are type and rows the same, in whatever forms, null the same as null? Each run of both is read at most once; of
+    // lists each row. So do == and !=.
+    bool same_rows(const Column &other) const;
+    friend bool operator==(const Column &left, const Column &right) { return left.same_rows(right); }
+    friend bool operator!=(const Column &left, const Column &right) { return !left.same_rows(right); }
+
     // ---- Read out ----
 
     // The numbers of all rows, in any form, as the column's own integers; where a row is null it may be any number.

@@ -3,6 +3,7 @@
 #ifndef HIVEVIGIL_RUNS_HPP
 #define HIVEVIGIL_RUNS_HPP
 #include "hivevigil.hpp"
+#include <algorithm>
 
 namespace hv {
 
@@ -92,8 +93,57 @@ inline std::string words_of_cast(const Column &column, hv_kind kind, int32_t ans
     return is_row ? words_of_misfit(column, kind) : "";
 }
 
+inline bool same_kind(hv_kind left, hv_kind right) {
+    return left.number == right.number && left.nullable == right.nullable && left.precision == right.precision &&
+           left.scale == right.scale;
+}
+
+// Are the rows of two columns of as many rows the same? Of runs that the two share a part of, one value each is compared.
+inline bool same_runs(const Column &left, const Column &right) {
+    const Runs lefts = left.runs(), rights = right.runs();
+    Run first{}, second{};
+    for (size_t row = 0, one = 0, other = 0; row < left.size(); row = std::min(first.stop, second.stop)) {
+        if (row == first.stop) first = lefts.item(one++);
+        if (row == second.stop) second = rights.item(other++);
+        if (first.value != second.value) return false;
+    }
+    return true;
+}
+
+// The parts of lists, decoded.
+struct Lists {
+    Column elements;
+    std::vector<uint64_t> offsets, sizes;
+    std::vector<bool> valid;
+
+    explicit Lists(const Column &column) : Lists(column.decode(), 0) {}
+    Column list(size_t row) const {
+        const size_t start = static_cast<size_t>(offsets[row]);
+        return elements.slice(start, start + static_cast<size_t>(sizes[row]));
+    }
+
+private:
+    Lists(const Column &flat, int)
+        : elements(flat.list_elements()), offsets(flat.list_offsets().numbers<uint64_t>()),
+          sizes(flat.list_sizes().numbers<uint64_t>()), valid(flat.list_validity().truths()) {}
+};
+
+inline bool same_lists(const Column &left, const Column &right) {
+    const Lists lefts(left), rights(right);
+    if (!same_kind(lefts.elements.kind(), rights.elements.kind()) || lefts.valid != rights.valid) return false;
+    for (size_t row = 0; row < lefts.valid.size(); row++) {
+        if (!lefts.valid[row]) continue;
+        if (lefts.sizes[row] != rights.sizes[row] || lefts.list(row) != rights.list(row)) return false;
+    }
+    return true;
+}
+
 } // namespace detail
 
+inline bool Column::same_rows(const Column &other) const {
+    if (size() != other.size() || !detail::same_kind(kind(), other.kind())) return false;
+    return kind().number == HV_LIST ? detail::same_lists(*this, other) : detail::same_runs(*this, other);
+}
 inline std::string Column::words_of_cast(int32_t answer, hv_kind kind) const {
     return detail::words_of_cast(*this, kind, answer);
 }

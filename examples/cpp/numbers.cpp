@@ -228,7 +228,29 @@ static void check_values_in_words() {
     CHECK(builder.empty());
 }
 
+// ---- Equal columns ----
+
+static void check_same() {
+    const Column column = Column::of<int32_t>({4, 4, 0, 0, 9}, {true, true, false, false, true}), runs = column.encode();
+    CHECK(column == runs && runs == column && runs.slice(1, 4) == column.slice(1, 4) && column == column);
+    CHECK(column.slice(0, 2) == Column::constant(hv::nullable(hv::kinds::i32), 4, 2));
+    CHECK(runs != Column::of<int32_t>({4, 4, 0, 0, 9}, {true, true, false, true, true}));
+    CHECK(runs != Column::of<int64_t>({4, 4, 0, 0, 9}, {true, true, false, false, true}));
+    CHECK(runs != runs.slice(0, 4) && runs.slice(5, 5) == column.slice(0, 0));
+    CHECK(Column::of<int32_t>({4}) != column.slice(0, 1)); // one of the types has null
+    const Column texts = Column::of({"a", "a", "b"});
+    CHECK(texts == texts.encode_rows() && texts != Column::of({"a", "b", "b"}));
+    const Column all = Column::constant(hv::kinds::u8, 7, size_t{1} << 60);
+    CHECK(all == all.clone() && all != all.slice(1, all.size()));
+    const std::vector<bool> valid{true, false};
+    const Column lists = Column::lists(texts, {0, 2}, {2, 1}, &valid);
+    CHECK(lists == Column::lists(texts, {0, 0}, {2, 3}, &valid)); // nothing is read of a null list
+    CHECK(lists == Column::lists(Column::of({"b", "a", "a"}), {1, 0}, {2, 0}, &valid));
+    CHECK(lists != Column::lists(texts, {1, 2}, {2, 1}, &valid) && lists != Column::lists(texts, {0, 2}, {1, 1}, &valid));
+}
+
 int main() {
+    check_same();
     check_types();
     check_decimals();
     check_comparisons();

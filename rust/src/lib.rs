@@ -29,6 +29,7 @@ mod kind;
 mod native;
 mod questions;
 mod raw;
+mod same;
 mod show;
 mod value;
 
