@@ -159,8 +159,8 @@ HV_FUNCTION(pg_hv_sum) {
     PG_RETURN_INT64(total.as_signed);
 }
 
-/* Which row is looked at. */
-typedef enum place { LEAST, GREATEST, ROW } place;
+/* Which row is looked at; the first and the last are those that are not null. */
+typedef enum place { LEAST, GREATEST, ROW, FIRST, LAST } place;
 
 /* A row as the library shows it: a text of more than `few` has its bytes in memory of PostgreSQL's. */
 typedef struct shown {
@@ -169,28 +169,51 @@ typedef struct shown {
     uint8_t few[256];
 } shown;
 
+/* The first row that is not null, or the last; any row where all are null. Equal neighbours are one run of an encoding,
+ * so that next to a run of null there is none. */
+static int32_t valid_row(const hv_column *column, place at, size_t *row, hv_error *error) {
+    hv_column runs = HV_EMPTY;
+    hv_value value;
+    size_t count = 0;
+    uint64_t end = 0;
+    *row = at == FIRST ? 0 : hv_length(column) - 1;
+    int32_t answer = hv_at(column, *row, &value, NULL, 0, error);
+    if (answer == HV_COLUMN_LENGTH) return HV_OK; /* a text */
+    if (answer || value.kind != HV_NULL) return answer;
+    answer = hv_encode_rows(column, &runs, error);
+    if (!answer) answer = hv_run_count(&runs, &count, error);
+    if (!answer && count > 1) {
+        answer = hv_read_ends_u64(&runs, at == FIRST ? 0 : count - 2, &end, 1, error);
+        *row = at == FIRST ? end : end - 1;
+    }
+    hv_free(&runs);
+    return answer;
+}
+
 static int32_t look(hv_column *column, place at, size_t row, hv_value *value, uint8_t *text, size_t len,
                     hv_error *error) {
     hv_session session;
     hv_session_initial(&session);
-    if (at == ROW) return hv_at(column, row, value, text, len, error);
+    if (at != LEAST && at != GREATEST) return hv_at(column, row, value, text, len, error);
     return hv_extreme(&session, column, at == GREATEST, value, text, len, error);
 }
 
 /* The row, null where it is not there. */
 static void show(const char *function, FunctionCallInfo fcinfo, place at, shown *found) {
-    const int64 row = at == ROW ? PG_GETARG_INT64(1) : 0;
+    const int64 asked = at == ROW ? PG_GETARG_INT64(1) : 0;
     hv_error error = {0, 0, 0};
     hv_column column = HV_EMPTY;
+    size_t row = (size_t)asked;
     hv_column_of(function, PG_GETARG_BYTEA_PP(0), &column);
     found->value.kind = HV_NULL;
     found->bytes = found->few;
-    int32_t answer = row < 0 ? HV_OUT_OF_BOUNDS
-                             : look(&column, at, (size_t)row, &found->value, found->few, sizeof found->few, &error);
+    int32_t answer = asked < 0 || (at != LEAST && at != GREATEST && hv_length(&column) == 0) ? HV_OUT_OF_BOUNDS : HV_OK;
+    if (!answer && (at == FIRST || at == LAST)) answer = valid_row(&column, at, &row, &error);
+    if (!answer) answer = look(&column, at, row, &found->value, found->few, sizeof found->few, &error);
     if (answer == HV_COLUMN_LENGTH) {
         const size_t len = error.first;
         uint8_t *bytes = palloc_extended(len, MCXT_ALLOC_NO_OOM | MCXT_ALLOC_HUGE);
-        answer = bytes ? look(&column, at, (size_t)row, &found->value, bytes, len, &error) : HV_OUT_OF_MEMORY;
+        answer = bytes ? look(&column, at, row, &found->value, bytes, len, &error) : HV_OUT_OF_MEMORY;
         found->bytes = bytes;
     }
     hv_free(&column);
@@ -219,6 +242,10 @@ static Datum words(const char *function, FunctionCallInfo fcinfo, place at) {
 HV_FUNCTION(pg_hv_min) { return number("hv_min", fcinfo, LEAST); }
 HV_FUNCTION(pg_hv_max) { return number("hv_max", fcinfo, GREATEST); }
 HV_FUNCTION(pg_hv_at) { return number("hv_at", fcinfo, ROW); }
+HV_FUNCTION(pg_hv_first) { return number("hv_first", fcinfo, FIRST); }
+HV_FUNCTION(pg_hv_last) { return number("hv_last", fcinfo, LAST); }
+HV_FUNCTION(pg_hv_first_text) { return words("hv_first_text", fcinfo, FIRST); }
+HV_FUNCTION(pg_hv_last_text) { return words("hv_last_text", fcinfo, LAST); }
 HV_FUNCTION(pg_hv_min_text) { return words("hv_min_text", fcinfo, LEAST); }
 HV_FUNCTION(pg_hv_max_text) { return words("hv_max_text", fcinfo, GREATEST); }
 HV_FUNCTION(pg_hv_at_text) { return words("hv_at_text", fcinfo, ROW); }
@@ -240,9 +267,14 @@ HV_FUNCTION(pg_hv_slice) {
     PG_RETURN_BYTEA_P(hv_bytes_of_column("hv_slice", &part));
 }
 
+/* The number of an operator, whose label the enum has. */
+static uint8_t operator_of(Datum label) {
+    return operator_number(DatumGetCString(DirectFunctionCall1(enum_out, label)));
+}
+
 /* The rows of which `row operator value` holds. */
 static Datum filtered(FunctionCallInfo fcinfo, const row_value *value) {
-    const uint8_t operator_ = PG_ARGISNULL(1) ? NO_OPERATOR : operator_number(text_to_cstring(PG_GETARG_TEXT_PP(1)));
+    const uint8_t operator_ = PG_ARGISNULL(1) ? NO_OPERATOR : operator_of(PG_GETARG_DATUM(1));
     hv_error error = {0, 0, 0};
     hv_column column = HV_EMPTY, left = HV_EMPTY;
     if (operator_ == NO_OPERATOR)

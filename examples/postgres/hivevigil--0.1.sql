@@ -1,4 +1,4 @@
--- A column in runs, of bigint or of text, with null.
+-- A column in runs, of bigint or of text, with null. What reads a column costs a hundred operators on numbers.
 \echo Use "CREATE EXTENSION hivevigil" to load this file. \quit
 
 CREATE TYPE hvcolumn;
@@ -22,35 +22,66 @@ CREATE CAST (bytea AS hvcolumn) WITH FUNCTION hvcolumn(bytea);
 CREATE CAST (hvcolumn AS bytea) WITHOUT FUNCTION;
 
 CREATE FUNCTION hv_rows(hvcolumn) RETURNS bigint
-    AS 'MODULE_PATHNAME', 'pg_hv_rows' LANGUAGE C IMMUTABLE STRICT PARALLEL SAFE;
+    AS 'MODULE_PATHNAME', 'pg_hv_rows' LANGUAGE C IMMUTABLE STRICT PARALLEL SAFE COST 100;
 CREATE FUNCTION hv_count(hvcolumn) RETURNS bigint
-    AS 'MODULE_PATHNAME', 'pg_hv_count' LANGUAGE C IMMUTABLE STRICT PARALLEL SAFE;
+    AS 'MODULE_PATHNAME', 'pg_hv_count' LANGUAGE C IMMUTABLE STRICT PARALLEL SAFE COST 100;
 CREATE FUNCTION hv_sum(hvcolumn) RETURNS bigint
-    AS 'MODULE_PATHNAME', 'pg_hv_sum' LANGUAGE C IMMUTABLE STRICT PARALLEL SAFE;
+    AS 'MODULE_PATHNAME', 'pg_hv_sum' LANGUAGE C IMMUTABLE STRICT PARALLEL SAFE COST 100;
 CREATE FUNCTION hv_min(hvcolumn) RETURNS bigint
-    AS 'MODULE_PATHNAME', 'pg_hv_min' LANGUAGE C IMMUTABLE STRICT PARALLEL SAFE;
+    AS 'MODULE_PATHNAME', 'pg_hv_min' LANGUAGE C IMMUTABLE STRICT PARALLEL SAFE COST 100;
 CREATE FUNCTION hv_max(hvcolumn) RETURNS bigint
-    AS 'MODULE_PATHNAME', 'pg_hv_max' LANGUAGE C IMMUTABLE STRICT PARALLEL SAFE;
+    AS 'MODULE_PATHNAME', 'pg_hv_max' LANGUAGE C IMMUTABLE STRICT PARALLEL SAFE COST 100;
 CREATE FUNCTION hv_at(hvcolumn, bigint) RETURNS bigint
-    AS 'MODULE_PATHNAME', 'pg_hv_at' LANGUAGE C IMMUTABLE STRICT PARALLEL SAFE;
+    AS 'MODULE_PATHNAME', 'pg_hv_at' LANGUAGE C IMMUTABLE STRICT PARALLEL SAFE COST 100;
+-- the first row that is not null, and the last
+CREATE FUNCTION hv_first(hvcolumn) RETURNS bigint
+    AS 'MODULE_PATHNAME', 'pg_hv_first' LANGUAGE C IMMUTABLE STRICT PARALLEL SAFE COST 100;
+CREATE FUNCTION hv_last(hvcolumn) RETURNS bigint
+    AS 'MODULE_PATHNAME', 'pg_hv_last' LANGUAGE C IMMUTABLE STRICT PARALLEL SAFE COST 100;
 -- the same of columns of texts
+CREATE FUNCTION hv_first_text(hvcolumn) RETURNS text
+    AS 'MODULE_PATHNAME', 'pg_hv_first_text' LANGUAGE C IMMUTABLE STRICT PARALLEL SAFE COST 100;
+CREATE FUNCTION hv_last_text(hvcolumn) RETURNS text
+    AS 'MODULE_PATHNAME', 'pg_hv_last_text' LANGUAGE C IMMUTABLE STRICT PARALLEL SAFE COST 100;
 CREATE FUNCTION hv_min_text(hvcolumn) RETURNS text
-    AS 'MODULE_PATHNAME', 'pg_hv_min_text' LANGUAGE C IMMUTABLE STRICT PARALLEL SAFE;
+    AS 'MODULE_PATHNAME', 'pg_hv_min_text' LANGUAGE C IMMUTABLE STRICT PARALLEL SAFE COST 100;
 CREATE FUNCTION hv_max_text(hvcolumn) RETURNS text
-    AS 'MODULE_PATHNAME', 'pg_hv_max_text' LANGUAGE C IMMUTABLE STRICT PARALLEL SAFE;
+    AS 'MODULE_PATHNAME', 'pg_hv_max_text' LANGUAGE C IMMUTABLE STRICT PARALLEL SAFE COST 100;
 CREATE FUNCTION hv_at_text(hvcolumn, bigint) RETURNS text
-    AS 'MODULE_PATHNAME', 'pg_hv_at_text' LANGUAGE C IMMUTABLE STRICT PARALLEL SAFE;
+    AS 'MODULE_PATHNAME', 'pg_hv_at_text' LANGUAGE C IMMUTABLE STRICT PARALLEL SAFE COST 100;
 
 CREATE FUNCTION hv_slice(hvcolumn, start bigint, stop bigint) RETURNS hvcolumn
-    AS 'MODULE_PATHNAME', 'pg_hv_slice' LANGUAGE C IMMUTABLE STRICT PARALLEL SAFE;
-CREATE FUNCTION hv_filter(hvcolumn, operator text, value bigint) RETURNS hvcolumn
-    AS 'MODULE_PATHNAME', 'pg_hv_filter_numbers' LANGUAGE C IMMUTABLE PARALLEL SAFE;
-CREATE FUNCTION hv_filter(hvcolumn, operator text, value text) RETURNS hvcolumn
-    AS 'MODULE_PATHNAME', 'pg_hv_filter_texts' LANGUAGE C IMMUTABLE PARALLEL SAFE;
+    AS 'MODULE_PATHNAME', 'pg_hv_slice' LANGUAGE C IMMUTABLE STRICT PARALLEL SAFE COST 100;
+-- an enum, so that a condition may be sent to another server by postgres_fdw: a text has a collation, which may not
+CREATE TYPE hv_operator AS ENUM ('=', '<>', '>', '>=', '<', '<=');
+CREATE FUNCTION hv_filter(hvcolumn, operator hv_operator, value bigint) RETURNS hvcolumn
+    AS 'MODULE_PATHNAME', 'pg_hv_filter_numbers' LANGUAGE C IMMUTABLE PARALLEL SAFE COST 100;
+CREATE FUNCTION hv_filter(hvcolumn, operator hv_operator, value text) RETURNS hvcolumn
+    AS 'MODULE_PATHNAME', 'pg_hv_filter_texts' LANGUAGE C IMMUTABLE PARALLEL SAFE COST 100;
 CREATE FUNCTION hv_runs(hvcolumn, OUT start bigint, OUT stop bigint, OUT value bigint) RETURNS SETOF record
-    AS 'MODULE_PATHNAME', 'pg_hv_runs_numbers' LANGUAGE C IMMUTABLE STRICT PARALLEL SAFE ROWS 1000;
+    AS 'MODULE_PATHNAME', 'pg_hv_runs_numbers' LANGUAGE C IMMUTABLE STRICT PARALLEL SAFE COST 100 ROWS 1000;
 CREATE FUNCTION hv_text_runs(hvcolumn, OUT start bigint, OUT stop bigint, OUT value text) RETURNS SETOF record
-    AS 'MODULE_PATHNAME', 'pg_hv_runs_texts' LANGUAGE C IMMUTABLE STRICT PARALLEL SAFE ROWS 1000;
+    AS 'MODULE_PATHNAME', 'pg_hv_runs_texts' LANGUAGE C IMMUTABLE STRICT PARALLEL SAFE COST 100 ROWS 1000;
+
+-- Equality by rows, for DISTINCT, GROUP BY, joins and hash indexes. There is no order of columns.
+CREATE FUNCTION hv_equal(hvcolumn, hvcolumn) RETURNS boolean
+    AS 'MODULE_PATHNAME', 'pg_hv_equal' LANGUAGE C IMMUTABLE STRICT PARALLEL SAFE COST 100;
+CREATE FUNCTION hv_unequal(hvcolumn, hvcolumn) RETURNS boolean
+    AS 'MODULE_PATHNAME', 'pg_hv_unequal' LANGUAGE C IMMUTABLE STRICT PARALLEL SAFE COST 100;
+CREATE FUNCTION hv_hash(hvcolumn) RETURNS integer
+    AS 'MODULE_PATHNAME', 'pg_hv_hash' LANGUAGE C IMMUTABLE STRICT PARALLEL SAFE COST 100;
+CREATE FUNCTION hv_hash_extended(hvcolumn, bigint) RETURNS bigint
+    AS 'MODULE_PATHNAME', 'pg_hv_hash_extended' LANGUAGE C IMMUTABLE STRICT PARALLEL SAFE COST 100;
+CREATE OPERATOR = (
+    LEFTARG = hvcolumn, RIGHTARG = hvcolumn, FUNCTION = hv_equal, COMMUTATOR = =, NEGATOR = <>,
+    RESTRICT = eqsel, JOIN = eqjoinsel, HASHES
+);
+CREATE OPERATOR <> (
+    LEFTARG = hvcolumn, RIGHTARG = hvcolumn, FUNCTION = hv_unequal, COMMUTATOR = <>, NEGATOR = =,
+    RESTRICT = neqsel, JOIN = neqjoinsel
+);
+CREATE OPERATOR CLASS hvcolumn_ops DEFAULT FOR TYPE hvcolumn USING hash AS
+    OPERATOR 1 =, FUNCTION 1 hv_hash(hvcolumn), FUNCTION 2 hv_hash_extended(hvcolumn, bigint);
 
 -- Aggregates. Each worker of a parallel plan joins its part, and the parts are joined as they come: the rows of such a
 -- column stand in no order that is promised. hv_column(value ORDER BY ..) is made by one process, in that order.
@@ -59,7 +90,7 @@ CREATE FUNCTION hv_step(internal, bigint) RETURNS internal
 CREATE FUNCTION hv_step(internal, text) RETURNS internal
     AS 'MODULE_PATHNAME', 'pg_hv_step_text' LANGUAGE C IMMUTABLE PARALLEL SAFE;
 CREATE FUNCTION hv_step(internal, hvcolumn) RETURNS internal
-    AS 'MODULE_PATHNAME', 'pg_hv_step_column' LANGUAGE C IMMUTABLE PARALLEL SAFE;
+    AS 'MODULE_PATHNAME', 'pg_hv_step_column' LANGUAGE C IMMUTABLE PARALLEL SAFE COST 100;
 CREATE FUNCTION hv_final(internal) RETURNS hvcolumn
     AS 'MODULE_PATHNAME', 'pg_hv_final' LANGUAGE C IMMUTABLE PARALLEL SAFE;
 CREATE FUNCTION hv_combine(internal, internal) RETURNS internal

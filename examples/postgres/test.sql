@@ -48,6 +48,12 @@ SELECT same('SELECT hv_rows(c), hv_count(c), hv_sum(c), hv_min(c), hv_max(c) FRO
          'SELECT 6, 5, '''', ''a'', ''Oslo'', NULL'),
     same('SELECT hv_at_text(c, 4) FROM q', 'SELECT v FROM w WHERE n = 5'),
     same('SELECT r.* FROM q, hv_text_runs(hv_filter(c, ''<'', ''P'')) r', 'VALUES (0, 2, ''Oslo''), (2, 3, '''')'),
+    same('SELECT hv_first(c), hv_last(c), hv_first(hv_slice(c, 3, 6)), hv_last(hv_slice(c, 0, 5)) FROM p',
+         'SELECT 4, -1, 9, 4'),
+    same('SELECT hv_first(hv_slice(c, 3, 5)), hv_last(hv_slice(c, 3, 5)), hv_first(hv_slice(c, 2, 2)) FROM p',
+         'SELECT NULL::bigint, NULL::bigint, NULL::bigint'),
+    same($$SELECT hv_first_text(c), hv_last_text(c), hv_last_text(hv_slice(c, 0, 5)), hv_first_text(hv_slice(c, 2, 4))
+           FROM q$$, $$SELECT 'Oslo', 'a', v, '' FROM w WHERE n = 5$$),
 -- a run of 2^62 rows, in 46 bytes
     same($$SELECT hv_rows(c), hv_at(c, 4611686018427387903), hv_rows(hv_filter(c, '=', 1)) FROM
           (SELECT ('\x08011008180220' || '808080808080808040' || '400048045209' || '808080808080808040' ||
@@ -60,6 +66,20 @@ SELECT same('SELECT hv_rows(c), hv_count(c), hv_sum(c), hv_min(c), hv_max(c) FRO
            FROM generate_series(1, 2)) x, hv_runs(c) r$$, 'SELECT 0, 2305843009213693952, 7')
 \g /dev/null
 
+-- ---- Equality: by rows, whoever wrote the bytes ----
+-- 7 in each of three rows, as a constant of type u8 and as these functions write it
+CREATE TABLE e AS SELECT '\x080110011803200328013A0107'::hvcolumn AS constant, hv_column(7) AS runs
+    FROM generate_series(1, 3);
+SELECT same('SELECT runs = constant, runs <> constant, runs = hv_slice(runs, 0, 2), runs <> hv_slice(runs, 0, 2),
+                    runs = NULL FROM e', 'SELECT true, false, false, true, NULL::boolean'),
+    same('SELECT runs::bytea = constant::bytea, hv_hash(runs) = hv_hash(constant),
+                 hv_hash_extended(runs, 5) = hv_hash_extended(constant, 5) FROM e', 'SELECT false, true, true'),
+    same('SELECT count(DISTINCT hv_hash(hv_slice(c, 0, n))) FROM p, generate_series(0, 8) n', 'SELECT 9'),
+    same('SELECT count(*) FROM (SELECT c FROM p UNION SELECT hv_slice(c, 0, 8) FROM p UNION SELECT c FROM q UNION
+          SELECT hv_slice(c, 0, 7) FROM p UNION SELECT runs FROM e UNION SELECT constant FROM e) x', 'SELECT 4'),
+    same('SELECT count(*) FROM e JOIN e f ON e.runs = f.constant', 'SELECT 1')
+\g /dev/null
+
 -- ---- Refusals ----
 SELECT refused($$SELECT '\x00'::hvcolumn$$, 'hvcolumn: the bytes are not a column'),
     refused($$SELECT 'x'::hvcolumn$$, 'hvcolumn: the bytes are not a column'),
@@ -67,7 +87,9 @@ SELECT refused($$SELECT '\x00'::hvcolumn$$, 'hvcolumn: the bytes are not a colum
     refused('SELECT hv_slice(c, 2, 12) FROM p', 'hv_slice: rows 2 to 12 are not among 8 rows'),
     refused('SELECT hv_slice(c, -2, 1) FROM p', 'hv_slice: rows are numbered from 0'),
     refused('SELECT hv_slice(c, 3, 2) FROM p', 'hv_slice: rows 3 to 2 are not among 8 rows'),
-    refused('SELECT hv_filter(c, ''~'', 2) FROM p', 'hv_filter: an operator is one of = <> > >= < <='),
+    refused('SELECT hv_filter(c, ''~'', 2) FROM p', 'invalid input value for enum hv_operator: "~"'),
+    refused('SELECT hv_first(c) FROM q', 'hv_first: this is not a column of numbers'),
+    refused('SELECT hv_last_text(c) FROM p', 'hv_last_text: this is not a column of texts'),
     refused('SELECT hv_filter(c, NULL, 2) FROM p', 'hv_filter: an operator is one of = <> > >= < <='),
     refused('SELECT hv_filter(c, ''='', ''a''::text) FROM p', 'hv_filter: a column of numbers is not compared with a text'),
     refused('SELECT hv_sum(c) FROM q', 'hv_sum: only numbers are added, and this is a column of texts'),
@@ -82,7 +104,6 @@ SELECT refused($$SELECT '\x00'::hvcolumn$$, 'hvcolumn: the bytes are not a colum
             'hv_concat: a column of 2^63 rows or more'),
     refused($$SELECT '\x080110041803200228013A080000000000000080'::hvcolumn$$,
             'hvcolumn: a number of the column is 2^63 or more'),
-    refused('SELECT DISTINCT c FROM p', 'could not identify an equality operator for type hvcolumn'),
     refused('SELECT c FROM p ORDER BY c', 'could not identify an ordering operator for type hvcolumn'),
     refused('SELECT hv_sum(hv_column(v)) FROM (VALUES (9223372036854775807), (1)) x(v)', 'hv_sum: bigint out of range')
 \g /dev/null
@@ -125,6 +146,13 @@ BEGIN
     PERFORM same('SELECT hv_rows(c), hv_count(c), hv_sum(c), hv_min(c), hv_max(c)
                   FROM (SELECT hv_column(v) AS c FROM r) x',
                  'SELECT count(*), count(v), sum(v), min(v), max(v) FROM r');
+    PERFORM same('SELECT hv_first(c), hv_last(c) FROM (SELECT hv_column(v ORDER BY n) AS c FROM r) x',
+                 'SELECT (SELECT v FROM r WHERE v IS NOT NULL ORDER BY n LIMIT 1),
+                         (SELECT v FROM r WHERE v IS NOT NULL ORDER BY n DESC LIMIT 1)');
+    PERFORM same(format('SELECT hv_first_text(c), hv_last_text(c)
+                         FROM (SELECT hv_column(s ORDER BY n) FILTER (WHERE n > %s) AS c FROM r) x', a),
+                 format('SELECT (SELECT s FROM r WHERE s IS NOT NULL AND n > %s ORDER BY n LIMIT 1),
+                                (SELECT s FROM r WHERE s IS NOT NULL AND n > %s ORDER BY n DESC LIMIT 1)', a, a));
     PERFORM same('SELECT hv_min_text(c), hv_max_text(c) FROM (SELECT hv_column(s) AS c FROM r) x',
                  'SELECT min(s COLLATE "C"), max(s COLLATE "C") FROM r');
     PERFORM same(format('SELECT hv_at(hv_column(v ORDER BY n), %1$s), hv_at_text(hv_column(s ORDER BY n), %1$s)
@@ -270,3 +298,21 @@ SELECT own_pages() AS after \gset
 SELECT CASE WHEN :after - :before > 100 THEN 1 / 0 END \g /dev/null
 SELECT format('PostgreSQL %s: random tables as rows and as runs, parallel plans, and %s calls that fail take %s KiB',
     current_setting('server_version'), :count, (:after - :before) * 4);
+
+-- ---- Another server (this one, by its socket) filters the columns that it has ----
+CREATE EXTENSION postgres_fdw;
+CREATE SERVER other FOREIGN DATA WRAPPER postgres_fdw
+    OPTIONS (host :'folder', dbname 'postgres', extensions 'hivevigil');
+CREATE USER MAPPING FOR CURRENT_USER SERVER other OPTIONS (user 'tester');
+CREATE FOREIGN TABLE far(c hvcolumn) SERVER other OPTIONS (table_name 'p');
+SELECT same('SELECT hv_sum(c) FROM far WHERE hv_rows(hv_filter(c, ''>'', 0)) = 4', 'SELECT 19') \g /dev/null
+DO $$
+DECLARE line text;
+BEGIN
+    FOR line IN EXPLAIN (VERBOSE, COSTS OFF) SELECT c FROM far WHERE hv_rows(hv_filter(c, '>', 0)) = 4 LOOP
+        IF line LIKE '%Remote SQL:%hv_filter%' THEN RETURN; END IF;
+    END LOOP;
+    RAISE EXCEPTION 'the filter is not sent to the other server';
+END $$;
+SET client_min_messages = warning;
+DROP EXTENSION postgres_fdw CASCADE;

@@ -56,7 +56,7 @@ fn reaching(
     }
 }
 
-/// The parts of lists: row i is null, or `sizes[i]` elements from `offsets[i]` on.
+/// Holds the parts of lists: row i is null, or `sizes[i]` elements from `offsets[i]` on.
 struct Lists {
     elements: Column,
     offsets: Vec<u64>,
@@ -101,7 +101,7 @@ fn same_lists(left: &Column, right: &Column) -> Result<bool, Error> {
     Ok(true)
 }
 
-/// Whether the types and the rows are equal, as [`Column::same_rows`] finds; panics where memory is refused.
+/// Compares the types and the rows, as [`Column::same_rows`] finds; panics where memory is refused.
 ///
 /// ```
 /// let flat = hivevigil::Column::try_from(["Oslo", "Oslo", "Bergen"])?;
@@ -117,7 +117,7 @@ impl PartialEq for Column {
 
 impl Eq for Column {}
 
-/// The same column in the same form, as [`Column::try_clone`] makes it; panics where memory is refused.
+/// Copies the column in its form, as [`Column::try_clone`] does; panics where memory is refused.
 impl Clone for Column {
     fn clone(&self) -> Column {
         self.try_clone()
@@ -125,7 +125,7 @@ impl Clone for Column {
     }
 }
 
-/// A flat column of the items in turn; panics where memory is refused.
+/// Makes a flat column of the items in turn; panics where memory is refused.
 ///
 /// ```
 /// use hivevigil::{Column, Value};

@@ -1,0 +1,50 @@
+/* Columns are equal where their rows are, null equal to null. Rows of one type have one encoding, so that columns which
+ * these functions made are compared only by their bytes; what another program wrote is encoded first. */
+#include "pg_column.h"
+
+#include "common/hashfn.h"
+
+/* The only encoding of the rows, as bytes. */
+static bytea *encoded(const char *function, bytea *bytes) {
+    hv_column column = HV_EMPTY;
+    hv_column_of(function, bytes, &column);
+    return hv_bytes_of_column(function, &column);
+}
+
+static bool same_bytes(const bytea *left, const bytea *right) {
+    return VARSIZE_ANY_EXHDR(left) == VARSIZE_ANY_EXHDR(right) &&
+           memcmp(VARDATA_ANY(left), VARDATA_ANY(right), VARSIZE_ANY_EXHDR(left)) == 0;
+}
+
+static bool same_rows(FunctionCallInfo fcinfo, const char *function) {
+    bytea *left = PG_GETARG_BYTEA_PP(0), *right = PG_GETARG_BYTEA_PP(1);
+    bool same = same_bytes(left, right);
+    if (!same) {
+        bytea *one = encoded(function, left), *other = encoded(function, right);
+        same = same_bytes(one, other);
+        pfree(one);
+        pfree(other);
+    }
+    PG_FREE_IF_COPY(left, 0);
+    PG_FREE_IF_COPY(right, 1);
+    return same;
+}
+
+HV_FUNCTION(pg_hv_equal) { PG_RETURN_BOOL(same_rows(fcinfo, "hv_equal")); }
+HV_FUNCTION(pg_hv_unequal) { PG_RETURN_BOOL(!same_rows(fcinfo, "hv_unequal")); }
+
+HV_FUNCTION(pg_hv_hash) {
+    bytea *bytes = encoded("hv_hash", PG_GETARG_BYTEA_PP(0));
+    const uint32 hash = hash_bytes((const unsigned char *)VARDATA_ANY(bytes), (int)VARSIZE_ANY_EXHDR(bytes));
+    pfree(bytes);
+    PG_RETURN_UINT32(hash);
+}
+
+/* The same in 64 bits, with a seed, for tables that are partitioned by hash. */
+HV_FUNCTION(pg_hv_hash_extended) {
+    bytea *bytes = encoded("hv_hash_extended", PG_GETARG_BYTEA_PP(0));
+    const uint64 hash = hash_bytes_extended((const unsigned char *)VARDATA_ANY(bytes), (int)VARSIZE_ANY_EXHDR(bytes),
+                                            (uint64)PG_GETARG_INT64(1));
+    pfree(bytes);
+    PG_RETURN_UINT64(hash);
+}
