@@ -1,6 +1,5 @@
 #include "run_filter.h"
 #include "hivevigil_helpers.h"
-#include <stdbool.h>
 #include <stdlib.h>
 #include <string.h>
 
@@ -65,6 +64,26 @@ int32_t column_valid_rows(const hv_column *column, uint64_t *rows, hv_error *err
     const int32_t answer = read_parts(&session, column, &runs, error);
     if (!answer) *rows = valid_rows(&runs);
     free_parts(&runs);
+    return answer;
+}
+
+/* Equal neighbours are one run of an encoding, so that next to a run of null there is none. */
+int32_t column_valid_row(const hv_column *column, bool last, size_t *row, hv_error *error) {
+    hv_column runs = HV_EMPTY;
+    hv_value value;
+    size_t count = 0;
+    uint64_t end = 0;
+    *row = last && hv_length(column) ? hv_length(column) - 1 : 0;
+    int32_t answer = hv_at(column, *row, &value, NULL, 0, error);
+    if (answer == HV_COLUMN_LENGTH) return HV_OK; /* a text, longer than none */
+    if (answer || value.kind != HV_NULL) return answer;
+    answer = hv_encode_rows(column, &runs, error);
+    if (!answer) answer = hv_run_count(&runs, &count, error);
+    if (!answer && count > 1) {
+        answer = hv_read_ends_u64(&runs, last ? count - 2 : 0, &end, 1, error);
+        *row = last ? end - 1 : end;
+    }
+    hv_free(&runs);
     return answer;
 }
 

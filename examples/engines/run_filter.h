@@ -2,6 +2,7 @@
 #ifndef HIVEVIGIL_RUN_FILTER_H
 #define HIVEVIGIL_RUN_FILTER_H
 #include "row_builder.h"
+#include <stdbool.h>
 
 enum { NO_OPERATOR = 6 };
 
@@ -15,6 +16,9 @@ int32_t column_filter(const hv_column *column, uint8_t operator_, const row_valu
 
 /* How many rows are not null; 21. */
 int32_t column_valid_rows(const hv_column *column, uint64_t *rows, hv_error *error);
+
+/* The first row that is not null, or the last; any row where all are null. 8 of no rows, 13 for lists, 21. */
+int32_t column_valid_row(const hv_column *column, bool last, size_t *row, hv_error *error);
 
 /* The row with which the sum of a column of signed numbers of 64 bits leaves their range, for one of which hv_sum says that
  * it does; 21. */

@@ -169,27 +169,6 @@ typedef struct shown {
     uint8_t few[256];
 } shown;
 
-/* The first row that is not null, or the last; any row where all are null. Equal neighbours are one run of an encoding,
- * so that next to a run of null there is none. */
-static int32_t valid_row(const hv_column *column, place at, size_t *row, hv_error *error) {
-    hv_column runs = HV_EMPTY;
-    hv_value value;
-    size_t count = 0;
-    uint64_t end = 0;
-    *row = at == FIRST ? 0 : hv_length(column) - 1;
-    int32_t answer = hv_at(column, *row, &value, NULL, 0, error);
-    if (answer == HV_COLUMN_LENGTH) return HV_OK; /* a text */
-    if (answer || value.kind != HV_NULL) return answer;
-    answer = hv_encode_rows(column, &runs, error);
-    if (!answer) answer = hv_run_count(&runs, &count, error);
-    if (!answer && count > 1) {
-        answer = hv_read_ends_u64(&runs, at == FIRST ? 0 : count - 2, &end, 1, error);
-        *row = at == FIRST ? end : end - 1;
-    }
-    hv_free(&runs);
-    return answer;
-}
-
 static int32_t look(hv_column *column, place at, size_t row, hv_value *value, uint8_t *text, size_t len,
                     hv_error *error) {
     hv_session session;
@@ -208,7 +187,7 @@ static void show(const char *function, FunctionCallInfo fcinfo, place at, shown 
     found->value.kind = HV_NULL;
     found->bytes = found->few;
     int32_t answer = asked < 0 || (at != LEAST && at != GREATEST && hv_length(&column) == 0) ? HV_OUT_OF_BOUNDS : HV_OK;
-    if (!answer && (at == FIRST || at == LAST)) answer = valid_row(&column, at, &row, &error);
+    if (!answer && (at == FIRST || at == LAST)) answer = column_valid_row(&column, at == LAST, &row, &error);
     if (!answer) answer = look(&column, at, row, &found->value, found->few, sizeof found->few, &error);
     if (answer == HV_COLUMN_LENGTH) {
         const size_t len = error.first;

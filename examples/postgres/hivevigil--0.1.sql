@@ -63,7 +63,7 @@ CREATE FUNCTION hv_runs(hvcolumn, OUT start bigint, OUT stop bigint, OUT value b
 CREATE FUNCTION hv_text_runs(hvcolumn, OUT start bigint, OUT stop bigint, OUT value text) RETURNS SETOF record
     AS 'MODULE_PATHNAME', 'pg_hv_runs_texts' LANGUAGE C IMMUTABLE STRICT PARALLEL SAFE COST 100 ROWS 1000;
 
--- Equality by rows, for DISTINCT, GROUP BY, joins and hash indexes. There is no order of columns.
+-- Equality by rows, for DISTINCT, GROUP BY, joins and hash indexes. Columns have no order.
 CREATE FUNCTION hv_equal(hvcolumn, hvcolumn) RETURNS boolean
     AS 'MODULE_PATHNAME', 'pg_hv_equal' LANGUAGE C IMMUTABLE STRICT PARALLEL SAFE COST 100;
 CREATE FUNCTION hv_unequal(hvcolumn, hvcolumn) RETURNS boolean

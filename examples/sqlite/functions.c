@@ -231,6 +231,7 @@ typedef struct question {
     sqlite3_value **values;
     hv_session session;
     hv_error error;
+    size_t row; /* that is looked at */
 } question;
 
 /* A refusal in words, after which the call has answered. */
@@ -300,8 +301,7 @@ static int32_t look_greatest(question *asked, hv_value *value, uint8_t *text, si
 }
 
 static int32_t look_row(question *asked, hv_value *value, uint8_t *text, size_t len) {
-    const size_t row = (size_t)sqlite3_value_int64(asked->values[1]);
-    return hv_at(asked->column, row, value, text, len, &asked->error);
+    return hv_at(asked->column, asked->row, value, text, len, &asked->error);
 }
 
 static int32_t ask_min(question *asked) { return answer_look(asked, look_least); }
@@ -321,8 +321,19 @@ static int32_t ask_at(question *asked) {
     sqlite3_int64 row;
     if (sqlite3_value_type(asked->values[1]) == SQLITE_NULL || !is_row(asked, "hv_at", 1, &row)) return HV_OK;
     if (row < 0 || (uint64_t)row >= hv_length(asked->column)) return HV_OK;
+    asked->row = (size_t)row;
     return answer_look(asked, look_row);
 }
+
+/* The first row that is not NULL, or the last; NULL where there is none. */
+static int32_t ask_valid(question *asked, bool last) {
+    if (hv_length(asked->column) == 0) return HV_OK;
+    const int32_t answer = column_valid_row(asked->column, last, &asked->row, &asked->error);
+    return answer ? answer : answer_look(asked, look_row);
+}
+
+static int32_t ask_first(question *asked) { return ask_valid(asked, false); }
+static int32_t ask_last(question *asked) { return ask_valid(asked, true); }
 
 static int32_t ask_slice(question *asked) {
     sqlite3_int64 start, stop;
@@ -367,6 +378,7 @@ typedef struct function {
 static const function functions[] = {
     {"hv_rows", 1, ask_rows}, {"hv_count", 1, ask_count}, {"hv_sum", 1, ask_sum},     {"hv_min", 1, ask_min},
     {"hv_max", 1, ask_max},   {"hv_at", 2, ask_at},       {"hv_slice", 3, ask_slice}, {"hv_filter", 3, ask_filter},
+    {"hv_first", 1, ask_first}, {"hv_last", 1, ask_last},
 };
 
 static void ask(sqlite3_context *context, int count, sqlite3_value **values) {

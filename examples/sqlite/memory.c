@@ -53,6 +53,7 @@ int main(void) {
         "SELECT length(hv_concat(hv_slice(w, 1, 20))) FROM p",
         "SELECT hv_rows(c) + hv_count(c) + hv_sum(c) + hv_at(c, 3) FROM p",
         "SELECT hv_min(w) || hv_max(w) || hv_at(w, 3) FROM p",
+        "SELECT hv_first(c) + hv_last(c) + length(hv_first(w) || hv_last(w)) FROM p",
         "SELECT length(hv_filter(c, '>', 3)) FROM p",
         "SELECT length(hv_filter(w, '<', 'a text of number 4')) FROM p",
         "SELECT length(hv_slice(c, 3, 20)) FROM p",

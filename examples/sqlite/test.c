@@ -50,6 +50,9 @@ static void check_rows(void) {
               "UNION ALL SELECT hv_slice(c, 6, 7) FROM p)))",
               "0|3|4 3|5|NULL 5|6|9 6|9|-1");
     CHECK_SQL("SELECT hv_rows(hv_filter(c, '=', NULL)), hv_rows(hv_slice(c, 3, 3)) FROM p", "0|0");
+    CHECK_SQL("SELECT hv_first(c), hv_last(c), hv_first(hv_slice(c, 3, 6)), hv_last(hv_slice(c, 0, 5)) FROM p", "4|-1|9|4");
+    CHECK_SQL("SELECT hv_first(hv_slice(c, 3, 5)), hv_last(hv_slice(c, 3, 5)), hv_first(hv_slice(c, 2, 2)), hv_last(NULL) "
+              "FROM p", "NULL|NULL|NULL|NULL");
     CHECK_SQL("SELECT hv_sum(NULL), hv_rows(NULL), hv_at(NULL, 1), hv_filter(NULL, '=', 1), hv_slice(NULL, 0, 1)",
               "NULL|NULL|NULL|NULL|NULL");
     CHECK_SQL("SELECT count(*) FROM hv_runs(NULL)", "0");
@@ -88,6 +91,7 @@ static void check_texts(void) {
     CHECK_SQL("SELECT hv_rows(c), hv_count(c), hv_min(c), hv_at(c, 0), hv_at(c, 2), hv_at(c, 3) FROM q",
               "6|5||Oslo|NULL|");
     CHECK_SQL("SELECT hv_at(c, 4) = (SELECT v FROM w WHERE rowid = 5), hv_max(c) FROM q", "1|a");
+    CHECK_SQL("SELECT hv_first(c) = hv_at(c, 0), hv_last(hv_slice(c, 0, 5)) = hv_at(c, 4) FROM q", "1|1");
     CHECK_SQL("SELECT start, stop, value FROM q, hv_runs(hv_filter(c, '<', 'P'))", "0|2|Oslo 2|3|");
     CHECK_SQL("SELECT typeof(hv_at(hv_column(x'0102'), 0)), hex(hv_at(hv_column(x'0102'), 0)), "
               "hex(hv_at(hv_column(x''), 0)), hex(hv_max(hv_column(x'ff00')))",
@@ -113,6 +117,8 @@ static void check_lists(void) {
     NO_LISTS("hv_min(c)", "hv_min");
     NO_LISTS("hv_max(c)", "hv_max");
     NO_LISTS("hv_at(c, 0)", "hv_at");
+    NO_LISTS("hv_first(c)", "hv_first");
+    NO_LISTS("hv_last(c)", "hv_last");
     NO_LISTS("hv_filter(c, '=', 7)", "hv_filter");
     NO_LISTS("hv_slice(c, 0, 1)", "hv_slice");
     NO_LISTS("hv_concat(c)", "hv_concat");
@@ -237,6 +243,9 @@ static void check_many(void) {
     ask("CREATE TABLE m AS WITH RECURSIVE n(i) AS (SELECT 0 UNION ALL SELECT i + 1 FROM n WHERE i < 4999) SELECT i, "
         "CASE WHEN i % 5 THEN i * 7919 % 1000 END AS v, 'a text of number ' || i AS s, "
         "printf('%.*c', 30000, 'x') || (i % 7) AS l FROM n");
+    same("SELECT hv_first(c), hv_last(c) FROM (SELECT hv_column(v) AS c FROM (SELECT v FROM m ORDER BY rowid))",
+         "SELECT (SELECT v FROM m WHERE v NOT NULL ORDER BY rowid LIMIT 1), "
+         "(SELECT v FROM m WHERE v NOT NULL ORDER BY rowid DESC LIMIT 1)");
     same("SELECT hv_rows(c), hv_count(c), hv_sum(c), hv_min(c), hv_max(c) FROM (SELECT hv_column(v) AS c FROM m)",
          "SELECT count(*), count(v), sum(v), min(v), max(v) FROM m");
     same("SELECT start, stop, value FROM hv_runs((SELECT hv_column(v) FROM m))", "SELECT i, i + 1, v FROM m");
