@@ -9,7 +9,8 @@ from typing import TYPE_CHECKING, Any, NamedTuple, Optional
 
 from . import _lists, _reading
 from ._library import ask, calls
-from ._values import Scalar
+from ._values import Scalar, size_of
+from .errors import in_words
 
 if TYPE_CHECKING:
     from .column import Column
@@ -36,6 +37,17 @@ def _run_of(column: Column, row: int) -> int:
     run = ctypes.c_size_t()
     ask(calls.hv_run_of, column, row, run)
     return run.value
+
+
+def run_at(column: Column, number: int) -> Run:
+    """A run of a run column, by its number among those that the column shows, from the end where it is negative."""
+    shown = span(column)
+    at = shown[number]
+    before = int(at > shown.start)  # how many of the two bounds are the end of a run
+    stops = (ctypes.c_uint64 * 2)()
+    ask(calls.hv_read_ends_u64, column, at - before, stops, 1 + before)
+    start = stops[0] if before else 0
+    return Run(start, stops[before], column._at(start))
 
 
 def span(column: Column) -> range:
@@ -97,4 +109,19 @@ def null_count(column: Column) -> int:
     if column.form == "runs":
         shown = visible(column)
         return sum(compress(lengths(shown.stops), _reading.null_flags(shown.values)))
-    return _reading.null_flags(column).count(1)
+    return column._length - bin(int.from_bytes(column.validity(), "little")).count("1")
+
+
+def split(column: Column, parts: int, by: str) -> list[Column]:
+    """The column in windows of as many rows or runs each, give or take one."""
+    count, rows = size_of(parts, "the number of parts"), column._length
+    if count == 0:
+        raise ValueError("a column is split into at least one part")
+    if by not in ("rows", "runs"):
+        raise ValueError(f"a column is split by 'rows' or by 'runs', not by {in_words(by)}")
+    if by == "rows" or column.form == "constant":
+        bounds = [rows * part // count for part in range(count + 1)]
+    else:
+        stops = [0, *visible(column if column.form == "runs" else column.to_runs()).stops]
+        bounds = [stops[(len(stops) - 1) * part // count] for part in range(count + 1)]
+    return [column.slice(start, stop) for start, stop in zip(bounds, bounds[1:])]

@@ -1,0 +1,197 @@
+"""What is known of one part of a column, as a value that is joined with that of the part after it.
+
+    from hivevigil import Column
+    from hivevigil.chunks import Partial, joined
+
+    parts = [Partial.of(Column.of(rows)) for rows in batches]     # anywhere: a thread, a process, another machine
+    whole = joined(parts)                                         # or functools.reduce(join, parts), a tree of joins
+    whole.rows, whole.null_count, whole.sum(), whole.least, whole.greatest, whole.is_sorted
+
+Joining is associative: however the rows are cut, and in whichever order neighbours are joined, the answers are those of
+the whole column. `Partial.empty(type)` joined with a part is that part. A Partial is small, and pickles.
+"""
+from __future__ import annotations
+
+import contextlib
+import functools
+from collections.abc import Iterable
+from dataclasses import dataclass, replace
+from itertools import accumulate
+from typing import Any, NamedTuple, Optional
+
+from . import _runs
+from ._types import WHOLE_NUMBERS, kind_of, range_of, text_of
+from ._values import Scalar
+from .column import Column
+from .errors import TypeMismatch, Unsupported, in_words
+
+__all__ = ["Partial", "Stretch", "Sums", "join", "joined"]
+
+
+class Stretch(NamedTuple):
+    """Equal rows next to one another: their value, and how many they are."""
+
+    value: Scalar
+    rows: int
+
+
+class Sums(NamedTuple):
+    """What a part adds to a sum: its total, and the least and the greatest sum on the way from row to row, among which
+    is the 0 before its first row. They are integers of any size, so no part leaves a range by itself."""
+
+    total: int = 0
+    least: int = 0
+    greatest: int = 0
+
+    def then(self, after: Sums) -> Sums:
+        """The three numbers of the rows of both, one after the other."""
+        return Sums(
+            self.total + after.total,
+            min(self.least, self.total + after.least),
+            max(self.greatest, self.total + after.greatest),
+        )
+
+
+@dataclass(frozen=True)
+class Partial:
+    """What is known of a part of a column.
+
+    `type` is the column's, with its '?'. `runs` counts the stretches of equal rows, as few as there can be. `sums` is
+    None unless the rows are integers. `least` and `greatest` leave nulls out, and are None where there is nothing else;
+    null is below all else in `is_sorted` (no row above the next) and `is_strictly_sorted` (each row below the next).
+    `first` and `last` are the outermost runs, None where there is no row.
+    """
+
+    type: str
+    rows: int
+    null_count: int
+    runs: int
+    sums: Optional[Sums]
+    least: Scalar
+    greatest: Scalar
+    is_sorted: bool
+    is_strictly_sorted: bool
+    first: Optional[Stretch]
+    last: Optional[Stretch]
+
+    @classmethod
+    def empty(cls, type: Any) -> Partial:
+        """What is known of no rows of a type; joined with a part it is that part."""
+        name = text_of(kind_of(type))
+        sums = Sums() if name.rstrip("?") in WHOLE_NUMBERS else None
+        return cls(name, 0, 0, 0, sums, None, None, True, True, None, None)
+
+    @classmethod
+    def of(cls, column: Column) -> Partial:
+        """What is known of a column of any type but lists. The cost is that of encoding it, then of its runs."""
+        if not isinstance(column, Column):
+            raise TypeError(f"Partial.of takes a Column, not {in_words(column)}")
+        if column.type.startswith("list"):
+            raise Unsupported().about("Partial.of", column)
+        if not column:
+            return cls.empty(column.type)
+        runs = column.to_runs()
+        count = runs.run_count()
+        first, last = _runs.run_at(runs, 0), _runs.run_at(runs, -1)
+        least, greatest = runs.min_max()
+        return cls(
+            column.type, last.stop, runs.null_count, count, _sums_of(runs, least, greatest), least, greatest,
+            runs.is_sorted(), runs.is_sorted(strict=True),
+            Stretch(first.value, first.stop), Stretch(last.value, last.stop - last.start),
+        )
+
+    @property
+    def is_constant(self) -> bool:
+        """Whether all rows are equal, null equal to null."""
+        return self.runs <= 1
+
+    @property
+    def count(self) -> int:
+        """How many rows are not null."""
+        return self.rows - self.null_count
+
+    def sum(self) -> int:
+        """The sum of the rows that are not null. OverflowError where it leaves 64 bits on the way from row to row, as
+        that of the whole column is; which row it is, no part knows."""
+        if self.sums is None:
+            raise Unsupported().saying(f"sum does not serve parts of type {self.type}")
+        name = "u64" if self.type.startswith("u") else "i64"
+        fits = range_of(name)
+        if self.sums.least not in fits or self.sums.greatest not in fits:
+            past = self.sums.least if self.sums.least not in fits else self.sums.greatest
+            raise OverflowError(f"sum: it leaves {name} on the way from row to row, where it is {in_words(past)}")
+        return self.sums.total
+
+    def join(self, after: Partial) -> Partial:
+        """What is known of the rows of this part and of those of the part after it."""
+        if not isinstance(after, Partial):
+            raise TypeError(f"a Partial is joined with a Partial, not with {in_words(after)}")
+        name = _joined_type(self.type, after.type)
+        if self.last is None or after.first is None:
+            return replace(after if self.last is None else self, type=name)
+        return Partial(
+            name, self.rows + after.rows, self.null_count + after.null_count,
+            self.runs + after.runs - (self.last.value == after.first.value),
+            None if self.sums is None or after.sums is None else self.sums.then(after.sums),
+            _chosen(min, self.least, after.least), _chosen(max, self.greatest, after.greatest),
+            self.is_sorted and after.is_sorted and not _is_below(after.first.value, self.last.value),
+            self.is_strictly_sorted and after.is_strictly_sorted and _is_below(self.last.value, after.first.value),
+            _grown(self.first, after.first, self.runs), _grown(after.last or after.first, self.last, after.runs),
+        )
+
+
+def join(left: Partial, right: Partial) -> Partial:
+    """What is known of two parts, one after the other: for the reduce of any engine, which has to keep their order."""
+    return left.join(right)
+
+
+def joined(parts: Iterable[Partial]) -> Partial:
+    """What is known of parts in their order, of which there is at least one."""
+    given = list(parts)
+    if not given:
+        raise ValueError("joined takes at least one part, whose type is that of the answer: Partial.empty(type) is one")
+    return functools.reduce(join, given)
+
+
+def _sums_of(runs: Column, least: Any, greatest: Any) -> Optional[Sums]:
+    """The three numbers of runs of integers. Where all rows have one sign the sum says them; else, or where it leaves 64
+    bits, they are added run by run, since within a run sums only rise or only fall."""
+    if runs.type.rstrip("?") not in WHOLE_NUMBERS:
+        return None
+    if least is None:
+        return Sums()
+    if least >= 0 or greatest <= 0:
+        with contextlib.suppress(OverflowError):
+            total = runs.sum()
+            return Sums(total, min(0, total), max(0, total))
+    products = ((stop - start) * value for start, stop, value in runs.runs() if value)  # type: ignore[operator]
+    ways = list(accumulate(products, initial=0))
+    return Sums(int(ways[-1]), int(min(ways)), int(max(ways)))
+
+
+def _joined_type(left: str, right: str) -> str:
+    """The type of joined rows, which has null where one of the two has."""
+    if left.rstrip("?") != right.rstrip("?"):
+        raise TypeMismatch().saying(
+            f"join: {left.rstrip('?')} and {right.rstrip('?')} are two types; parts of one column are joined"
+        )
+    return left if left.endswith("?") else right
+
+
+def _chosen(choose: Any, left: Any, right: Any) -> Any:
+    """The lesser or the greater of two values, of which None is neither."""
+    if left is None or right is None:
+        return right if left is None else left
+    return choose(left, right)
+
+
+def _is_below(left: Any, right: Any) -> bool:
+    """Whether a row is below another, null below all else."""
+    return right is not None and (left is None or bool(left < right))
+
+
+def _grown(outer: Stretch, inner: Stretch, runs: int) -> Stretch:
+    """An outermost run, which goes on into the other part where it is all of its own and the values are equal."""
+    if runs == 1 and outer.value == inner.value:
+        return Stretch(outer.value, outer.rows + inner.rows)
+    return outer
