@@ -25,6 +25,57 @@ _WIDE = range(-(2**127), 2**127)  # what a decimal is stored as, in units of its
 _DIGITS = 60  # more than any type has
 
 
+class Comparisons:
+    """What a column answers to comparisons of its rows, and to the operators of Python."""
+
+    __slots__ = ()
+
+    def compare(self, operator: str, right: Any) -> Column:
+        """Row by row whether `row operator right`, for a column of the same type or one value, with one of == != > >=
+        < <=; null where either is null. Numbers are compared exactly, also with one that the type does not have."""
+        column: Any = self
+        return (with_column if isinstance(right, Comparisons) else with_value)(column, operator, right)
+
+    def eq(self, right: Any) -> Column:
+        return self.compare("==", right)
+
+    def ne(self, right: Any) -> Column:
+        return self.compare("!=", right)
+
+    def gt(self, right: Any) -> Column:
+        return self.compare(">", right)
+
+    def ge(self, right: Any) -> Column:
+        return self.compare(">=", right)
+
+    def lt(self, right: Any) -> Column:
+        return self.compare("<", right)
+
+    def le(self, right: Any) -> Column:
+        return self.compare("<=", right)
+
+    def __eq__(self, other: object) -> bool:
+        """Whether both are the same object; rows are compared by eq."""
+        return self is other if isinstance(other, Comparisons) else refused(self, "==", other)
+
+    def __ne__(self, other: object) -> bool:
+        return self is not other if isinstance(other, Comparisons) else refused(self, "!=", other)
+
+    __hash__ = object.__hash__
+
+    def __lt__(self, other: Any) -> NoReturn:
+        refused(self, "<", other)
+
+    def __le__(self, other: Any) -> NoReturn:
+        refused(self, "<=", other)
+
+    def __gt__(self, other: Any) -> NoReturn:
+        refused(self, ">", other)
+
+    def __ge__(self, other: Any) -> NoReturn:
+        refused(self, ">=", other)
+
+
 def with_value(column: Column, sign: str, value: Any) -> Column:
     """Row by row whether `row sign value`; null where the row or the value is null."""
     operator_of(sign)
@@ -74,11 +125,11 @@ def _decided(sign: str, floor: int, exact: bool, fits: range) -> tuple[str, int]
     return ("<=" if below else ">"), min(floor, greatest)
 
 
-def refused(column: Column, sign: str, other: Any) -> NoReturn:
+def refused(column: Any, sign: str, other: Any) -> NoReturn:
     """Says how rows are compared, where an operator of Python was written."""
     column._there()
     is_one = isinstance(other, (str, bytes)) or not hasattr(other, "__len__")
-    value = "other" if isinstance(other, type(column)) else in_words(other) if is_one else "Column.of(rows)"
+    value = "other" if isinstance(other, Comparisons) else in_words(other) if is_one else "Column.of(rows)"
     why = "columns have no order, and == between two says whether they are one object"
     raise TypeError(f"rows are compared by column.{METHODS[sign]}({value}), which makes a mask; {why}")
 

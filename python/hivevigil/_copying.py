@@ -1,6 +1,9 @@
 """Columns as NumPy arrays, as Series of pandas, and by pickle."""
 from __future__ import annotations
 
+import hashlib
+import pickle
+import sys
 from typing import TYPE_CHECKING, Any
 
 from ._types import LETTERS, TYPES
@@ -21,7 +24,7 @@ def _stored(flat: Column) -> tuple[Any, Any]:
     if name == "bool":
         items = _unpacked(flat.truths(), rows)
     else:
-        items = numpy.frombuffer(flat.to_array(), numpy.dtype(name[0] + str(int(name[1:]) // 8)))
+        items = numpy.frombuffer(flat.to_array(), dtype(flat))
     return items, ~_unpacked(flat.validity(), rows) if flat.nullable else None
 
 
@@ -37,6 +40,18 @@ def _objects(column: Column) -> Any:
     items = numpy.empty(len(column), dtype=object)
     items[:] = column.to_list()
     return items
+
+
+def dtype(column: Column) -> Any:
+    """The dtype of to_numpy(). AttributeError without NumPy, so that the column is then an object without a dtype."""
+    name = TYPES[column._kind.number]
+    try:
+        import numpy
+    except ImportError:
+        raise AttributeError("the dtype of a column is one of NumPy, which is not installed") from None
+    if not _has_dtype(column):
+        return numpy.dtype(object)
+    return numpy.dtype(bool if name == "bool" else name[0] + str(int(name[1:]) // 8))
 
 
 def _has_dtype(column: Column) -> bool:
@@ -60,9 +75,17 @@ def to_numpy(column: Column, null: Any) -> Any:
     return items if missing is None else masks.masked_array(items, missing)
 
 
-def as_numpy(column: Column, dtype: Any) -> Any:
-    items = _objects(column) if not _has_dtype(column) or column.null_count else _stored(column._flat())[0]
-    return items if dtype is None else items.astype(dtype)
+def as_numpy(column: Column, asked: Any) -> Any:
+    """The rows as an implicit conversion has them: objects where a row is null. pandas 1.5 makes floats of integers next
+    to None, and 2**53 + 1 is not among these, but keeps them next to its own NA: where it is loaded, null is that."""
+    if _has_dtype(column) and not column.null_count:
+        items = _stored(column._flat())[0]
+    else:
+        items = _objects(column)
+        pandas = sys.modules.get("pandas")
+        if asked is None and pandas is not None and TYPES[column._kind.number] in LETTERS:
+            items[_stored(column._flat())[1]] = pandas.NA
+    return items if asked is None else items.astype(asked)
 
 
 def to_pandas(column: Column) -> Any:
@@ -78,7 +101,12 @@ def to_pandas(column: Column) -> Any:
     return pandas.Series(masked(items.copy(), missing))
 
 
-# ---- Pickle ----
+# ---- Pickle, and names by content ----
+
+
+def token(column: Column) -> tuple[str, str]:
+    """A name for the column by what it has, equal for columns of the same rows in the same form."""
+    return "hivevigil.Column", hashlib.sha256(pickle.dumps(column, protocol=4)).hexdigest()
 
 
 def reduced(column: Column) -> Any:

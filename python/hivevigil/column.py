@@ -5,9 +5,11 @@ import array
 import ctypes
 import sys
 from collections.abc import Iterator
-from typing import Any, NoReturn, Optional
+from typing import Any, Optional
 
-from . import _arrow, _casting, _comparing, _copying, _indexing, _lists, _making, _questions, _reading, _runs, _showing
+from . import (
+    _arrow, _casting, _comparing, _copying, _files, _indexing, _lists, _making, _questions, _reading, _runs, _showing,
+)
 from ._library import Handle, Kind, ask, calls, session
 from ._runs import Run
 from ._types import FORMS, LETTERS, SIGNED, TYPES, kind_of, text_of
@@ -15,11 +17,11 @@ from ._values import Scalar, is_missing, passed, row_of, size_of, whole
 from .errors import NoColumn, Unsupported, in_words
 
 
-class Column:
+class Column(_comparing.Comparisons):
     """Rows of one type, each a value or null. What a command makes is a new column; the old one stays as it was.
 
     A column is freed by `with`, by `free()`, or when nothing refers to it; each call on one that was freed is refused
-    as NoColumn. Threads may use columns: each call holds the interpreter's lock.
+    as NoColumn. Threads may use one column at once: calls over many rows release the interpreter's lock.
     """
 
     __slots__ = ("_handle", "_as_parameter_", "__weakref__")
@@ -87,6 +89,13 @@ class Column:
 
     def __reduce__(self) -> Any:
         return _copying.reduced(self)
+
+    def __sizeof__(self) -> int:
+        """How many bytes the column and what it shows take, as sys.getsizeof and Dask ask for it."""
+        return object.__sizeof__(self) + int(calls.hv_bytes_used(self._handle))
+
+    def __dask_tokenize__(self) -> tuple[str, str]:
+        return _copying.token(self)
 
     # ---- Making ----
 
@@ -175,6 +184,11 @@ class Column:
         return cls._made(calls.hv_read_column, data or b"\0", len(data))
 
     @classmethod
+    def load(cls, path: Any) -> Column:
+        """The column that `save` wrote to a file. `BadMetadata` for a file of other bytes, OSError for none."""
+        return _files.load(cls, path)
+
+    @classmethod
     def from_arrow(cls, source: Any) -> Column:
         """A copy of what an object of any Arrow library holds, by its capsules (`__arrow_c_array__`, else
         `__arrow_c_stream__`, whose chunks become one column): an array, or a batch or table of one column."""
@@ -234,52 +248,6 @@ class Column:
         values = dictionary if isinstance(dictionary, Column) else self.of(dictionary)
         return self._made(calls.hv_take_from, session, self, self._beside(values))
 
-    def compare(self, operator: str, right: Any) -> Column:
-        """Row by row whether `row operator right`, for a column of the same type or one value, with one of == != > >=
-        < <=; null where either is null. Numbers are compared exactly, also with one that the type does not have."""
-        if isinstance(right, Column):
-            return _comparing.with_column(self, operator, right)
-        return _comparing.with_value(self, operator, right)
-
-    def eq(self, right: Any) -> Column:
-        return self.compare("==", right)
-
-    def ne(self, right: Any) -> Column:
-        return self.compare("!=", right)
-
-    def gt(self, right: Any) -> Column:
-        return self.compare(">", right)
-
-    def ge(self, right: Any) -> Column:
-        return self.compare(">=", right)
-
-    def lt(self, right: Any) -> Column:
-        return self.compare("<", right)
-
-    def le(self, right: Any) -> Column:
-        return self.compare("<=", right)
-
-    def __eq__(self, other: object) -> bool:
-        """Whether both are the same object; rows are compared by eq."""
-        return self is other if isinstance(other, Column) else _comparing.refused(self, "==", other)
-
-    def __ne__(self, other: object) -> bool:
-        return self is not other if isinstance(other, Column) else _comparing.refused(self, "!=", other)
-
-    __hash__ = object.__hash__
-
-    def __lt__(self, other: Any) -> NoReturn:
-        _comparing.refused(self, "<", other)
-
-    def __le__(self, other: Any) -> NoReturn:
-        _comparing.refused(self, "<=", other)
-
-    def __gt__(self, other: Any) -> NoReturn:
-        _comparing.refused(self, ">", other)
-
-    def __ge__(self, other: Any) -> NoReturn:
-        _comparing.refused(self, ">=", other)
-
     def fill(self, value: Any) -> Column:
         """A value in place of each null, after which the type has no null."""
         return self._made(calls.hv_fill, session, self, *passed(self._kind, value))
@@ -313,6 +281,20 @@ class Column:
     def type(self) -> str:
         """The type as text: 'i64', 'decimal(10, 2)', and 'i64?' where rows may be null."""
         return text_of(self._kind)
+
+    @property
+    def dtype(self) -> Any:
+        """The dtype of `to_numpy()`: that of the type for integers and booleans, else that of objects."""
+        return _copying.dtype(self)
+
+    @property
+    def shape(self) -> tuple[int]:
+        """The number of rows, as NumPy has it of one dimension."""
+        return (self._length,)
+
+    @property
+    def ndim(self) -> int:
+        return len(self.shape)
 
     @property
     def nullable(self) -> bool:
@@ -385,9 +367,17 @@ class Column:
         length = self._length
         return (self.slice(start, min(start + step, length)) for start in range(0, length, step))
 
+    def split(self, parts: int, by: str = "rows") -> list[Column]:
+        """The column in this many windows, which share its buffers: of as many rows each, give or take one, or with
+        `by="runs"` of as many runs, so that work by runs is shared out evenly. Some are empty where there are fewer."""
+        return _runs.split(self, parts, by)
+
     def to_list(self) -> list[Scalar]:
         """The rows as values of Python: int, bool, decimal.Decimal, str, bytes, and None for null."""
         return list(self)
+
+    tolist = to_list  # as NumPy and pandas call it
+    to_pylist = to_list  # as PyArrow calls it
 
     def to_numpy(self, null: Any = None) -> Any:
         """The rows as a NumPy array of the type's dtype; of decimals, texts and bytes an array of objects, in which
@@ -396,7 +386,8 @@ class Column:
         return _copying.to_numpy(self, null)
 
     def __array__(self, dtype: Any = None, copy: Any = None) -> Any:
-        """As NumPy asks for it: of objects, with None, where a row is null, since a mask would be lost."""
+        """As NumPy asks for it: of objects, with None, where a row is null, since a mask would be lost; of integers
+        with pandas.NA where pandas is loaded, whose Series would else have floats."""
         if copy is False:
             raise ValueError("the rows of a column are copied for NumPy")
         return _copying.as_numpy(self, dtype)
@@ -419,6 +410,8 @@ class Column:
     def truths(self) -> bytes:
         """The booleans as a bitmap; a null row may have either."""
         return _reading.truths(self, 0, len(self))
+
+    # ---- Runs ----
 
     def runs(self) -> Iterator[Run]:
         """The runs that the column shows, each as (start, stop, value), counted from its first row: the stored ones of
@@ -457,6 +450,11 @@ class Column:
         data = ctypes.create_string_buffer(size.value)
         ask(calls.hv_write, self, data, len(data), size)
         return data.raw
+
+    def save(self, path: Any) -> None:
+        """Writes the bytes of `to_bytes` to a file, which `load` reads. A file of this name is replaced at once when all
+        is written, and stays as it was where that fails."""
+        _files.save(self, path)
 
     @property
     def nbytes(self) -> int:

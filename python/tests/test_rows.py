@@ -3,11 +3,12 @@ import copy
 import pickle
 
 import numpy
+import pandas
 import pytest
 from hivevigil import Column, errors
 from hypothesis import given
 from hypothesis import strategies as st
-from rows import TYPES, runs_of, samples
+from rows import BITS, TYPES, runs_of, samples
 
 DTYPES = {
     "u8": "uint8", "u16": "uint16", "u32": "uint32", "u64": "uint64",
@@ -128,7 +129,8 @@ def test_numpy_of_numbers_and_truths(sample):
     plain = sample.column.to_numpy(null=null)
     filled = [null if row is None else row for row in sample.rows]
     assert plain.tolist() == filled and not isinstance(plain, numpy.ma.MaskedArray)
-    assert numpy.asarray(sample.column).tolist() == sample.rows
+    asked, missing = numpy.asarray(sample.column).tolist(), pandas.NA if sample.type in BITS else None
+    assert asked == [missing if row is None else row for row in sample.rows]
     assert Column.of(items).to_list() == sample.rows and Column.of(items).type.rstrip("?") == sample.type
 
 

@@ -1,0 +1,55 @@
+"""Columns in files, each a message of its own as docs/BYTES.md says it."""
+from __future__ import annotations
+
+import contextlib
+import os
+import shutil
+import uuid
+from typing import TYPE_CHECKING, Any
+
+from .errors import BadMetadata, in_words
+
+if TYPE_CHECKING:
+    from .column import Column
+
+
+def load(kind: type[Column], path: Any) -> Column:
+    name = _name_of(path)
+    with open(name, "rb") as file:
+        message = file.read()
+    try:
+        return kind.from_bytes(message)
+    except BadMetadata as refused:
+        raise refused.saying(f"load: {name}, of {len(message):,} bytes, is not a file that save wrote") from None
+
+
+def save(column: Column, path: Any) -> None:
+    """Writes a file next to the one that is meant, of which it then takes the place."""
+    name = _name_of(path)
+    message = column.to_bytes()
+    target = os.path.realpath(name)
+    part = os.path.join(os.path.dirname(target), f".{os.path.basename(target)[:200]}.{uuid.uuid4().hex}")
+    try:
+        _written(part, message, target)
+    except OSError as error:
+        raise OSError(error.errno, error.strerror, name) from None
+    finally:
+        with contextlib.suppress(OSError):
+            os.unlink(part)
+
+
+def _written(part: str, message: bytes, target: str) -> None:
+    with open(part, "xb") as file:
+        file.write(message)
+        file.flush()
+        os.fsync(file.fileno())
+    if os.path.exists(target):
+        shutil.copymode(target, part)
+    os.replace(part, target)
+
+
+def _name_of(path: Any) -> str:
+    """The name of a file, of a text or a path."""
+    if not isinstance(path, (str, bytes, os.PathLike)):
+        raise TypeError(f"a file is named by a text or a path, not by {in_words(path)}")
+    return os.fsdecode(path)
