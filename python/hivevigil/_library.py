@@ -1,7 +1,9 @@
 """The shared object: where it is, and how its calls are made.
 
-Calls hold the interpreter's lock (PyDLL), so that threads call one at a time, as the header asks of columns that were
-made one from the other.
+The header asks for one call at a time on each column, also where it only reads, since the handle is written while a
+call runs. So the handle of a Column is lent only to calls that hold the interpreter's lock (PyDLL), and threads make
+these one at a time. A call that may take long, over many rows, is lent clones that no other thread knows, which share
+the buffers, and is made without the lock (CDLL). Lists share a count of owners that is not atomic, and keep the lock.
 """
 from __future__ import annotations
 
@@ -93,12 +95,52 @@ _METHODS = {
 }
 
 
+# the calls whose time grows with rows or runs, each by the name that both libraries have
+_LONG = frozenset("hv_" + name for name in (
+    "u8", "u16", "u32", "u64", "i8", "i16", "i32", "i64", "bools", "decimals", "texts", "large_texts",
+    "runs", "compact", "encode", "encode_rows", "decode", "cast", "take", "filter", "take_from", "compare",
+    "compare_scalar", "fill", "sum", "is_constant", "is_sorted", "extreme", "min_max",
+    "read_u8", "read_u16", "read_u32", "read_u64", "read_i8", "read_i16", "read_i32", "read_i64", "read_decimals",
+    "read_bools_from", "read_validity_from", "read_large_offsets", "read_bytes", "read_ends_u64",
+    "write_size", "write", "read_column",
+))
+_MANY = 16384  # rows, items or bytes: from here on a call takes longer than the clones that it is lent
+_LIST = 12  # the number of the type of lists
+
+
 def ask(call: Any, *arguments: Any) -> None:
     """Calls, and raises the refusal if there is one."""
     fields = Fields()
-    answer = call(*arguments, fields)
+    answer = _answer(call, arguments, fields)
     if answer:
         columns = [argument for argument in arguments if hasattr(argument, "_as_parameter_")]
         name = call.__name__[len("hv_") :]
         refused = refusal(answer, fields.first, fields.second, fields.third)
         raise refused.about(_METHODS.get(name, name), *(column for column in columns if not column.freed))
+
+
+def _answer(call: Any, arguments: tuple[Any, ...], fields: Fields) -> int:
+    """The number that a call answers, which is made without the interpreter's lock where it may take long."""
+    if call.__name__ not in _LONG or max(map(_size, arguments)) < _MANY:
+        return int(call(*arguments, fields))
+    lent = [Handle() if hasattr(argument, "_as_parameter_") else argument for argument in arguments]
+    clones = [(argument, clone) for argument, clone in zip(arguments, lent) if clone is not argument]
+    try:
+        if not all(_is_cloned(column, clone) for column, clone in clones):
+            return int(call(*arguments, fields))
+        return int(getattr(calls_without_lock, call.__name__)(*lent, fields))
+    finally:
+        for _, clone in clones:
+            calls.hv_free(clone)
+
+
+def _size(argument: Any) -> int:
+    """How much there is of an argument: rows of a column, items of a buffer."""
+    if hasattr(argument, "_as_parameter_"):
+        return int(calls.hv_length(argument))
+    return len(argument) if isinstance(argument, (ctypes.Array, bytes)) else 0
+
+
+def _is_cloned(column: Any, clone: Handle) -> bool:
+    """Whether the clone is another owner of what the column has, which threads may use at once."""
+    return calls.hv_kind_of(column).number != _LIST and not calls.hv_clone(column, clone, Fields())

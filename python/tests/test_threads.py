@@ -1,0 +1,197 @@
+"""One column that several threads read at once answers each as one thread alone is answered."""
+import sys
+import threading
+from concurrent.futures import ThreadPoolExecutor
+from itertools import repeat
+
+import pytest
+from hypothesis import given
+from hypothesis import strategies as st
+from rows import samples
+
+from hivevigil import Column, _library, concat, errors
+from hivevigil.chunks import Partial, joined
+
+ROWS = [None if row % 211 < 3 else row // 29 * 37 % 101 - 20 for row in range(200_000)]
+FORMS = {"flat": Column.of(ROWS), "runs": Column.of(ROWS).to_runs(), "window": Column.of([9, *ROWS, 9]).to_runs()[1:-1]}
+TEXTS = Column.of([None if row is None else f"row {row}" for row in ROWS])
+
+
+def asked(column, number):
+    """What a thread asks of a column that all have."""
+    mask, part = column.gt(40), column[number * 1000 :]
+    return (
+        column.sum(), column.min_max(), column.null_count, column.is_sorted(), mask.to_bytes(),
+        column.filter(mask).to_bytes(), column.take([number, -1, 3]).to_list(), part.sum(), part.to_runs().to_bytes(),
+        column.cast("i8?").to_bytes(), column.fill(0).sum(), column.decode().to_bytes(), column[number],
+        column.compact().sum(), concat([part, column]).sum(),
+    )
+
+
+@pytest.mark.parametrize("form", FORMS)
+def test_a_pool_over_one_column(form):
+    column = FORMS[form]
+    due = [asked(column, number) for number in range(4)]
+    with ThreadPoolExecutor(8) as pool:
+        found = list(pool.map(asked, repeat(column), [number % 4 for number in range(32)]))
+    assert found == due * 8
+
+
+def test_a_pool_over_texts():
+    due = TEXTS.to_runs().to_bytes(), TEXTS.filter(TEXTS.eq("row 7")).to_list(), TEXTS.min_max(), TEXTS.to_list()
+
+    def work(_):
+        return TEXTS.to_runs().to_bytes(), TEXTS.filter(TEXTS.eq("row 7")).to_list(), TEXTS.min_max(), TEXTS.to_list()
+
+    with ThreadPoolExecutor(4) as pool:
+        assert list(pool.map(work, range(8))) == [due] * 8
+
+
+def test_a_pool_over_lists():
+    count = 20_000
+    lists = Column.from_lists(Column.of(list(range(count))), range(count), [1] * count)
+
+    def work(number):
+        part = lists[number:]
+        return part.take([0, -1]).to_list(), part.filter([True] + [False] * (count - number - 1)).to_list()
+
+    with ThreadPoolExecutor(4) as pool:
+        found = list(pool.map(work, range(32)))
+    assert found == [([[number], [count - 1]], [[number]]) for number in range(32)]
+
+
+def test_a_column_that_is_freed_while_others_read_it():
+    due, found = FORMS["runs"].sum(), []
+
+    def work(column):
+        try:
+            while True:
+                found.append(column.sum() == due)
+        except errors.NoColumn:
+            found.append(True)
+
+    for _ in range(20):
+        column = FORMS["runs"].copy()
+        threads = [threading.Thread(target=work, args=(column,)) for _ in range(4)]
+        for thread in threads:
+            thread.start()
+        column.free()
+        for thread in threads:
+            thread.join(60)
+    assert len(found) >= 80 and all(found)
+
+
+def test_others_work_while_a_long_call_runs():
+    column, counted, seen, over = Column.of(array_of(5_000_000)), [0], [], threading.Event()
+
+    def count():
+        while not over.is_set():
+            counted[0] += 1
+
+    def work():
+        for _ in range(40):
+            before = counted[0]
+            column.to_runs()
+            seen.append(counted[0] - before)
+
+    counter = threading.Thread(target=count)
+    counter.start()
+    work()
+    over.set()
+    counter.join(60)
+    assert sum(steps > 1000 for steps in seen) >= 3
+
+
+def array_of(rows):
+    import numpy
+
+    return numpy.arange(rows) // 3
+
+
+@given(st.data(), samples())
+def test_without_the_lock_calls_answer_as_with_it(data, sample):
+    """Short columns too, for which calls keep the lock."""
+    column = sample.column
+    at = data.draw(st.integers(0, len(sample.rows)))
+
+    def answers():
+        part = column[at:]
+        return (
+            column.to_list(), part.to_list(), column.to_runs().to_bytes(), column.min_max(), column.null_count,
+            part.compact().to_list(), column.eq(column).to_list(), column.take([0] * min(1, len(column))).to_list(),
+            column.filter([True] * len(column)).to_list(), column.is_constant(), column.is_sorted(), column.to_bytes(),
+            Column.from_bytes(column.to_bytes()).to_list(), list(part.runs()),
+        )
+
+    due, many = answers(), _library._MANY
+    _library._MANY = 0
+    try:
+        assert answers() == due
+    finally:
+        _library._MANY = many
+
+
+def test_refusals_without_the_lock():
+    many, rows = _library._MANY, Column.of([300, 1])
+    freed = Column.of([1])
+    freed.free()
+    _library._MANY = 0
+    try:
+        with pytest.raises(OverflowError, match="cast to i8: row 0 is 300, which does not fit i8"):
+            rows.cast("i8")
+        with pytest.raises(errors.NoColumn):
+            freed.sum()
+        with pytest.raises(errors.NoColumn):
+            rows.take(freed)
+        with pytest.raises(errors.MaskLength, match="a mask of 1 rows over a column of 2 rows"):
+            rows.filter([True])
+    finally:
+        _library._MANY = many
+
+
+# ---- Windows ----
+
+
+@given(samples(), st.integers(1, 9), st.sampled_from(["rows", "runs"]))
+def test_split(sample, parts, by):
+    windows = sample.column.split(parts, by)
+    assert len(windows) == parts and [row for window in windows for row in window] == sample.rows
+    counts = [len(window) if by == "rows" else window.to_runs().run_count() for window in windows]
+    if by == "rows":
+        assert max(counts) - min(counts) <= 1
+
+
+def test_split_by_runs():
+    column = Column.from_runs([1000, 1001, 1002, 1003], [7, 8, 9, 8])
+    assert [len(window) for window in column.split(2)] == [501, 502]
+    assert [list(window.runs()) for window in column.split(2, by="runs")] == [
+        [(0, 1000, 7), (1000, 1001, 8)], [(0, 1, 9), (1, 2, 8)],
+    ]
+    assert [len(window) for window in Column.constant(1, 9).split(2, by="runs")] == [4, 5]
+
+
+def test_windows_share_buffers():
+    column = Column.of(array_of(2_000_000))
+    windows = column.split(1000)
+    assert sum(window.nbytes for window in windows) == column.nbytes
+    assert sys.getsizeof(windows) < 20_000
+
+
+def test_a_pool_over_windows():
+    column = FORMS["runs"]
+    with ThreadPoolExecutor(4) as pool:
+        assert joined(pool.map(Partial.of, column.split(16, by="runs"))) == Partial.of(column)
+
+
+@pytest.mark.parametrize(
+    "parts, by, kind, said",
+    [
+        (0, "rows", ValueError, "a column is split into at least one part"),
+        (-1, "rows", ValueError, "the number of parts is negative: -1"),
+        (2.5, "rows", TypeError, "the number of parts is an integer, not 2.5"),
+        (2, "pages", ValueError, "a column is split by 'rows' or by 'runs', not by 'pages'"),
+    ],
+)
+def test_refusals_of_split(parts, by, kind, said):
+    with pytest.raises(kind, match=said):
+        FORMS["runs"].split(parts, by)
