@@ -51,7 +51,7 @@ def dtype(column: Column) -> Any:
         raise AttributeError("the dtype of a column is one of NumPy, which is not installed") from None
     if not _has_dtype(column):
         return numpy.dtype(object)
-    return numpy.dtype(bool if name == "bool" else name[0] + str(int(name[1:]) // 8))
+    return numpy.dtype("?" if name == "bool" else name[0] + str(int(name[1:]) // 8))
 
 
 def _has_dtype(column: Column) -> bool:

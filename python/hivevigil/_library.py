@@ -19,6 +19,10 @@ from ._calls import CALLS
 from ._structs import ArrowOptions, BuilderHandle, Fields, Handle, Kind, Pair, Session, Total, Value
 from .errors import refusal
 
+__all__ = [
+    "ArrowOptions", "BuilderHandle", "Fields", "Handle", "Kind", "NUMBERS", "Pair", "Session", "Total", "Value", "ask",
+    "calls", "calls_without_lock", "initial_session", "session",
+]
 VARIABLE = "HIVEVIGIL_SO"
 _NAME = "libhivevigil.so"
 

@@ -127,8 +127,10 @@ class Partial:
         if not isinstance(after, Partial):
             raise TypeError(f"a Partial is joined with a Partial, not with {in_words(after)}")
         name = _joined_type(self.type, after.type)
-        if self.last is None or after.first is None:
-            return replace(after if self.last is None else self, type=name)
+        if self.first is None or self.last is None:
+            return replace(after, type=name)
+        if after.first is None or after.last is None:
+            return replace(self, type=name)
         return Partial(
             name, self.rows + after.rows, self.null_count + after.null_count,
             self.runs + after.runs - (self.last.value == after.first.value),
@@ -136,7 +138,7 @@ class Partial:
             _chosen(min, self.least, after.least), _chosen(max, self.greatest, after.greatest),
             self.is_sorted and after.is_sorted and not _is_below(after.first.value, self.last.value),
             self.is_strictly_sorted and after.is_strictly_sorted and _is_below(self.last.value, after.first.value),
-            _grown(self.first, after.first, self.runs), _grown(after.last or after.first, self.last, after.runs),
+            _grown(self.first, after.first, self.runs), _grown(after.last, self.last, after.runs),
         )
 
 
@@ -164,7 +166,7 @@ def _sums_of(runs: Column, least: Any, greatest: Any) -> Optional[Sums]:
         with contextlib.suppress(OverflowError):
             total = runs.sum()
             return Sums(total, min(0, total), max(0, total))
-    products = ((stop - start) * value for start, stop, value in runs.runs() if value)  # type: ignore[operator]
+    products = ((stop - start) * value for start, stop, value in runs.runs() if value)
     ways = list(accumulate(products, initial=0))
     return Sums(int(ways[-1]), int(min(ways)), int(max(ways)))
 
