@@ -167,8 +167,11 @@ else
     skip "python/demo.py with NumPy" "NumPy for Python"
 fi
 if found=$(python_with pytest,hypothesis,numpy,pandas); then
-    quick="env HYPOTHESIS_PROFILE=few HYPOTHESIS_STORAGE_DIRECTORY=$work/hypothesis timeout 300"
+    quick="env HYPOTHESIS_PROFILE=few HYPOTHESIS_STORAGE_DIRECTORY=$work/hypothesis timeout 600"
     run "python, its tests" $quick "$found" -m pytest -q -p no:cacheprovider python/tests
+    "$found" -c 'import mypy' 2>/dev/null || skip "python, its types (python/tests/test_types.py)" "mypy for Python"
+    "$found" -c 'import dask.array, distributed' 2>/dev/null ||
+        skip "python, its chunks (python/tests/test_dask.py)" "Dask for Python"
 else
     skip "python, its tests" "pytest, Hypothesis, NumPy and pandas for Python"
 fi

@@ -33,7 +33,7 @@ _CLASSES: dict[str, Any] = {**dict.fromkeys(WHOLE_NUMBERS, int), "bool": bool, "
 
 
 @register_extension_dtype
-class RunEndDtype(ExtensionDtype):  # type: ignore[misc]
+class RunEndDtype(ExtensionDtype):
     """The dtype of rows in runs, of a column's type: "runend[i64]", "runend[utf8]". Rows may be null, pandas.NA."""
 
     na_value = pandas.NA
@@ -83,7 +83,7 @@ class RunEndDtype(ExtensionDtype):  # type: ignore[misc]
         return self if all(each == self for each in dtypes) else None
 
 
-class RunEndArray(ExtensionArray):  # type: ignore[misc]
+class RunEndArray(ExtensionArray):
     """An array of pandas over one column, which is kept in runs. Setting rows makes a new column, at the cost of rows;
     a view or a slice is an array of its own, which does not follow."""
 
