@@ -1,0 +1,39 @@
+"""A user's program, of which test_types.py has mypy say the types; nothing runs it."""
+from decimal import Decimal
+from typing import Any, Optional, Union
+
+from hivevigil import Builder, Column, Run, concat
+from hivevigil.chunks import Partial, Stretch, Sums, join, joined
+from hivevigil.dask import Answer, ChunkedColumn
+from hivevigil.pandas import RunEndArray, RunEndDtype
+
+Row = Union[int, bool, Decimal, str, bytes, None]
+
+column: Column = Column.of([1, None], "i64?").to_runs()
+rows: list[Row] = column.tolist()
+same: list[Row] = column.to_pylist()
+shape: tuple[int] = column.shape
+windows: list[Column] = column.split(4, by="runs")
+mask: Column = column.gt(3)
+runs: list[Run] = list(column.runs())
+both: tuple[Row, Row] = column.min_max()
+column.save("file")
+kept: Column = Column.load("file")
+whole: Column = concat([column, kept])
+builder: Builder = Builder("i64")
+builder.append_value(3, count=2)
+
+part: Partial = joined(map(Partial.of, windows))
+more: Partial = join(part, part.join(Partial.empty("i64")))
+first: Optional[Stretch] = part.first
+sums: Optional[Sums] = part.sums
+total: int = part.sum()
+
+chunks: ChunkedColumn = ChunkedColumn.from_files(["a", "b"]).rechunk(100)
+answer: Answer = chunks.filter(chunks.fill(0).gt(3)).sum()
+computed: Any = answer.compute()
+gathered: Column = chunks.persist().compute(scheduler="threads")
+
+array: RunEndArray = RunEndArray(column)
+again: Column = array.column
+dtype: RunEndDtype = array.dtype
