@@ -150,8 +150,9 @@ fi
 
 if has "$python" && "$python" -c 'import ctypes' 2>/dev/null; then
     run "python/demo.py" timeout 60 "$python" examples/python/demo.py
+    run "python/threads.py" timeout 60 "$python" examples/python/threads.py --rows 300000 --threads 4
 else
-    skip "python/demo.py" "$python"
+    skip "python/demo.py and threads.py" "$python"
 fi
 
 # Debian's packages belong to /usr/bin/python3, which is not always the python3 on PATH

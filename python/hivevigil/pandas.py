@@ -258,19 +258,26 @@ class RunEndArray(ExtensionArray):
         rows = numpy.repeat(numpy.array(found, numpy.intp), numpy.array(counts, numpy.intp))
         return rows, type(self)(list(codes), self.dtype)
 
-    def fillna(self, value: Any = None, method: Any = None, limit: Any = None) -> RunEndArray:
+    def fillna(self, value: Any = None, method: Any = None, limit: Any = None, copy: bool = True) -> Any:
         if value is None or method is not None or limit is not None or pandas.api.types.is_list_like(value):
-            return super().fillna(value=value, method=method, limit=limit)  # type: ignore[no-any-return]
+            asked = {"value": value, "method": method, "limit": limit}
+            return super().fillna(**{name: given for name, given in asked.items() if given is not None})
         return self.copy() if is_missing(value) or not self._column.nullable else type(self)(self._column.fill(value))
 
     def _reduce(self, name: str, *, skipna: bool = True, **options: Any) -> Any:
         served = ("min", "max", *["sum"] * self.dtype._is_numeric, *["any", "all"] * self.dtype._is_boolean)
         if name not in served:
             raise TypeError(f"'{type(self).__name__}' with dtype {self.dtype} does not support reduction '{name}'")
+        answer = self._reduced(name, skipna, options.get("min_count", 0))
+        return type(self)([answer], self.dtype) if options.get("keepdims") else answer
+
+    def _reduced(self, name: str, skipna: bool, least: int) -> Any:
+        """The answer; pandas.NA where a null counts, or where there are fewer rows than a sum needs."""
         nulls = self._column.null_count
         if name in ("any", "all"):
-            return (True in self._column) if name == "any" else (False not in self._column)
-        if nulls and not skipna or name == "sum" and len(self) - nulls < options.get("min_count", 0):
+            is_decided = (name == "any") in self._column  # a true row decides any, a false one all
+            return pandas.NA if nulls and not skipna and not is_decided else is_decided == (name == "any")
+        if nulls and not skipna or name == "sum" and len(self) - nulls < least:
             return pandas.NA
         answer = getattr(self._column, name)()
         return pandas.NA if answer is None else answer

@@ -126,11 +126,19 @@ def test_sum_of_no_row_and_of_few():
     series = pandas.Series(RunEndArray([None, 4], "i64"))
     assert (series.sum(), series.sum(min_count=2), series.sum(skipna=False)) == (4, NA, NA)
     assert pandas.Series(RunEndArray([], "i64")).sum() == 0
+    assert same(list(series.array._reduce("sum", keepdims=True)), [4])  # as pandas 2 asks
 
 
-def test_any_and_all():
-    series = pandas.Series(RunEndArray([True, None, False]))
-    assert (series.any(), series.all()) == (True, False)
+@pytest.mark.parametrize("rows, skipna, any_row, all_rows", [
+    ([True, None, False], True, True, False), ([True, None, False], False, True, False),
+    ([True, None], True, True, True), ([True, None], False, True, NA), ([False, None], True, False, False),
+    ([False, None], False, NA, False), ([None], True, False, True), ([None], False, NA, NA), ([], False, False, True),
+])
+def test_any_and_all(rows, skipna, any_row, all_rows):
+    """As pandas' own boolean array has them."""
+    for array in (RunEndArray(rows, "bool"), pandas.array(rows, dtype="boolean")):
+        series = pandas.Series(array)
+        assert same([series.any(skipna=skipna), series.all(skipna=skipna)], [any_row, all_rows])
 
 
 def test_rows_are_set():

@@ -10,6 +10,7 @@ from hypothesis import strategies as st
 from rows import samples
 
 from hivevigil import Column, _library, concat, errors
+from hivevigil._calls import CALLS
 from hivevigil.chunks import Partial, joined
 
 ROWS = [None if row % 211 < 3 else row // 29 * 37 % 101 - 20 for row in range(200_000)]
@@ -129,6 +130,11 @@ def test_without_the_lock_calls_answer_as_with_it(data, sample):
         assert answers() == due
     finally:
         _library._MANY = many
+
+
+def test_calls_that_release_the_lock_exist():
+    assert _library._LONG <= set(CALLS)
+    assert not _library._LONG & {name for name in CALLS if "builder" in name or "append" in name or "list" in name}
 
 
 def test_refusals_without_the_lock():
