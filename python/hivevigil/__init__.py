@@ -9,6 +9,8 @@
 
 The shared object is next to this file, in lib/ of a checkout, or where HIVEVIGIL_SO says. NumPy, pandas and Matplotlib
 are used where they are there. `python -m hivevigil FILE.csv` shows what the columns of a CSV file take in runs.
+`hivevigil.chunks` joins what is known of parts of a column; `hivevigil.pandas` has a column as an array of pandas, and
+`hivevigil.dask` one in chunks.
 """
 from typing import Any
 

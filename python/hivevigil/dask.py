@@ -288,7 +288,7 @@ class ChunkedColumn(_Lazy):
 
     def rows(self) -> Answer:
         """How many rows there are."""
-        return self.aggregate(Column.__len__, _total)
+        return self.aggregate(_row_count, _total)
 
     def __repr__(self) -> str:
         return f"<ChunkedColumn: {self._count} chunk{'' if self._count == 1 else 's'}>"
@@ -335,6 +335,10 @@ def _greatest(part: Partial) -> Scalar:
 
 def _total(counts: list[int]) -> int:
     return sum(counts)
+
+
+def _row_count(column: Column) -> int:
+    return column.shape[0]  # also where len() cannot answer
 
 
 def _run_count(column: Column) -> int:
