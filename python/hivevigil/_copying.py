@@ -76,8 +76,9 @@ def to_numpy(column: Column, null: Any) -> Any:
 
 
 def as_numpy(column: Column, asked: Any) -> Any:
-    """The rows as an implicit conversion has them: objects where a row is null. pandas 1.5 makes floats of integers next
-    to None, and 2**53 + 1 is not among these, but keeps them next to its own NA: where it is loaded, null is that."""
+    """The rows as an implicit conversion has them: objects where a row is null. pandas 1.5 makes floats of integers
+    next to None, and 2**53 + 1 is not among these, but keeps them next to its own NA: where it is loaded, null is
+    that."""
     if _has_dtype(column) and not column.null_count:
         items = _stored(column._flat())[0]
     else:

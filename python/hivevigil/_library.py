@@ -2,7 +2,7 @@
 
 The header asks for one call at a time on each column, also where it only reads, since the handle is written while a
 call runs. So the handle of a Column is lent only to calls that hold the interpreter's lock (PyDLL), and threads make
-these one at a time. A call that may take long, over many rows, is lent clones that no other thread knows, which share
+these one at a time. A call that may take long, over many rows or runs, is lent clones that no other thread knows, which share
 the buffers, and is made without the lock (CDLL). Lists share a count of owners that is not atomic, and keep the lock.
 """
 from __future__ import annotations
@@ -108,8 +108,9 @@ _LONG = frozenset("hv_" + name for name in (
     "read_bools_from", "read_validity_from", "read_large_offsets", "read_bytes", "read_ends_u64",
     "write_size", "write", "read_column",
 ))
-_MANY = 16384  # rows, items or bytes: from here on a call takes longer than the clones that it is lent
+_MANY = 16384  # rows, runs, items or bytes: from here on a call takes longer than the clones that it is lent
 _LIST = 12  # the number of the type of lists
+_CONSTANT, _RUNS = 1, 3  # the numbers of these forms
 
 
 def ask(call: Any, *arguments: Any) -> None:
@@ -125,24 +126,32 @@ def ask(call: Any, *arguments: Any) -> None:
 
 def _answer(call: Any, arguments: tuple[Any, ...], fields: Fields) -> int:
     """The number that a call answers, which is made without the interpreter's lock where it may take long."""
-    if call.__name__ not in _LONG or max(map(_size, arguments)) < _MANY:
+    name = call.__name__
+    if name not in _LONG or max(_size(argument, name == "hv_decode") for argument in arguments) < _MANY:
         return int(call(*arguments, fields))
     lent = [Handle() if hasattr(argument, "_as_parameter_") else argument for argument in arguments]
     clones = [(argument, clone) for argument, clone in zip(arguments, lent) if clone is not argument]
     try:
         if not all(_is_cloned(column, clone) for column, clone in clones):
             return int(call(*arguments, fields))
-        return int(getattr(calls_without_lock, call.__name__)(*lent, fields))
+        return int(getattr(calls_without_lock, name)(*lent, fields))
     finally:
         for _, clone in clones:
             calls.hv_free(clone)
 
 
-def _size(argument: Any) -> int:
-    """How much there is of an argument: rows of a column, items of a buffer."""
-    if hasattr(argument, "_as_parameter_"):
-        return int(calls.hv_length(argument))
-    return len(argument) if isinstance(argument, (ctypes.Array, bytes)) else 0
+def _size(argument: Any, is_written_out: bool) -> int:
+    """How much there is of an argument: items of a buffer, rows of a flat column, runs of others unless all rows are
+    written out. After a short call a thread would wait for the lock longer than it worked."""
+    if not hasattr(argument, "_as_parameter_"):
+        return len(argument) if isinstance(argument, (ctypes.Array, bytes)) else 0
+    rows = int(calls.hv_length(argument))
+    if rows < _MANY or is_written_out:
+        return rows
+    form, runs = calls.hv_form(argument), c_size_t(1)
+    if form == _RUNS:
+        calls.hv_run_count(argument, runs, Fields())
+    return runs.value if form in (_CONSTANT, _RUNS) else rows
 
 
 def _is_cloned(column: Any, clone: Handle) -> bool:

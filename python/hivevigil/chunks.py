@@ -14,6 +14,7 @@ from __future__ import annotations
 
 import contextlib
 import functools
+import operator
 from collections.abc import Iterable
 from dataclasses import dataclass, replace
 from itertools import accumulate
@@ -156,8 +157,8 @@ def joined(parts: Iterable[Partial]) -> Partial:
 
 
 def _sums_of(runs: Column, least: Any, greatest: Any) -> Optional[Sums]:
-    """The three numbers of runs of integers. Where all rows have one sign the sum says them; else, or where it leaves 64
-    bits, they are added run by run, since within a run sums only rise or only fall."""
+    """The three numbers of runs of integers. Where all rows have one sign the sum says them; else, or where it leaves
+    64 bits, they are added run by run, since within a run sums only rise or only fall."""
     if runs.type.rstrip("?") not in WHOLE_NUMBERS:
         return None
     if least is None:
@@ -166,9 +167,10 @@ def _sums_of(runs: Column, least: Any, greatest: Any) -> Optional[Sums]:
         with contextlib.suppress(OverflowError):
             total = runs.sum()
             return Sums(total, min(0, total), max(0, total))
-    products = ((stop - start) * value for start, stop, value in runs.runs() if value)
-    ways = list(accumulate(products, initial=0))
-    return Sums(int(ways[-1]), int(min(ways)), int(max(ways)))
+    shown = _runs.visible(runs)
+    values: Any = shown.values.fill(0) if shown.values.nullable else shown.values
+    ways = list(accumulate(map(operator.mul, _runs.lengths(shown.stops), values), initial=0))
+    return Sums(ways[-1], min(ways), max(ways))
 
 
 def _joined_type(left: str, right: str) -> str:

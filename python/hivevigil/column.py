@@ -452,8 +452,8 @@ class Column(_comparing.Comparisons):
         return data.raw
 
     def save(self, path: Any) -> None:
-        """Writes the bytes of `to_bytes` to a file, which `load` reads. A file of this name is replaced at once when all
-        is written, and stays as it was where that fails."""
+        """Writes the bytes of `to_bytes` to a file, which `load` reads. A file of this name is replaced at once when
+        all is written, and stays as it was where that fails."""
         _files.save(self, path)
 
     @property

@@ -344,8 +344,9 @@ def _column_of(rows: Any, asked: Optional[str]) -> Column:
     if isinstance(given, RunEndArray):
         column: Column = (given if asked is None else given.astype(RunEndDtype(asked))).column
         return column
-    if isinstance(getattr(given, "dtype", None), numpy.dtype) and given.dtype.kind in "iub":
-        return Column.of(numpy.asarray(given), asked)
+    dtype = getattr(given, "dtype", None)
+    if getattr(getattr(dtype, "numpy_dtype", dtype), "kind", "O") in "iub":  # of NumPy, or an array of pandas over one
+        return Column.of(given, asked)
     if not pandas.api.types.is_list_like(given):
         raise TypeError(f"RunEndArray takes rows or a Column, not {in_words(rows)}")
     listed = [None if pandas.api.types.is_scalar(row) and pandas.isna(row) else row for row in given]

@@ -103,7 +103,7 @@ def test_a_part_may_leave_the_range_and_the_whole_not():
     assert Partial.of(Column.of(back)).sum() == 0
     whole = joined([Partial.of(Column.of(rows)) for rows in (more, high, back)])
     assert whole.sum() == 2**63 - 6 == Column.of(more + high + back).sum()
-    with pytest.raises(OverflowError, match="sum: it leaves i64 on the way from row to row, where it is 92233720368547"):
+    with pytest.raises(OverflowError, match="sum: it leaves i64 on the way from row to row, where it is 922337203685"):
         joined([Partial.of(Column.of(rows)) for rows in (high, back, more)]).sum()
     part = Partial.of(Column.of([2**63 - 1, 1, -6]))  # leaves it by itself
     with pytest.raises(OverflowError):

@@ -189,6 +189,9 @@ def test_many_rows_cost_runs():
     (numpy.array([1, 2], "u2"), None, [1, 2]), (["a", None], None, ["a", NA]), ([], "utf8", []),
     (RunEndArray([1, 2]), "u8", [1, 2]), ([Decimal("1.5"), 2], "decimal(5, 2)", [Decimal("1.50"), 2]),
     (Column.of([True, None]), None, [True, NA]), ([None], "binary", [NA]),
+    (numpy.ma.masked_array([1, BIG], [True, False]), None, [NA, BIG]), (pandas.Series([1, 2]), "u8", [1, 2]),
+    (pandas.Series([True, None], dtype="boolean"), None, [True, NA]), (pandas.Index(["a", "b"]), None, ["a", "b"]),
+    (pandas.array([BIG, None], dtype="Int64"), "i64", [BIG, NA]), (range(3), None, [0, 1, 2]),
 ])
 def test_rows_of_every_sort(given, dtype, due):
     assert same(list(RunEndArray(given, dtype)), due)

@@ -137,6 +137,14 @@ def test_calls_that_release_the_lock_exist():
     assert not _library._LONG & {name for name in CALLS if "builder" in name or "append" in name or "list" in name}
 
 
+@pytest.mark.parametrize("column, size", [
+    (Column.of(array_of(30_000)), 30_000), (Column.of(array_of(30_000)).to_runs(), 10_000),
+    (Column.constant(4, 2**60), 1), (Column.from_runs([2**60], [4]), 1), (Column.of([1, 2]), 2),
+])
+def test_the_size_of_a_call_is_that_of_its_work(column, size):
+    assert _library._size(column, False) == size and _library._size(column, True) == len(column)
+
+
 def test_refusals_without_the_lock():
     many, rows = _library._MANY, Column.of([300, 1])
     freed = Column.of([1])

@@ -1,4 +1,4 @@
-"""The annotations of the package: mypy finds no fault in it, none in a user's program, and every one of some mistakes."""
+"""The annotations of the package: mypy finds no fault in it, none in a user's program, and each of some mistakes."""
 import subprocess
 import sys
 from pathlib import Path
