@@ -37,12 +37,13 @@ def test_a_shared_object_that_is_not_there(tmp_path):
 def test_without_numpy():
     program = (
         "import sys; sys.modules['numpy'] = sys.modules['pandas'] = None; from hivevigil import Column; "
-        "runs = Column.of([1, 1, None]).encode(); print(runs[[0, -1]].to_list(), runs[[True, False, True]].to_list())"
+        "runs = Column.of([1, 1, None]).encode(); print(runs[[0, -1]].to_list(), runs[[True, False, True]].to_list(), "
+        "runs.shape, hasattr(runs, 'dtype'), Column.of(runs).null_count)"
     )
     ended = subprocess.run(
         [sys.executable, "-c", program], capture_output=True, text=True, env={"PYTHONPATH": str(PAGE.parent)}
     )
-    assert (ended.stdout, ended.stderr) == ("[1, None] [1, None]\n", "")
+    assert (ended.stdout, ended.stderr) == ("[1, None] [1, None] (3,) False 1\n", "")
 
 
 def test_threads_share_columns():

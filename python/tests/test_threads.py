@@ -1,6 +1,7 @@
-"""One column that several threads read at once answers each as one thread alone is answered."""
+"""One column that several threads read at once answers each as it answers one by itself."""
 import sys
 import threading
+import time
 from concurrent.futures import ThreadPoolExecutor
 from itertools import repeat
 
@@ -82,25 +83,37 @@ def test_a_column_that_is_freed_while_others_read_it():
     assert len(found) >= 80 and all(found)
 
 
-def test_others_work_while_a_long_call_runs():
-    column, counted, seen, over = Column.of(array_of(5_000_000)), [0], [], threading.Event()
+def shares_in_time(call, times=20):
+    """In how many tenths of the time that a call takes another thread worked, each time."""
+    ticks, over, found = [], threading.Event(), []
 
-    def count():
+    def tick():
         while not over.is_set():
-            counted[0] += 1
+            ticks.append(time.perf_counter())
+            time.sleep(0.0002)
 
-    def work():
-        for _ in range(40):
-            before = counted[0]
-            column.to_runs()
-            seen.append(counted[0] - before)
+    ticker = threading.Thread(target=tick)
+    ticker.start()
+    try:
+        for _ in range(times):
+            begin = time.perf_counter()
+            call()
+            end = time.perf_counter()
+            found.append(len({int(10 * (at - begin) / (end - begin)) for at in ticks if begin <= at < end}))
+    finally:
+        over.set()
+        ticker.join(60)
+    return found
 
-    counter = threading.Thread(target=count)
-    counter.start()
-    work()
-    over.set()
-    counter.join(60)
-    assert sum(steps > 1000 for steps in seen) >= 3
+
+def test_others_work_while_a_long_call_runs():
+    column = Column.of(array_of(10_000_000))
+    assert max(shares_in_time(column.to_runs)) >= 7
+    many, _library._MANY = _library._MANY, 2**70  # as it was with the lock
+    try:
+        assert min(shares_in_time(column.to_runs, 5)) <= 4
+    finally:
+        _library._MANY = many
 
 
 def array_of(rows):
