@@ -7,6 +7,7 @@ import sys
 from pathlib import Path
 
 import numpy
+import pandas
 import pytest
 from hypothesis import given
 from hypothesis import strategies as st
@@ -119,6 +120,13 @@ def test_arrays_and_delayed():
     assert ChunkedColumn.from_delayed(parts, "i64?").compute().to_list() == [0, 1, 2, 3, 4, 7, 7]
     with pytest.raises(ValueError, match="a column has one dimension, and the array has 2"):
         ChunkedColumn.from_array(dask.array.ones((2, 2), dtype="i8"))
+
+
+def test_a_series_of_dask():
+    frames = pytest.importorskip("dask.dataframe")
+    rows = pandas.Series([2**53 + 1, None, 4, 4], dtype="Int64")
+    chunks = ChunkedColumn.from_delayed(frames.from_pandas(rows, npartitions=2).to_delayed())
+    assert chunks.chunk_count == 2 and chunks.compute().to_list() == [2**53 + 1, None, 4, 4]
 
 
 def test_an_aggregate_of_ones_own():
