@@ -2,8 +2,9 @@
 
 The header asks for one call at a time on each column, also where it only reads, since the handle is written while a
 call runs. So the handle of a Column is lent only to calls that hold the interpreter's lock (PyDLL), and threads make
-these one at a time. A call that may take long, over many rows or runs, is lent clones that no other thread knows, which share
-the buffers, and is made without the lock (CDLL). Lists share a count of owners that is not atomic, and keep the lock.
+these one at a time. A call that may take long, over many rows or runs, is lent clones that no other thread knows, which
+share the buffers, and is made without the lock (CDLL). Lists share a count of owners that is not atomic, and keep the
+lock.
 """
 from __future__ import annotations
 

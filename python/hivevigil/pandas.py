@@ -10,8 +10,9 @@
 from __future__ import annotations
 
 import operator
-from collections.abc import Callable, Iterator, Sequence
+from collections.abc import Callable, Iterable, Iterator, Sequence
 from decimal import Decimal
+from itertools import repeat
 from typing import Any, Optional
 
 import numpy
@@ -133,7 +134,7 @@ class RunEndArray(ExtensionArray):
         return (pandas.NA if row is None else row for row in self._column)
 
     def __contains__(self, item: object) -> bool:
-        if pandas.api.types.is_scalar(item) and pandas.isna(item):
+        if _is_na(item):
             return item is pandas.NA and self._hasna
         return item in self._column
 
@@ -287,22 +288,29 @@ class RunEndArray(ExtensionArray):
     def _compared(self, sign: str, other: Any) -> Any:
         if isinstance(other, (pandas.Series, pandas.Index, pandas.DataFrame)):
             return NotImplemented
-        if pandas.api.types.is_list_like(other):
-            if len(other) != len(self):
-                raise ValueError("Lengths must match to compare")
-            return self._mask(sign, lambda: type(self)(other, self.dtype).column)
-        return self._mask(sign, lambda: None if pandas.isna(other) else other)
-
-    def _mask(self, sign: str, right: Callable[[], Any]) -> Any:
-        """The comparison as a boolean array of pandas; what has another type is equal to no row."""
+        if not pandas.api.types.is_list_like(other):
+            return self._compared_with_one(sign, None if pandas.isna(other) else other)
+        if len(other) != len(self):
+            raise ValueError("Lengths must match to compare")
         try:
-            mask = self._column.compare(sign, right())
-        except TypeError:
+            right = type(self)(other, self.dtype).column
+        except (TypeError, ValueError, OverflowError):  # floats, or numbers that the type does not have
+            return self._compared_by_rows(sign, other)
+        return _mask_of(self._column.compare(sign, right))
+
+    def _compared_with_one(self, sign: str, other: Any) -> Any:
+        try:
+            return _mask_of(self._column.compare(sign, other))
+        except TypeError:  # of another type, and yet == and != are asked of any two
             if sign not in ("==", "!="):
                 raise
-            return pandas.arrays.BooleanArray(numpy.full(len(self), sign == "!="), self.isna())
-        rows, missing = _copying._stored(mask._flat())
-        return pandas.arrays.BooleanArray(rows.copy(), numpy.zeros(len(rows), bool) if missing is None else missing)
+            return self._compared_by_rows(sign, repeat(other))
+
+    def _compared_by_rows(self, sign: str, other: Iterable[Any]) -> Any:
+        """What Python says of each two, which is exact where NumPy makes a float of an integer first."""
+        pairs = zip(self, (two.item() if isinstance(two, numpy.generic) else two for two in other))
+        rows = [pandas.NA if one is pandas.NA or _is_na(two) else _SIGNS[sign](one, two) for one, two in pairs]
+        return pandas.array(rows, dtype="boolean")
 
     def __eq__(self, other: Any) -> Any:
         return self._compared("==", other)
@@ -321,6 +329,21 @@ class RunEndArray(ExtensionArray):
 
     def __ge__(self, other: Any) -> Any:
         return self._compared(">=", other)
+
+
+_SIGNS = {
+    "==": operator.eq, "!=": operator.ne, "<": operator.lt, "<=": operator.le, ">": operator.gt, ">=": operator.ge,
+}
+
+
+def _mask_of(mask: Column) -> Any:
+    """A mask as a boolean array of pandas."""
+    rows, missing = _copying._stored(mask._flat())
+    return pandas.arrays.BooleanArray(rows.copy(), numpy.zeros(len(rows), bool) if missing is None else missing)
+
+
+def _is_na(row: Any) -> bool:
+    return bool(pandas.api.types.is_scalar(row) and pandas.isna(row))
 
 
 _READERS: dict[type, Callable[[str], Any]] = {
@@ -349,7 +372,7 @@ def _column_of(rows: Any, asked: Optional[str]) -> Column:
         return Column.of(given, asked)
     if not pandas.api.types.is_list_like(given):
         raise TypeError(f"RunEndArray takes rows or a Column, not {in_words(rows)}")
-    listed = [None if pandas.api.types.is_scalar(row) and pandas.isna(row) else row for row in given]
+    listed = [None if _is_na(row) else row for row in given]
     if asked is None and all(row is None for row in listed):
         raise ValueError("no row shows a type: name one, as RunEndArray(rows, 'i64')")
     return Column.of(listed, asked)

@@ -85,6 +85,23 @@ def test_comparisons_are_masks(data, sample, sign):
     assert same(list(sign(array, array)), due) and same(list(sign(array, list(array))), due)
 
 
+@pytest.mark.parametrize("rows, sign, other, due", [
+    (RunEndArray([1, None, 2]), operator.eq, [1.0, 1.5, 1.5], [True, NA, False]),
+    (RunEndArray([1, 2, 255], "u8"), operator.lt, [300, -1, None], [True, False, NA]),
+    (RunEndArray([BIG, BIG]), operator.eq, [float(BIG), BIG], [False, True]),
+    (RunEndArray([BIG, BIG]), operator.gt, pandas.Series([float(BIG), float(BIG)]), [True, True]),
+    (RunEndArray([Decimal("1.50")]), operator.le, [1.4], [False]),
+    (RunEndArray([1, 0, None]), operator.eq, True, [True, False, NA]),
+    (RunEndArray(["a", None]), operator.ne, 3, [True, NA]), (RunEndArray(["a"]), operator.eq, ["b"], [False]),
+    (RunEndArray([1, 2]), operator.eq, ["a", 2], [False, True]), (RunEndArray([1]), operator.eq, NA, [NA]),
+    (RunEndArray([BIG]), operator.eq, numpy.array([float(BIG)]), [False]),
+    (RunEndArray([3, 4]), operator.lt, 3.5, [True, False]), (RunEndArray([1], "u8"), operator.lt, 10**30, [True]),
+])
+def test_comparisons_with_what_the_type_does_not_have(rows, sign, other, due):
+    left = rows if isinstance(other, list) else pandas.Series(rows)  # a Series makes a NumPy array of a list first
+    assert same(list(sign(left, other)), due)
+
+
 @given(samples())
 def test_reductions(sample):
     series, present = pandas.Series(RunEndArray(sample.column)), [row for row in sample.rows if row is not None]
