@@ -83,9 +83,9 @@ def as_numpy(column: Column, asked: Any) -> Any:
         items = _stored(column._flat())[0]
     else:
         items = _objects(column)
-        pandas = sys.modules.get("pandas")
-        if asked is None and pandas is not None and TYPES[column._kind.number] in LETTERS:
-            items[_stored(column._flat())[1]] = pandas.NA
+        missing = getattr(sys.modules.get("pandas"), "NA", None)
+        if asked is None and missing is not None and TYPES[column._kind.number] in LETTERS:
+            items[_stored(column._flat())[1]] = missing
     return items if asked is None else items.astype(asked)
 
 
