@@ -96,8 +96,9 @@ enum {
     HV_ARROW_VIEW = 8          /* a view of texts is not within its buffers, or begins otherwise than they do */
 };
 
-/* How many arrays may stand in one another, as values of runs or as dictionaries, in and out: a limit to the stack. */
-enum { HV_ARROW_DEPTH = 1000 };
+/* How many arrays may be nested, as values of runs or as dictionaries, in and out: the 64 levels of runs that a column
+ * may have, and their values. */
+enum { HV_ARROW_DEPTH = 65 };
 
 /* ---- In ---- */
 

@@ -45,7 +45,7 @@ class Builder:
         return column if column.type == self.type else _casting.cast(column, self._kind, "append")
 
     def append_value(self, value: Scalar, count: int = 1) -> None:
-        """Adds so many rows of one value, or of None."""
+        """Adds `count` rows of one value, or of None."""
         size = size_of(count, "the number of rows")
         try:
             ask(calls.hv_append_value, self._handle, *passed(self._kind, value), size)

@@ -360,7 +360,7 @@ class Column(_comparing.Comparisons):
         return _runs.rows(self)
 
     def blocks(self, rows: int = _reading.BLOCK) -> Iterator[Column]:
-        """The column in pieces of so many rows, the last one of what is left."""
+        """The column in pieces of `rows` rows, the last one of what is left."""
         step = size_of(rows, "the number of rows of a block")
         if step == 0:
             raise ValueError("a block has at least one row")
