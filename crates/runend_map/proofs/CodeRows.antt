@@ -72,3 +72,16 @@ module _ (r : Runs) (indices : List (Option ℤ)) (runs : AreRuns r) (codes : ma
       let each : single_rows taken ≡ map f (visible_values r) =
       ap (map (option_map (λ (v : FlatValue). Single v))) (made ∙ ap (take_rows (leaf_rows dictionary)) (sym codes)) ∙ taken_single (leaf_rows dictionary) (visible_values r) in
       rows_are ∙ mapped_rows f r (single_rows taken) runs each ∙ twice_taken (single_rows dictionary) (column_rows (column_of_runs r))
+
+  -- as many rows are taken as runs are visible, of a dictionary of any form
+  pub rows_count : (dictionary taken : List (Option Value)) → taken ≡ take_rows dictionary indices → length taken ≡ length (visible_values r)
+  rows_count dictionary taken made =
+      ap length made ∙ length-map indices (taken_row dictionary) ∙ ap length (sym codes) ∙ length-map (visible_values r) code_number
+
+  -- and over the runs they are the rows taken by all codes
+  pub rows_at_runs : (dictionary taken rows : List (Option Value)) → taken ≡ take_rows dictionary indices
+      → rows ≡ run_rows (visible_ends r) taken (window_start r.count r.offset) r.count → rows ≡ code_rows dictionary (column_rows (column_of_runs r))
+  rows_at_runs dictionary taken rows made rows_are =
+      let f : Option Value → Option Value = λ code. taken_row dictionary (code_number code) in
+      let each : taken ≡ map f (visible_values r) = made ∙ ap (take_rows dictionary) (sym codes) ∙ sym (twice_taken dictionary (visible_values r)) in
+      rows_are ∙ mapped_rows f r taken runs each ∙ twice_taken dictionary (column_rows (column_of_runs r))

@@ -7,5 +7,6 @@ pub mod FirstFaults
 pub mod KeptRows
 pub mod OneKind
 pub mod MapResultRows
+pub mod ShownValues
 pub mod TakenForms
 pub mod KeptTypes

@@ -70,8 +70,8 @@ fn is_kept_type(dtype: DType) -> bool
     }
 }
 
-// The codes of the visible runs. Refused as `OutOfMemory` alone.
-fn visible_codes<A: Allocator + Copy>(
+/// Returns the codes of the visible runs. Refused only as `OutOfMemory`.
+pub(crate) fn visible_codes<A: Allocator + Copy>(
     alloc: A,
     codes: &RunEndArray<A>,
 ) -> VortexResult<PrimitiveArray<A>>

@@ -1,26 +1,27 @@
 //! Rows of dictionaries of any form, taken by codes.
-ghost use Rattle.std.specs.Prelude.{◌≡◌, Err, true, false, length, IfOk, IsOkUnless};
+ghost use Rattle.std.specs.Prelude.{◌≡◌, Err, true, false, length, map, IfOk};
 ghost use Rattle.column_core.specs.FlatColumn.{leaf_of};
 ghost use Rattle.column_core.specs.Leaf.{leaf_dtype, single_rows};
 ghost use Rattle.column_core.specs.PrimitiveForm.{optional_numbers, primitive_dtype};
 ghost use Rattle.column_core.specs.Refusal.{IsRefusedBy};
 ghost use Rattle.column_ops.specs.Cast.{is_numbers};
-ghost use Rattle.column_ops.specs.Codes.{code_fault, code_numbers, code_rows};
+ghost use Rattle.column_ops.specs.Codes.{code_fault, code_number, code_numbers, code_rows};
 ghost use Rattle.column_ops.specs.Nullable.{take_dtype};
 ghost use Rattle.runend_array.specs.Array.{column_of, dtype_of, rows};
-ghost use Rattle.runend_array.specs.Column.{column_dtype, column_of_runs, column_rows, plain_of};
+ghost use Rattle.runend_array.specs.Column.{AreRuns, column_dtype, column_of_runs, column_rows, plain_of};
 ghost use Rattle.runend_array.specs.Encoding.{IsComputedFlat};
 ghost use Rattle.runend_map.specs.Codes.{keeps_runs};
 ghost use Rattle.runend_map.specs.TakenForm.{TakeFromLeaves};
+ghost use Rattle.runend_visible.specs.VisibleForm.{visible_values as values_of_visible};
 
-use crate::codes::take_from_flat;
-use crate::visible::shown_rows;
+use crate::codes::{take_from_flat, visible_codes};
+use crate::visible::shown_values;
 use array_rowwise::{flat_rows, take_rows};
 use column_core::{
     FlatColumn, PrimitiveArray, VortexError, VortexResult, is_list_type, is_number_type,
 };
 use runend_array::{ArrayRef, ExecutionCtx, RunEndArray, RunEndArrayExt};
-use runend_visible::visible_values;
+use runend_visible::borrowed_values;
 use std::alloc::Allocator;
 
 /// The dictionary's row for each code, null for null, in a type with null where the dictionary's or the codes'
@@ -62,7 +63,8 @@ pub fn take_from<A: Allocator + Copy>(
 }
 
 /// The dictionary's row for each code, null for null, flat, in a type with null where the dictionary's or the
-/// codes' has. Both may be of any form, and the dictionary of any kind.
+/// codes' has. Both may be of any form, and the dictionary of any kind. Where the codes are in runs, only those of
+/// visible runs are looked up, each once.
 ///
 /// Refused as `TypeMismatch` unless the codes are integers, however little memory there is; then as
 /// `OutOfBounds`, with the code and the number of rows of the dictionary, at the first code that is no null
@@ -81,6 +83,9 @@ pub fn take_from_rows<A: Allocator + Copy>(
 {
     if !is_number_type(codes.dtype()) {
         return Err(VortexError::TypeMismatch);
+    }
+    if let ArrayRef::RunEnd(runs) = codes {
+        return take_each(runs, dictionary, ctx);
     }
     let flat = flat_rows(codes, ctx)?;
     let indices = numbers_of(flat);
@@ -101,24 +106,7 @@ fn numbers_of<A: Allocator>(flat: FlatColumn<A>) -> PrimitiveArray<A>
     }
 }
 
-// The codes of all rows, of which only those of visible runs are looked at. Refused as `OutOfMemory` alone.
-fn codes_of_runs<A: Allocator + Copy>(
-    alloc: A,
-    codes: &RunEndArray<A>,
-) -> VortexResult<PrimitiveArray<A>>
-    requires numbers { is_numbers (column_dtype codes.now.values) ≡ true }
-    ensures only { IsOkUnless result VortexError.OutOfMemory }
-    ensures codes { IfOk result (λ indices. code_numbers (column_rows (column_of_runs codes.now)) ≡
-        optional_numbers indices) }
-    ensures dtype { IfOk result (λ indices. primitive_dtype indices ≡ column_dtype codes.now.values) }
-{
-    let values = visible_values(alloc, codes)?;
-    // Integers are not prefilled.
-    let shown = shown_rows(alloc, codes, values, 0)?;
-    Ok(numbers_of(shown))
-}
-
-// The dictionary's row for each code, null for null, flat.
+// The dictionary's row for each code, null for null, flat. Only the codes of visible runs are looked up, each once.
 fn take_each<A: Allocator + Copy>(
     codes: &RunEndArray<A>,
     dictionary: &ArrayRef<A>,
@@ -135,8 +123,35 @@ fn take_each<A: Allocator + Copy>(
     ensures session { ctx.new ≡ ctx.old }
 {
     let alloc = *ctx.allocator();
-    let indices = codes_of_runs(alloc, codes)?;
-    let taken = take_rows(dictionary, &indices, ctx);
+    if let Some(indices) = borrowed_values(codes) {
+        return take_at_runs(codes, indices, dictionary, ctx);
+    }
+    let indices = visible_codes(alloc, codes)?;
+    let taken = take_at_runs(codes, &indices, dictionary, ctx);
     drop(indices);
     taken
+}
+
+// What `take_each` answers, from the codes of the visible runs.
+fn take_at_runs<A: Allocator + Copy>(
+    codes: &RunEndArray<A>,
+    indices: &PrimitiveArray<A>,
+    dictionary: &ArrayRef<A>,
+    ctx: &mut ExecutionCtx<A>,
+) -> VortexResult<ArrayRef<A>>
+    requires valid { AreRuns codes.now }
+    requires numbers { is_numbers (column_dtype codes.now.values) ≡ true }
+    requires codes { map code_number (values_of_visible codes.now) ≡ optional_numbers indices.now }
+    requires of_type { primitive_dtype indices.now ≡ column_dtype codes.now.values }
+    ensures refused { IsRefusedBy (code_fault (plain_of (column_of_runs codes.now))
+        (length (rows dictionary.now))) result }
+    ensures rows { IfOk result (λ taken. rows taken ≡
+        code_rows (rows dictionary.now) (column_rows (column_of_runs codes.now))) }
+    ensures dtype { IfOk result (λ taken. dtype_of taken ≡
+        take_dtype (dtype_of dictionary.now) (column_dtype codes.now.values)) }
+    ensures flat { IfOk result (λ taken. IsComputedFlat (column_of taken)) }
+    ensures session { ctx.new ≡ ctx.old }
+{
+    let taken = take_rows(dictionary, indices, ctx)?;
+    shown_values(codes, taken, ctx)
 }

@@ -1,9 +1,11 @@
-use Rattle.std.proofs.Common.{length, inl}
-use Rattle.column_ops.specs.Codes.{code_fault}
+use Rattle.std.proofs.Common.{◌∙◌, map, sym, ap, length, inl}
+use Rattle.column_core.specs.PrimitiveForm.{optional_numbers}
+use Rattle.column_ops.specs.Codes.{code_fault, code_number}
+use Rattle.column_ops.proofs.IndexPositions.{refused-passed_on}
 use Rattle.runend_array.specs.Array.{rows}
 use Rattle.runend_array.specs.Column.{column_of_runs, plain_of}
+use Rattle.runend_map.proofs.CodeRows.{codes_are}
 use Rattle.array_rowwise.proofs.PassedOn.{no_value}
-use Rattle.column_ops.proofs.IndexPositions.{refused-passed_on}
 use Rattle.runend_map.proofs.dictionary.take_each.Goals as goal
 
 pub returns-in_err-indices-clause-dtype : goal.returns-in_err-indices-clause-dtype
@@ -18,3 +20,6 @@ returns-in_err-indices-clause-refused g c =
 
 pub returns-in_err-indices-clause-rows : goal.returns-in_err-indices-clause-rows
 returns-in_err-indices-clause-rows g c = no_value _ c.from_residual.result c.from_residual.ensures.0
+
+pub take_at_runs-requires-clause-codes : goal.take_at_runs-requires-clause-codes
+take_at_runs-requires-clause-codes g c = ap (map code_number) (sym c.in-Some.ensures.rows) ∙ codes_are (optional_numbers c.in-Some.indices.now)
