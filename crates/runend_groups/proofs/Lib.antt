@@ -1,0 +1,4 @@
+pub mod Walked
+pub mod Answered
+pub mod Totals
+pub mod Encoded
