@@ -1,6 +1,6 @@
 """One operation over the chunks of a Dask array, each chunk a column, on a cluster of this machine (loopback); the
 answers are joined, and held against NumPy's over all rows at once. Ends with 1 where the two differ, and with 2 and one
-line on standard error where there is no answer. A worker that dies is started anew and its chunks are worked again; the
+line on standard error where the answer is missing. A worker that dies is started anew and its chunks are worked again; the
 line names a chunk whose worker dies each time.
 
     /usr/bin/python3 examples/dask_chunks/chunks.py [--rows N] [--chunks N ..] [--workers N] [--memory 500MB]

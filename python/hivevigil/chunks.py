@@ -60,7 +60,7 @@ class Partial:
     `type` is the column's, with its '?'. `runs` counts the stretches of equal rows, as few as there can be. `sums` is
     None unless the rows are integers. `least` and `greatest` leave nulls out, and are None where there is nothing else;
     null is below all else in `is_sorted` (no row above the next) and `is_strictly_sorted` (each row below the next).
-    `first` and `last` are the outermost runs, None where there is no row.
+    `first` and `last` are the outermost runs, None of no rows.
     """
 
     type: str

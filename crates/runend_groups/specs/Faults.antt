@@ -12,11 +12,11 @@ use Rattle.runend_groups.specs.Groups.{group_rows, IsNumberIn}
 use Rattle.runend_groups.specs.declared.fault.GroupError.{GroupError}
 use Rattle.runend_groups.specs.declared.fault.GroupError.TheVariants.{Refused, SumOverflow}
 
--- values that are no integers
+-- values that are not integers
 abbrev pub numbers_fault : DType → Option VortexError
 numbers_fault t = if is_numbers t then None else Some Unsupported
 
--- of keys and values of these types, in so many rows: keys are no lists, values are integers, and there are as many of
+-- of keys and values of these types, in these numbers of rows: keys are not lists, values are integers, and as many of
 -- either
 abbrev pub groups_fault : DType → DType → ℕ → ℕ → Option VortexError
 groups_fault keys values key_count value_count = option_or (list_fault keys) (option_or (numbers_fault values) (length_fault key_count value_count))

@@ -21,7 +21,7 @@ pub record AreWholeRuns (ends : PrimitiveForm) : Type 0 where
   pub window : IsWindow (ends_of ends) 0 (last_end (ends_of ends))
   pub begun : run_at (ends_of ends) 0 ≡ 0
 
--- runs of so many stored numbers, with this validity
+-- runs of `count` stored numbers, with this validity
 pub record AreValueRuns (ends : PrimitiveForm) (count : ℕ) (validity : ValidityForm) : Type 0 where
   pub whole : AreWholeRuns ends
   pub paired : count ≡ length (ends_of ends)

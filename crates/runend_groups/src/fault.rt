@@ -26,7 +26,7 @@ impl From<VortexError> for GroupError {
 }
 
 /// Returns why values of a type are not grouped by keys of a type: `Unsupported` for keys that are lists, and for
-/// values that are no integers; then `ColumnLength` where there are not as many values as keys.
+/// values that are not integers; then `ColumnLength` where there are not as many values as keys.
 pub(crate) fn fault_of_groups(
     keys: DType,
     values: DType,

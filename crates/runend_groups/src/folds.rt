@@ -18,7 +18,7 @@ use crate::values::ValueRuns;
 use column_core::{BitBufferMut, NativePType, PrimitiveArray, Validity, VortexError, VortexResult};
 use std::alloc::Allocator;
 
-/// What is kept of the rows of a group that were looked at, and the answer that they have.
+/// Keeps what an answer needs of the rows of a group that were looked at, and gives the answer.
 pub(crate) trait Fold<T: NativePType, N: NativePType>: Drop {
     // This is kept of these rows.
     ghost keeps: { List (Option ℤ) → Self → Type 0 };

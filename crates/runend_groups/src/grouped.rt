@@ -23,23 +23,23 @@ use runend_array::{ArrayRef, ExecutionCtx};
 use runend_encode_rows::row_runs;
 use std::alloc::Allocator;
 
-/// Has the groups of rows with equal neighbouring keys, in the order of the rows: one for each run of such rows.
+/// Holds the groups of rows with equal neighbouring keys, in the order of the rows: one for each run of such rows.
 #[derive(Drop)]
 pub struct Groups<A: Allocator> {
-    /// The row that each group ends before.
+    /// Holds the row that each group ends before.
     pub ends: PrimitiveArray<A>,
-    /// The key of each group.
+    /// Holds the key of each group.
     pub keys: FlatColumn<A>,
-    /// What is answered of the values in each group.
+    /// Holds what is answered of the values in each group.
     pub answers: PrimitiveArray<A>,
 }
 
 /// Returns the groups of rows with equal neighbouring keys, null being equal to null, and the sum of the values in
 /// each: null where all of them are null, in `i64` for signed values and in `u64` for unsigned ones. It is the sum as a
 /// number, in whatever order. Keys are of any type but lists. Takes a step for each run of either column; a constant is
-/// one run. Refused as `Unsupported` where keys are lists or values are no integers, then as `ColumnLength` where there
-/// are not as many values as keys, then as `SumOverflow` with the first group whose sum does not fit 64 bits, and else
-/// as `OutOfMemory` only.
+/// one run. Refused as `Unsupported` where keys are lists or values are not integers, then as `ColumnLength` where
+/// there are not as many values as keys, then as `SumOverflow` with the first group whose sum does not fit 64 bits,
+/// and else only as `OutOfMemory`.
 pub fn sum_by<A: Allocator + Copy>(
     keys: &ArrayRef<A>,
     values: &ArrayRef<A>,

@@ -36,7 +36,8 @@ pub(crate) fn sum_groups<A: Allocator + Copy>(
     ensures sums { IfOk result (λ sums. AreGroupAnswers sum_of (ends_of groups.now)
         (run_rows (ends_of ends.now) (optional_numbers numbers.now) 0 (last_end (ends_of ends.now)))
         (optional_numbers sums)) }
-    ensures dtype { IfOk result (λ sums. primitive_dtype sums ≡ column.Primitive (sum_ptype numbers.now.ptype) Nullable) }
+    ensures dtype { IfOk result (λ sums.
+        primitive_dtype sums ≡ column.Primitive (sum_ptype numbers.now.ptype) Nullable) }
     ensures computed { IfOk result (λ sums. IsComputed sums) }
     ensures refused { IfErr result (IsFoldRefusal (HasNumber (sum_ptype numbers.now.ptype)) sum_of (ends_of groups.now)
         (run_rows (ends_of ends.now) (optional_numbers numbers.now) 0 (last_end (ends_of ends.now)))) }
@@ -70,7 +71,8 @@ fn sum_signed<T: SignedPType, A: Allocator + Copy>(
     ensures sums { IfOk result (λ sums. AreGroupAnswers sum_of (ends_of groups.now)
         (run_rows (ends_of ends.now) (optional_numbers numbers.now) 0 (last_end (ends_of ends.now)))
         (optional_numbers sums)) }
-    ensures dtype { IfOk result (λ sums. primitive_dtype sums ≡ column.Primitive (sum_ptype numbers.now.ptype) Nullable) }
+    ensures dtype { IfOk result (λ sums.
+        primitive_dtype sums ≡ column.Primitive (sum_ptype numbers.now.ptype) Nullable) }
     ensures computed { IfOk result (λ sums. IsComputed sums) }
     ensures refused { IfErr result (IsFoldRefusal (HasNumber (sum_ptype numbers.now.ptype)) sum_of (ends_of groups.now)
         (run_rows (ends_of ends.now) (optional_numbers numbers.now) 0 (last_end (ends_of ends.now)))) }
@@ -100,7 +102,8 @@ fn sum_unsigned<T: UnsignedPType, A: Allocator + Copy>(
     ensures sums { IfOk result (λ sums. AreGroupAnswers sum_of (ends_of groups.now)
         (run_rows (ends_of ends.now) (optional_numbers numbers.now) 0 (last_end (ends_of ends.now)))
         (optional_numbers sums)) }
-    ensures dtype { IfOk result (λ sums. primitive_dtype sums ≡ column.Primitive (sum_ptype numbers.now.ptype) Nullable) }
+    ensures dtype { IfOk result (λ sums.
+        primitive_dtype sums ≡ column.Primitive (sum_ptype numbers.now.ptype) Nullable) }
     ensures computed { IfOk result (λ sums. IsComputed sums) }
     ensures refused { IfErr result (IsFoldRefusal (HasNumber (sum_ptype numbers.now.ptype)) sum_of (ends_of groups.now)
         (run_rows (ends_of ends.now) (optional_numbers numbers.now) 0 (last_end (ends_of ends.now)))) }

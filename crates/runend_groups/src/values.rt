@@ -10,7 +10,7 @@ use crate::ends::end_of;
 use column_core::{NativePType, PrimitiveArray, Validity};
 use std::alloc::Allocator;
 
-/// Runs from the first row on: the row that each ends before, its number, and which of them are null.
+/// Lends runs from the first row on: the row that each ends before, its number, and which of them are null.
 #[derive(Drop)]
 pub(crate) struct ValueRuns<'a, T: NativePType, A: Allocator> {
     pub(crate) ends: &'a PrimitiveArray<A>,
