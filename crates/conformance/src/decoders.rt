@@ -8,7 +8,7 @@ use crate::parts::{bits, nullable_truths, three_texts};
 use crate::shown::are_shown;
 use refusing::{Calls, are_answered_in_turn};
 use runend_windows::validate_ends;
-use std::alloc::Allocator;
+use std::alloc::{Allocator, Global};
 use std::rc::Rc;
 use std::test::Fail;
 use vortex_runend::compress::{
@@ -17,23 +17,28 @@ use vortex_runend::compress::{
 };
 use vortex_runend::decompress_bool::{runend_decode_bools, runend_decode_typed_bool};
 use vortex_runend::{
-    ArrayRef, BitBuffer, BitBufferMut, DecimalArray, DecimalDType, ExecutionCtx, FlatColumn,
-    ListViewArray, Mask, Nullability, PrimitiveArray, RowValidity, Validity, VortexResult,
-    trimmed_ends_iter,
+    ArrayRef, BitBuffer, BitBufferMut, BoolArray, DecimalArray, DecimalDType, ExecutionCtx,
+    FlatColumn, ListViewArray, Mask, Nullability, PrimitiveArray, RowValidity, UnsignedPType,
+    Validity, VortexError, VortexResult, trimmed_ends_iter,
 };
 
-// Where three runs end. Of the rows 1 to 8 one is in the first run, three in the second and four in the last.
-const ENDS: [u8; 3] = [2, 5, 10];
+// Where three runs end. Of the rows 1 to 8 one is in the first run, three in the second and four in the last. The first
+// has none of the rows from 2 on.
+const THREE_ENDS: [u8; 3] = [2, 5, 10];
+
+// Where four runs end, of which the rows 1 to 8 show each.
+const FOUR_ENDS: [u8; 4] = [2, 5, 7, 10];
 
 // These ends beside values.
-fn with_ends<V: Drop, A: Allocator + Copy>(
+fn with_ends<E: UnsignedPType, V: Drop, A: Allocator + Copy>(
     alloc: A,
+    ends: &[E],
     values: VortexResult<V>,
 ) -> VortexResult<(PrimitiveArray<A>, V)>
     ensures { IfOk result (λ parts. IsEndsType (primitive_dtype parts.0)) }
 {
     let values = values?;
-    match ends_column(alloc, &ENDS) {
+    match ends_column(alloc, ends) {
         Ok(ends) => Ok((ends, values)),
         Err(error) => {
             drop(values);
@@ -42,11 +47,11 @@ fn with_ends<V: Drop, A: Allocator + Copy>(
     }
 }
 
-// Null, 1 and null, with another number stored under null.
+// Null, 1, 2 and null, with another number stored under null.
 fn numbers<A: Allocator + Copy>(ctx: &mut ExecutionCtx<A>) -> VortexResult<ArrayRef<A>> {
     let alloc = *ctx.allocator();
-    let values = nullable(alloc, &[77i32, 1, 77], &[false, true, false]);
-    let (ends, values) = with_ends(alloc, values)?;
+    let values = nullable(alloc, &[77i32, 1, 2, 77], &[false, true, true, false]);
+    let (ends, values) = with_ends(alloc, &FOUR_ENDS, values)?;
     match validate_ends(&ends, values.len(), 1, 8) {
         Ok(()) => runend_decode_primitive(ends, values, 1, 8, ctx),
         Err(error) => {
@@ -61,9 +66,24 @@ fn numbers<A: Allocator + Copy>(ctx: &mut ExecutionCtx<A>) -> VortexResult<Array
 fn truths<A: Allocator + Copy>(ctx: &mut ExecutionCtx<A>) -> VortexResult<ArrayRef<A>> {
     let alloc = *ctx.allocator();
     let values = nullable_truths(alloc, &[true, true, false], &[true, false, true]);
-    let (ends, values) = with_ends(alloc, values)?;
+    let (ends, values) = with_ends(alloc, &THREE_ENDS, values)?;
     match validate_ends(&ends, values.len(), 1, 8) {
         Ok(()) => runend_decode_bools(ends, values, 1, 8, ctx),
+        Err(error) => {
+            drop(ends);
+            drop(values);
+            Err(error)
+        }
+    }
+}
+
+// True, false and true, from the row on at which the first run ends.
+fn required_truths<A: Allocator + Copy>(ctx: &mut ExecutionCtx<A>) -> VortexResult<ArrayRef<A>> {
+    let alloc = *ctx.allocator();
+    let values = BoolArray::try_new(three_bits(alloc)?, Validity::NonNullable);
+    let (ends, values) = with_ends(alloc, &THREE_ENDS, values)?;
+    match validate_ends(&ends, values.len(), 2, 6) {
+        Ok(()) => runend_decode_bools(ends, values, 2, 6, ctx),
         Err(error) => {
             drop(ends);
             drop(values);
@@ -90,9 +110,9 @@ fn three_decimals<A: Allocator + Copy>(alloc: A) -> VortexResult<DecimalArray<A>
 
 fn decimals<A: Allocator + Copy>(ctx: &mut ExecutionCtx<A>) -> VortexResult<ArrayRef<A>> {
     let alloc = *ctx.allocator();
-    let (ends, values) = with_ends(alloc, three_decimals(alloc))?;
-    match validate_ends(&ends, values.len(), 1, 8) {
-        Ok(()) => runend_decode_decimal(ends, values, 1, 8, ctx),
+    let (ends, values) = with_ends(alloc, &[2u32, 5, 10], three_decimals(alloc))?;
+    match validate_ends(&ends, values.len(), 0, 10) {
+        Ok(()) => runend_decode_decimal(ends, values, 0, 10, ctx),
         Err(error) => {
             drop(ends);
             drop(values);
@@ -105,9 +125,9 @@ fn decimals<A: Allocator + Copy>(ctx: &mut ExecutionCtx<A>) -> VortexResult<Arra
 fn words<A: Allocator + Copy>(ctx: &mut ExecutionCtx<A>) -> VortexResult<ArrayRef<A>> {
     let alloc = *ctx.allocator();
     let values = three_texts(alloc);
-    let (ends, values) = with_ends(alloc, values)?;
-    match validate_ends(&ends, values.len(), 1, 8) {
-        Ok(()) => runend_decode_varbinview(ends, values, 1, 8, ctx),
+    let (ends, values) = with_ends(alloc, &[2u8, 5, 9], values)?;
+    match validate_ends(&ends, values.len(), 1, 7) {
+        Ok(()) => runend_decode_varbinview(ends, values, 1, 7, ctx),
         Err(error) => {
             drop(ends);
             drop(values);
@@ -121,37 +141,25 @@ struct FlatValues {}
 impl Calls for FlatValues {
     fn are_answered<A: Allocator + Copy>(alloc: A) -> VortexResult<bool> {
         let mut ctx = context(alloc);
-        let (no_number, one, no_truth) = (None::<i64>, Some(1i64), None::<bool>);
+        let (null, one, two) = (None::<i64>, Some(1i64), Some(2i64));
         let numbers = are_shown(
             numbers(&mut ctx),
-            &[
-                no_number, one, one, one, no_number, no_number, no_number, no_number,
-            ],
+            &[null, one, one, one, two, two, null, null],
         );
-        let truths = are_shown(
-            truths(&mut ctx),
-            &[
-                Some(true),
-                no_truth,
-                no_truth,
-                no_truth,
-                Some(false),
-                Some(false),
-                Some(false),
-                Some(false),
-            ],
-        );
+        let (yes, null, no) = (Some(true), None::<bool>, Some(false));
+        let truths = are_shown(truths(&mut ctx), &[yes, null, null, null, no, no, no, no]);
+        let required = are_shown(required_truths(&mut ctx), &[no, no, no, yes, yes, yes]);
         let (first, null, last) = (Some(12345i128), None, Some(-12300i128));
         let decimals = are_shown(
             decimals(&mut ctx),
-            &[first, null, null, null, last, last, last, last],
+            &[first, first, null, null, null, last, last, last, last, last],
         );
         let (first, null, last) = (Some("first"), None, Some("last"));
         let words = are_shown(
             words(&mut ctx),
-            &[first, null, null, null, last, last, last, last],
+            &[first, null, null, null, last, last, last],
         );
-        Ok(numbers? && truths? && decimals? && words?)
+        Ok(numbers? && truths? && required? && decimals? && words?)
     }
 }
 
@@ -204,10 +212,10 @@ fn three_runs_of_lists<A: Allocator + Copy>(
     ctx: &mut ExecutionCtx<A>,
 ) -> VortexResult<ArrayRef<A>> {
     let alloc = *ctx.allocator();
-    let (ends, values) = with_ends(alloc, three_lists(ctx))?;
-    match validate_ends(&ends, values.len(), 1, 8) {
+    let (ends, values) = with_ends(alloc, &[2u8, 5, 6], three_lists(ctx))?;
+    match validate_ends(&ends, values.len(), 0, 6) {
         Ok(()) => {
-            let lists = runend_decode_listview(ends, values, 1, 8, ctx)?;
+            let lists = runend_decode_listview(ends, values, 0, 6, ctx)?;
             Ok(ArrayRef::ListView(Box::new(alloc, lists)?))
         }
         Err(error) => {
@@ -229,7 +237,7 @@ impl Calls for Lists {
         );
         are_shown(
             three_runs_of_lists(&mut context(alloc)),
-            &[first, null, null, null, last, last, last, last],
+            &[first, first, null, null, null, last],
         )
     }
 }
@@ -240,13 +248,13 @@ fn lists_are_decoded(rt: HostRuntime) -> Result<(), Fail> {
     Ok(())
 }
 
-// Numbers by ends from an iterator, null but in the second run.
+// Numbers by ends from an iterator, null in the first run and in the last.
 fn typed_numbers<A: Allocator + Copy>(ctx: &mut ExecutionCtx<A>) -> VortexResult<ArrayRef<A>> {
     let alloc = *ctx.allocator();
-    let mask = Mask::from_indices(alloc, 3, &[1])?;
-    let ends = trimmed_ends_iter(&ENDS, 1, 8);
+    let mask = Mask::from_indices(alloc, 4, &[1, 2])?;
+    let ends = trimmed_ends_iter(&FOUR_ENDS, 1, 8);
     let nullable = Nullability::Nullable;
-    let rows = runend_decode_typed_primitive(ends, &[77i32, 1, 77], mask, nullable, 8, ctx)?;
+    let rows = runend_decode_typed_primitive(ends, &[77i32, 1, 2, 77], mask, nullable, 8, ctx)?;
     Ok(ArrayRef::Primitive(rows))
 }
 
@@ -259,12 +267,12 @@ fn three_bits<A: Allocator + Copy>(alloc: A) -> VortexResult<BitBuffer<A>>
     Ok(bits.freeze())
 }
 
-// Booleans by ends from an iterator: false in the second run, true in the others.
+// Booleans by ends from an iterator: false in the second run, true in the third. No row is in the first.
 fn typed_truths<A: Allocator + Copy>(ctx: &mut ExecutionCtx<A>) -> VortexResult<ArrayRef<A>> {
     let values = three_bits(*ctx.allocator())?;
-    let ends = trimmed_ends_iter(&ENDS, 1, 8);
+    let ends = trimmed_ends_iter(&THREE_ENDS, 2, 6);
     let (all, required) = (Mask::AllTrue(3), Nullability::NonNullable);
-    let rows = runend_decode_typed_bool(ends, &values, all, required, 8, ctx);
+    let rows = runend_decode_typed_bool(ends, &values, all, required, 6, ctx);
     drop(values);
     rows
 }
@@ -275,11 +283,11 @@ struct TypedValues {}
 impl Calls for TypedValues {
     fn are_answered<A: Allocator + Copy>(alloc: A) -> VortexResult<bool> {
         let (mut filled, mut appended) = (context(alloc), full_context(alloc));
-        let (null, one) = (None, Some(1i64));
-        let rows = [null, one, one, one, null, null, null, null];
+        let (null, one, two) = (None, Some(1i64), Some(2i64));
+        let rows = [null, one, one, one, two, two, null, null];
         let numbers = are_shown(typed_numbers(&mut filled), &rows);
         let (yes, no) = (Some(true), Some(false));
-        let rows = [yes, no, no, no, yes, yes, yes, yes];
+        let rows = [no, no, no, yes, yes, yes];
         let before = are_shown(typed_truths(&mut filled), &rows);
         let behind = are_shown(typed_truths(&mut appended), &rows);
         Ok(numbers? && before? && behind?)
@@ -290,4 +298,26 @@ impl Calls for TypedValues {
 fn values_are_decoded_by_ends_from_an_iterator(rt: HostRuntime) -> Result<(), Fail> {
     assert!(rt; are_answered_in_turn::<TypedValues>(rt.alloc()));
     Ok(())
+}
+
+// One run of more rows than memory has items for.
+fn longest_run(ctx: &mut ExecutionCtx<Global>) -> VortexResult<ArrayRef<Global>> {
+    let alloc = *ctx.allocator();
+    let (ends, values) = with_ends(alloc, &[u64::MAX], required(alloc, &[7u8]))?;
+    match validate_ends(&ends, values.len(), 0, usize::MAX) {
+        Ok(()) => runend_decode_primitive(ends, values, 0, usize::MAX, ctx),
+        Err(error) => {
+            drop(ends);
+            drop(values);
+            Err(error)
+        }
+    }
+}
+
+#[test]
+fn a_run_past_all_memory_is_refused(rt: HostRuntime) {
+    let decoded = longest_run(&mut context(rt.alloc()));
+    let is_refused = matches!(&decoded, Err(VortexError::OutOfMemory));
+    drop(decoded);
+    assert!(rt; is_refused);
 }

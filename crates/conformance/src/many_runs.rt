@@ -8,7 +8,7 @@ use vortex_runend::{
     VortexError, VortexResult,
 };
 
-const MANY: u32 = 2_097_152;
+const MANY: u32 = 4_194_304;
 
 // So many numbers, from this one on.
 fn numbers_from(alloc: Global, first: u32) -> VortexResult<PrimitiveArray<Global>> {
@@ -39,7 +39,7 @@ fn are_row_numbers<A: Allocator + Copy>(array: &ArrayRef<A>) -> bool {
             _ => return false,
         }
     }
-    array.len() == 2_097_152
+    array.len() == 4_194_304
 }
 
 #[test]
@@ -83,11 +83,11 @@ fn are_falling<A: Allocator>(rows: &ArrayRef<A>) -> bool {
         return false;
     };
     for passed in 0..numbers.len() {
-        if passed as u64 + u64::from(numbers[passed]) != 2_097_151 {
+        if passed as u64 + u64::from(numbers[passed]) != 4_194_303 {
             return false;
         }
     }
-    numbers.len() == 2_097_152
+    numbers.len() == 4_194_304
 }
 
 // Are all rows taken, the last one first?

@@ -1,5 +1,5 @@
 //! The runs that indices are in, by each strategy of a take, with each request for memory refused in turn.
-ghost use Rattle.std.specs.Prelude.{◌≡◌, true, false, ◌∷◌, ◌++◌, IfOk, replicate};
+ghost use Rattle.std.specs.Prelude.{◌≡◌, true, false, [], ◌∷◌, ◌++◌, IfOk, replicate};
 ghost use Rattle.column_base.specs.Mask.{mask_bits};
 
 use crate::columns::{context, full_context};
@@ -108,5 +108,53 @@ impl Calls for Merged {
 #[test]
 fn sorted_indices_are_merged(rt: HostRuntime) -> Result<(), Fail> {
     assert!(rt; are_answered_in_turn::<Merged>(rt.alloc()));
+    Ok(())
+}
+
+// Where two runs end, in rows.
+const TWO_ENDS: [u32; 2] = [2, 5];
+
+// Two indices, of which the first is null.
+fn first_is_null<A: Allocator + Copy>(alloc: A) -> VortexResult<Mask<A>>
+    ensures { IfOk result (λ mask. mask_bits mask ≡ replicate 1 false ++ true ∷ []) }
+{
+    let mut bits = BitBufferMut::full(alloc, false, 1)?;
+    bits.append(true)?;
+    Ok(Mask::from_buffer(bits.freeze()))
+}
+
+// Does a table find the run of row 0 at the null index, and each other strategy run 0, which no row shows?
+fn nulls_have_runs<A: Allocator + Copy>(
+    mask: &Mask<A>,
+    ctx: &mut ExecutionCtx<A>,
+) -> VortexResult<bool>
+    requires { mask_bits mask.now ≡ replicate 1 false ++ true ∷ [] }
+{
+    let mut ends = CountedEnds::new(&TWO_ENDS);
+    let indices = [100u8, 1];
+    let table = run_index_table(&mut ends, 2, 3, ctx)?;
+    let looked_up = physical_indices_table(&table, &indices, mask, ctx);
+    drop(table);
+    let looked_up = are_runs(looked_up, &[1, 1])?;
+    let merged = physical_indices_linear_unsorted(&mut ends, 2, &indices, mask, ctx);
+    let merged = are_runs(merged, &[0, 1])?;
+    let searched = physical_indices_binary(&mut ends, 2, &indices, mask, ctx);
+    Ok(looked_up && merged && are_runs(searched, &[0, 1])?)
+}
+
+struct NullIndex {}
+
+impl Calls for NullIndex {
+    fn are_answered<A: Allocator + Copy>(alloc: A) -> VortexResult<bool> {
+        let mask = first_is_null(alloc)?;
+        let have_runs = nulls_have_runs(&mask, &mut context(alloc));
+        drop(mask);
+        have_runs
+    }
+}
+
+#[test]
+fn only_a_table_finds_the_run_of_row_0_at_a_null_index(rt: HostRuntime) -> Result<(), Fail> {
+    assert!(rt; are_answered_in_turn::<NullIndex>(rt.alloc()));
     Ok(())
 }
