@@ -16,3 +16,4 @@ pub mod FlatReads
 pub mod ListReads
 pub mod BytesTaken
 pub mod SameRows
+pub mod Framing

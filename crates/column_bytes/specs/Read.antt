@@ -1,5 +1,5 @@
 -- What bytes are as messages, with at most so many levels of runs.
-use Rattle.std.specs.Prelude.{◌≡◌, ◌⊎◌, ℕ, ℤ, ◌≤◌, true, Some, None, List, [], length, FitsSigned}
+use Rattle.std.specs.Prelude.{◌≡◌, ◌⊎◌, ℕ, zero, suc, ℤ, ◌≤◌, true, Some, None, List, [], ◌++◌, length, FitsSigned}
 use Rattle.std.specs.Int.{w128}
 use Rattle.column_base.specs.declared.dtype.Nullability.{Nullability}
 use Rattle.column_base.specs.declared.dtype.Nullability.TheVariants.{Nullable}
@@ -20,7 +20,9 @@ use Rattle.column_core.specs.DecimalForm.{DecimalForm}
 use Rattle.column_fields.specs.NumberBytes.{number_bytes}
 use Rattle.column_fields.specs.DecimalBytes.{decimal_bytes}
 use Rattle.column_fields.specs.ElementFields.{IsElementType}
+use Rattle.column_fields.specs.Header.{header_bytes}
 use Rattle.column_fields.specs.Lengths.{lengths_bytes, Rises, AreEndsOf}
+use Rattle.column_fields.specs.RunFields.{run_fields}
 use Rattle.runend_windows.specs.Ends.{IsEndsType, ends_of}
 use Rattle.runend_array.specs.Column.{Column, OfRuns, AreRuns, runs_with, column_dtype, depth}
 use Rattle.column_bytes.specs.Packed.{IsPacked}
@@ -41,6 +43,33 @@ pub record IsMessage (levels : ℕ) (bytes : List ℕ) (c : Column) : Type 0 whe
 
 pub record IsNoMessage (levels : ℕ) (bytes : List ℕ) : Type 0 where
   pub none : (c : Column) → IsMessage levels bytes c → ⊥
+
+-- ---- how far bytes are a message where a reader is refused memory: each header is there, and all fields of runs are
+
+-- the bytes begin with the header of a flat column, of a constant or of lists
+pub record BeginsUnderNoRuns (bytes : List ℕ) : Type 0 where
+  pub kind : ℕ
+  pub form : ℕ
+  pub rows : ℕ
+  pub rest : List ℕ
+  pub form_is : (form ≡ 1) ⊎ (form ≡ 3) ⊎ (form ≡ 4)
+  pub spelt : bytes ≡ header_bytes kind form rows ++ rest
+
+-- the bytes are a header of runs and their fields, in which these bytes are those of the values
+pub record AreFieldsOver (bytes values : List ℕ) : Type 0 where
+  pub kind : ℕ
+  pub rows : ℕ
+  pub offset : ℕ
+  pub ends_type : PType
+  pub lengths : List ℕ
+  pub spelt : bytes ≡ header_bytes kind 2 rows ++ run_fields offset ends_type lengths values
+
+-- the bytes begin as a message does, with at most this number of levels of runs
+abbrev pub IsFramed : ℕ → List ℕ → Type 0
+IsFramed zero bytes = BeginsUnderNoRuns bytes
+IsFramed (suc levels) bytes = BeginsUnderNoRuns bytes ⊎ ((values : List ℕ) × AreFieldsOver bytes values × IsFramed levels values)
+
+-- ---- what follows a header
 
 -- the bytes are what the message of the column says behind a header with these numbers
 pub record IsBody (levels kind form rows : ℕ) (bytes : List ℕ) (c : Column) : Type 0 where

@@ -3,7 +3,7 @@ ghost use Rattle.std.specs.Prelude.{◌≡◌, ◌<◌, ◌++◌, IfOk, IfErr, I
 ghost use Rattle.runend_array.specs.Array.{column_of};
 ghost use Rattle.runend_array.specs.Column.{depth};
 ghost use Rattle.column_bytes.specs.Bytes.{column_bytes};
-ghost use Rattle.column_bytes.specs.Read.{IsMessage, IsNoMessage, IsWritable, IsUnsupportedOrMemory};
+ghost use Rattle.column_bytes.specs.Read.{IsFramed, IsMessage, IsNoMessage, IsWritable, IsUnsupportedOrMemory};
 ghost use Rattle.column_fields.specs.Kept.{StaysInFront};
 ghost use Rattle.column_fields.specs.Refusal.{IsBadOrMemory};
 
@@ -23,14 +23,15 @@ use std::alloc::Allocator;
 /// How many levels of runs a message has at most. Lists whose offsets, sizes or validity are in runs count as two.
 pub const MOST_LEVELS: usize = 16;
 
-/// The message of a column, in memory of the allocator `alloc` that is taken once. Refused as `Unsupported` exactly
-/// where there are more than 16 levels of runs, else as `OutOfMemory` alone.
+/// Returns the message of a column, in memory of the allocator `alloc` that is taken once. Refused as `Unsupported`
+/// exactly where there are more than 16 levels of runs, before any memory is taken; fails else only with `OutOfMemory`.
 pub fn write_column<A: Allocator + Copy, B: Allocator + Copy>(
     alloc: B,
     array: &ArrayRef<A>,
 ) -> VortexResult<Vec<u8, B>>
     ensures bytes { IfOk result (λ out. out.items ≡ column_bytes (column_of array.now)) }
     ensures deep { IsErrOf result VortexError.Unsupported → 16 < depth (column_of array.now) }
+    ensures exact { 16 < depth (column_of array.now) → IsErrOf result VortexError.Unsupported }
     ensures refused { IsErrOf result VortexError.Unsupported → ¬ IsWritable 16 (column_of array.now) }
     ensures writable { OnOk result (IsWritable 16 (column_of array.now)) }
     ensures only { IfErr result IsUnsupportedOrMemory }
@@ -44,14 +45,15 @@ pub fn write_column<A: Allocator + Copy, B: Allocator + Copy>(
 /// Writes the message of a column to the end of a buffer: a vector, or any other of the crate `bytes`. Takes no memory
 /// but what the buffer takes for these bytes. Refused as `Unsupported` exactly where there are more than 16 levels of
 /// runs, else as `OutOfMemory` alone, as where the buffer has no room; `message_size` tells how much room that is. An
-/// `Err` may leave a part of the message at the end. What stood in the buffer stays in front all the same: cut to its
-/// old length, the buffer is as it was.
+/// `Err` may leave a part of the message at the end. The earlier content of the buffer stays in front all the same:
+/// cut to its old length, the buffer is as it was.
 pub fn put_message<A: Allocator + Copy, W: BufMut>(
     out: &mut W,
     array: &ArrayRef<A>,
 ) -> VortexResult<()>
     ensures ok { OnOk result (W.written out.new ≡ W.written out.old ++ column_bytes (column_of array.now)) }
     ensures deep { IsErrOf result VortexError.Unsupported → 16 < depth (column_of array.now) }
+    ensures exact { 16 < depth (column_of array.now) → IsErrOf result VortexError.Unsupported }
     ensures refused { IsErrOf result VortexError.Unsupported → ¬ IsWritable 16 (column_of array.now) }
     ensures writable { OnOk result (IsWritable 16 (column_of array.now)) }
     ensures kept { StaysInFront (W.written out.old) (W.written out.new) }
@@ -60,11 +62,13 @@ pub fn put_message<A: Allocator + Copy, W: BufMut>(
     put_column(out, array, MOST_LEVELS)
 }
 
-/// The column of which the bytes are the message. Refused as `BadMetadata` exactly where they are the message of no
-/// column with at most 16 levels of runs, else as `OutOfMemory` alone.
+/// Returns the column of which the bytes are the message. Refused as `BadMetadata` only where they are the message of
+/// no column with at most 16 levels of runs, and always where they do not even begin as one does: with a header of one
+/// of the four forms, runs with all of their fields, and so their values. Fails else only with `OutOfMemory`.
 pub fn read_column<A: Allocator + Copy>(alloc: A, bytes: &[u8]) -> VortexResult<ArrayRef<A>>
     ensures found { IfOk result (λ array. IsMessage 16 bytes.now (column_of array)) }
     ensures bad { IsErrOf result VortexError.BadMetadata → IsNoMessage 16 bytes.now }
+    ensures short { IsErrOf result VortexError.OutOfMemory → IsFramed 16 bytes.now }
     ensures only { IfErr result IsBadOrMemory }
 {
     read_message(alloc, bytes, MOST_LEVELS)
@@ -79,6 +83,7 @@ fn put_column<A: Allocator + Copy, W: BufMut>(
     ensures ok { OnOk result (W.written out.new ≡ W.written out.old ++ column_bytes (column_of array.now)) }
     ensures writable { OnOk result (IsWritable levels (column_of array.now)) }
     ensures deep { IsErrOf result VortexError.Unsupported → levels < depth (column_of array.now) }
+    ensures exact { levels < depth (column_of array.now) → IsErrOf result VortexError.Unsupported }
     ensures refused { IsErrOf result VortexError.Unsupported → ¬ IsWritable levels (column_of array.now) }
     ensures kept { StaysInFront (W.written out.old) (W.written out.new) }
     ensures only { IfErr result IsUnsupportedOrMemory }
@@ -110,6 +115,7 @@ fn read_message<A: Allocator + Copy>(
 ) -> VortexResult<ArrayRef<A>>
     ensures found { IfOk result (λ array. IsMessage levels bytes.now (column_of array)) }
     ensures bad { IsErrOf result VortexError.BadMetadata → IsNoMessage levels bytes.now }
+    ensures short { IsErrOf result VortexError.OutOfMemory → IsFramed levels bytes.now }
     ensures only { IfErr result IsBadOrMemory }
 {
     let Some((header, body)) = read_header(bytes) else {

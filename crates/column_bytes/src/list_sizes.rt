@@ -31,6 +31,7 @@ pub(crate) fn lists_size<A: Allocator + Copy>(
     ensures size { IfOk result (λ size. size ≡ length (column_bytes (OfLists lists.now))) }
     ensures writable { OnOk result (IsWritable levels (OfLists lists.now)) }
     ensures deep { IsErrOf result VortexError.Unsupported → levels < lists_depth lists.now }
+    ensures exact { levels < lists_depth lists.now → IsErrOf result VortexError.Unsupported }
     ensures refused { IsErrOf result VortexError.Unsupported → ¬ IsWritable levels (OfLists lists.now) }
     ensures past { IsErrOf result VortexError.OutOfMemory → 2 ^ 64 ≤ length (column_bytes (OfLists lists.now)) }
     ensures only { IfErr result IsUnsupportedOrMemory }

@@ -35,6 +35,7 @@ pub(crate) fn put_lists<A: Allocator + Copy, W: BufMut>(
     ensures ok { OnOk result (W.written out.new ≡ W.written out.old ++ column_bytes (OfLists lists.now)) }
     ensures writable { OnOk result (IsWritable levels (OfLists lists.now)) }
     ensures deep { IsErrOf result VortexError.Unsupported → levels < lists_depth lists.now }
+    ensures exact { levels < lists_depth lists.now → IsErrOf result VortexError.Unsupported }
     ensures refused { IsErrOf result VortexError.Unsupported → ¬ IsWritable levels (OfLists lists.now) }
     ensures kept { StaysInFront (W.written out.old) (W.written out.new) }
     ensures only { IfErr result IsUnsupportedOrMemory }

@@ -20,6 +20,7 @@ pub fn message_size<A: Allocator + Copy>(array: &ArrayRef<A>) -> VortexResult<us
     ensures size { IfOk result (λ size. size ≡ length (column_bytes (column_of array.now))) }
     ensures writable { OnOk result (IsWritable 16 (column_of array.now)) }
     ensures deep { IsErrOf result VortexError.Unsupported → 16 < depth (column_of array.now) }
+    ensures exact { 16 < depth (column_of array.now) → IsErrOf result VortexError.Unsupported }
     ensures refused { IsErrOf result VortexError.Unsupported → ¬ IsWritable 16 (column_of array.now) }
     ensures past { IsErrOf result VortexError.OutOfMemory → 2 ^ 64 ≤ length (column_bytes (column_of array.now)) }
     ensures only { IfErr result IsUnsupportedOrMemory }
@@ -35,6 +36,7 @@ pub(crate) fn size_within<A: Allocator + Copy>(
     ensures size { IfOk result (λ size. size ≡ length (column_bytes (column_of array.now))) }
     ensures writable { OnOk result (IsWritable levels (column_of array.now)) }
     ensures deep { IsErrOf result VortexError.Unsupported → levels < depth (column_of array.now) }
+    ensures exact { levels < depth (column_of array.now) → IsErrOf result VortexError.Unsupported }
     ensures refused { IsErrOf result VortexError.Unsupported → ¬ IsWritable levels (column_of array.now) }
     ensures past { IsErrOf result VortexError.OutOfMemory → 2 ^ 64 ≤ length (column_bytes (column_of array.now)) }
     ensures only { IfErr result IsUnsupportedOrMemory }
