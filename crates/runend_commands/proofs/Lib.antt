@@ -7,3 +7,6 @@ pub mod Agreement
 pub mod ComparedColumns
 pub mod FilledColumns
 pub mod FlatForms
+pub mod Kept
+pub mod Constants
+pub mod VisibleEncodings

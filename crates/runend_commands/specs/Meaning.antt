@@ -17,6 +17,7 @@ use Rattle.column_order.specs.OrderFacts as order
 use Rattle.column_sums.specs.SumAnswer.{IsSumAnswer}
 use Rattle.runend_array.specs.Array.{column_of, dtype_of, rows}
 use Rattle.runend_array.specs.Column.{Column, OfLeaf, OfConstant, OfLists, OfRuns, column_rows, plain_of, IsFlat}
+use Rattle.runend_array.specs.Encoding.{IsComputedFlat}
 use Rattle.runend_windows.specs.Cover.{IsTightCover}
 use Rattle.runend_windows.specs.Window.{last_end}
 use Rattle.runend_array.specs.declared.array_ref.ArrayRef.{ArrayRef}
@@ -85,9 +86,18 @@ IsAnswer before IsConstant answer = IsTruthOf (order.IsConstant before.rows) ans
 IsAnswer before (IsSorted strict) answer = IsTruthOf (order.IsSorted strict before.rows) answer
 IsAnswer before command answer = answer ≡ Done
 
--- the ends are of the least type that has the last of them; where all rows are null they may be u64
-abbrev pub AreNarrowEnds : PType → List ℕ → List (Option Value) → Type 0
-AreNarrowEnds ends_type ends rows = IsLeastFor (last_end ends) ends_type ⊎ ((ends_type ≡ U64) × All (λ row. row ≡ None) rows)
+-- one null, as a constant
+abbrev pub IsOneNull : Column → Type 0
+IsOneNull (OfLeaf leaf) = ⊥
+IsOneNull (OfConstant constant) = (constant.value ≡ None) × (constant.count ≡ 1)
+IsOneNull (OfLists lists) = ⊥
+IsOneNull (OfRuns ends_type ends values offset count) = ⊥
+
+-- ends of the least type that has the last of them, and flat values as a call computes them; where all rows are null
+-- there may be one constant null instead, and then the ends are u64
+abbrev pub AreTightParts : PType → List ℕ → Column → List (Option Value) → Type 0
+AreTightParts ends_type ends values rows =
+    (IsLeastFor (last_end ends) ends_type × IsComputedFlat values) ⊎ ((ends_type ≡ U64) × IsOneNull values × All (λ row. row ≡ None) rows)
 
 -- a run column that is a tight exact cover of the rows, so of as few runs as can be
 abbrev pub IsTightColumn : List (Option Value) → Column → Type 0
@@ -95,7 +105,7 @@ IsTightColumn rows (OfLeaf leaf) = ⊥
 IsTightColumn rows (OfConstant constant) = ⊥
 IsTightColumn rows (OfLists lists) = ⊥
 IsTightColumn rows (OfRuns ends_type ends values offset count) =
-    IsTightCover rows ends (column_rows values) × (offset ≡ 0) × (count ≡ length rows) × AreNarrowEnds ends_type ends rows
+    IsTightCover rows ends (column_rows values) × (offset ≡ 0) × (count ≡ length rows) × AreTightParts ends_type ends values rows
 
 -- what a command promises of the form that it leaves, whichever kernels there are: one that only answers leaves the
 -- array as it is

@@ -12,4 +12,4 @@ mod steps;
 pub use command::{Answer, Command};
 pub use execution::{execute, execute_one};
 pub use kernels::{KERNELS, default_thresholds, initialize};
-pub use steps::{StepResult, outcome_of};
+pub use steps::{StepResult, kept_outcome_of, outcome_of};

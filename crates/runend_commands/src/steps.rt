@@ -1,10 +1,13 @@
 //! One command on one column. The column itself is never written here, so a refusal leaves it as it was.
 ghost use Rattle.std.specs.Prelude.{◌≡◌};
-ghost use Rattle.runend_commands.specs.Outcomes.{IsOutcome};
+ghost use Rattle.runend_commands.specs.Kept.{LeavesKept};
+ghost use Rattle.runend_commands.specs.Outcomes.{IsKeptOutcome, IsOutcome};
+ghost use Rattle.runend_commands.specs.Step.{IsDone};
+ghost use Rattle.runend_commands.specs.declared.command.Answer.TheVariants.{Done};
 ghost use Rattle.runend_commands.specs.declared.command.Command.TheVariants.{At, Cast, CompareColumn, CompareScalar, Decode, Encode, FillNull, Filter, IsConstant, IsSorted, MinMax, Slice, Sum, Take, TakeFrom};
 
 use crate::command::{Answer, Command};
-use crate::compute;
+use crate::compute::{self, has_constant_form};
 use column_core::{DType, Mask, PrimitiveArray, Scalar, VortexResult, fault_of_lists};
 use column_order::CompareOperator;
 use runend_array::{ArrayRef, ExecutionCtx};
@@ -20,13 +23,55 @@ pub enum StepResult<A: Allocator> {
     Answers(Answer<A>),
 }
 
-/// What comes of one command.
+/// Does one command, as `execute` leaves it: a constant is written out flat, except after a slice.
 pub fn outcome_of<A: Allocator + Copy>(
     command: &Command<A>,
     column: &ArrayRef<A>,
     ctx: &mut ExecutionCtx<A>,
 ) -> VortexResult<StepResult<A>>
     ensures outcome { IsOutcome ctx.old column.now command.now result }
+    ensures session { ctx.new ≡ ctx.old }
+{
+    match kept_outcome_of(command, column, ctx)? {
+        StepResult::Becomes(after) => written_if_constant(command, column, after, ctx),
+        StepResult::Answers(answer) => Ok(StepResult::Answers(answer)),
+    }
+}
+
+// What a command leaves, with a constant that it left of a constant written out, unless it is a slice.
+fn written_if_constant<A: Allocator + Copy>(
+    command: &Command<A>,
+    column: &ArrayRef<A>,
+    after: ArrayRef<A>,
+    ctx: &mut ExecutionCtx<A>,
+) -> VortexResult<StepResult<A>>
+    requires done { IsDone column.now command.now Done after }
+    requires kept { LeavesKept ctx.old column.now command.now Done after }
+    ensures outcome { IsOutcome ctx.old column.now command.now result }
+    ensures session { ctx.new ≡ ctx.old }
+{
+    if let Command::Slice(_) = command {
+        return Ok(StepResult::Becomes(after));
+    }
+    if !has_constant_form(column) {
+        return Ok(StepResult::Becomes(after));
+    }
+    if !has_constant_form(&after) {
+        return Ok(StepResult::Becomes(after));
+    }
+    let written = after.canonicalize(ctx);
+    drop(after);
+    Ok(StepResult::Becomes(written?))
+}
+
+/// Does one command, as the calls of `compute` leave it: a constant that has a row, cast, filled or compared with a
+/// value, leaves a constant.
+pub fn kept_outcome_of<A: Allocator + Copy>(
+    command: &Command<A>,
+    column: &ArrayRef<A>,
+    ctx: &mut ExecutionCtx<A>,
+) -> VortexResult<StepResult<A>>
+    ensures outcome { IsKeptOutcome ctx.old column.now command.now result }
     ensures session { ctx.new ≡ ctx.old }
 {
     match command {
@@ -58,7 +103,7 @@ fn slice_column<A: Allocator + Copy>(
     range: &Range<usize>,
     ctx: &mut ExecutionCtx<A>,
 ) -> VortexResult<StepResult<A>>
-    ensures outcome { IsOutcome ctx.old column.now (Slice range.now) result }
+    ensures outcome { IsKeptOutcome ctx.old column.now (Slice range.now) result }
     ensures session { ctx.new ≡ ctx.old }
 {
     let part = compute::slice(column, range.start..range.end, ctx)?;
@@ -71,7 +116,7 @@ fn filter_column<A: Allocator + Copy>(
     mask: &Mask<A>,
     ctx: &mut ExecutionCtx<A>,
 ) -> VortexResult<StepResult<A>>
-    ensures outcome { IsOutcome ctx.old column.now (Filter mask.now) result }
+    ensures outcome { IsKeptOutcome ctx.old column.now (Filter mask.now) result }
     ensures session { ctx.new ≡ ctx.old }
 {
     let kept = compute::filter(column, mask, ctx)?;
@@ -84,7 +129,7 @@ fn take_of_column<A: Allocator + Copy>(
     indices: &PrimitiveArray<A>,
     ctx: &mut ExecutionCtx<A>,
 ) -> VortexResult<StepResult<A>>
-    ensures outcome { IsOutcome ctx.old column.now (Take indices.now) result }
+    ensures outcome { IsKeptOutcome ctx.old column.now (Take indices.now) result }
     ensures session { ctx.new ≡ ctx.old }
 {
     let taken = compute::take(column, indices, ctx)?;
@@ -97,7 +142,7 @@ fn take_from_column<A: Allocator + Copy>(
     dictionary: &ArrayRef<A>,
     ctx: &mut ExecutionCtx<A>,
 ) -> VortexResult<StepResult<A>>
-    ensures outcome { IsOutcome ctx.old column.now (TakeFrom dictionary.now) result }
+    ensures outcome { IsKeptOutcome ctx.old column.now (TakeFrom dictionary.now) result }
     ensures session { ctx.new ≡ ctx.old }
 {
     let taken = compute::take_from(column, dictionary, ctx)?;
@@ -110,7 +155,7 @@ fn cast_column<A: Allocator + Copy>(
     dtype: DType,
     ctx: &mut ExecutionCtx<A>,
 ) -> VortexResult<StepResult<A>>
-    ensures outcome { IsOutcome ctx.old column.now (Cast dtype) result }
+    ensures outcome { IsKeptOutcome ctx.old column.now (Cast dtype) result }
     ensures session { ctx.new ≡ ctx.old }
 {
     let cast = compute::cast(column, dtype, ctx)?;
@@ -123,7 +168,7 @@ fn fill_column<A: Allocator + Copy>(
     value: &Scalar<A>,
     ctx: &mut ExecutionCtx<A>,
 ) -> VortexResult<StepResult<A>>
-    ensures outcome { IsOutcome ctx.old column.now (FillNull value.now) result }
+    ensures outcome { IsKeptOutcome ctx.old column.now (FillNull value.now) result }
     ensures session { ctx.new ≡ ctx.old }
 {
     let filled = compute::fill_null(column, value, ctx)?;
@@ -137,7 +182,7 @@ fn compare_column_with_column<A: Allocator + Copy>(
     right: &ArrayRef<A>,
     ctx: &mut ExecutionCtx<A>,
 ) -> VortexResult<StepResult<A>>
-    ensures outcome { IsOutcome ctx.old column.now (CompareColumn operator right.now) result }
+    ensures outcome { IsKeptOutcome ctx.old column.now (CompareColumn operator right.now) result }
     ensures session { ctx.new ≡ ctx.old }
 {
     let truths = compute::compare(column, operator, right, ctx)?;
@@ -151,7 +196,7 @@ fn compare_column_with_scalar<A: Allocator + Copy>(
     value: &Scalar<A>,
     ctx: &mut ExecutionCtx<A>,
 ) -> VortexResult<StepResult<A>>
-    ensures outcome { IsOutcome ctx.old column.now (CompareScalar operator value.now) result }
+    ensures outcome { IsKeptOutcome ctx.old column.now (CompareScalar operator value.now) result }
     ensures session { ctx.new ≡ ctx.old }
 {
     let truths = compute::compare_scalar(column, operator, value, ctx)?;
@@ -163,7 +208,7 @@ fn sum_column<A: Allocator + Copy>(
     column: &ArrayRef<A>,
     ctx: &mut ExecutionCtx<A>,
 ) -> VortexResult<StepResult<A>>
-    ensures outcome { IsOutcome ctx.old column.now Sum result }
+    ensures outcome { IsKeptOutcome ctx.old column.now Sum result }
     ensures session { ctx.new ≡ ctx.old }
 {
     let total = compute::sum(column, ctx)?;
@@ -175,7 +220,7 @@ fn min_max_of_column<A: Allocator + Copy>(
     column: &ArrayRef<A>,
     ctx: &mut ExecutionCtx<A>,
 ) -> VortexResult<StepResult<A>>
-    ensures outcome { IsOutcome ctx.old column.now MinMax result }
+    ensures outcome { IsKeptOutcome ctx.old column.now MinMax result }
     ensures session { ctx.new ≡ ctx.old }
 {
     let extremes = compute::min_max(column, ctx)?;
@@ -187,7 +232,7 @@ fn is_constant_column<A: Allocator + Copy>(
     column: &ArrayRef<A>,
     ctx: &mut ExecutionCtx<A>,
 ) -> VortexResult<StepResult<A>>
-    ensures outcome { IsOutcome ctx.old column.now IsConstant result }
+    ensures outcome { IsKeptOutcome ctx.old column.now IsConstant result }
     ensures session { ctx.new ≡ ctx.old }
 {
     let constant = compute::is_constant(column, ctx)?;
@@ -200,7 +245,7 @@ fn is_sorted_column<A: Allocator + Copy>(
     strict: bool,
     ctx: &mut ExecutionCtx<A>,
 ) -> VortexResult<StepResult<A>>
-    ensures outcome { IsOutcome ctx.old column.now (IsSorted strict) result }
+    ensures outcome { IsKeptOutcome ctx.old column.now (IsSorted strict) result }
     ensures session { ctx.new ≡ ctx.old }
 {
     let sorted = compute::is_sorted(column, strict, ctx)?;
@@ -213,7 +258,7 @@ fn look_up<A: Allocator + Copy>(
     index: usize,
     ctx: &mut ExecutionCtx<A>,
 ) -> VortexResult<StepResult<A>>
-    ensures outcome { IsOutcome ctx.old column.now (At index) result }
+    ensures outcome { IsKeptOutcome ctx.old column.now (At index) result }
     ensures session { ctx.new ≡ ctx.old }
 {
     let dtype = column.dtype();
@@ -230,7 +275,7 @@ fn encode_column<A: Allocator + Copy>(
     column: &ArrayRef<A>,
     ctx: &mut ExecutionCtx<A>,
 ) -> VortexResult<StepResult<A>>
-    ensures outcome { IsOutcome ctx.old column.now Encode result }
+    ensures outcome { IsKeptOutcome ctx.old column.now Encode result }
     ensures session { ctx.new ≡ ctx.old }
 {
     let encoded = compute::encode(column, ctx)?;
@@ -242,7 +287,7 @@ fn decode_column<A: Allocator + Copy>(
     column: &ArrayRef<A>,
     ctx: &mut ExecutionCtx<A>,
 ) -> VortexResult<StepResult<A>>
-    ensures outcome { IsOutcome ctx.old column.now Decode result }
+    ensures outcome { IsKeptOutcome ctx.old column.now Decode result }
     ensures session { ctx.new ≡ ctx.old }
 {
     let written = column.canonicalize(ctx)?;

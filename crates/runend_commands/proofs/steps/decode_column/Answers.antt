@@ -12,5 +12,5 @@ returns-clause-outcome g c = (
     answered = refl;
     form = flat_if_canonical (column_of c.args.column.now) (column_of c.in_ok-written.written) c.in_ok-written.ensures.form;
   },
-  tt,
+  record { constant = λ no. absurd no; by_kernel = λ not. tt },
 )

@@ -1,0 +1,14 @@
+use Rattle.std.proofs.Common.{refl}
+use Rattle.runend_commands.proofs.steps.slice_column.Goals as goal
+
+pub returns-clause-outcome : goal.returns-clause-outcome
+returns-clause-outcome g c = (
+  record {
+    accepted = c.in_ok-part.ensures.refused;
+    rows = c.in_ok-part.ensures.rows;
+    dtype = c.in_ok-part.ensures.dtype;
+    answered = refl;
+    form = tt;
+  },
+  record { constant = λ no. absurd no; by_kernel = λ not. record { served = c.in_ok-part.ensures.kernel; otherwise = c.in_ok-part.ensures.otherwise } },
+)
