@@ -234,7 +234,7 @@ HV_ANSWER hv_compact(const hv_column *column, hv_column *out, hv_error *error);
  * Refused exactly as is said here, with these fields, or as 21. The session decides in which form rows are left. A run
  * column of integers that is left has as few runs as can be, from row 0 on; hv_slice keeps those that there are. */
 /* as few runs as there can be, with ends of the least type, which may be u64 where all rows are null; 20 unless the
- * rows are integers */
+ * rows are integers. In runs and constants it looks only at the runs that the column shows. */
 HV_ANSWER hv_encode(const hv_session *session, const hv_column *column, hv_column *out, hv_error *error);
 /* the rows written out in a flat form */
 HV_ANSWER hv_decode(const hv_session *session, const hv_column *column, hv_column *out, hv_error *error);
