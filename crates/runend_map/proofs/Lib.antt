@@ -6,6 +6,7 @@ pub mod FilledRows
 pub mod FirstFaults
 pub mod KeptRows
 pub mod OneKind
+pub mod OneRun
 pub mod MapResultRows
 pub mod ShownValues
 pub mod TakenForms

@@ -1,5 +1,5 @@
 //! Rows of dictionaries of any form, taken by codes.
-ghost use Rattle.std.specs.Prelude.{◌≡◌, Err, true, false, length, map, IfOk};
+ghost use Rattle.std.specs.Prelude.{◌≡◌, ◌<◌, Err, true, false, length, map, IfOk, IsOkUnless};
 ghost use Rattle.column_core.specs.FlatColumn.{leaf_of};
 ghost use Rattle.column_core.specs.Leaf.{leaf_dtype, single_rows};
 ghost use Rattle.column_core.specs.PrimitiveForm.{optional_numbers, primitive_dtype};
@@ -8,7 +8,7 @@ ghost use Rattle.column_ops.specs.Cast.{is_numbers};
 ghost use Rattle.column_ops.specs.Codes.{code_fault, code_number, code_numbers, code_rows};
 ghost use Rattle.column_ops.specs.Nullable.{take_dtype};
 ghost use Rattle.runend_array.specs.Array.{column_of, dtype_of, rows};
-ghost use Rattle.runend_array.specs.Column.{AreRuns, column_dtype, column_of_runs, column_rows, plain_of};
+ghost use Rattle.runend_array.specs.Column.{AreRuns, OfConstant, column_dtype, column_of_runs, column_rows, plain_of};
 ghost use Rattle.runend_array.specs.Encoding.{IsComputedFlat};
 ghost use Rattle.runend_map.specs.Codes.{keeps_runs};
 ghost use Rattle.runend_map.specs.TakenForm.{TakeFromLeaves};
@@ -18,9 +18,10 @@ use crate::codes::{take_from_flat, visible_codes};
 use crate::visible::shown_values;
 use array_rowwise::{flat_rows, take_rows};
 use column_core::{
-    FlatColumn, PrimitiveArray, VortexError, VortexResult, is_list_type, is_number_type,
+    FlatColumn, NativePType, PrimitiveArray, Validity, VortexError, VortexResult, is_list_type,
+    is_number_type,
 };
-use runend_array::{ArrayRef, ExecutionCtx, RunEndArray, RunEndArrayExt};
+use runend_array::{ArrayRef, ConstantArray, ExecutionCtx, RunEnd, RunEndArray, RunEndArrayExt};
 use runend_visible::borrowed_values;
 use std::alloc::Allocator;
 
@@ -64,7 +65,7 @@ pub fn take_from<A: Allocator + Copy>(
 
 /// The dictionary's row for each code, null for null, flat, in a type with null where the dictionary's or the
 /// codes' has. Both may be of any form, and the dictionary of any kind. Where the codes are in runs, only those of
-/// visible runs are looked up, each once.
+/// visible runs are looked up, each once, and a constant code once.
 ///
 /// Refused as `TypeMismatch` unless the codes are integers, however little memory there is; then as
 /// `OutOfBounds`, with the code and the number of rows of the dictionary, at the first code that is no null
@@ -84,8 +85,10 @@ pub fn take_from_rows<A: Allocator + Copy>(
     if !is_number_type(codes.dtype()) {
         return Err(VortexError::TypeMismatch);
     }
-    if let ArrayRef::RunEnd(runs) = codes {
-        return take_each(runs, dictionary, ctx);
+    match codes {
+        ArrayRef::RunEnd(runs) => return take_each(runs, dictionary, ctx),
+        ArrayRef::Constant(code) if !code.is_empty() => return take_one(code, dictionary, ctx),
+        _ => {}
     }
     let flat = flat_rows(codes, ctx)?;
     let indices = numbers_of(flat);
@@ -104,6 +107,48 @@ fn numbers_of<A: Allocator>(flat: FlatColumn<A>) -> PrimitiveArray<A>
         FlatColumn::Primitive(numbers) => numbers,
         _ => unreachable!(),
     }
+}
+
+// The dictionary's row for the one code, null for null, in each row, flat. It is looked up once.
+fn take_one<A: Allocator + Copy>(
+    code: &ConstantArray<A>,
+    dictionary: &ArrayRef<A>,
+    ctx: &mut ExecutionCtx<A>,
+) -> VortexResult<ArrayRef<A>>
+    requires some { 0 < code.now.count }
+    requires numbers { is_numbers code.now.dtype ≡ true }
+    ensures refused { IsRefusedBy (code_fault (plain_of (OfConstant code.now)) (length (rows dictionary.now))) result }
+    ensures rows { IfOk result (λ taken. rows taken ≡
+        code_rows (rows dictionary.now) (column_rows (OfConstant code.now))) }
+    ensures dtype { IfOk result (λ taken. dtype_of taken ≡ take_dtype (dtype_of dictionary.now) code.now.dtype) }
+    ensures flat { IfOk result (λ taken. IsComputedFlat (column_of taken)) }
+    ensures session { ctx.new ≡ ctx.old }
+{
+    let runs = one_run(*ctx.allocator(), code)?;
+    let taken = take_each(&runs, dictionary, ctx);
+    drop(runs);
+    taken
+}
+
+// A constant as one run. Refused as `OutOfMemory` alone.
+fn one_run<A: Allocator + Copy>(
+    alloc: A,
+    constant: &ConstantArray<A>,
+) -> VortexResult<RunEndArray<A>>
+    requires some { 0 < constant.now.count }
+    ensures only { IsOkUnless result VortexError.OutOfMemory }
+    ensures plain { IfOk result (λ runs. plain_of (column_of_runs runs) ≡ plain_of (OfConstant constant.now)) }
+{
+    let count = constant.len();
+    let ends = vec![in alloc; count as u64; 1]?;
+    let ends = PrimitiveArray::new_unchecked(u64::wrap(ends), Validity::NonNullable);
+    let value = constant.repeated(alloc, 1)?;
+    Ok(RunEnd::new_unchecked(
+        ArrayRef::Primitive(ends),
+        ArrayRef::Constant(value),
+        0,
+        count,
+    ))
 }
 
 // The dictionary's row for each code, null for null, flat. Only the codes of visible runs are looked up, each once.
