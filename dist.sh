@@ -1,9 +1,12 @@
 #!/bin/sh
 # Makes packages of the built library, for machines that have neither the toolchain nor an hour:
 #     sh dist.sh [FOLDER]        into FOLDER, or dist/
-# A .tar.gz with install.sh and all that it puts in place, the Rust crate in it; a Debian package; a Python wheel.
-# Their version is that of the file VERSION, with +unproved after it where the library was built without proof.
-# What the machine lacks (dpkg-deb, or setuptools and wheel) is named and skipped. Nothing is installed.
+# A .tar.gz with install.sh and all that it puts in place, the Rust crate in it; a Python wheel; Debian packages of the
+# library, the Python package, and the extensions of SQLite and PostgreSQL; what is in them (SPDX), and their checksums.
+# Their version is that of the file VERSION, with +unproved after it where the library was built without proof. The same
+# library gives the same bytes: times are those of SOURCE_DATE_EPOCH, or of the last commit.
+# What the machine lacks (dpkg-deb, setuptools and wheel, headers of a database) is named and skipped. Nothing is
+# installed.
 set -eu
 top=$(cd "$(dirname "$0")" && pwd)
 out=${1:-$top/dist}
@@ -17,6 +20,10 @@ version=$(cat "$top/VERSION")
 machine=$(uname -m)
 work=$(mktemp -d)
 trap 'rm -rf "$work"' EXIT
+umask 022
+time_of_sources() { git -C "$top" log -1 --format=%ct 2>/dev/null || stat -c %Y "$top/VERSION"; }
+SOURCE_DATE_EPOCH=${SOURCE_DATE_EPOCH:-$(time_of_sources)}
+export SOURCE_DATE_EPOCH
 
 has() { command -v "$1" >/dev/null 2>&1; }
 
@@ -25,24 +32,73 @@ make_tar() {
     name=hivevigil-$version-$machine
     mkdir -p "$work/$name/tools" "$work/$name/rust" "$work/$name/docs"
     cp -R "$top/include" "$top/lib" "$top/LICENSE" "$top/VERSION" "$top/install.sh" "$work/$name/"
+    rm -f "$work/$name/lib/"*_sqlite.so
     cp -R "$top/tools/packages" "$work/$name/tools/"
     for page in ABI.md BYTES.md ERRORS.md column.proto; do cp "$top/docs/$page" "$work/$name/docs/"; done
     for part in Cargo.toml build.rs src tests examples; do cp -R "$top/rust/$part" "$work/$name/rust/"; done
-    tar -C "$work" --owner=0 --group=0 --numeric-owner -czf "$out/$name.tar.gz" "$name"
+    tar -C "$work" --sort=name --mtime="@$SOURCE_DATE_EPOCH" --owner=0 --group=0 --numeric-owner --mode=go=u-w \
+        -cf - "$name" | gzip -9n >"$out/$name.tar.gz"
 }
 
-make_deb() {
-    root=$work/deb architecture=$(dpkg --print-architecture)
+# deb NAME DEPENDS SECTION TITLE: packs $work/NAME, whose description is on standard input
+deb() {
+    root=$work/$1 architecture=$(dpkg --print-architecture)
+    mkdir -p "$root/DEBIAN" "$root/usr/share/doc/$1"
+    cp "$top/LICENSE" "$root/usr/share/doc/$1/copyright"
+    sed -e "s|@NAME@|$1|" -e "s|@DEPENDS@|$2|" -e "s|@SECTION@|$3|" -e "s|@TITLE@|$4|" -e "s|@VERSION@|$version|" \
+        -e "s|@ARCHITECTURE@|$architecture|" -e "s|@SIZE@|$(du -sk --apparent-size "$root/usr" | cut -f1)|" \
+        "$top/tools/packages/control" >"$root/DEBIAN/control"
+    sed 's/^/ /' >>"$root/DEBIAN/control"
+    dpkg-deb --root-owner-group --build "$root" "$out/${1}_${version}_$architecture.deb" >/dev/null
+}
+
+make_library_deb() {
+    root=$work/libhivevigil-dev
     folder=lib/$(${CC:-cc} -print-multiarch 2>/dev/null || true)
     DESTDIR=$root sh "$top/install.sh" --prefix /usr --libdir "${folder%/}" >/dev/null
     # dpkg has the list of files, and looks for the licence under the package's name
-    rm -r "$root/usr/share/hivevigil"
-    mkdir -p "$root/DEBIAN" "$root/usr/share/doc/libhivevigil-dev"
-    mv "$root/usr/share/doc/hivevigil/LICENSE" "$root/usr/share/doc/libhivevigil-dev/copyright"
-    sed -e "s|@VERSION@|$version|" -e "s|@ARCHITECTURE@|$architecture|" \
-        -e "s|@SIZE@|$(du -sk "$root/usr" | cut -f1)|" "$top/tools/packages/control" >"$root/DEBIAN/control"
+    rm -r "$root/usr/share/hivevigil" "$root/usr/share/doc/hivevigil/LICENSE"
+    mkdir -p "$root/DEBIAN"
     printf 'activate-noawait ldconfig\n' >"$root/DEBIAN/triggers"
-    dpkg-deb --root-owner-group --build "$root" "$out/libhivevigil-dev_${version}_$architecture.deb" >/dev/null
+    deb libhivevigil-dev libc6 libdevel "run-end encoded columns for C and C++" <<'TEXT'
+Columns that store each stretch of equal rows once, and answer as the rows
+would. Headers, an archive, a shared object, pkg-config and CMake files.
+TEXT
+}
+
+make_python_deb() {
+    folder=$work/python3-hivevigil/usr/lib/python3/dist-packages/hivevigil
+    mkdir -p "$folder"
+    cp "$top/python/hivevigil/"*.py "$top/python/hivevigil/py.typed" "$top/lib/libhivevigil.so" "$folder/"
+    deb python3-hivevigil "python3 (>= 3.9)" python "run-end encoded columns for Python" <<'TEXT'
+The package hivevigil, with the shared object in it. NumPy, pandas, Dask and
+GDAL are used where they are installed.
+TEXT
+}
+
+make_sqlite_deb() {
+    folder=$work/libsqlite3-mod-hivevigil/usr/lib/sqlite3
+    mkdir -p "$folder"
+    sh "$top/examples/sqlite/build.sh" "$folder" >/dev/null
+    deb libsqlite3-mod-hivevigil "libsqlite3-0" database "run-end encoded columns in SQLite" <<'TEXT'
+An extension that keeps columns in runs as blobs: .load
+/usr/lib/sqlite3/hivevigil_sqlite
+TEXT
+}
+
+make_postgres_deb() {
+    major=$(pg_config --version | sed -E 's/^[^0-9]*([0-9]+).*/\1/')
+    mkdir -p "$work/build/examples" "$work/build/lib"
+    cp -R "$top/examples/postgres" "$top/examples/engines" "$work/build/examples/"
+    cp -R "$top/include" "$work/build/"
+    cp "$top/lib/libhivevigil.a" "$work/build/lib/"
+    make -s -C "$work/build/examples/postgres" with_llvm=no COPT="-ffile-prefix-map=$work=." \
+        DESTDIR="$work/postgresql-$major-hivevigil" install \
+        >"$work/log" 2>&1 || { cat "$work/log" >&2; exit 1; }
+    deb "postgresql-$major-hivevigil" "postgresql-$major" database "run-end encoded columns in PostgreSQL" <<'TEXT'
+An extension with a type of columns in runs, and aggregates that make them:
+CREATE EXTENSION hivevigil.
+TEXT
 }
 
 # the python to build with: PATH's, or Debian's
@@ -62,8 +118,32 @@ make_wheel() {
         >"$work/log" 2>&1 || { cat "$work/log" >&2; exit 1; }
 }
 
+# What is packed, in SPDX's words: the library's two files by their checksums, and what is linked into them.
+list_parts() {
+    sum_of() { sha256sum "$top/lib/$1" | cut -d' ' -f1; }
+    sed -e "s|@VERSION@|$version|g" -e "s|@CREATED@|$(date -u -d "@$SOURCE_DATE_EPOCH" +%Y-%m-%dT%H:%M:%SZ)|" \
+        -e "s|@ARCHIVE@|$(sum_of libhivevigil.a)|g" -e "s|@SHARED@|$(sum_of libhivevigil.so)|" \
+        "$top/tools/packages/parts.spdx.json" >"$out/hivevigil-$version.spdx.json"
+}
+
+rm -f "$out"/*hivevigil*_*.deb "$out"/hivevigil-* "$out/SHA256SUMS"
 make_tar
-if has dpkg-deb && has dpkg; then make_deb; else echo "skipped: the Debian package, no dpkg-deb"; fi
+if has dpkg-deb && has dpkg; then
+    make_library_deb
+    make_python_deb
+    if echo '#include <sqlite3ext.h>' | "${CC:-cc}" -E - >/dev/null 2>&1; then
+        make_sqlite_deb
+    else
+        echo "skipped: the Debian package for SQLite, no sqlite3ext.h (libsqlite3-dev)"
+    fi
+    if has pg_config && has make && [ -e "$(pg_config --includedir-server)/postgres.h" ]; then
+        make_postgres_deb
+    else
+        echo "skipped: the Debian package for PostgreSQL, no headers of its server"
+    fi
+else
+    echo "skipped: the Debian packages, no dpkg-deb"
+fi
 if [ ! -d "$top/python" ]; then
     echo "skipped: the wheel, no python/"
 elif found=$(python_that_builds); then
@@ -71,4 +151,6 @@ elif found=$(python_that_builds); then
 else
     echo "skipped: the wheel, no Python with setuptools and wheel"
 fi
+list_parts
+(cd "$out" && sha256sum ./*hivevigil* >"$work/SHA256SUMS" && mv "$work/SHA256SUMS" SHA256SUMS)
 ls -l "$out"

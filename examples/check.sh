@@ -271,7 +271,7 @@ run "dist.sh" sh dist.sh "$work/dist"
 if has pkg-config; then
     package "installed, C" c
     package "the .tar.gz, C" tar
-    if [ -e "$(ls "$work"/dist/*.deb 2>/dev/null)" ]; then
+    if [ -e "$(ls "$work"/dist/libhivevigil-dev_*.deb 2>/dev/null)" ]; then
         package "the Debian package, C" deb
     else
         skip "the Debian package" dpkg-deb
@@ -286,6 +286,13 @@ else
     skip "installed, Rust" "cargo and pkg-config"
 fi
 package "installed and taken away" uninstall
+if [ -e "$(ls "$work"/dist/python3-hivevigil_*.deb 2>/dev/null)" ]; then
+    package "the Debian package, Python" python
+    package "the Debian packages of databases" databases
+else
+    skip "the Debian packages, Python and databases" dpkg-deb
+fi
+if has sha256sum; then package "checksums, and packages made again" sums; else skip "checksums" sha256sum; fi
 if ! [ -e "$(ls "$work"/dist/*.whl 2>/dev/null)" ]; then
     skip "the wheel" "setuptools and wheel for Python"
 elif "$python" -c 'import ensurepip, venv' 2>/dev/null; then

@@ -1,7 +1,7 @@
 #!/bin/sh
 # Uses the library as its users do, each time in an empty folder outside of the checkout, only from what was installed:
 #     sh examples/packages.sh c | cpp | rust | uninstall      after install.sh into that folder
-#     sh examples/packages.sh tar | deb | wheel DIST          from the packages that dist.sh made in DIST
+#     sh examples/packages.sh tar | deb | python | databases | wheel | sums DIST      from the packages of dist.sh in DIST
 # Nothing is installed outside of that folder, which is removed, and no network is used.
 set -eu
 top=$(cd "$(dirname "$0")/.." && pwd)
@@ -107,6 +107,23 @@ print(runs.sum(), runs[2:4].to_list())'
     echo "pip install of $(basename "$dist"/hivevigil-*.whl)"
 }
 
+# the extensions of the databases: SQLite's is loaded, of PostgreSQL's all that a server looks for is there
+databases() {
+    for package in "$dist"/libsqlite3-mod-hivevigil_*.deb "$dist"/postgresql-*-hivevigil_*.deb; do
+        [ ! -e "$package" ] || dpkg-deb --extract "$package" "$work/root"
+    done
+    if [ -e "$work/root/usr/lib/sqlite3" ] && command -v sqlite3 >/dev/null; then
+        expect 62 sqlite3 :memory: ".load $work/root/usr/lib/sqlite3/hivevigil_sqlite" \
+            "SELECT hv_sum(hv_column(column1)) FROM (VALUES (4), (4), (4), (7), (7), (9), (9), (9), (9))"
+        echo "SQLite's extension is loaded"
+    fi
+    [ -e "$work/root/usr/lib/postgresql" ] || return 0
+    for file in hivevigil.so hivevigil.control 'hivevigil--*.sql'; do
+        [ "$(find "$work/root" -name "$file" | wc -l)" = 1 ] || fail "no $file in PostgreSQL's package"
+    done
+    echo "PostgreSQL's extension is whole"
+}
+
 case $what in
 c) installed && c_program "$work/prefix" ;;
 cpp) installed && cpp_program ;;
@@ -134,6 +151,22 @@ deb)
     dpkg-deb --info "$dist"/libhivevigil-dev_*.deb | grep -q '^ Package: libhivevigil-dev$'
     c_program "$work/root"
     ;;
+python)
+    dpkg-deb --extract "$dist"/python3-hivevigil_*.deb "$work/root"
+    expect "62 [4, 7]" env PYTHONPATH="$work/root/usr/lib/python3/dist-packages" "${PYTHON:-python3}" -c '
+from hivevigil import Column
+runs = Column.of([4, 4, 4, 7, 7, 9, 9, 9, 9]).encode()
+print(runs.sum(), runs[2:4].to_list())'
+    echo "the Debian package of Python"
+    ;;
+databases) databases ;;
 wheel) python_program ;;
-*) fail "sh examples/packages.sh c | cpp | rust | uninstall, or tar | deb | wheel DIST" ;;
+sums)
+    (cd "$dist" && sha256sum --quiet --check SHA256SUMS)
+    [ "$(wc -l <"$dist/SHA256SUMS")" = "$(($(find "$dist" -type f | wc -l) - 1))" ] || fail "a package has no checksum"
+    sh "$top/dist.sh" "$work/again" >/dev/null 2>&1
+    diff "$dist/SHA256SUMS" "$work/again/SHA256SUMS" || fail "made again, the packages are others"
+    echo "$(wc -l <"$dist/SHA256SUMS") packages have their checksums, and the same when made again"
+    ;;
+*) fail "sh examples/packages.sh c | cpp | rust | uninstall, or tar | deb | python | databases | wheel | sums DIST" ;;
 esac
