@@ -403,14 +403,15 @@ HV_CALL void hv_builder_free(hv_builder *builder);
 
 /* A column as bytes, in any form, to keep or to send: a message of the Protocol Buffers encoding (docs/column.proto),
  * in the form that the column has, with its window; of flat texts and bytes the rows, which are read into one buffer.
- * Equal forms have equal bytes. 13 for more than 16 levels of runs alone, where lists that runs were decoded to, whose
+ * Equal forms have equal bytes. 13 exactly for more than 16 levels of runs, where lists that runs were decoded to, whose
  * offsets, sizes or validity are in runs, count as two. */
 /* How many bytes they are, by a pass over lengths that takes no memory. */
 HV_ANSWER hv_write_size(const hv_column *column, size_t *size, hv_error *error);
 /* They go to the front of `bytes`, which takes no memory, and *size says how many they are; 11 (needed, bytes_len)
  * where they have no room there. Refused by 11 or 13, it leaves `bytes` as it was. */
 HV_ANSWER hv_write(const hv_column *column, uint8_t *bytes, size_t bytes_len, size_t *size, hv_error *error);
-/* The column that was written so; 17 for bytes that are the message of no column. */
+/* The column that was written so; 17 for bytes that are the message of no column, or 21 where memory is refused before
+ * the damage is found: always 17 where the bytes do not begin as a message does. */
 HV_ANSWER hv_read_column(const uint8_t *bytes, size_t bytes_len, hv_column *out, hv_error *error);
 
 /* Frees the column, if there is one; the handle is empty after. */

@@ -1,8 +1,7 @@
 //! Columns as messages, and columns of messages.
-ghost use Rattle.std.specs.Prelude.{◌≡◌, ◌≢◌, length, IfOk, IfErr, OnOk};
+ghost use Rattle.std.specs.Prelude.{◌≡◌, ◌≢◌, ◌⊎◌, length, IfOk, IfErr, OnOk};
 ghost use Rattle.runend_array.specs.Array.{column_of};
-ghost use Rattle.c_columns.specs.Ending.{IsShortOr};
-ghost use Rattle.c_columns.specs.Messages.{HasMessage, IsColumnOfMessage, IsMessageAtFront, IsUnreadable, MessageFault, SizeFault};
+ghost use Rattle.c_columns.specs.Messages.{HasMessage, IsColumnOfMessage, IsCutOff, IsMessageAtFront, IsUnreadable, MessageFault, ReadFault, SizeFault};
 
 use crate::flat::{Boxed, boxed};
 use crate::front::Front;
@@ -11,8 +10,8 @@ use column_core::{VortexError, VortexResult};
 use runend_array::ArrayRef;
 use std::alloc::Global;
 
-/// How many bytes the message of a column has. Takes no memory. Refused as `Unsupported` where the version writes no
-/// message of it, and as `OutOfMemory` only where it has 2^64 bytes or more.
+/// Returns how many bytes the message of a column has. Takes no memory. Refused as `Unsupported` exactly where there
+/// are more than 16 levels of runs, and else as `OutOfMemory` exactly where the message has 2^64 bytes or more.
 #[tactic(auto, using(crate::proofs::MessageEndings::size_served))]
 pub fn message_size(array: &ArrayRef<Global>) -> VortexResult<usize>
     ensures told { IfOk result (λ size. HasMessage (column_of array.now) size) }
@@ -26,15 +25,18 @@ pub fn message_size(array: &ArrayRef<Global>) -> VortexResult<usize>
 }
 
 /// Puts the message of a column to the front of `room`, and answers how many bytes it has. Takes no memory. Refused as
-/// `Unsupported` where the version writes no message of it, and as `ColumnLength`, with that number and the room, where
-/// it has no room there: `room` is as it was then.
+/// `message_size` is, and else exactly where it has no room there as `ColumnLength`, with that number and the room:
+/// `room` is as it was then.
+#[tactic(auto, using(crate::proofs::MessageEndings::no_room))]
 pub fn put_message(array: &ArrayRef<Global>, room: &mut [u8]) -> VortexResult<usize>
     ensures put { IfOk result (λ size. IsMessageAtFront (column_of array.now) size room.new) }
-    ensures refused { IfErr result (λ error. IsShortOr (MessageFault (length room.old) array.now) error) }
+    ensures refused { IfErr result (λ error.
+        MessageFault (length room.old) array.now error ⊎ IsCutOff (column_of array.now) (length room.old) error) }
+    ensures served { OnOk result ((error : VortexError) → ¬ (MessageFault (length room.old) array.now error)) }
     ensures kept { IfErr result (λ error. error ≢ VortexError.OutOfMemory → room.new ≡ room.old) }
     ensures len { length room.new ≡ length room.old }
 {
-    let size = column_bytes::message_size(array)?;
+    let size = message_size(array)?;
     if room.len() < size {
         return Err(VortexError::ColumnLength {
             left: size,
@@ -46,11 +48,16 @@ pub fn put_message(array: &ArrayRef<Global>, room: &mut [u8]) -> VortexResult<us
     Ok(size)
 }
 
-/// The column of which the bytes are the message, on the heap. Refused as `BadMetadata` exactly where they are the
-/// message of no column, else for want of memory.
+/// Returns the column of which the bytes are the message, on the heap. Refused as `BadMetadata` only where they are the
+/// message of no column, and always where they do not even begin as one does; else refused for memory.
+#[tactic(auto, using(crate::proofs::MessageEndings::read_served))]
 pub fn column_of_message(alloc: Global, bytes: &[u8]) -> VortexResult<Boxed>
     ensures made { IfOk result (λ made. IsColumnOfMessage bytes.now made.value) }
-    ensures refused { IfErr result (λ error. IsShortOr (IsUnreadable bytes.now) error) }
+    ensures refused { IfErr result (λ error. ReadFault bytes.now error) }
+    ensures served { OnOk result ((error : VortexError) → ¬ (IsUnreadable bytes.now error)) }
 {
-    boxed(alloc, read_column(alloc, bytes)?)
+    match read_column(alloc, bytes) {
+        Ok(array) => boxed(alloc, array),
+        Err(error) => Err(error),
+    }
 }

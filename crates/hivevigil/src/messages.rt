@@ -1,8 +1,7 @@
 //! Calls that write columns as messages, and read messages.
 ghost use Rattle.std.specs.Prelude.{◌≡◌, ◌≢◌, IsSomeAnd, length, pos};
 ghost use Rattle.runend_array.specs.Array.{column_of};
-ghost use Rattle.c_columns.specs.Ending.{EndsAs, EndsOnHeld};
-ghost use Rattle.c_columns.specs.Messages.{EndsOnSize, HasMessage, IsColumnOfMessage, IsMessageAtFront, IsUnreadable, MessageFault, SizeFault};
+ghost use Rattle.c_columns.specs.Messages.{EndsOnReading, EndsOnSize, EndsOnWrite, HasMessage, IsColumnOfMessage, IsMessageAtFront};
 
 use c_columns::commands::answer;
 use c_columns::error_fields::{ErrorFields, NO_COLUMN, write_answer};
@@ -10,8 +9,8 @@ use c_columns::handle::Handle;
 use c_columns::messages;
 use std::alloc::Global;
 
-/// How many bytes the message of a column has: `size` says it. Takes no memory. Refused as `Unsupported` where there is
-/// none, and as `OutOfMemory` only where it has 2^64 bytes or more.
+/// Writes how many bytes the message of a column has to `size`. Takes no memory. Refused as `Unsupported` exactly where
+/// there are more than 16 levels of runs, and else as `OutOfMemory` exactly where the message has 2^64 bytes or more.
 #[tactic(auto, using(crate::proofs::PartEndings::size_empty, crate::proofs::PartEndings::size_done, crate::proofs::PartEndings::size_refused))]
 #[unsafe(no_mangle)]
 pub extern "C" fn hv_write_size(
@@ -32,10 +31,10 @@ pub extern "C" fn hv_write_size(
     write_answer(outcome, size, error)
 }
 
-/// The message of a column: its bytes go to the front of `bytes`, and `size` says how many they are. Takes no memory.
-/// Refused as `Unsupported` where there is none; answers 11, with their number and the room, where they have no room
-/// there: `bytes` is as it was then.
-#[tactic(auto, using(crate::proofs::PartEndings::held_empty, crate::proofs::PartEndings::held_done, crate::proofs::PartEndings::held_refused))]
+/// Writes the message of a column: its bytes go to the front of `bytes`, and `size` says how many they are. Takes no
+/// memory. Refused as `hv_write_size` is; else answers 11, with their number and the room, exactly where they have no
+/// room there: `bytes` is as it was then.
+#[tactic(auto, using(c_columns::proofs::MessageEndings::write_empty, c_columns::proofs::MessageEndings::write_done, c_columns::proofs::MessageEndings::write_refused))]
 #[unsafe(no_mangle)]
 pub extern "C" fn hv_write(
     alloc: Global,
@@ -48,7 +47,7 @@ pub extern "C" fn hv_write(
     ensures told { result ≡ pos 0
         → IsSomeAnd column.old.column (λ c. IsMessageAtFront (column_of c) size.new bytes.new) }
     ensures kept { result ≢ pos 0 → result ≢ pos 21 → bytes.new ≡ bytes.old }
-    ensures ended { EndsOnHeld (MessageFault (length bytes.old)) column.old.column result error.new }
+    ensures ended { EndsOnWrite (length bytes.old) column.old.column result error.new }
 {
     let Some(array) = column.take(alloc) else {
         return NO_COLUMN;
@@ -58,9 +57,9 @@ pub extern "C" fn hv_write(
     write_answer(outcome, size, error)
 }
 
-/// The column of which the bytes are the message. Refused as `BadMetadata` exactly where they are the message of no
-/// column.
-#[tactic(auto, using(crate::proofs::PartEndings::as_done, crate::proofs::PartEndings::as_refused))]
+/// Makes the column of which the bytes are the message. Refused as `BadMetadata` only where they are the message of no
+/// column, and always where they do not even begin as one does.
+#[tactic(auto, using(c_columns::proofs::MessageEndings::read_done, c_columns::proofs::MessageEndings::read_refused))]
 #[unsafe(no_mangle)]
 pub extern "C" fn hv_read_column(
     alloc: Global,
@@ -70,7 +69,7 @@ pub extern "C" fn hv_read_column(
 ) -> i32
     ensures made { result ≡ pos 0 → IsSomeAnd out.new.column (IsColumnOfMessage bytes.now) }
     ensures kept { result ≢ pos 0 → out.new.column ≡ out.old.column }
-    ensures ended { EndsAs (IsUnreadable bytes.now) result error.new }
+    ensures ended { EndsOnReading bytes.now result error.new }
 {
     answer(messages::column_of_message(alloc, bytes), out, error)
 }
