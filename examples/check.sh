@@ -131,6 +131,24 @@ else
     skip "cpp/demo.cpp" "$cxx"
 fi
 
+# the program, as it ships and under sanitizers, held against Python's csv module, plain lists, and the model of messages
+program_as() {
+    FLAGS=$2 sh program/build.sh "$work/$1" && timeout 500 "$model" -B program/test.py "$work/$1/hivevigil" $3
+}
+# Debian's packages belong to /usr/bin/python3, which is not always the python3 on PATH
+python_with() {
+    for found in "$python" /usr/bin/python3; do
+        "$found" -c "import $1" 2>/dev/null && { echo "$found"; return; }
+    done
+    return 1
+}
+if has "$cxx" && { model=$(has protoc && python_with google.protobuf) || model=$(python_with csv); }; then
+    run "program/test.py" program_as program "" "--files 40 --messages 300"
+    [ "$arrow_how" ] && run "program/test.py$arrow_how" program_as watched "$watched" "--files 8 --messages 120"
+else
+    skip "the program" "$cxx and Python"
+fi
+
 if has cargo && cargo --version >/dev/null 2>&1; then
     export CARGO_TARGET_DIR="$work/target"
     with="--quiet --offline --manifest-path rust/Cargo.toml"
@@ -155,13 +173,6 @@ else
     skip "python/demo.py and threads.py" "$python"
 fi
 
-# Debian's packages belong to /usr/bin/python3, which is not always the python3 on PATH
-python_with() {
-    for found in "$python" /usr/bin/python3; do
-        "$found" -c "import $1" 2>/dev/null && { echo "$found"; return; }
-    done
-    return 1
-}
 if found=$(python_with numpy); then
     run "python/demo.py with NumPy" timeout 60 "$found" examples/python/demo.py
 else

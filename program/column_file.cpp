@@ -1,0 +1,89 @@
+#include "column_file.hpp"
+#include "failure.hpp"
+#include "values.hpp"
+#include <cstdio>
+#include <cstdlib>
+#include <memory>
+#include <sys/stat.h>
+#include <unistd.h>
+
+using File = std::unique_ptr<std::FILE, int (*)(std::FILE *)>;
+
+static hv::Bytes bytes_of_file(const std::string &path) {
+    const File file(std::fopen(path.c_str(), "rb"), std::fclose);
+    if (!file) throw refused_file(path);
+    hv::Bytes bytes;
+    for (size_t read = 1 << 16; read > 0;) {
+        const size_t before = bytes.size();
+        bytes.resize(before + std::max<size_t>(1 << 16, before / 2));
+        read = std::fread(bytes.data() + before, 1, bytes.size() - before, file.get());
+        bytes.resize(before + read);
+    }
+    if (std::ferror(file.get())) throw refused_file(path);
+    return bytes;
+}
+
+LoadedColumn load_column(const std::string &path) {
+    const hv::Bytes bytes = bytes_of_file(path);
+    try {
+        return {hv::Column::from_bytes(bytes), bytes.size()};
+    } catch (const hv::Error &error) {
+        if (error.number != HV_BAD_METADATA) throw;
+        throw Failure(path + ", of " + with_commas(bytes.size()) + " bytes, is not the file of a column");
+    }
+}
+
+static void write_bytes(int descriptor, const hv::Bytes &bytes, const std::string &path) {
+    for (size_t written = 0; written < bytes.size();) {
+        const ssize_t more = write(descriptor, bytes.data() + written, bytes.size() - written);
+        if (more < 0 && errno != EINTR) throw refused_file(path);
+        written += more < 0 ? 0 : static_cast<size_t>(more);
+    }
+}
+
+// A file that is written next to the one that is meant, and taken away unless it takes the place of that one.
+class Part {
+public:
+    explicit Part(const std::string &target) : meant(target), part(target + ".XXXXXX") {
+        descriptor = mkstemp(part.data());
+        if (descriptor < 0) throw refused_file(meant);
+    }
+    ~Part() {
+        if (descriptor >= 0) close(descriptor), unlink(part.c_str());
+    }
+    Part(const Part &) = delete;
+    Part &operator=(const Part &) = delete;
+    void write_all(const hv::Bytes &bytes, mode_t mode) {
+        write_bytes(descriptor, bytes, meant);
+        if (fchmod(descriptor, mode) || fsync(descriptor) || rename(part.c_str(), meant.c_str()))
+            throw refused_file(meant);
+        close(descriptor);
+        descriptor = -1;
+    }
+
+private:
+    std::string meant, part;
+    int descriptor;
+};
+
+static mode_t mode_of_new_files() {
+    const mode_t mask = umask(0);
+    umask(mask);
+    return 0666 & ~mask;
+}
+
+void save_column(const hv::Column &column, const std::string &path) {
+    const hv::Bytes bytes = column.to_bytes();
+    struct stat there {};
+    const bool is_there = stat(path.c_str(), &there) == 0;
+    if (is_there && !S_ISREG(there.st_mode)) {
+        const File file(std::fopen(path.c_str(), "wb"), std::fclose);
+        if (!file) throw refused_file(path);
+        write_bytes(fileno(file.get()), bytes, path);
+        return;
+    }
+    // a link is followed: the file that it names is replaced
+    const std::unique_ptr<char, void (*)(void *)> real(is_there ? realpath(path.c_str(), nullptr) : nullptr, std::free);
+    Part part(real ? real.get() : path);
+    part.write_all(bytes, is_there ? there.st_mode & 07777 : mode_of_new_files());
+}

@@ -1,0 +1,76 @@
+#include "csv_reader.hpp"
+#include "failure.hpp"
+#include <algorithm>
+
+InputFile::InputFile(const std::string &path) : name(path), file(std::fopen(path.c_str(), "rb")), block(1 << 16) {
+    if (!file) throw refused_file(name);
+}
+
+InputFile::~InputFile() { std::fclose(file); }
+
+int InputFile::filled_peek() {
+    at = 0;
+    filled = std::fread(block.data(), 1, block.size(), file);
+    if (filled == 0 && std::ferror(file)) throw refused_file(name);
+    return filled ? static_cast<unsigned char>(block[0]) : EOF;
+}
+
+static char separator_of(std::string_view begun) {
+    const std::string_view line = begun.substr(0, begun.find_first_of("\r\n"));
+    for (char mark : {',', ';', '\t', '|'})
+        if (line.find(mark) != line.npos) return mark;
+    return ',';
+}
+
+CsvReader::CsvReader(const std::string &path, std::optional<char> separator)
+    : input(path), mark(separator ? *separator : separator_of(input.begun())) {
+    if (input.begun().substr(0, 3) == "\xef\xbb\xbf")
+        for (int byte = 0; byte < 3; byte++) input.get();
+}
+
+std::string CsvReader::at_line(const std::string &sentence) const {
+    return input.path() + ": line " + std::to_string(lines) + sentence;
+}
+
+bool CsvReader::next(std::vector<std::string> &fields) {
+    while (input.peek() != EOF && is_line_end()) end_line();
+    if (input.peek() == EOF) return false;
+    size_t count = 0;
+    for (bool more = true; more; count++) {
+        if (count == fields.size()) fields.emplace_back();
+        fields[count].clear();
+        read_field(fields[count]);
+        more = input.peek() == mark;
+        if (more) input.get();
+    }
+    fields.resize(count);
+    end_line();
+    return true;
+}
+
+// CR, LF, both, or the end of the file, which ends a line too.
+void CsvReader::end_line() {
+    lines++;
+    if (input.get() == '\r' && input.peek() == '\n') input.get();
+}
+
+void CsvReader::read_field(std::string &field) {
+    if (input.peek() == '"') return read_quoted(field);
+    while (!is_field_end()) field += static_cast<char>(input.get());
+}
+
+void CsvReader::read_quoted(std::string &field) {
+    input.get();
+    while (input.peek() != '"' || (input.get(), input.peek() == '"')) {
+        const int byte = input.get();
+        if (byte == EOF) {
+            lines++;
+            throw Failure(at_line(": the file ends within quotes"));
+        }
+        lines += byte == '\n' || (byte == '\r' && input.peek() != '\n');
+        field += static_cast<char>(byte);
+    }
+    if (is_field_end()) return;
+    lines++;
+    throw Failure(at_line(": text after a closing quote"));
+}

@@ -1,0 +1,42 @@
+// What --help prints.
+#ifndef HIVEVIGIL_PROGRAM_HELP_HPP
+#define HIVEVIGIL_PROGRAM_HELP_HPP
+
+inline constexpr char help[] = R"(Columns in runs: of CSV files, kept in files, shown and asked.
+
+  hivevigil report FILE.csv                 what each column takes flat and in runs
+  hivevigil convert FILE.csv --column NAME --to FILE.hv
+                                            keeps one column in runs
+  hivevigil show FILE.hv                    its type, rows, runs, nulls and bytes
+  hivevigil show FILE.hv --rows N           its first rows, a line each
+  hivevigil show FILE.hv --runs             its runs: first row, row after the last, value
+  hivevigil query FILE.hv QUESTION          sum, min, max, or count of rows that are not null
+  hivevigil query FILE.hv filter CONDITION  the rows that meet it, a line each
+
+A CSV file has the names in its first line, and an empty field is null. Columns
+are booleans, integers, decimals or texts, by all of their fields. A row is
+printed as a field of a CSV file: null as an empty line.
+
+Options:
+  --column NAME      the column that is kept
+  --to FILE.hv       where: the file is replaced whole, or not at all
+  --type TYPE        its type, in place of the one that its fields have: u8 to
+                     u64, i8 to i64, bool, utf8, binary (hexadecimal digits),
+                     decimal(10,2), with a ? after it where rows may be null
+  --separator MARK   divides the fields, in place of the first of , ; tab |
+                     that the first line has
+  --rows N           prints rows, at most N
+  --from ROW         from this row on, counted from 0
+  --runs             prints runs
+  --where CONDITION  asks only the rows that meet it; several times: all of them
+  --help             prints this
+  --version          prints the version
+
+A CONDITION is one argument, an operator and a value: '> 4', '= Oslo', 'ne 7'.
+Operators are = != < <= > >=, or eq ne lt le gt ge. A null meets none.
+
+The status is 0; 1 where a file or a value is not served, and 2 where the
+command line is wrong, which a sentence on standard error says.
+)";
+
+#endif

@@ -1,0 +1,225 @@
+// hivevigil: columns of CSV files in runs, kept in files, shown and asked, from the command line. The status is 0; 1
+// where a file or a value is not served, and 2 where the command line is wrong. A sentence on standard error says why.
+#include "column_file.hpp"
+#include "csv_columns.hpp"
+#include "failure.hpp"
+#include "help.hpp"
+#include "questions.hpp"
+#include "values.hpp"
+#include <algorithm>
+#include <cstdio>
+#include <getopt.h>
+#include <map>
+#include <new>
+
+using hv::Column;
+
+#ifndef HIVEVIGIL_PROGRAM_VERSION
+#error "program/build.sh says which version this is"
+#endif
+
+// ---- The command line ----
+
+struct Arguments {
+    std::vector<std::string> words; // the command, and what is not an option
+    std::map<std::string, std::vector<std::string>> options;
+
+    bool has(const std::string &name) const { return options.count(name) != 0; }
+    // The value of an option that is given at most once.
+    std::optional<std::string> value(const std::string &name) const {
+        const auto found = options.find(name);
+        if (found == options.end()) return std::nullopt;
+        if (found->second.size() > 1) throw BadUsage("--" + name + " is given twice");
+        return found->second[0];
+    }
+    std::string needed(const std::string &name) const {
+        const std::optional<std::string> found = value(name);
+        if (!found) throw BadUsage(words[0] + " needs --" + name);
+        return *found;
+    }
+};
+
+static Arguments arguments_of(int count, char **given) {
+    static const option known[] = {
+        {"column", required_argument, nullptr, 0}, {"to", required_argument, nullptr, 0},
+        {"type", required_argument, nullptr, 0},   {"separator", required_argument, nullptr, 0},
+        {"rows", required_argument, nullptr, 0},   {"from", required_argument, nullptr, 0},
+        {"runs", no_argument, nullptr, 0},         {"where", required_argument, nullptr, 0},
+        {"help", no_argument, nullptr, 0},         {"version", no_argument, nullptr, 0},
+        {nullptr, 0, nullptr, 0}};
+    Arguments arguments;
+    opterr = 0;
+    for (int place = 0;;) {
+        const int next = optind, found = getopt_long(count, given, ":", known, &place);
+        if (found == -1) break;
+        if (found == ':') throw BadUsage(std::string(given[next]) + " needs a value");
+        if (found != 0) throw BadUsage(std::string(given[next]) + " is not an option");
+        arguments.options[known[place].name].push_back(optarg ? optarg : "");
+    }
+    arguments.words.assign(given + optind, given + count);
+    return arguments;
+}
+
+// Refuses what a command does not take: another number of words, or options that it does not read.
+static void take(const Arguments &arguments, size_t words, const std::vector<std::string> &options) {
+    if (arguments.words.size() != words)
+        throw BadUsage(arguments.words[0] + " takes " + std::to_string(words - 1) + " words before its options, not " +
+                       std::to_string(arguments.words.size() - 1));
+    for (const auto &given : arguments.options)
+        if (std::find(options.begin(), options.end(), given.first) == options.end())
+            throw BadUsage("--" + given.first + " is not an option of " + arguments.words[0]);
+}
+
+static size_t count_of(const std::string &text, const std::string &option) {
+    size_t number = 0;
+    for (char letter : text) {
+        const size_t digit = static_cast<size_t>(letter - '0');
+        if (letter < '0' || letter > '9' || number > (SIZE_MAX - digit) / 10)
+            throw BadUsage("--" + option + " takes a number of rows, not '" + text + "'");
+        number = number * 10 + digit;
+    }
+    if (text.empty()) throw BadUsage("--" + option + " takes a number of rows");
+    return number;
+}
+
+static CsvOptions csv_options(const Arguments &arguments) {
+    CsvOptions options{arguments.words[1], std::nullopt, arguments.value("column"), std::nullopt};
+    const std::optional<std::string> mark = arguments.value("separator"), type = arguments.value("type");
+    if (mark && (mark->size() != 1 || mark->find_first_of("\"\r\n") != mark->npos))
+        throw BadUsage("--separator takes one character of ASCII, not '" + *mark + "'");
+    if (mark) options.separator = (*mark)[0];
+    try {
+        if (type) options.kind = kind_of_text(*type);
+    } catch (const Failure &error) {
+        throw BadUsage(error.what());
+    }
+    return options;
+}
+
+// ---- Commands ----
+
+using Cells = std::vector<std::string>;
+
+// Left the first two columns, right the others.
+static void print_table(const std::vector<Cells> &lines) {
+    std::vector<size_t> widths(lines[0].size());
+    const auto width_of = [](const std::string &text) { // letters, not bytes
+        const auto begins_letter = [](char byte) { return (byte & 0xC0) != 0x80; };
+        return static_cast<size_t>(std::count_if(text.begin(), text.end(), begins_letter));
+    };
+    for (const Cells &line : lines)
+        for (size_t at = 0; at < line.size(); at++) widths[at] = std::max(widths[at], width_of(line[at]));
+    for (const Cells &line : lines) {
+        std::string text;
+        for (size_t at = 0; at < line.size(); at++) {
+            const std::string space(widths[at] - width_of(line[at]), ' ');
+            text += (at ? "  " : "") + (at < 2 ? line[at] + space : space + line[at]);
+        }
+        std::printf("%s\n", text.c_str());
+    }
+}
+
+// What the rows take where they are written out, some of them at a time.
+static size_t bytes_flat(const Column &runs) {
+    size_t bytes = 0;
+    for (size_t start = 0, step = 1 << 16; start < runs.size(); start += step)
+        bytes += runs.slice(start, std::min(runs.size(), start + step)).decode().bytes_used();
+    return bytes;
+}
+
+static void report(const Arguments &arguments) {
+    take(arguments, 2, {"separator"});
+    std::vector<Cells> lines = {{"column", "type", "rows", "nulls", "runs", "bytes flat", "bytes in runs"}};
+    size_t all_flat = 0, all_in_runs = 0;
+    for (const CsvColumn &column : read_csv(csv_options(arguments))) {
+        const Column &runs = column.runs;
+        const size_t flat = bytes_flat(runs), in_runs = runs.bytes_used();
+        lines.push_back({column.name, hv::to_string(runs.kind()), with_commas(runs.size()), with_commas(column.nulls),
+                         with_commas(runs.runs().size()), with_commas(flat), with_commas(in_runs)});
+        all_flat += flat, all_in_runs += in_runs;
+    }
+    print_table(lines);
+    std::printf("%s bytes flat, %s in runs\n", with_commas(all_flat).c_str(), with_commas(all_in_runs).c_str());
+}
+
+static void convert(const Arguments &arguments) {
+    take(arguments, 2, {"column", "to", "type", "separator"});
+    const std::string to = arguments.needed("to"), name = arguments.needed("column");
+    const std::vector<CsvColumn> found = read_csv(csv_options(arguments));
+    save_column(found[0].runs, to);
+}
+
+static void show(const Arguments &arguments) {
+    take(arguments, 2, {"rows", "from", "runs"});
+    const bool rows = arguments.has("rows"), runs = arguments.has("runs");
+    if (rows && runs) throw BadUsage("show takes --rows or --runs, not both");
+    if (arguments.has("from") && !rows) throw BadUsage("--from takes --rows too");
+    const size_t start = rows ? count_of(arguments.value("from").value_or("0"), "from") : 0;
+    const size_t count = rows ? count_of(arguments.needed("rows"), "rows") : 0;
+    const LoadedColumn loaded = load_column(arguments.words[1]);
+    const size_t size = loaded.column.size();
+    if (runs) return print_runs(loaded.column);
+    if (rows) return print_rows(loaded.column, start, start + std::min(count, start < size ? size - start : 0));
+    std::printf("%s, %s null; %s bytes in the file, %s in memory\n", summary_of(loaded.column).c_str(),
+                with_commas(size - count_valid(loaded.column)).c_str(), with_commas(loaded.file_bytes).c_str(),
+                with_commas(loaded.column.bytes_used()).c_str());
+}
+
+static void print_number(const hv::Sum &sum) {
+    std::visit([](auto total) { std::printf("%s\n", std::to_string(total).c_str()); }, sum.total);
+}
+
+static void query(const Arguments &arguments) {
+    const std::string question = arguments.words.size() > 2 ? arguments.words[2] : "";
+    const bool filters = question == "filter";
+    if (question != "sum" && question != "min" && question != "max" && question != "count" && !filters)
+        throw BadUsage("query takes a file and one of sum, min, max, count, filter");
+    std::vector<std::string> options = {"where"};
+    if (filters) options.push_back("to");
+    take(arguments, filters ? 4 : 3, options);
+    std::vector<Condition> conditions;
+    if (filters) conditions.push_back(condition_of_text(arguments.words[3]));
+    if (arguments.has("where"))
+        for (const std::string &text : arguments.options.at("where")) conditions.push_back(condition_of_text(text));
+    const Column rows = rows_where(load_column(arguments.words[1]).column, conditions);
+    if (filters && arguments.has("to")) save_column(rows, *arguments.value("to"));
+    else if (filters) print_rows(rows, 0, rows.size());
+    else if (question == "sum") print_number(rows.sum());
+    else if (question == "count") std::printf("%zu\n", count_valid(rows));
+    else std::printf("%s\n", csv_field(question == "min" ? rows.least() : rows.greatest()).c_str());
+}
+
+static void run(const Arguments &arguments) {
+    static const std::map<std::string, void (*)(const Arguments &)> commands = {
+        {"report", report}, {"convert", convert}, {"show", show}, {"query", query}};
+    if (arguments.has("help")) return void(std::fputs(help, stdout));
+    if (arguments.has("version")) return void(std::puts("hivevigil " HIVEVIGIL_PROGRAM_VERSION));
+    if (arguments.words.empty()) throw BadUsage("no command: report, convert, show or query");
+    const auto found = commands.find(arguments.words[0]);
+    if (found == commands.end())
+        throw BadUsage("'" + arguments.words[0] + "' is not one of report, convert, show, query");
+    if (arguments.words.size() < 2) throw BadUsage(arguments.words[0] + " takes a file");
+    // what a refusal of the library is about
+    const std::string about = arguments.words[1] + ": ";
+    try {
+        found->second(arguments);
+    } catch (const hv::Error &error) {
+        throw Failure(about + error.what());
+    } catch (const std::bad_alloc &) {
+        throw Failure(about + "out of memory");
+    }
+}
+
+int main(int count, char **given) {
+    try {
+        run(arguments_of(count, given));
+        if (std::fflush(stdout) || std::ferror(stdout)) throw refused_file("standard output");
+        return 0;
+    } catch (const BadUsage &error) {
+        std::fprintf(stderr, "hivevigil: %s (hivevigil --help)\n", error.what());
+        return 2;
+    } catch (const std::exception &error) {
+        std::fprintf(stderr, "hivevigil: %s\n", error.what());
+        return 1;
+    }
+}

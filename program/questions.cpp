@@ -1,0 +1,144 @@
+#include "questions.hpp"
+#include "failure.hpp"
+#include "values.hpp"
+#include <cstdio>
+
+using hv::Column;
+using hv::Form;
+
+static void print_line(const std::string &text) {
+    std::fwrite(text.data(), 1, text.size(), stdout);
+    std::fputc('\n', stdout);
+}
+
+static size_t count_true(const std::vector<bool> &flags) {
+    size_t count = 0;
+    for (bool flag : flags) count += flag;
+    return count;
+}
+
+static bool is_valid(const hv::Run &run) { return !std::holds_alternative<hv::Null>(run.value); }
+
+// Whether a list is null, in whichever form.
+static bool is_valid_list(const Column &lists, size_t row) {
+    switch (lists.form()) {
+    case Form::constant: return false; // a constant of lists is null
+    case Form::runs: return is_valid_list(lists.values(), lists.run_of(row));
+    default: return std::get<bool>(lists.list_validity().at(row));
+    }
+}
+
+static size_t count_valid_runs_of_lists(const Column &runs) {
+    size_t count = 0;
+    for (size_t row = 0, run = runs.empty() ? 0 : runs.run_of(0); row < runs.size(); run++) {
+        uint64_t stop = 0;
+        hv::detail::ask([&](auto *error) { return hv_read_ends_u64(runs.raw(), run, &stop, 1, error); });
+        if (is_valid_list(runs.values(), run)) count += stop - row;
+        row = stop;
+    }
+    return count;
+}
+
+size_t count_valid(const Column &column) {
+    const bool is_list = column.kind().number == HV_LIST;
+    if (!column.kind().nullable) return column.size();
+    if (is_list && column.form() == Form::constant) return 0;
+    if (is_list && column.form() == Form::runs) return count_valid_runs_of_lists(column);
+    size_t count = 0;
+    if (is_list) {
+        const Column flags = column.list_validity();
+        for (const hv::Run &run : flags.runs()) count += std::get<bool>(run.value) ? run.size() : 0;
+        return count;
+    }
+    if (column.form() == Form::flat) return count_true(column.validity());
+    for (const hv::Run &run : column.runs()) count += is_valid(run) ? run.size() : 0;
+    return count;
+}
+
+std::string summary_of(const Column &column) {
+    const std::string rows = hv::to_string(column.kind()) + ": " + with_commas(column.size()) + " rows";
+    if (column.form() == Form::constant) return rows + " of one value";
+    if (column.form() != Form::runs) return rows + ", flat";
+    const size_t runs = column.empty() ? 0 : column.run_of(column.size() - 1) + 1 - column.run_of(0);
+    return rows + " in " + with_commas(runs) + " runs";
+}
+
+Condition condition_of_text(const std::string &text) {
+    using hv::Operator;
+    static const std::pair<std::string, Operator> operators[] = { // before each other, where one begins another
+        {">=", Operator::greater_or_equal}, {"<=", Operator::less_or_equal},    {"!=", Operator::not_equal},
+        {">", Operator::greater},           {"<", Operator::less},              {"=", Operator::equal},
+        {"ge ", Operator::greater_or_equal}, {"le ", Operator::less_or_equal},  {"ne ", Operator::not_equal},
+        {"gt ", Operator::greater},         {"lt ", Operator::less},            {"eq ", Operator::equal}};
+    for (const auto &[name, by] : operators) {
+        if (text.compare(0, name.size(), name) != 0) continue;
+        const bool is_spaced = name.back() != ' ' && text.size() > name.size() && text[name.size()] == ' ';
+        return {by, text.substr(name.size() + is_spaced)};
+    }
+    throw BadUsage("'" + text + "' does not begin with an operator: = != < <= > >=, or eq ne lt le gt ge");
+}
+
+// A row for each run that the column shows, in their order.
+static Column one_of_each_run(const Column &column, const hv::Runs &runs) {
+    if (column.form() != Form::runs || runs.empty()) return column.slice(0, runs.size());
+    const size_t first = column.run_of(0);
+    return column.values().slice(first, first + runs.size());
+}
+
+// The runs that meet the condition, in memory by runs: a constant of 2^60 rows, say, has one.
+static Column runs_where(const Column &column, const Condition &condition, const hv::Value &value) {
+    const hv::Runs runs = column.runs();
+    const Column mask = one_of_each_run(column, runs).compare(condition.by, value);
+    hv::Builder kept(column.kind());
+    for (size_t run = 0; run < runs.size(); run++) {
+        if (mask.at(run) != hv::Value(true)) continue;
+        const hv::Run found = runs.item(run);
+        kept.append(found.value, found.size());
+    }
+    return kept.finish();
+}
+
+Column rows_where(const Column &column, const std::vector<Condition> &conditions) {
+    Column rows = column.clone();
+    for (const Condition &condition : conditions) {
+        const hv::Value value = value_of_text(condition.value, column.kind());
+        if (rows.form() == Form::flat) rows = rows.filter(rows.compare(condition.by, value));
+        else rows = runs_where(rows, condition, value);
+    }
+    return rows;
+}
+
+static std::string json_of_list(const Column &elements, size_t start, size_t size) {
+    std::string json = "[";
+    for (size_t item = start; item < start + size; item++) {
+        if (item > start) json += ",";
+        json += json_of(elements.at(item));
+    }
+    return json + "]";
+}
+
+// Lists in any form, some of them written out at a time.
+static void print_lists(const Column &column, size_t start, size_t stop) {
+    for (const size_t step = 4096; start < stop; start += step) {
+        const Column lists = column.slice(start, std::min(stop, start + step)).decode();
+        const Column elements = lists.list_elements();
+        const std::vector<uint64_t> offsets = lists.list_offsets().numbers<uint64_t>();
+        const std::vector<uint64_t> sizes = lists.list_sizes().numbers<uint64_t>();
+        const std::vector<bool> valid = lists.list_validity().truths();
+        for (size_t row = 0; row < lists.size(); row++)
+            print_line(valid[row] ? csv_field(json_of_list(elements, offsets[row], sizes[row])) : "");
+    }
+}
+
+void print_rows(const Column &column, size_t start, size_t stop) {
+    if (column.kind().number == HV_LIST) return print_lists(column, start, stop);
+    for (size_t row = start; row < stop; row++) print_line(csv_field(column.at(row)));
+}
+
+void print_runs(const Column &column) {
+    const Column flat = column.form() == Form::flat ? column.encode_rows() : Column();
+    const hv::Runs runs = (flat ? flat : column).runs();
+    print_line("start,stop,value");
+    for (const hv::Run &run : runs)
+        print_line(std::to_string(run.start) + "," + std::to_string(run.stop) + "," + csv_field(run.value));
+}
