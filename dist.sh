@@ -2,11 +2,12 @@
 # Makes packages of the built library, for machines that have neither the toolchain nor an hour:
 #     sh dist.sh [FOLDER]        into FOLDER, or dist/
 # A .tar.gz with install.sh and all that it puts in place, the Rust crate in it; a Python wheel; Debian packages of the
-# library, the Python package, and the extensions of SQLite and PostgreSQL; what is in them (SPDX), and their checksums.
+# program, the library, the Python package, and the extensions of SQLite and PostgreSQL; what is in them (SPDX), and
+# their checksums.
 # Their version is that of the file VERSION, with +unproved after it where the library was built without proof. The same
 # library gives the same bytes: times are those of SOURCE_DATE_EPOCH, or of the last commit.
-# What the machine lacks (dpkg-deb, setuptools and wheel, headers of a database) is named and skipped. Nothing is
-# installed.
+# What the machine lacks (a C++ compiler, dpkg-deb, setuptools and wheel, headers of a database) is named and skipped.
+# Nothing is installed.
 set -eu
 top=$(cd "$(dirname "$0")" && pwd)
 out=${1:-$top/dist}
@@ -31,8 +32,9 @@ has() { command -v "$1" >/dev/null 2>&1; }
 make_tar() {
     name=hivevigil-$version-$machine
     mkdir -p "$work/$name/tools" "$work/$name/rust" "$work/$name/docs"
-    cp -R "$top/include" "$top/lib" "$top/LICENSE" "$top/VERSION" "$top/install.sh" "$work/$name/"
+    cp -R "$top/include" "$top/lib" "$top/man" "$top/LICENSE" "$top/VERSION" "$top/install.sh" "$work/$name/"
     rm -f "$work/$name/lib/"*_sqlite.so
+    [ ! -e "$work/bin" ] || cp -R "$work/bin" "$work/$name/"
     cp -R "$top/tools/packages" "$work/$name/tools/"
     for page in ABI.md BYTES.md ERRORS.md column.proto; do cp "$top/docs/$page" "$work/$name/docs/"; done
     for part in Cargo.toml build.rs src tests examples; do cp -R "$top/rust/$part" "$work/$name/rust/"; done
@@ -47,7 +49,7 @@ deb() {
     cp "$top/LICENSE" "$root/usr/share/doc/$1/copyright"
     sed -e "s|@NAME@|$1|" -e "s|@DEPENDS@|$2|" -e "s|@SECTION@|$3|" -e "s|@TITLE@|$4|" -e "s|@VERSION@|$version|" \
         -e "s|@ARCHITECTURE@|$architecture|" -e "s|@SIZE@|$(du -sk --apparent-size "$root/usr" | cut -f1)|" \
-        "$top/tools/packages/control" >"$root/DEBIAN/control"
+        -e '/^Depends: $/d' "$top/tools/packages/control" >"$root/DEBIAN/control"
     sed 's/^/ /' >>"$root/DEBIAN/control"
     dpkg-deb --root-owner-group --build "$root" "$out/${1}_${version}_$architecture.deb" >/dev/null
 }
@@ -56,13 +58,28 @@ make_library_deb() {
     root=$work/libhivevigil-dev
     folder=lib/$(${CC:-cc} -print-multiarch 2>/dev/null || true)
     DESTDIR=$root sh "$top/install.sh" --prefix /usr --libdir "${folder%/}" >/dev/null
-    # dpkg has the list of files, and looks for the licence under the package's name
+    # dpkg has the list of files, and looks for the licence under the package's name; the program has its own package
     rm -r "$root/usr/share/hivevigil" "$root/usr/share/doc/hivevigil/LICENSE"
+    rm -rf "${root:?}/usr/bin" "${root:?}/usr/share/man/man1"
     mkdir -p "$root/DEBIAN"
     printf 'activate-noawait ldconfig\n' >"$root/DEBIAN/triggers"
     deb libhivevigil-dev libc6 libdevel "run-end encoded columns for C and C++" <<'TEXT'
 Columns that store each stretch of equal rows once, and answer as the rows
 would. Headers, an archive, a shared object, pkg-config and CMake files.
+TEXT
+}
+
+make_program_deb() {
+    root=$work/hivevigil
+    mkdir -p "$root/usr/bin" "$root/usr/share/man/man1" "$root/usr/share/doc/hivevigil"
+    cp "$work/bin/hivevigil" "$root/usr/bin/"
+    cp "$top/man/hivevigil.1" "$root/usr/share/man/man1/"
+    # what is linked with an archive needs no package
+    needs=
+    ! ldd "$work/bin/hivevigil" >/dev/null 2>&1 || needs=libc6
+    deb hivevigil "$needs" utils "run-end encoded columns from the command line" <<'TEXT'
+What a CSV file takes with each stretch of equal rows stored once, one of its
+columns kept in a file, and such a file shown and asked.
 TEXT
 }
 
@@ -127,9 +144,15 @@ list_parts() {
 }
 
 rm -f "$out"/*hivevigil*_*.deb "$out"/hivevigil-* "$out/SHA256SUMS"
+if has "${CXX:-c++}"; then
+    sh "$top/program/build.sh" "$work/bin" >/dev/null
+else
+    echo "skipped: the program, no ${CXX:-c++}"
+fi
 make_tar
 if has dpkg-deb && has dpkg; then
     make_library_deb
+    [ ! -e "$work/bin" ] || make_program_deb
     make_python_deb
     if echo '#include <sqlite3ext.h>' | "${CC:-cc}" -E - >/dev/null 2>&1; then
         make_sqlite_deb

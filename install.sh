@@ -1,6 +1,7 @@
 #!/bin/sh
-# Puts the built library in place: headers, archive, shared object, pkg-config and CMake files, licence, and the pages
-# that its users read: the binary interface, errors, columns as bytes and their schema.
+# Puts the built library in place: headers, archive, shared object, pkg-config and CMake files, licence, pages of the
+# manual, and those that its users read: the binary interface, errors, columns as bytes and their schema. So is the
+# program hivevigil, where program/build.sh has built it.
 #     sh install.sh --prefix DIR [--libdir lib]     installs below DIR
 #     sh install.sh --prefix DIR --uninstall        takes away what an install put there, and nothing else
 # DESTDIR, if set, comes before DIR, as for other installers. sh examples/build.sh builds the library first.
@@ -65,6 +66,12 @@ place() {
     install -m "$1" "$2" "$to/$3"
     echo "$3" >>"$work/installed"
 }
+# link TARGET FILE: a symbolic link below the prefix
+link() {
+    make_folder "$(dirname "$2")"
+    ln -sf "$1" "$to/$2"
+    echo "$2" >>"$work/installed"
+}
 # filled TEMPLATE FILE: the same of a file in which the version and folders are written
 filled() {
     up=$(echo "$(dirname "$2")" | sed 's/[^/][^/]*/../g')
@@ -77,11 +84,19 @@ mkdir -p "$to"
 for header in "$top"/include/*; do place 644 "$header" "include/$(basename "$header")"; done
 place 644 "$top/lib/libhivevigil.a" "$libdir/libhivevigil.a"
 place 755 "$top/lib/libhivevigil.so" "$libdir/libhivevigil.so.$version"
-ln -sf "libhivevigil.so.$version" "$to/$libdir/libhivevigil.so.$interface"
-ln -sf "libhivevigil.so.$interface" "$to/$libdir/libhivevigil.so"
-printf '%s\n' "$libdir/libhivevigil.so.$interface" "$libdir/libhivevigil.so" >>"$work/installed"
+link "libhivevigil.so.$version" "$libdir/libhivevigil.so.$interface"
+link "libhivevigil.so.$interface" "$libdir/libhivevigil.so"
 filled hivevigil.pc "$libdir/pkgconfig/hivevigil.pc"
 for file in HivevigilConfig.cmake HivevigilConfigVersion.cmake; do filled "$file" "$libdir/cmake/Hivevigil/$file"; done
+if [ -e "$top/bin/hivevigil" ]; then
+    place 755 "$top/bin/hivevigil" bin/hivevigil
+    place 644 "$top/man/hivevigil.1" share/man/man1/hivevigil.1
+fi
+place 644 "$top/man/hivevigil.3" share/man/man3/hivevigil.3
+# man hv_sum shows the page of all calls
+sed -nE 's/^(HV_EXPORT )?[a-z0-9_]+ (hv_[a-z0-9_]+)\(.*/\2/p' "$top/include/hivevigil.h" \
+    "$top/include/hivevigil_exports.h" | sort -u >"$work/calls"
+while read -r call; do link hivevigil.3 "share/man/man3/$call.3"; done <"$work/calls"
 place 644 "$top/LICENSE" share/doc/hivevigil/LICENSE
 for page in ABI.md BYTES.md ERRORS.md column.proto; do place 644 "$top/docs/$page" "share/doc/hivevigil/$page"; done
 if [ -e "$top/lib/UNPROVED" ]; then

@@ -131,7 +131,7 @@ else
     skip "cpp/demo.cpp" "$cxx"
 fi
 
-# the program, as it ships and under sanitizers, held against Python's csv module, plain lists, and the model of messages
+# the program, as it ships and under sanitizers, held against Python's csv module, plain lists, and messages' model
 program_as() {
     FLAGS=$2 sh program/build.sh "$work/$1" && timeout 500 "$model" -B program/test.py "$work/$1/hivevigil" $3
 }
@@ -277,7 +277,7 @@ else
 fi
 
 # what is installed and packed, used in empty folders
-package() { run "$1" timeout 120 sh examples/packages.sh "$2" "$work/dist"; }
+package() { run "$1" timeout 300 sh examples/packages.sh "$2" "$work/dist"; }
 run "dist.sh" sh dist.sh "$work/dist"
 if has pkg-config; then
     package "installed, C" c
@@ -297,6 +297,11 @@ else
     skip "installed, Rust" "cargo and pkg-config"
 fi
 package "installed and taken away" uninstall
+if [ -e "$(ls "$work"/dist/hivevigil_*.deb 2>/dev/null)" ]; then
+    package "the Debian package, the program" program
+else
+    skip "the Debian package, the program" "dpkg-deb or $cxx"
+fi
 if [ -e "$(ls "$work"/dist/python3-hivevigil_*.deb 2>/dev/null)" ]; then
     package "the Debian package, Python" python
     package "the Debian packages of databases" databases

@@ -1,7 +1,8 @@
 #!/bin/sh
 # Uses the library as its users do, each time in an empty folder outside of the checkout, only from what was installed:
 #     sh examples/packages.sh c | cpp | rust | uninstall      after install.sh into that folder
-#     sh examples/packages.sh tar | deb | python | databases | wheel | sums DIST      from the packages of dist.sh in DIST
+#     sh examples/packages.sh tar | deb | program | python | databases | wheel | sums DIST
+#                                                            from the packages of dist.sh in DIST
 # Nothing is installed outside of that folder, which is removed, and no network is used.
 set -eu
 top=$(cd "$(dirname "$0")/.." && pwd)
@@ -96,6 +97,28 @@ RUST
     echo "cargo add --path, over what pkg-config finds"
 }
 
+# the program $1 by itself, and its page below the folder of manuals $2
+command_line() {
+    printf 'place,count\nOslo,4\nOslo,4\n"a, b",7\n' >towns.csv
+    expect 'column  type   rows  nulls  runs  bytes flat  bytes in runs
+place   utf8?     3      0     2          84             58
+count   i32?      3      0     2          12             10
+96 bytes flat, 68 in runs' env -i "$1" report towns.csv
+    env -i "$1" convert towns.csv --column count --to count.hv
+    expect 15 env -i "$1" query count.hv sum
+    expect 7 env -i "$1" query count.hv filter '> 4'
+    page "$2" hivevigil 1
+    echo "$("$1" --version), and its page of the manual"
+}
+# page FOLDER NAME SECTION: man finds the page below the folder, and has nothing to say against it
+page() {
+    command -v man >/dev/null || { echo "no man: the page $2($3) is not shown"; return 0; }
+    shown=$(LC_ALL=C.UTF-8 MANPATH="$1" man --warnings "$3" "$2" 2>&1) || fail "man $3 $2: $shown"
+    echo "$shown" | grep -q '^SEE ALSO' || fail "man $3 $2 ends early"
+    said=$(LC_ALL=C.UTF-8 MANPATH="$1" man --warnings "$3" "$2" 2>&1 >/dev/null)
+    [ -z "$said" ] || fail "man $3 $2: $said"
+}
+
 python_program() {
     python=${PYTHON:-python3}
     "$python" -m venv "$work/venv"
@@ -144,12 +167,18 @@ uninstall)
 tar)
     tar -xzf "$dist"/hivevigil-*.tar.gz
     sh hivevigil-*/install.sh --prefix "$work/prefix" >/dev/null 2>&1
+    [ ! -e "$work/prefix/bin" ] || command_line "$work/prefix/bin/hivevigil" "$work/prefix/share/man"
     c_program "$work/prefix"
     ;;
 deb)
     dpkg-deb --extract "$dist"/libhivevigil-dev_*.deb "$work/root"
     dpkg-deb --info "$dist"/libhivevigil-dev_*.deb | grep -q '^ Package: libhivevigil-dev$'
+    for name in hivevigil hv_sum hv_version; do page "$work/root/usr/share/man" "$name" 3; done
     c_program "$work/root"
+    ;;
+program)
+    dpkg-deb --extract "$dist"/hivevigil_*.deb "$work/root"
+    command_line "$work/root/usr/bin/hivevigil" "$work/root/usr/share/man"
     ;;
 python)
     dpkg-deb --extract "$dist"/python3-hivevigil_*.deb "$work/root"
@@ -168,5 +197,8 @@ sums)
     diff "$dist/SHA256SUMS" "$work/again/SHA256SUMS" || fail "made again, the packages are others"
     echo "$(wc -l <"$dist/SHA256SUMS") packages have their checksums, and the same when made again"
     ;;
-*) fail "sh examples/packages.sh c | cpp | rust | uninstall, or tar | deb | python | databases | wheel | sums DIST" ;;
+*)
+    fail "sh examples/packages.sh c | cpp | rust | uninstall, \
+or tar | deb | program | python | databases | wheel | sums DIST"
+    ;;
 esac

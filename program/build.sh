@@ -14,17 +14,27 @@ version=$(cat VERSION)
 mkdir -p "$folder"
 work=$(mktemp -d)
 trap 'rm -rf "$work"' EXIT
-# built HOW..: the program, linked so
-built() {
+flags=${FLAGS:--O2}
+compile() {
     # shellcheck disable=SC2086
-    "$cxx" -std=c++17 ${FLAGS:--O2} -Wall -Wextra -Werror -Iinclude "-ffile-prefix-map=$top=." \
-        "-DHIVEVIGIL_PROGRAM_VERSION=\"$version\"" program/*.cpp lib/libhivevigil.a "$@" -o "$work/hivevigil"
+    "$cxx" -std=c++17 $flags -Wall -Wextra -Werror -Iinclude "-ffile-prefix-map=$top=." \
+        "-DHIVEVIGIL_PROGRAM_VERSION=\"$version\"" -c "$1" -o "$work/$(basename "$1" .cpp).o"
 }
+# linked HOW..
+linked() {
+    # shellcheck disable=SC2086
+    "$cxx" $flags "$work"/*.o lib/libhivevigil.a "$@" -o "$work/hivevigil"
+}
+compilers=
+for source in program/*.cpp; do
+    compile "$source" &
+    compilers="$compilers $!"
+done
+for compiler in $compilers; do wait "$compiler"; done
 if [ "${FLAGS:-}" ]; then
-    built
+    linked
 else
-    # where the program is wrong, and not how it is linked, the last says so
-    built -static -s 2>/dev/null || built -static-libstdc++ -static-libgcc -s 2>/dev/null || built
+    linked -static -s 2>/dev/null || linked -static-libstdc++ -static-libgcc -s
 fi
 mv "$work/hivevigil" "$folder/hivevigil"
 ls -l "$folder/hivevigil"
