@@ -101,6 +101,13 @@ run "c/arrow_memory.c" built "$cc" "$c_flags -O0 $wraps" examples/c/arrow_memory
 # broken messages, in the same way: a hundred thousand here, a million in nine seconds
 run "c/messages_broken.c$arrow_how" built "$cc" "$c_flags $arrow_flags $wraps" examples/c/messages_broken.c
 
+# the stored messages, which each version from 1.0.0 on reads as their rows and writes as their bytes
+corpus_read() {
+    $cc $c_flags $1 examples/c/corpus.c lib/libhivevigil.a -o "$work/corpus" &&
+        timeout 60 "$work/corpus" examples/corpus/messages.txt
+}
+run "c/corpus.c$arrow_how" corpus_read "$arrow_flags"
+
 under_valgrind() {
     $cc $c_flags -O1 -g ${2:-} "examples/c/$1.c" lib/libhivevigil.a -o "$work/program" &&
         timeout 300 valgrind --quiet --error-exitcode=1 --leak-check=full --show-leak-kinds=all "$work/program"
@@ -264,8 +271,10 @@ vectors_agree() { timeout 100 "$1" examples/bytes/vectors.py <crates/vectors/std
 if has protoc && found=$(python_with google.protobuf); then
     run "bytes/messages.py" messages_agree "$found"
     run "bytes/vectors.py" vectors_agree "$found"
+    run "corpus/make.py --check" timeout 100 "$found" -B examples/corpus/make.py --check
 else
-    skip "bytes/messages.py, bytes/vectors.py" "protoc and protobuf for Python (protobuf-compiler, python3-protobuf)"
+    skip "bytes/messages.py, bytes/vectors.py, corpus/make.py" \
+        "protoc and protobuf for Python (protobuf-compiler, python3-protobuf)"
 fi
 
 # PostgreSQL: a server of its own, which does not run as root

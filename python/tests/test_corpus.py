@@ -1,0 +1,122 @@
+"""The stored messages of examples/corpus: each is read as its rows, written as its bytes again, and made anew of its
+rows where a call of this package makes its form."""
+import re
+from decimal import Decimal
+from pathlib import Path
+
+import pytest
+
+from hivevigil import Column
+
+LINES = (Path(__file__).resolve().parents[2] / "examples/corpus/messages.txt").read_text(encoding="utf-8").splitlines()
+LETTERS = {"s": " ", "t": "\t", "n": "\n"}
+SHOWN = 10
+
+
+def value(word, type_of_rows):
+    """A row from its word, None for null."""
+    if word.startswith("null"):
+        return None
+    if type_of_rows.startswith("decimal"):
+        scale = int(type_of_rows.partition(",")[2].rstrip(")?"))
+        return Decimal((word.startswith("-"), tuple(map(int, word.lstrip("-"))), -scale))  # exact in any context
+    if word.startswith('"'):
+        return re.sub(r"\\(.)", lambda found: LETTERS.get(found[1], found[1]), word[1:-1])
+    if word.startswith("x"):
+        return bytes.fromhex(word[1:])
+    return word == "true" if word in ("true", "false") else int(word)
+
+
+class Maker:
+    """Makes a column from the words that say how; None where no call of this package makes its form."""
+
+    def __init__(self, form):
+        self.words = form.split(" ")[::-1]
+
+    def column(self):
+        return getattr(self, self.words.pop())()
+
+    def part(self):
+        assert self.words.pop() == "{"
+        made = self.column()
+        if made is not None:
+            assert self.words.pop() == "}"
+        return made
+
+    def rows(self, type_of_rows):
+        found = []
+        while self.words and self.words[-1] not in "{}":
+            found.append(self.words.pop())
+        # a null over a stored number, and a type of decimals that Python does not have
+        if any(":" in word for word in found) or type_of_rows in ("decimal(0,-128)", "decimal(255,127)?"):
+            return None
+        return [value(word, type_of_rows) for word in found]
+
+    def flat(self):
+        type_of_rows, validity = self.words.pop(), self.words.pop()
+        rows = self.rows(type_of_rows)
+        by_bits = validity == "bits" and None in (rows or [])
+        if rows is None or not (by_bits or validity == "no-null"):
+            return None
+        return Column.of(rows, type_of_rows.replace(",", ", "))
+
+    def constant(self):
+        type_of_rows, word, rows = (self.words.pop() for _ in range(3))
+        if type_of_rows.startswith("list"):
+            return None
+        return Column.constant(value(word, type_of_rows), int(rows), type_of_rows.replace(",", ", "))
+
+    def runs(self):
+        ends_type, offset, rows = (self.words.pop() for _ in range(3))
+        ends = self.rows(ends_type)
+        values = self.part()
+        return values and Column.from_runs(Column.of(ends, ends_type), values, int(offset), int(rows))
+
+    def lists(self):
+        elements, offsets, sizes = (self.part() for _ in range(3))
+        validity = self.words.pop()
+        if elements is None or "runs" in (offsets.form, sizes.form) or validity not in ("no-null", "bits"):
+            return None
+        valid = [flag == "1" for flag in self.words.pop()] if validity == "bits" else None
+        return Column.from_lists(elements, offsets, sizes, valid)
+
+
+def listed(text, column):
+    """The rows of a line; items of lists are those of the column's elements."""
+    count, _, rest = text.partition(" rows:")
+    if column.type != "list?" and column.type != "list":
+        return int(count), [value(word, column.type) for word in rest.split()]
+    lists = re.findall(r"null|\[[^\]]*\]", rest)
+    return int(count), [None if words == "null" else words[1:-1].split() for words in lists]
+
+
+def word_of(item):
+    """An item of a list as the corpus writes it."""
+    if isinstance(item, Decimal):
+        sign, digits, _ = item.as_tuple()
+        return "-" * sign + "".join(map(str, digits))
+    if isinstance(item, str):
+        return '"' + item.replace(" ", "\\s") + '"'
+    return "null" if item is None else str(item).lower()
+
+
+@pytest.mark.parametrize("line", LINES, ids=[line.partition("\t")[0] for line in LINES])
+def test_a_message_is_read_and_written(line):
+    _, form, rows, digits = line.split("\t")
+    message = bytes.fromhex(digits)
+    column = Column.from_bytes(message)
+    count, due = listed(rows, column)
+    found = column[:SHOWN].to_list()
+    assert len(column) == count
+    if column.type in ("list", "list?"):
+        found = [None if row is None else [word_of(item) for item in row] for row in found]
+    assert found == due
+    assert column.to_bytes() == message
+    assert column.form == form.partition(" ")[0]
+    made = Maker(form).column()
+    assert made is None or made.to_bytes() == message
+
+
+def test_most_messages_are_made_of_their_rows():
+    made = [Maker(line.split("\t")[1]).column() for line in LINES]
+    assert len(LINES) >= 60 and sum(column is not None for column in made) >= 45
