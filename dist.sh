@@ -1,15 +1,18 @@
 #!/bin/sh
 # Makes packages of the built library, for machines that have neither the toolchain nor an hour:
-#     sh dist.sh [FOLDER]        into FOLDER, or dist/
+#     sh dist.sh [FOLDER]             into FOLDER, or dist/
+#     sh dist.sh --site [FOLDER]      only the documentation, as static HTML in FOLDER/site
 # A .tar.gz with install.sh and all that it puts in place, the Rust crate in it; a Python wheel; Debian packages of the
-# program, the library, the Python package, and the extensions of SQLite and PostgreSQL; what is in them (SPDX), and
-# their checksums.
+# program, the library, the Python package, and the extensions of SQLite and PostgreSQL; the documentation as a site;
+# what is in them (SPDX), and their checksums.
 # Their version is that of the file VERSION, with +unproved after it where the library was built without proof. The same
 # library gives the same bytes: times are those of SOURCE_DATE_EPOCH, or of the last commit.
-# What the machine lacks (a C++ compiler, dpkg-deb, setuptools and wheel, headers of a database) is named and skipped.
-# Nothing is installed.
+# What the machine lacks (a C++ compiler, dpkg-deb, setuptools and wheel, headers of a database, python3-markdown) is
+# named and skipped. Nothing is installed.
 set -eu
 top=$(cd "$(dirname "$0")" && pwd)
+only_site=
+[ "${1:-}" != --site ] || { only_site=1; shift; }
 out=${1:-$top/dist}
 mkdir -p "$out"
 out=$(cd "$out" && pwd)
@@ -118,14 +121,6 @@ CREATE EXTENSION hivevigil.
 TEXT
 }
 
-# the python to build with: PATH's, or Debian's
-python_that_builds() {
-    for python in "${PYTHON:-python3}" /usr/bin/python3; do
-        "$python" -c 'import setuptools, wheel' 2>/dev/null && { echo "$python"; return; }
-    done
-    return 1
-}
-
 make_wheel() {
     cp -R "$top/python" "$work/python"
     rm -rf "$work/python/build" "$work/python/hivevigil.egg-info"
@@ -133,6 +128,37 @@ make_wheel() {
     cp "$top/LICENSE" "$work/python/"
     (cd "$work/python" && HIVEVIGIL_VERSION=$version "$1" setup.py --quiet bdist_wheel --dist-dir "$out") \
         >"$work/log" 2>&1 || { cat "$work/log" >&2; exit 1; }
+}
+
+# python_with MODULE..: the first of PATH's and Debian's Python that has them
+python_with() {
+    for python in "${PYTHON:-python3}" /usr/bin/python3; do
+        "$python" -c "import $1" 2>/dev/null && { echo "$python"; return; }
+    done
+    return 1
+}
+
+# the documentation in folder $1, with that of the Rust crate where there is cargo; every link of it is followed
+make_site() {
+    rm -rf "$1"
+    set -- "$1" "$(python_with markdown)"
+    rust=
+    if has cargo && CARGO_TARGET_DIR=$work/target cargo doc --quiet --offline --no-deps \
+        --manifest-path "$top/rust/Cargo.toml" >"$work/log" 2>&1; then
+        rust="--rust $work/target/doc"
+    else
+        echo "skipped: the site's pages of the Rust crate, no cargo that makes them"
+    fi
+    # shellcheck disable=SC2086
+    "$2" -B "$top/tools/website.py" "$1" $rust
+    "$2" -B "$top/tools/website.py" --check "$1"
+}
+pack_site() {
+    name=hivevigil-$version-doc
+    make_site "$work/$name" >"$work/said" || { cat "$work/said" >&2; exit 1; }
+    grep '^skipped' "$work/said" || true
+    tar -C "$work" --sort=name --mtime="@$SOURCE_DATE_EPOCH" --owner=0 --group=0 --numeric-owner --mode=go=u-w \
+        -cf - "$name" | gzip -9n >"$out/$name.tar.gz"
 }
 
 # What is packed, in SPDX's words: the library's two files by their checksums, and what is linked into them.
@@ -143,6 +169,11 @@ list_parts() {
         "$top/tools/packages/parts.spdx.json" >"$out/hivevigil-$version.spdx.json"
 }
 
+if [ "$only_site" ]; then
+    python_with markdown >/dev/null || { echo "dist: no Python with markdown (Debian: python3-markdown)" >&2; exit 1; }
+    make_site "$out/site"
+    exit 0
+fi
 rm -f "$out"/*hivevigil*_*.deb "$out"/hivevigil-* "$out/SHA256SUMS"
 if has "${CXX:-c++}"; then
     sh "$top/program/build.sh" "$work/bin" >/dev/null
@@ -169,10 +200,17 @@ else
 fi
 if [ ! -d "$top/python" ]; then
     echo "skipped: the wheel, no python/"
-elif found=$(python_that_builds); then
+elif found=$(python_with setuptools,wheel); then
     make_wheel "$found"
 else
     echo "skipped: the wheel, no Python with setuptools and wheel"
+fi
+if ! python_with markdown >/dev/null; then
+    echo "skipped: the documentation as a site, no Python with markdown (python3-markdown)"
+elif [ ! -e "$top/tools/website.py" ]; then
+    echo "skipped: the documentation as a site, no tools/"
+else
+    pack_site
 fi
 list_parts
 (cd "$out" && sha256sum ./*hivevigil* >"$work/SHA256SUMS" && mv "$work/SHA256SUMS" SHA256SUMS)

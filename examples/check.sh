@@ -306,6 +306,11 @@ else
     skip "installed, Rust" "cargo and pkg-config"
 fi
 package "installed and taken away" uninstall
+if [ -e "$(ls "$work"/dist/hivevigil-*-doc.tar.gz 2>/dev/null)" ]; then
+    package "the documentation, each link followed" site
+else
+    skip "the documentation as a site" "python3-markdown"
+fi
 if [ -e "$(ls "$work"/dist/hivevigil_*.deb 2>/dev/null)" ]; then
     package "the Debian package, the program" program
 else

@@ -1,7 +1,7 @@
 #!/bin/sh
 # Uses the library as its users do, each time in an empty folder outside of the checkout, only from what was installed:
 #     sh examples/packages.sh c | cpp | rust | uninstall      after install.sh into that folder
-#     sh examples/packages.sh tar | deb | program | python | databases | wheel | sums DIST
+#     sh examples/packages.sh tar | deb | program | python | databases | wheel | site | sums DIST
 #                                                            from the packages of dist.sh in DIST
 # Nothing is installed outside of that folder, which is removed, and no network is used.
 set -eu
@@ -165,7 +165,7 @@ uninstall)
     ! sh "$top/install.sh" --prefix "$work/prefix" --uninstall 2>/dev/null || fail "taken away twice"
     ;;
 tar)
-    tar -xzf "$dist"/hivevigil-*.tar.gz
+    tar -xzf "$dist"/hivevigil-*-"$(uname -m)".tar.gz
     sh hivevigil-*/install.sh --prefix "$work/prefix" >/dev/null 2>&1
     [ ! -e "$work/prefix/bin" ] || command_line "$work/prefix/bin/hivevigil" "$work/prefix/share/man"
     c_program "$work/prefix"
@@ -190,6 +190,13 @@ print(runs.sum(), runs[2:4].to_list())'
     ;;
 databases) databases ;;
 wheel) python_program ;;
+site)
+    tar -xzf "$dist"/hivevigil-*-doc.tar.gz
+    for page in index.html c.html docs/PROGRAM.html crates/runend_array.html; do
+        [ -s "$(echo hivevigil-*-doc)/$page" ] || fail "no $page in the site"
+    done
+    "${PYTHON:-python3}" -B "$top/tools/website.py" --check hivevigil-*-doc
+    ;;
 sums)
     (cd "$dist" && sha256sum --quiet --check SHA256SUMS)
     [ "$(wc -l <"$dist/SHA256SUMS")" = "$(($(find "$dist" -type f | wc -l) - 1))" ] || fail "a package has no checksum"
@@ -199,6 +206,6 @@ sums)
     ;;
 *)
     fail "sh examples/packages.sh c | cpp | rust | uninstall, \
-or tar | deb | program | python | databases | wheel | sums DIST"
+or tar | deb | program | python | databases | wheel | site | sums DIST"
     ;;
 esac

@@ -136,10 +136,9 @@ def declarations(code: str) -> list[tuple[str, str]]:
     return [(declaration, said.strip()) for declaration, said in found]
 
 
-def constants(enum: str) -> list[str]:
+def constants(enum: str) -> list[tuple[str, str]]:
     """The constants of an enum, each with what its comment says."""
-    found = re.findall(r"(HV_\w+ = \d+),?(?:[ \t]*/\*(.*?)\*/)?", enum, re.S)
-    return [part for name, said in found for part in (".TP", rf"\fB{name}\fP", inline(said) or r"\&")]
+    return re.findall(r"(HV_\w+ = \d+),?(?:[ \t]*/\*(.*?)\*/)?", enum, re.S)
 
 
 def wrapped(declaration: str) -> list[str]:
@@ -150,40 +149,49 @@ def wrapped(declaration: str) -> list[str]:
 
 def declared(declaration: str) -> list[str]:
     if "/*" in declaration:
-        return constants(declaration)
+        said = [(name, inline(about) or r"\&") for name, about in constants(declaration)]
+        return [part for name, about in said for part in (".TP", rf"\fB{name}\fP", about)]
     is_written_out = "\n    " in declaration and "{" in declaration
     lines = declaration.split("\n") if is_written_out else wrapped(declaration)
     return [".PP", ".nf", *(rf"\fB{line(escaped(text))}\fP" for text in lines), ".fi"]
 
 
-def section_of(comment: str) -> list[str]:
+def section_of(comment: str) -> tuple[str, str]:
+    """The title of a part of the header, and what it says of all of it."""
     title, said = re.match(r"---- (.+?) ----\s*(.*)", comment, re.S).groups()
     title, _, more = title.partition(": ")
     said = ". ".join(filter(None, [more, said]))
-    return [f".SH {escaped(title.upper())}", *(paragraphs(said[:1].upper() + said[1:]) if said else [])]
+    return title, said[:1].upper() + said[1:]
+
+
+def described(header: str) -> list[tuple[str, str, str]]:
+    """The header in turn: ("section", title, what is said of it), ("text", "", what is said of what follows), and
+    ("declaration", what is declared, what is said of it)."""
+    found, said = [("text", "", comment_text(re.match(r"/\*.*?\*/", header, re.S)[0]))], ""
+    for kind, part in pieces(header):
+        if kind == "comment":
+            # what no declaration follows is about all that come next
+            found += [("text", "", said)] if said else []
+            text = comment_text(part)
+            said = "" if text.startswith("----") else text
+            found += [("section", *section_of(text))] if text.startswith("----") else []
+            continue
+        *others, (last, after) = declarations(part)
+        found += [("declaration", *other) for other in others] + [("declaration", last, after or said)]
+        said = ""
+    return found
 
 
 def library_page(header: str) -> list[str]:
     """man/hivevigil.3: each declaration, and after it the comment that is in front of it."""
-    intro = comment_text(re.match(r"/\*.*?\*/", header, re.S)[0])
     use = ["#include <hivevigil.h>", "", "cc program.c $(pkg-config --cflags --libs hivevigil)"]
-    page = [*head("hivevigil", 3, LIBRARY), ".SH SYNOPSIS", *verbatim(use), ".SH DESCRIPTION", *paragraphs(intro)]
-    page += [".SH TYPES AND NUMBERS"]
-    said = ""
-    for kind, part in pieces(header):
-        if kind == "comment":
-            text, before = comment_text(part), said
-            said = "" if text.startswith("----") else text
-            # what no declaration follows is about all that come next
-            page += paragraphs(before) if before else []
-            page += section_of(text) if text.startswith("----") else []
-            continue
-        found = declarations(part)
-        for at, (declaration, after) in enumerate(found):
-            page += declared(declaration)
-            about = after or (said if at == len(found) - 1 else "")
-            page += indented(paragraphs(about)) if about else []
-        said = ""
+    page = [*head("hivevigil", 3, LIBRARY), ".SH SYNOPSIS", *verbatim(use)]
+    (_, _, intro), *rest = described(header)
+    page += [".SH DESCRIPTION", *paragraphs(intro), ".SH TYPES AND NUMBERS"]
+    for kind, name, said in rest:
+        about = paragraphs(said) if said else []
+        page += [f".SH {escaped(name.upper())}"] if kind == "section" else []
+        page += [*declared(name), *(indented(about) if about else [])] if kind == "declaration" else about
     return [*page, *see_also(1)]
 
 
