@@ -21,6 +21,7 @@ WORD = re.compile(r"[A-Za-z]\w*")
 # By word whose it is.
 OTHERS = {
     "also_shares": "the toolchain",
+    "RT_SECONDS": "the toolchain",
     "perf": "Linux",
     "array_agg": "PostgreSQL",
     "work_mem": "PostgreSQL",
