@@ -77,7 +77,7 @@ same_kinds Utf8 Binary n m typed = cc
 same_kinds Binary Utf8 n m typed = cc
 same_kinds Binary Binary n m typed = refl
 
-kind_with : (kind : VarBinKind) (n m wanted : Nullability) → m ≡ wanted → kind_dtype kind m ≡ with_nullability (kind_dtype kind n) wanted
+pub kind_with : (kind : VarBinKind) (n m wanted : Nullability) → m ≡ wanted → kind_dtype kind m ≡ with_nullability (kind_dtype kind n) wanted
 kind_with Utf8 n m wanted same = ap column.Utf8 same
 kind_with Binary n m wanted same = ap column.Binary same
 
@@ -99,12 +99,12 @@ record Next (own part grown : Leaf) (bits : List Bool) (start : ℕ) : Type 0 wh
   typed : (m : Nullability) → type_with grown m ≡ type_with own m
 
 -- so of items of one list
-record NextItems {X : Type 0} (value : X → FlatValue) (blank : X) (xs ys grown : List X) (bits cs : List Bool) (k : ℕ) : Type 0 where
-  counted : length (bits ++ drop k cs) ≡ length grown
-  blanks : AreBlankAtNulls blank grown (bits ++ drop k cs)
-  rows : rows_of value grown (bits ++ drop k cs) ≡ rows_of value xs bits ++ drop k (rows_of value ys cs)
+pub record NextItems {X : Type 0} (value : X → FlatValue) (blank : X) (xs ys grown : List X) (bits cs : List Bool) (k : ℕ) : Type 0 where
+  pub counted : length (bits ++ drop k cs) ≡ length grown
+  pub blanks : AreBlankAtNulls blank grown (bits ++ drop k cs)
+  pub rows : rows_of value grown (bits ++ drop k cs) ≡ rows_of value xs bits ++ drop k (rows_of value ys cs)
 
-next_items : {X : Type 0} (value : X → FlatValue) (blank : X) (xs ys grown : List X) (bits cs : List Bool) (k : ℕ) → length bits ≡ length xs → length cs ≡ length ys → grown ≡ xs ++ drop k ys
+pub next_items : {X : Type 0} (value : X → FlatValue) (blank : X) (xs ys grown : List X) (bits cs : List Bool) (k : ℕ) → length bits ≡ length xs → length cs ≡ length ys → grown ≡ xs ++ drop k ys
     → AreBlankAtNulls blank xs bits → AreBlankAtNulls blank ys cs → NextItems value blank xs ys grown bits cs k
 next_items {X} value blank xs ys grown bits cs k own others is blanks other_blanks = record {
   counted = counted_next xs ys grown bits cs k own others is;

@@ -3,4 +3,5 @@ pub mod Cuts
 pub mod Moved
 pub mod Rows
 pub mod Grown
+pub mod OneRow
 pub mod Packed

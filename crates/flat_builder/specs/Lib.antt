@@ -1,3 +1,4 @@
 pub mod Items
+pub mod OneRow
 pub mod Spans
 pub mod Texts

@@ -1,16 +1,20 @@
 //! A flat column that grows at its end.
-ghost use Rattle.std.specs.Prelude.{◌≡◌, ◌≤◌, ◌++◌, [], IfOk, IsOkUnless, OnErr, OnOk, drop, length};
+ghost use Rattle.std.specs.Prelude.{◌≡◌, ◌≤◌, ◌++◌, ◌∷◌, [], IfOk, IsOkUnless, OnErr, OnOk, drop, length};
 ghost use Rattle.column_core.specs.Computed.{IsComputedLeaf};
 ghost use Rattle.column_core.specs.FlatColumn.{leaf_of};
 ghost use Rattle.column_core.specs.FlatView.{leaf_in};
 ghost use Rattle.column_core.specs.Leaf.{leaf_dtype, leaf_rows, single_rows};
+ghost use Rattle.column_core.specs.ScalarView.{IsViewOf, sees};
 ghost use Rattle.column_core.specs.Value.{IsLists};
 
 use crate::bits::append_flags;
 use crate::columns::column_of;
 use crate::items::{Items, append_items, no_items};
+use crate::row_items::{is_valid, push_item};
 use crate::taken::taken_column;
-use column_core::{DType, FlatColumn, FlatView, Nullability, VortexError, VortexResult};
+use column_core::{
+    DType, FlatColumn, FlatView, Nullability, ScalarView, VortexError, VortexResult,
+};
 use std::alloc::Allocator;
 use std::marker::Model;
 use std::mem::replace;
@@ -75,6 +79,21 @@ impl<A: Allocator + Copy> FlatBuilder<A> {
             self.flags.truncate(count);
         }
         appended
+    }
+
+    /// Puts one row of the same type, a value or null, after the rows. Refused as `OutOfMemory` only, and then the rows
+    /// stay.
+    pub fn push(&mut self, row: ScalarView<'_, A>) -> VortexResult<()>
+        requires { IsViewOf self.old.dtype row }
+        ensures only { IsOkUnless result VortexError.OutOfMemory }
+        ensures rows { OnOk result (self.new.rows ≡ self.old.rows ++ sees row.entry ∷ []) }
+        ensures kept { OnErr result (self.new.rows ≡ self.old.rows) }
+        ensures dtype { self.new.dtype ≡ self.old.dtype }
+    {
+        self.flags.reserve(1)?;
+        push_item(&mut self.items, row)?;
+        self.flags.push_reserved(is_valid(row));
+        Ok(())
     }
 
     /// The rows as a flat column with memory of its own, as a call computes it: 0, false or the view of nothing is

@@ -6,6 +6,7 @@ mod builder;
 mod columns;
 mod items;
 mod numbers;
+mod row_items;
 mod spans;
 mod taken;
 mod texts;

@@ -116,8 +116,8 @@ fn push_texts<A: Allocator>(
     Ok(())
 }
 
-// Puts a text behind the others. Refused as `OutOfMemory` alone, and then nothing is changed.
-fn push_text<A: Allocator>(
+/// Puts a text after the others. Refused as `OutOfMemory` only, and then nothing is changed.
+pub(crate) fn push_text<A: Allocator>(
     views: &mut Vec<View, A>,
     bytes: &mut Vec<u8, A>,
     text: &[u8],

@@ -1,5 +1,6 @@
 pub mod Pushed
 pub mod Seams
 pub mod Builds
+pub mod OneRun
 pub mod Encodings
 pub mod Faults

@@ -13,7 +13,7 @@ use Rattle.runend_windows.specs.Window.{last_end}
 use Rattle.runend_builder.specs.Builder.{AreJoined, IsLastOf, IsSeam, scalar_row}
 
 -- equal rows of scalars are of equal values
-one_value : (a b : Option FlatValue) → ◌≡◌ {A = Option Value} (option_map Single a) (option_map Single b) → a ≡ b
+pub one_value : (a b : Option FlatValue) → ◌≡◌ {A = Option Value} (option_map Single a) (option_map Single b) → a ≡ b
 one_value None None e = refl
 one_value None (Some b) e = cc
 one_value (Some a) None e = cc

@@ -1,5 +1,5 @@
 //! A run-end encoding that grows by batches.
-ghost use Rattle.std.specs.Prelude.{◌≡◌, ◌↔◌, ◌+◌, ◌^◌, ◌<◌, ◌++◌, None, Some, [], length, replicate, IfErr, IfOk, IsErrOf, IsOkUnless, IsTrue, OnErr, OnOk};
+ghost use Rattle.std.specs.Prelude.{◌≡◌, ◌↔◌, ◌+◌, ◌-◌, ◌^◌, ◌<◌, ◌++◌, None, Some, [], length, replicate, IfErr, IfOk, IsErrOf, IsOk, IsOkUnless, IsTrue, OnErr, OnOk, slice_get};
 ghost use Rattle.column_core.specs.FlatColumn.{leaf_of};
 ghost use Rattle.column_core.specs.Kinds.{list_fault};
 ghost use Rattle.column_core.specs.Leaf.{leaf_rows};
@@ -10,12 +10,12 @@ ghost use Rattle.runend_encode.specs.Encoding.{IsRowEncoding};
 ghost use Rattle.runend_encode_rows.specs.Encoded.{IsEncodedRows};
 ghost use Rattle.runend_builder.specs.Builder.{HasRuns, append_fault, built_with, part_rows, scalar_row};
 
-use crate::seam::{goes_on, last_of, push_runs, row_scalar};
+use crate::seam::{extend_last, goes_on, is_same_value, last_of, push_run, push_runs, row_scalar};
 use column_core::{
     DType, FlatColumn, PrimitiveArray, Scalar, VortexError, VortexResult, fault_of_lists,
 };
 use flat_builder::FlatBuilder;
-use runend_array::{ArrayRef, ConstantArray, ExecutionCtx, RunEnd, RunEndArray, array_of};
+use runend_array::{ArrayRef, ExecutionCtx, RunEnd, RunEndArray, array_of};
 use runend_encode::least_ends;
 use runend_encode_rows::row_runs;
 use std::alloc::Allocator;
@@ -109,13 +109,16 @@ impl<A: Allocator + Copy> RunBuilder<A> {
         self.append_part(*ctx.allocator(), batch)
     }
 
-    /// Puts so many rows of one value, or of null, behind the rows. Refused as `append_rows` refuses that many rows of
-    /// the value's type, and then the rows stay.
+    /// Puts `count` rows of one value, or of null, after the rows. Refused as `append_rows` refuses that many rows of
+    /// the value's type, and then the rows stay. Where the last row is of this value, no memory is taken: so rows may
+    /// come one by one.
     pub fn append_value(&mut self, value: &Scalar<A>, count: usize) -> VortexResult<()>
         ensures refused { IsRefusedBy (append_fault self.old.dtype value.now.dtype (length self.old.rows) count)
             result }
         ensures first { (error : VortexError) → append_fault self.old.dtype value.now.dtype (length self.old.rows)
             count ≡ Some error → IsErrOf result error }
+        ensures in_place { append_fault self.old.dtype value.now.dtype (length self.old.rows) count ≡ None →
+            slice_get self.old.rows (length self.old.rows - 1) ≡ Some (scalar_row value.now) → IsOk result }
         ensures rows { OnOk result (self.new.rows ≡ self.old.rows ++ replicate count (scalar_row value.now)) }
         ensures kept { OnErr result (self.new.rows ≡ self.old.rows) }
         ensures dtype { self.new.dtype ≡ self.old.dtype }
@@ -123,12 +126,10 @@ impl<A: Allocator + Copy> RunBuilder<A> {
         if let Some(error) = self.fault_of(value.dtype(), count) {
             return Err(error);
         }
-        let alloc = *self.ends.allocator();
-        let copy = value.try_clone(alloc)?;
-        let constant = ArrayRef::Constant(ConstantArray::new(copy, count));
-        let appended = self.append_part(alloc, &constant);
-        drop(constant);
-        appended
+        if count == 0 {
+            return Ok(());
+        }
+        self.append_run(value, count)
     }
 
     /// The encoding of all rows so far, which the builder keeps: what `encode_rows` answers for a column of them.
@@ -186,6 +187,33 @@ impl<A: Allocator + Copy> RunBuilder<A> {
             return Some(VortexError::WindowOverflow);
         }
         None
+    }
+
+    // Puts rows of one value of the same type, of which there are some, after the rows. Refused as `OutOfMemory` only,
+    // and then the rows stay; where the last run goes on, no memory is taken.
+    fn append_run(&mut self, value: &Scalar<A>, count: usize) -> VortexResult<()>
+        requires typed { value.now.dtype ≡ self.old.dtype }
+        requires some { 0 < count }
+        requires small { length self.old.rows + count < 2 ^ 64 }
+        ensures only { IsOkUnless result VortexError.OutOfMemory }
+        ensures in_place { slice_get self.old.rows (length self.old.rows - 1) ≡ Some (scalar_row value.now) →
+            IsOk result }
+        ensures rows { OnOk result (self.new.rows ≡ self.old.rows ++ replicate count (scalar_row value.now)) }
+        ensures kept { OnErr result (self.new.rows ≡ self.old.rows) }
+        ensures dtype { self.new.dtype ≡ self.old.dtype }
+    {
+        if is_same_value(&self.last, value) {
+            extend_last(&mut self.ends, count as u64);
+            return Ok(());
+        }
+        let last = value.try_clone(*self.ends.allocator())?;
+        if let Err(error) = push_run(&mut self.ends, &mut self.values, value, count as u64) {
+            drop(last);
+            return Err(error);
+        }
+        let before = replace(&mut self.last, Some(last));
+        drop(before);
+        Ok(())
     }
 
     // Puts the rows of an array of the same type behind the rows. Refused as `OutOfMemory` alone, and then the rows

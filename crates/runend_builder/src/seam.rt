@@ -1,5 +1,5 @@
 //! Runs joined at the seam of two parts.
-ghost use Rattle.std.specs.Prelude.{◌≡◌, ◌↔◌, ◌+◌, ◌^◌, ◌<◌, ◌≤◌, ◌++◌, All, IfOk, IsOkUnless, IsTrue, List, OnErr, OnOk, Option, Some, cond, drop, length, map, slice_get, vec_capacity, vec_len};
+ghost use Rattle.std.specs.Prelude.{◌≡◌, ◌↔◌, ◌+◌, ◌^◌, ◌<◌, ◌≤◌, ◌++◌, ◌∷◌, [], All, IfOk, IsOkUnless, IsTrue, List, OnErr, OnOk, Option, Some, cond, drop, length, map, slice_get, vec_capacity, vec_len};
 ghost use Rattle.chunk_laws.specs.Encodings.{behind, without_last};
 ghost use Rattle.column_core.specs.Computed.{IsComputedLeaf};
 ghost use Rattle.column_core.specs.FlatView.{leaf_in};
@@ -81,6 +81,38 @@ pub(crate) fn push_runs<A: Allocator + Copy>(
     Ok(())
 }
 
+/// Puts a run of one value after the runs. Refused as `OutOfMemory` only, and then nothing is changed.
+pub(crate) fn push_run<A: Allocator + Copy>(
+    ends: &mut Vec<u64, A>,
+    values: &mut FlatBuilder<A>,
+    value: &Scalar<A>,
+    count: u64,
+) -> VortexResult<()>
+    requires small { last_end ends.old.items + count < 2 ^ 64 }
+    requires typed { value.now.dtype ≡ values.old.dtype }
+    ensures only { IsOkUnless result VortexError.OutOfMemory }
+    ensures ends { OnOk result (ends.new.items ≡ ends.old.items ++ behind (last_end ends.old.items) (count ∷ [])) }
+    ensures values { OnOk result (values.new.rows ≡ values.old.rows ++ scalar_row value.now ∷ []) }
+    ensures kept_ends { OnErr result (ends.new.items ≡ ends.old.items) }
+    ensures kept_values { OnErr result (values.new.rows ≡ values.old.rows) }
+    ensures dtype { values.new.dtype ≡ values.old.dtype }
+{
+    ends.reserve(1)?;
+    values.push(value.view())?;
+    ends.push_reserved(last_of(ends) + count);
+    Ok(())
+}
+
+/// Moves the end of the last run, which there is, `count` rows on.
+pub(crate) fn extend_last<A: Allocator>(ends: &mut Vec<u64, A>, count: u64)
+    requires some { 0 < length ends.old.items }
+    requires small { last_end ends.old.items + count < 2 ^ 64 }
+    ensures { ends.new.items ≡ without_last ends.old.items ++ behind (last_end ends.old.items) (count ∷ []) }
+{
+    let run = ends.len() - 1;
+    ends[run] += count;
+}
+
 /// The last end, which is the number of rows, or 0 where there is none.
 pub(crate) fn last_of(ends: &[u64]) -> u64
     ensures { result ≡ last_end ends.now }
@@ -91,8 +123,8 @@ pub(crate) fn last_of(ends: &[u64]) -> u64
     }
 }
 
-// Is there a last value, and is it equal to the other one?
-fn is_same_value<A: Allocator>(last: &Option<Scalar<A>>, other: &Scalar<A>) -> bool
+/// Returns whether there is a last value, and it is equal to the other one.
+pub(crate) fn is_same_value<A: Allocator>(last: &Option<Scalar<A>>, other: &Scalar<A>) -> bool
     ensures { IsTrue result ↔ (last.now ≡ Some other.now) }
 {
     match last {
