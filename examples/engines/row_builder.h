@@ -1,6 +1,6 @@
-/* Rows as they come to an aggregate of a database: the library's builder joins them to runs. Before it some runs wait
- * in C's memory, and are handed over together, since a call of the library for each row takes longer. So memory goes by
- * runs and not by rows. Numbers of 64 bits, texts and bytes, with null.
+/* Rows as they come to an aggregate of a database: the library's builder, and the kind of the rows, which is not known
+ * before the first one that is not null. Numbers of 64 bits, texts and bytes, with null. Memory goes by runs and not by
+ * rows.
  *
  * A call answers 0, or the number of an error of hivevigil.h, and then the rows are those that there were. */
 #ifndef HIVEVIGIL_ROW_BUILDER_H
@@ -8,15 +8,9 @@
 #include "hivevigil.h"
 
 typedef struct row_builder {
-    uint8_t kind;         /* of the rows: HV_SIGNED, HV_TEXT or HV_BYTES, and HV_NULL as long as each is null */
-    uint64_t rows;        /* all of them */
-    hv_builder joined;    /* the rows but those that wait; none as long as each row is null */
-    size_t waiting, room; /* runs that wait, and for how many there is room */
-    uint64_t *stops;      /* run i of them has the rows from stops[i - 1] to stops[i] - 1 */
-    uint8_t *valid;       /* it is null where bit i % 8 of byte i / 8 is 0 */
-    int64_t *numbers;     /* its value is numbers[i + 1]; of texts those from numbers[i] to numbers[i + 1] - 1 */
-    uint8_t *bytes;
-    size_t bytes_len, bytes_room;
+    uint8_t kind;    /* of the rows: HV_SIGNED, HV_TEXT or HV_BYTES, and HV_NULL as long as each is null */
+    uint64_t rows;   /* all of them */
+    hv_builder runs; /* of the rows; none as long as each row is null */
 } row_builder;
 
 /* No rows. */
@@ -31,7 +25,7 @@ typedef struct row_value {
     size_t len;
 } row_value;
 
-/* Adds a row. 12 where the rows are of another type, or where a text that waited is not UTF-8; 5 for 2^64 rows, 21. */
+/* Adds a row. 12 where the rows are of another type, or where the text is not UTF-8; 5 for 2^64 rows, 21. */
 int32_t row_builder_add(row_builder *rows, const row_value *value, hv_error *error);
 
 /* Adds all rows of a column of any form; one of null alone goes with rows of every type. Refused as above, and as 13
@@ -46,10 +40,6 @@ int32_t row_builder_encoding(row_builder *rows, hv_column *out, hv_error *error)
 
 /* The same, made of the builder's own memory where that can be: there are no rows after. */
 int32_t row_builder_finish(row_builder *rows, hv_column *out, hv_error *error);
-
-/* Where texts were refused as 12: the first row that is not UTF-8, or the number of rows where it is not one of those
- * that wait; 21. */
-int32_t row_builder_bad_text(const row_builder *rows, uint64_t *row);
 
 void row_builder_free(row_builder *rows);
 

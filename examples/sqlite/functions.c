@@ -145,15 +145,6 @@ static bool is_asked(sqlite3_context *context, const row_builder *rows, int coun
     return false;
 }
 
-/* Ends the call where rows were refused that are of one type: then it is a text that is not UTF-8. */
-static void refuse_rows(sqlite3_context *context, const char *function, const row_builder *rows, int32_t answer,
-                        const hv_error *error) {
-    uint64_t row = 0;
-    const int32_t found = answer == HV_TYPE_MISMATCH ? row_builder_bad_text(rows, &row) : answer;
-    if (found) refuse(context, function, found, error);
-    else fail(context, sqlite3_mprintf("%s: row %llu is a text that is not UTF-8", function, (unsigned long long)row));
-}
-
 static void column_step(sqlite3_context *context, int count, sqlite3_value **values) {
     row_builder *rows = sqlite3_aggregate_context(context, sizeof *rows);
     hv_error error = {0, 0, 0};
@@ -173,7 +164,10 @@ static void column_step(sqlite3_context *context, int count, sqlite3_value **val
         return;
     }
     const int32_t answer = row_builder_add(rows, &value, &error);
-    if (answer) refuse_rows(context, "hv_column", rows, answer, &error);
+    if (answer == HV_TYPE_MISMATCH)
+        fail(context, sqlite3_mprintf("hv_column: row %llu is a text that is not UTF-8",
+                                      (unsigned long long)rows->rows));
+    else if (answer) refuse(context, "hv_column", answer, &error);
 }
 
 static void concat_step(sqlite3_context *context, int count, sqlite3_value **values) {
@@ -206,7 +200,7 @@ static void finish(sqlite3_context *context) {
     hv_column runs = HV_EMPTY;
     if (!rows) rows = &nothing;
     const int32_t answer = rows->rows > INT64_MAX ? HV_WINDOW_OVERFLOW : row_builder_finish(rows, &runs, &error);
-    if (answer) refuse_rows(context, sqlite3_user_data(context), rows, answer, &error);
+    if (answer) refuse(context, sqlite3_user_data(context), answer, &error);
     else answer_encoding(context, sqlite3_user_data(context), &runs);
     row_builder_free(rows);
     hv_free(&runs);
