@@ -1,0 +1,5 @@
+pub mod Format
+pub mod KeyRanges
+pub mod Laws
+pub mod Number
+pub mod TotalOrder

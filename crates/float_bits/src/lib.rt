@@ -1,0 +1,17 @@
+//! Floating-point numbers by their bits: their total order, their comparisons, one pattern for each value, and casts
+//! that lose nothing.
+#![tactic(auto)]
+
+mod comparisons;
+mod formats;
+mod key_ranges;
+mod laws;
+mod one_pattern;
+mod total_order;
+
+pub use comparisons::{is_equal, is_less, is_nan};
+pub use formats::FloatFormat;
+pub use key_ranges::{keys_above, keys_at_least, keys_at_most, keys_below, keys_equal};
+pub use laws::{canonical_patterns_tell_values, total_keys_are_ordered};
+pub use one_pattern::canonical;
+pub use total_order::{compare_total, from_total_key, total_key};
