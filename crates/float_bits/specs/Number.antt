@@ -1,4 +1,4 @@
--- What patterns stand for, and how numbers compare.
+-- What patterns mean, and how numbers compare.
 use Rattle.std.specs.Prelude.{◌≡◌, ◌<◌, ◌+◌, ◌*◌, ◌^◌, ◌⊎◌, ◌<ℤ◌, ◌≤ℤ◌, ℕ, ℤ, Bool, zero, suc, pos, neg_ℤ, nat_lt, ◌==◌, if◌then◌else◌}
 use Rattle.float_bits.specs.declared.formats.FloatFormat.{FloatFormat}
 use Rattle.float_bits.specs.Format.{exponent, exponent_unit, fraction, full_exponent, infinity, magnitude, quiet_nan, sign_bit}
@@ -7,7 +7,7 @@ use Rattle.float_bits.specs.Format.{exponent, exponent_unit, fraction, full_expo
 abbrev pub IsNan : FloatFormat → ℕ → Type 0
 IsNan f b = (exponent f b ≡ full_exponent f) × (0 < fraction f b)
 
--- what an exponent and a fraction stand for, in units of the format's smallest positive number: from exponent 1 on there
+-- what an exponent and a fraction mean, in units of the format's smallest positive number: from exponent 1 on there
 -- is a leading digit, and each further exponent doubles
 abbrev pub scaled : ℕ → ℕ → ℕ → ℕ
 scaled unit zero fraction = fraction
@@ -51,6 +51,6 @@ IsSameValue f a b = IsEqual f a b ⊎ (IsNan f a × IsNan f b)
 abbrev pub signed_magnitude : FloatFormat → ℕ → ℤ
 signed_magnitude f b = with_sign (nat_lt b (sign_bit f)) (magnitude f b)
 
--- the pattern that stands for all patterns of its value
+-- the one pattern for all patterns of its value
 abbrev pub canonical : FloatFormat → ℕ → ℕ
 canonical f b = if nat_lt (infinity f) (magnitude f b) then quiet_nan f else (if b == sign_bit f then 0 else b)

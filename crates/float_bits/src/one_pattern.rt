@@ -6,7 +6,7 @@ ghost use Rattle.float_bits.specs.Number.{IsSameValue, canonical as canonical_of
 use crate::comparisons::is_nan;
 use crate::formats::FloatFormat;
 
-/// Returns the pattern that stands for all patterns of the same value: 0.0 for both zeros, the quiet NaN with a plus
+/// Returns the one pattern for all patterns of the same value: 0.0 for both zeros, the quiet NaN with a plus
 /// and no payload for every NaN, and the bits themselves for any other number.
 pub fn canonical(format: FloatFormat, bits: u64) -> u64
     requires { IsPattern format bits }
