@@ -58,7 +58,7 @@ total_with_copies rows n count = rw (total_of-append rows (replicate count (Some
 null_with_copies : (rows : List (Option ℤ)) (n : ℤ) (count : ℕ) → 0 < count → are_null (rows ++ replicate count (Some n)) ≡ false
 null_with_copies rows n count some = rw (are_null-append rows (replicate count (Some n)), are_null-copies n count some) (and_false (are_null rows))
 
-longer : {X : Type 0} (xs : List X) (x : X) (count : ℕ) → length (xs ++ replicate count x) ≡ length xs + count
+pub longer : {X : Type 0} (xs : List X) (x : X) (count : ℕ) → length (xs ++ replicate count x) ≡ length xs + count
 longer [] x count = length-replicate count x ∙ sym (zero-add count)
 longer (y ∷ xs) x count = let rest = longer xs x count in omega arith
 

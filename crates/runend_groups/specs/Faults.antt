@@ -8,7 +8,11 @@ use Rattle.column_core.specs.Kinds.{is_numbers, list_fault}
 use Rattle.column_core.specs.Value.{Value}
 use Rattle.column_order.specs.CompareFault.{length_fault}
 use Rattle.runend_windows.specs.Cover.{IsTightCover}
+use Rattle.column_base.specs.Types.{HasNumber}
 use Rattle.runend_groups.specs.Groups.{group_rows, IsNumberIn}
+use Rattle.runend_groups.specs.Sums.{sum_of, summed_ptype}
+use Rattle.runend_groups.specs.declared.group_fold.GroupFold.{GroupFold}
+use Rattle.runend_groups.specs.declared.group_fold.GroupFold.TheVariants.{Sum}
 use Rattle.runend_groups.specs.declared.fault.GroupError.{GroupError}
 use Rattle.runend_groups.specs.declared.fault.GroupError.TheVariants.{Refused, SumOverflow}
 
@@ -38,6 +42,11 @@ pub record IsFirstLargeGroup (has : ℤ → Type 0) (answer_of : List (Option �
   pub group_keys : List (Option Value)
   pub cover : IsTightCover keys ends group_keys
   pub first : IsFirstLarge has answer_of ends rows group
+
+-- the group for which a fold has no answer: only a sum can be too large
+abbrev pub large_group : GroupFold → DType → List (Option Value) → List (Option ℤ) → ℕ → Type 0
+large_group Sum t keys rows group = IsFirstLargeGroup (HasNumber (summed_ptype t)) sum_of keys rows group
+large_group fold t keys rows group = ⊥
 
 -- refused by the fault where there is one, else by the first group without an answer where there is one, and else for
 -- memory only

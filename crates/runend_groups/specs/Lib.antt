@@ -1,3 +1,4 @@
 pub mod Groups
 pub mod Faults
 pub mod Sums
+pub mod Answers

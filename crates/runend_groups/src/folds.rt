@@ -1,8 +1,7 @@
 //! Rows folded group by group, along the runs of a column.
-ghost use Rattle.std.specs.Prelude.{◌≡◌, ◌+◌, ◌^◌, ◌<◌, ◌≤◌, ◌++◌, ℕ, ℤ, List, [], Option, None, Some, false, pos, if◌then◌else◌, is_some, length, map, option_map, replicate, slice_range, vec_capacity, IfErr, IfOk, IsOkUnless};
+ghost use Rattle.std.specs.Prelude.{◌≡◌, ◌+◌, ◌^◌, ◌<◌, ◌≤◌, ◌++◌, ℤ, List, [], Option, None, Some, false, pos, if◌then◌else◌, is_some, length, map, option_map, replicate, slice_range, vec_capacity, IfErr, IfOk, IsOkUnless};
 ghost use Rattle.column_base.specs.declared.dtype.Nullability.TheVariants.{Nullable};
 ghost use Rattle.column_base.specs.declared.dtype.DType.TheVariants as column;
-ghost use Rattle.column_base.specs.Types.{HasNumber};
 ghost use Rattle.column_base.specs.ValidityForm.{flags};
 ghost use Rattle.column_base.specs.Validity.{form_of};
 ghost use Rattle.column_core.specs.Computed.{IsComputed};
@@ -26,6 +25,9 @@ pub(crate) trait Fold<T: NativePType, N: NativePType>: Drop {
     // The answer of a group of these rows.
     ghost answer_of: { List (Option ℤ) → Option ℤ };
 
+    // The numbers that are given as answers. A group whose answer is another one is refused.
+    ghost gives: { ℤ → Type 0 };
+
     /// Returns what is kept of no rows.
     fn start() -> Self
         ensures { keeps [] result };
@@ -35,15 +37,15 @@ pub(crate) trait Fold<T: NativePType, N: NativePType>: Drop {
         ensures { (before : List (Option ℤ)) → 0 < rows → length before + rows < 2 ^ 64 →
             keeps before self.old → keeps (before ++ replicate rows (option_map T.number value)) self.new };
 
-    /// Returns the answer, or `None` where its type does not have it.
+    /// Returns the answer, or `None` where it is a number that is not given.
     fn finish(&self) -> Option<Option<N>>
         ensures { (rows : List (Option ℤ)) → keeps rows self.now →
-            IsAnswerOf N.number (HasNumber N.PTYPE) (answer_of rows) result };
+            IsAnswerOf N.number gives (answer_of rows) result };
 }
 
 /// Returns the answer of each group, as a column that has null. Groups end before these rows, and the last one at the
-/// last row. Takes a step for each group and for each run. Refused with the first group whose answer the type does not
-/// have, and as `OutOfMemory`.
+/// last row. Takes a step for each group and for each run. Refused with the first group whose answer is not given, and
+/// as `OutOfMemory`.
 pub(crate) fn fold_groups<T: NativePType, N: NativePType, S: Fold<T, N>, A: Allocator + Copy>(
     alloc: A,
     groups: &PrimitiveArray<A>,
@@ -57,7 +59,7 @@ pub(crate) fn fold_groups<T: NativePType, N: NativePType, S: Fold<T, N>, A: Allo
         (flags (form_of values.now.validity.now) (length values.now.items.now))) (optional_numbers answers)) }
     ensures dtype { IfOk result (λ answers. primitive_dtype answers ≡ column.Primitive N.PTYPE Nullable) }
     ensures computed { IfOk result (λ answers. IsComputed answers) }
-    ensures refused { IfErr result (IsFoldRefusal (HasNumber N.PTYPE) S.answer_of (ends_of groups.now)
+    ensures refused { IfErr result (IsFoldRefusal S.gives S.answer_of (ends_of groups.now)
         (shown_numbers (ends_of values.now.ends.now) (map T.number values.now.items.now)
         (flags (form_of values.now.validity.now) (length values.now.items.now)))) }
 {

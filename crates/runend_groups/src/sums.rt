@@ -1,125 +1,18 @@
 //! Sums of groups.
-ghost use Rattle.std.specs.Prelude.{◌≡◌, ◌+◌, ◌*◌, ◌+ℤ◌, ◌*ℤ◌, ◌^◌, ◌<◌, ◌++◌, ℤ, pos, List, Option, length, map, option_map, replicate, FitsSigned, IfErr, IfOk};
+ghost use Rattle.std.specs.Prelude.{◌≡◌, ◌+◌, ◌*◌, ◌+ℤ◌, ◌*ℤ◌, ◌^◌, ◌<◌, ◌++◌, ℤ, pos, List, Option, length, option_map, replicate, FitsSigned};
 ghost use Rattle.std.specs.Int.{w128};
-ghost use Rattle.column_base.specs.declared.dtype.DType.TheVariants as column;
-ghost use Rattle.column_base.specs.declared.dtype.Nullability.TheVariants.{Nullable};
 ghost use Rattle.column_base.specs.declared.dtype.PType.TheVariants.{I64, U64};
 ghost use Rattle.column_base.specs.Types.{HasNumber};
-ghost use Rattle.column_core.specs.Computed.{IsComputed};
-ghost use Rattle.column_core.specs.PrimitiveForm.{optional_numbers, primitive_dtype};
-ghost use Rattle.runend_windows.specs.Ends.{ends_of};
-ghost use Rattle.runend_windows.specs.Window.{last_end, run_rows};
-ghost use Rattle.runend_groups.specs.Faults.{IsFoldRefusal};
-ghost use Rattle.runend_groups.specs.Groups.{AreGroupAnswers, AreWholeRuns};
-ghost use Rattle.runend_groups.specs.Sums.{sum_ptype, sum_of, IsSignedTotal, IsUnsignedTotal};
+ghost use Rattle.runend_groups.specs.Sums.{sum_of, IsSignedTotal, IsUnsignedTotal};
 
-use crate::fault::GroupError;
-use crate::folds::{Fold, fold_groups};
-use crate::values::ValueRuns;
-use column_core::{NativePType, PrimitiveArray, PrimitiveValues, UnsignedPType};
+use crate::folds::Fold;
+use column_core::{NativePType, UnsignedPType};
 use column_sums::SignedPType;
-use std::alloc::Allocator;
-
-/// Returns the sum of each group of the rows of these runs, null for a group of nulls, in `i64` for signed numbers and
-/// in `u64` for unsigned ones. Groups end before these rows. Refused with the first group whose sum leaves that type,
-/// and as `OutOfMemory`.
-pub(crate) fn sum_groups<A: Allocator + Copy>(
-    alloc: A,
-    groups: &PrimitiveArray<A>,
-    ends: &PrimitiveArray<A>,
-    numbers: &PrimitiveArray<A>,
-) -> Result<PrimitiveArray<A>, GroupError>
-    requires groups { AreWholeRuns groups.now }
-    requires whole { last_end (ends_of groups.now) ≡ last_end (ends_of ends.now) }
-    requires runs { AreWholeRuns ends.now }
-    requires paired { length (optional_numbers numbers.now) ≡ length (ends_of ends.now) }
-    ensures sums { IfOk result (λ sums. AreGroupAnswers sum_of (ends_of groups.now)
-        (run_rows (ends_of ends.now) (optional_numbers numbers.now) 0 (last_end (ends_of ends.now)))
-        (optional_numbers sums)) }
-    ensures dtype { IfOk result (λ sums.
-        primitive_dtype sums ≡ column.Primitive (sum_ptype numbers.now.ptype) Nullable) }
-    ensures computed { IfOk result (λ sums. IsComputed sums) }
-    ensures refused { IfErr result (IsFoldRefusal (HasNumber (sum_ptype numbers.now.ptype)) sum_of (ends_of groups.now)
-        (run_rows (ends_of ends.now) (optional_numbers numbers.now) 0 (last_end (ends_of ends.now)))) }
-{
-    match numbers.values() {
-        PrimitiveValues::I8(items) => sum_signed(alloc, groups, ends, items.as_slice(), numbers),
-        PrimitiveValues::I16(items) => sum_signed(alloc, groups, ends, items.as_slice(), numbers),
-        PrimitiveValues::I32(items) => sum_signed(alloc, groups, ends, items.as_slice(), numbers),
-        PrimitiveValues::I64(items) => sum_signed(alloc, groups, ends, items.as_slice(), numbers),
-        PrimitiveValues::U8(items) => sum_unsigned(alloc, groups, ends, items.as_slice(), numbers),
-        PrimitiveValues::U16(items) => sum_unsigned(alloc, groups, ends, items.as_slice(), numbers),
-        PrimitiveValues::U32(items) => sum_unsigned(alloc, groups, ends, items.as_slice(), numbers),
-        PrimitiveValues::U64(items) => sum_unsigned(alloc, groups, ends, items.as_slice(), numbers),
-    }
-}
-
-// The same, of items of a signed type, null where the numbers are.
-fn sum_signed<T: SignedPType, A: Allocator + Copy>(
-    alloc: A,
-    groups: &PrimitiveArray<A>,
-    ends: &PrimitiveArray<A>,
-    items: &[T],
-    numbers: &PrimitiveArray<A>,
-) -> Result<PrimitiveArray<A>, GroupError>
-    requires groups { AreWholeRuns groups.now }
-    requires whole { last_end (ends_of groups.now) ≡ last_end (ends_of ends.now) }
-    requires runs { AreWholeRuns ends.now }
-    requires paired { length (optional_numbers numbers.now) ≡ length (ends_of ends.now) }
-    requires stored { map T.number items.now ≡ numbers.now.numbers }
-    requires typed { sum_ptype numbers.now.ptype ≡ I64 }
-    ensures sums { IfOk result (λ sums. AreGroupAnswers sum_of (ends_of groups.now)
-        (run_rows (ends_of ends.now) (optional_numbers numbers.now) 0 (last_end (ends_of ends.now)))
-        (optional_numbers sums)) }
-    ensures dtype { IfOk result (λ sums.
-        primitive_dtype sums ≡ column.Primitive (sum_ptype numbers.now.ptype) Nullable) }
-    ensures computed { IfOk result (λ sums. IsComputed sums) }
-    ensures refused { IfErr result (IsFoldRefusal (HasNumber (sum_ptype numbers.now.ptype)) sum_of (ends_of groups.now)
-        (run_rows (ends_of ends.now) (optional_numbers numbers.now) 0 (last_end (ends_of ends.now)))) }
-{
-    let runs = ValueRuns {
-        ends,
-        items,
-        validity: numbers.validity(),
-    };
-    fold_groups::<T, i64, SignedTotal, A>(alloc, groups, &runs)
-}
-
-// The same, of items of an unsigned type.
-fn sum_unsigned<T: UnsignedPType, A: Allocator + Copy>(
-    alloc: A,
-    groups: &PrimitiveArray<A>,
-    ends: &PrimitiveArray<A>,
-    items: &[T],
-    numbers: &PrimitiveArray<A>,
-) -> Result<PrimitiveArray<A>, GroupError>
-    requires groups { AreWholeRuns groups.now }
-    requires whole { last_end (ends_of groups.now) ≡ last_end (ends_of ends.now) }
-    requires runs { AreWholeRuns ends.now }
-    requires paired { length (optional_numbers numbers.now) ≡ length (ends_of ends.now) }
-    requires stored { map T.number items.now ≡ numbers.now.numbers }
-    requires typed { sum_ptype numbers.now.ptype ≡ U64 }
-    ensures sums { IfOk result (λ sums. AreGroupAnswers sum_of (ends_of groups.now)
-        (run_rows (ends_of ends.now) (optional_numbers numbers.now) 0 (last_end (ends_of ends.now)))
-        (optional_numbers sums)) }
-    ensures dtype { IfOk result (λ sums.
-        primitive_dtype sums ≡ column.Primitive (sum_ptype numbers.now.ptype) Nullable) }
-    ensures computed { IfOk result (λ sums. IsComputed sums) }
-    ensures refused { IfErr result (IsFoldRefusal (HasNumber (sum_ptype numbers.now.ptype)) sum_of (ends_of groups.now)
-        (run_rows (ends_of ends.now) (optional_numbers numbers.now) 0 (last_end (ends_of ends.now)))) }
-{
-    let runs = ValueRuns {
-        ends,
-        items,
-        validity: numbers.validity(),
-    };
-    fold_groups::<T, u64, UnsignedTotal, A>(alloc, groups, &runs)
-}
 
 // The sum of the signed numbers so far, in a type that has the sum of as many as there can be, and whether there is
 // one.
 #[derive(Drop)]
-struct SignedTotal {
+pub(crate) struct SignedTotal {
     total: i128,
     some: bool,
 }
@@ -128,6 +21,8 @@ impl<T: SignedPType> Fold<T, i64> for SignedTotal {
     ghost keeps = { λ rows kept. IsSignedTotal rows kept.total kept.some };
 
     ghost answer_of = { sum_of };
+
+    ghost gives = { HasNumber I64 };
 
     fn start() -> SignedTotal {
         SignedTotal {
@@ -180,7 +75,7 @@ fn signed_rows(number: i64, rows: usize) -> i128
 
 // The same of unsigned numbers.
 #[derive(Drop)]
-struct UnsignedTotal {
+pub(crate) struct UnsignedTotal {
     total: u128,
     some: bool,
 }
@@ -189,6 +84,8 @@ impl<T: UnsignedPType> Fold<T, u64> for UnsignedTotal {
     ghost keeps = { λ rows kept. IsUnsignedTotal rows kept.total kept.some };
 
     ghost answer_of = { sum_of };
+
+    ghost gives = { HasNumber U64 };
 
     fn start() -> UnsignedTotal {
         UnsignedTotal {

@@ -3,7 +3,6 @@ use Rattle.std.specs.Prelude.{slice_range}
 use Rattle.std.proofs.lemmas.List.{length-map}
 use Rattle.column_base.specs.declared.dtype.DType.TheVariants as column
 use Rattle.column_base.specs.Numbers.{numbers, ptype_of}
-use Rattle.column_base.specs.Types.{HasNumber}
 use Rattle.column_base.specs.ValidityForm.{flags}
 use Rattle.column_base.specs.Validity.{form_of}
 use Rattle.column_core.specs.Optionals.{optionals, AreBlankAtNulls}
@@ -30,7 +29,7 @@ returns-in_default-clause-refused g c =
     let group = c.loop-group.group in
     let fold = c.fold_between-fold.result.0 in
     let number = g.N.NativePType.number in
-    let has = HasNumber g.N.NativePType.PTYPE in
+    let has = g.S.Fold.gives in
     let answer_of = g.S.Fold.answer_of in
     let within : c.loop-group.group < length ends = omega (arith, c.loop-group-test.true, c.len-count.ensures.numbers, length_ends_of c.args.groups.now) in
     let begun = subst (λ (k : ℕ). g.S.Fold.keeps (slice_range rows k c.end_of-stop.result) fold) c.loop-group.invariant.at c.fold_between-fold.ensures.kept in
@@ -47,7 +46,7 @@ loop-group-preserved g c =
     let group = c.loop-group.group in
     let fold = c.fold_between-fold.result.0 in
     let number = g.N.NativePType.number in
-    let has = HasNumber g.N.NativePType.PTYPE in
+    let has = g.S.Fold.gives in
     let answer_of = g.S.Fold.answer_of in
     let begun = subst (λ (k : ℕ). g.S.Fold.keeps (slice_range rows k c.end_of-stop.result) fold) c.loop-group.invariant.at c.fold_between-fold.ensures.kept in
     let kept = subst (λ (k : ℕ). g.S.Fold.keeps (slice_range rows (first_row ends group) k) fold) c.end_of-stop.ensures.end begun in
@@ -67,7 +66,7 @@ returns-clause-answers g c =
     let ends = ends_of c.args.groups.now in
     let rows = shown_numbers (ends_of own.ends.now) (map g.T.NativePType.number own.items.now) (flags (form_of own.validity.now) (length own.items.now)) in
     let number = g.N.NativePType.number in
-    let has = HasNumber g.N.NativePType.PTYPE in
+    let has = g.S.Fold.gives in
     let answer_of = g.S.Fold.answer_of in
     let items = c.loop-group.items.items in
     let bits = c.loop-group.flags in
