@@ -9,6 +9,8 @@ mod decoders;
 #[cfg(test)]
 mod functions;
 #[cfg(test)]
+mod groups;
+#[cfg(test)]
 mod laws;
 #[cfg(test)]
 mod lookups;
