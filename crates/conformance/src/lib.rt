@@ -5,6 +5,8 @@
 #[cfg(test)]
 mod columns;
 #[cfg(test)]
+mod constants;
+#[cfg(test)]
 mod decoders;
 #[cfg(test)]
 mod functions;

@@ -1,14 +1,15 @@
 -- Faults of comparisons, where rows are written one by one.
 use Rattle.std.proofs.Common.{◌≡◌, ◌∙◌, ℕ, List, Bool, true, false, Option, Some, None, length, refl, sym, ap}
 use Rattle.std.specs.Option.{option_or}
-use Rattle.std.specs.Prelude.{if◌then◌else◌, ◌==◌, option_map}
+use Rattle.std.specs.Prelude.{if◌then◌else◌, ◌==◌, option_map, Result, Ok, Err, IsOkUnless}
 use Rattle.std.proofs.lemmas.List.{length-replicate}
 use Rattle.std.proofs.lemmas.Bool.Decides.{Decides-eqb}
 use Rattle.column_base.specs.declared.dtype.DType.{DType}
 use Rattle.column_base.specs.declared.dtype.DType.TheVariants as column
 use Rattle.column_base.specs.declared.error.VortexError.{VortexError}
-use Rattle.column_base.specs.declared.error.VortexError.TheVariants.{ColumnLength}
+use Rattle.column_base.specs.declared.error.VortexError.TheVariants.{ColumnLength, OutOfMemory}
 use Rattle.column_core.specs.Leaf.{Leaf, leaf_dtype, leaf_rows, single_rows}
+use Rattle.column_core.specs.Refusal.{IsRefusedBy}
 use Rattle.column_core.specs.ScalarForm.{ScalarForm}
 use Rattle.column_core.specs.Value.{FlatValue, IsLists, Single, Value}
 use Rattle.column_order.specs.CompareFault.{compare_column_fault, compare_scalar_fault}
@@ -19,7 +20,12 @@ use Rattle.column_core.specs.Kinds.{list_fault}
 use Rattle.runend_windows.proofs.RunRows.{length-run_rows}
 use Rattle.runend_array.specs.Column.{Constant, OfConstant, Runs, column_dtype, column_of_runs, column_rows}
 use Rattle.runend_map.proofs.ComparedRows.{constant_rows}
-use Rattle.runend_map.proofs.OneKind.{no_column_fault, no_lists, no_lists_beside}
+use Rattle.runend_map.proofs.OneKind.{no_column_fault, no_lists, no_lists_beside, only_memory}
+
+-- what has no fault is refused only for memory
+pub only_short : {T : Type 0} (fault : Option VortexError) (result : Result T VortexError) → fault ≡ None → IsRefusedBy fault result → IsOkUnless result OutOfMemory
+only_short fault (Ok value) none refused = tt
+only_short fault (Err error) none refused = only_memory fault error none refused
 
 -- lists are not compared, whatever with
 pub lists_not_compared : (left right : DType) (error : VortexError) → list_fault left ≡ Some error → compare_scalar_fault left right ≡ Some error
@@ -50,7 +56,7 @@ either_fault true (Some error) left right as_many = refl
 either_fault true None left right as_many = refl
 either_fault false kind left right as_many = cc
 
--- columns of as many rows have the fault of their types alone
+-- columns of as many rows have only the fault of their types
 pub type_fault : (left right : DType) (left_count right_count : ℕ) → left_count ≡ right_count → compare_column_fault left right left_count right_count ≡ compare_scalar_fault left right
 type_fault left right left_count right_count as_many =
     either_fault (left_count == right_count) (compare_scalar_fault left right) left_count right_count ((Decides-eqb left_count right_count).1 as_many)

@@ -2,6 +2,7 @@
 use Rattle.std.proofs.Common.{◌≡◌, ◌∙◌, ◌⊎◌, inl, inr, refl, subst, sym, arith, List, Option}
 use Rattle.std.specs.Prelude.{◌≢◌, Result, Ok, Err, IsErrAnd}
 use Rattle.std.specs.declared.ops.Range.{Range}
+use Rattle.std.proofs.lemmas.Bool.{cases_lt}
 use Rattle.std.specs.Prelude.{ℕ}
 use Rattle.column_base.specs.declared.error.VortexError.{VortexError}
 use Rattle.column_base.specs.declared.error.VortexError.TheVariants.{OutOfMemory}
@@ -9,10 +10,11 @@ use Rattle.column_core.specs.PrimitiveForm.{optional_numbers}
 use Rattle.column_core.specs.Value.{Value}
 use Rattle.column_ops.specs.Fill.{fill_dtype}
 use Rattle.runend_array.specs.Array.{column_of, dtype_of, rows}
-use Rattle.runend_array.specs.Column.{Column, OfLeaf, OfConstant, OfLists, OfRuns, IsFlat, Runs}
+use Rattle.runend_array.specs.Column.{Column, OfLeaf, OfConstant, OfLists, OfRuns, IsFlat, Runs, column_of_runs}
 use Rattle.runend_array.specs.Encoding.{IsDecodedForm}
 use Rattle.runend_array.specs.SessionForm.{SessionForm}
 use Rattle.runend_array.specs.declared.array_ref.ArrayRef.{ArrayRef}
+use Rattle.runend_array.specs.declared.array_ref.ArrayRef.TheVariants.{Constant}
 use Rattle.runend_array.specs.declared.session.Kernel.{Kernel}
 use Rattle.runend_array.specs.declared.session.Kernel.TheVariants as kernel
 use Rattle.runend_encode_rows.specs.Encoded.{IsConstantForm}
@@ -33,6 +35,33 @@ use Rattle.runend_commands.specs.Outcomes.{IsOutcome}
 use Rattle.runend_commands.specs.Step.{IsDone}
 use Rattle.runend_commands.specs.declared.steps.StepResult.{StepResult}
 
+-- a column is a constant or not
+decide_constant : (c : Column) → IsConstantForm c ⊎ (¬ IsConstantForm c)
+decide_constant (OfLeaf leaf) = inr (λ no. no)
+decide_constant (OfConstant constant) = inl tt
+decide_constant (OfLists lists) = inr (λ no. no)
+decide_constant (OfRuns ends_type ends values offset count) = inr (λ no. no)
+
+decide_rows : (c : Column) → IsConstantWithRows c ⊎ (¬ IsConstantWithRows c)
+decide_rows (OfLeaf leaf) = inr (λ no. no)
+decide_rows (OfConstant constant) = elim (cases_lt 0 constant.count) [ inl some ↦ inl some | inr none ↦ inr (λ some. omega arith) ]
+decide_rows (OfLists lists) = inr (λ no. no)
+decide_rows (OfRuns ends_type ends values offset count) = inr (λ no. no)
+
+decide_both : {P Q : Type 0} → P ⊎ (¬ P) → Q ⊎ (¬ Q) → (P × Q) ⊎ (¬ (P × Q))
+decide_both (inl p) (inl q) = inl (p, q)
+decide_both (inl p) (inr other) = inr (λ both. other both.1)
+decide_both (inr other) decided = inr (λ both. other both.0)
+
+-- a command keeps a constant, or it does not
+pub decide_kept : {A : Type 0} (c : Column) (command : Command A) → KeepsConstant c command ⊎ (¬ KeepsConstant c command)
+decide_kept c (Filter mask) = decide_constant c
+decide_kept c (CompareScalar operator value) = decide_rows c
+decide_kept c (CompareColumn operator right) = decide_both (decide_rows c) (decide_constant (column_of right))
+decide_kept c (Cast dtype) = decide_rows c
+decide_kept c (FillNull value) = decide_rows c
+decide_kept c command = inr (λ no. no)
+
 rows_constant : (c : Column) → IsConstantWithRows c → IsConstantForm c
 rows_constant (OfLeaf leaf) is = is
 rows_constant (OfConstant constant) is = tt
@@ -41,7 +70,9 @@ rows_constant (OfRuns ends_type ends values offset count) is = is
 
 -- what is kept a constant was one
 pub constant_if_kept : {A : Type 0} (c : Column) (command : Command A) → KeepsConstant c command → IsConstantForm c
+constant_if_kept c (Filter mask) keeps = keeps
 constant_if_kept c (CompareScalar operator value) keeps = rows_constant c keeps
+constant_if_kept c (CompareColumn operator right) keeps = rows_constant c keeps.0
 constant_if_kept c (Cast dtype) keeps = rows_constant c keeps
 constant_if_kept c (FillNull value) keeps = rows_constant c keeps
 constant_if_kept c command keeps = absurd keeps
@@ -151,3 +182,12 @@ pub outcome_if_short : {A : Type 0} (session : SessionForm) (before : ArrayRef A
     → IsErrAnd result (λ e. e ≡ error) → error ≡ OutOfMemory → IsAnswer (plain before) command Done → IsOutcome session before command result
 outcome_if_short session before command error (Ok step) passed short answered = absurd passed
 outcome_if_short session before command error (Err other) passed short answered = (inl (passed ∙ short), kernel_if_refused session before command other answered)
+
+-- an array of another variant is not a constant
+pub not_constant : {A : Type 0} (array : ArrayRef A) → ((constant : _) → ¬ (array ≡ Constant constant)) → ¬ IsConstantForm (column_of array)
+not_constant (Constant constant) other is = other constant refl
+not_constant array other is = is
+
+-- runs are not a constant
+pub runs_not_constant : (c : Column) (runs : Runs) → c ≡ column_of_runs runs → ¬ IsConstantWithRows c
+runs_not_constant c runs is constant = subst IsConstantWithRows is constant

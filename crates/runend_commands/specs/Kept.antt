@@ -7,7 +7,7 @@ use Rattle.runend_array.specs.SessionForm.{SessionForm}
 use Rattle.runend_array.specs.declared.array_ref.ArrayRef.{ArrayRef}
 use Rattle.runend_encode_rows.specs.Encoded.{IsConstantForm}
 use Rattle.runend_commands.specs.declared.command.Command.{Command}
-use Rattle.runend_commands.specs.declared.command.Command.TheVariants.{CompareScalar, Cast, FillNull}
+use Rattle.runend_commands.specs.declared.command.Command.TheVariants.{Filter, CompareScalar, CompareColumn, Cast, FillNull}
 use Rattle.runend_commands.specs.declared.command.Answer.{Answer}
 use Rattle.runend_commands.specs.KernelForms.{LeavesByKernel}
 
@@ -18,9 +18,15 @@ IsConstantWithRows (OfConstant constant) = 0 < constant.count
 IsConstantWithRows (OfLists lists) = ⊥
 IsConstantWithRows (OfRuns ends_type ends values offset count) = ⊥
 
--- the command keeps this column a constant: what maps values by themselves, and the column has a row
+-- a constant that has a row, and a constant on the right
+abbrev pub AreConstants : Column → Column → Type 0
+AreConstants before right = IsConstantWithRows before × IsConstantForm right
+
+-- the command keeps this column a constant: a filter any constant, and what maps values one that has a row
 abbrev pub KeepsConstant : {A : Type 0} → Column → Command A → Type 0
+KeepsConstant before (Filter mask) = IsConstantForm before
 KeepsConstant before (CompareScalar operator value) = IsConstantWithRows before
+KeepsConstant before (CompareColumn operator right) = AreConstants before (column_of right)
 KeepsConstant before (Cast dtype) = IsConstantWithRows before
 KeepsConstant before (FillNull value) = IsConstantWithRows before
 KeepsConstant before command = ⊥

@@ -64,8 +64,8 @@ fn written_if_constant<A: Allocator + Copy>(
     Ok(StepResult::Becomes(written?))
 }
 
-/// Does one command, as the calls of `compute` leave it: a constant that has a row, cast, filled or compared with a
-/// value, leaves a constant.
+/// Does one command, as the calls of `compute` leave it: a filter of a constant, a constant that has a row cast, filled
+/// or compared with a value, and two constants compared leave a constant.
 pub fn kept_outcome_of<A: Allocator + Copy>(
     command: &Command<A>,
     column: &ArrayRef<A>,

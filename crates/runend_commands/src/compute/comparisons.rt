@@ -6,21 +6,25 @@ ghost use Rattle.column_core.specs.Refusal.{IsRefusedBy};
 ghost use Rattle.column_order.specs.CompareFault.{compare_column_fault};
 ghost use Rattle.column_order.specs.Comparing.{compare_dtype, compare_rows};
 ghost use Rattle.runend_array.specs.Array.{column_of, dtype_of, rows};
-ghost use Rattle.runend_array.specs.Column.{IsFlat};
+ghost use Rattle.runend_array.specs.Column.{IsFlat, OfConstant, column_rows};
 ghost use Rattle.runend_array.specs.declared.session.Kernel.TheVariants.{Compare as compare_kernel};
 ghost use Rattle.runend_map.specs.ComparisonForm.{IsComparisonForm};
+ghost use Rattle.runend_encode_rows.specs.Encoded.{IsConstantForm};
+ghost use Rattle.runend_commands.specs.Kept.{AreConstants, IsConstantWithRows};
 ghost use Rattle.runend_commands.specs.KernelForms.{HasKernel};
 
+use crate::compute::compare_scalar;
 use crate::compute::kernel_runs::runs_for;
 use array_rowwise::flat_rows;
 use column_core::{FlatColumn, VortexError, VortexResult};
 use column_order::{CompareOperator, FlatOrder, column_fault};
-use runend_array::{ArrayRef, ExecutionCtx, Kernel};
+use runend_array::{ArrayRef, ConstantArray, ExecutionCtx, Kernel};
 use std::alloc::Allocator;
 
-/// Whether the operator holds of each row and the row of `right` beside it, null where either is: flat booleans,
-/// or a constant null where the kernel serves a run column, `right` is a constant, and all are null. Refused as
-/// `Unsupported` for lists, as `TypeMismatch` for two kinds, and as `ColumnLength` for two numbers of rows.
+/// Compares each row with the row of `right` at its place: whether the operator holds, null where either is. Two
+/// constants that have a row leave a constant, and no row of it is written. Else flat booleans are left, or a constant
+/// null where the kernel serves a run column, `right` is a constant, and all are null. Refused as `Unsupported` for
+/// lists, as `TypeMismatch` for two kinds, and as `ColumnLength` for two numbers of rows.
 pub fn compare<A: Allocator + Copy>(
     column: &ArrayRef<A>,
     operator: CompareOperator,
@@ -33,7 +37,10 @@ pub fn compare<A: Allocator + Copy>(
     ensures dtype { IfOk result (λ truths. dtype_of truths ≡ compare_dtype (dtype_of column.now) (dtype_of right.now)) }
     ensures kernel { HasKernel ctx.old compare_kernel (column_of column.now) →
         IfOk result (λ truths. IsComparisonForm (column_of right.now) (column_of truths)) }
+    ensures constants { AreConstants (column_of column.now) (column_of right.now) →
+        IfOk result (λ truths. IsConstantForm (column_of truths)) }
     ensures otherwise { ¬ HasKernel ctx.old compare_kernel (column_of column.now) →
+        ¬ AreConstants (column_of column.now) (column_of right.now) →
         IfOk result (λ truths. IsFlat (column_of truths)) }
     ensures session { ctx.new ≡ ctx.old }
 {
@@ -43,25 +50,55 @@ pub fn compare<A: Allocator + Copy>(
     }
 }
 
-// Whether the operator holds of each row of any column and the row beside it, row by row. A fault is told before a
-// column is written row by row.
+// Whether the operator holds of each row of any column and the row at its place on the right, row by row. A fault is
+// reported before a column is written row by row.
 fn truths_row_by_row<A: Allocator + Copy>(
     column: &ArrayRef<A>,
     operator: CompareOperator,
     right: &ArrayRef<A>,
     ctx: &mut ExecutionCtx<A>,
 ) -> VortexResult<ArrayRef<A>>
+    requires { ¬ HasKernel ctx.old compare_kernel (column_of column.now) }
     ensures refused { IsRefusedBy (compare_column_fault (dtype_of column.now) (dtype_of right.now)
         (length (rows column.now)) (length (rows right.now))) result }
     ensures rows { IfOk result (λ truths. rows truths ≡ compare_rows operator (rows column.now) (rows right.now)) }
     ensures dtype { IfOk result (λ truths. dtype_of truths ≡ compare_dtype (dtype_of column.now) (dtype_of right.now)) }
-    ensures form { IfOk result (λ truths. IsFlat (column_of truths)) }
+    ensures constants { AreConstants (column_of column.now) (column_of right.now) →
+        IfOk result (λ truths. IsConstantForm (column_of truths)) }
+    ensures otherwise { ¬ AreConstants (column_of column.now) (column_of right.now) →
+        IfOk result (λ truths. IsFlat (column_of truths)) }
     ensures session { ctx.new ≡ ctx.old }
 {
     if let Some(error) = fault_beside(column, right) {
         return Err(error);
     }
-    truths_of_rows(column, operator, right, ctx)
+    match right {
+        ArrayRef::Constant(constant) => truths_beside(column, operator, constant, ctx),
+        _ => truths_of_rows(column, operator, right, ctx),
+    }
+}
+
+// Compares each row with the value of a constant of as many rows, of which no row is written.
+fn truths_beside<A: Allocator + Copy>(
+    column: &ArrayRef<A>,
+    operator: CompareOperator,
+    right: &ConstantArray<A>,
+    ctx: &mut ExecutionCtx<A>,
+) -> VortexResult<ArrayRef<A>>
+    requires served { ¬ HasKernel ctx.old compare_kernel (column_of column.now) }
+    requires comparable { compare_column_fault (dtype_of column.now) right.now.dtype (length (rows column.now))
+        (length (column_rows (OfConstant right.now))) ≡ None }
+    ensures only { IsOkUnless result VortexError.OutOfMemory }
+    ensures rows { IfOk result (λ truths. rows truths ≡
+        compare_rows operator (rows column.now) (column_rows (OfConstant right.now))) }
+    ensures dtype { IfOk result (λ truths. dtype_of truths ≡ compare_dtype (dtype_of column.now) right.now.dtype) }
+    ensures constant { IsConstantWithRows (column_of column.now) →
+        IfOk result (λ truths. IsConstantForm (column_of truths)) }
+    ensures otherwise { ¬ IsConstantWithRows (column_of column.now) →
+        IfOk result (λ truths. IsFlat (column_of truths)) }
+    ensures session { ctx.new ≡ ctx.old }
+{
+    compare_scalar(column, operator, right.scalar(), ctx)
 }
 
 // Why two columns are not compared.

@@ -13,5 +13,5 @@ returns-clause-outcome g c = (
     answered = refl;
     form = tt;
   },
-  record { constant = λ no. absurd no; by_kernel = λ not. record { served = λ has. on_runs (column_of c.args.column.now) (IsComparisonForm (column_of c.args.right.now) (column_of c.in_ok-truths.truths)) (c.in_ok-truths.ensures.kernel has); otherwise = c.in_ok-truths.ensures.otherwise } },
+  record { constant = c.in_ok-truths.ensures.constants; by_kernel = λ not. record { served = λ has. on_runs (column_of c.args.column.now) (IsComparisonForm (column_of c.args.right.now) (column_of c.in_ok-truths.truths)) (c.in_ok-truths.ensures.kernel has); otherwise = λ has. c.in_ok-truths.ensures.otherwise has not } },
 )

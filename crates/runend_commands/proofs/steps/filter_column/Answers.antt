@@ -10,5 +10,5 @@ returns-clause-outcome g c = (
     answered = refl;
     form = tt;
   },
-  record { constant = λ no. absurd no; by_kernel = λ not. record { served = c.in_ok-kept.ensures.kernel; otherwise = c.in_ok-kept.ensures.otherwise } },
+  record { constant = c.in_ok-kept.ensures.constant; by_kernel = λ not. record { served = c.in_ok-kept.ensures.kernel; otherwise = λ has. c.in_ok-kept.ensures.otherwise has not } },
 )
