@@ -2,3 +2,4 @@ pub mod StoredItems
 pub mod Within
 pub mod RunSums
 pub mod SingleRows
+pub mod Reaches

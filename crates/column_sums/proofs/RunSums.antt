@@ -70,7 +70,7 @@ are_null-valid_run n zero rows h = absurd (omega arith)
 are_null-valid_run n (suc count) rows h = refl
 
 -- the runs from one on
-drop-at : {X : Type 0} (xs : List X) (k : ℕ) (x : X) → slice_get xs k ≡ Some x → drop k xs ≡ x ∷ drop (k + 1) xs
+pub drop-at : {X : Type 0} (xs : List X) (k : ℕ) (x : X) → slice_get xs k ≡ Some x → drop k xs ≡ x ∷ drop (k + 1) xs
 drop-at [] k x h = cc
 drop-at (y ∷ xs) zero x h = let e : y ≡ x = cc in ap (λ z. z ∷ xs) e
 drop-at (y ∷ xs) (suc k) x h =

@@ -38,6 +38,10 @@ is_within-first range sum n count f g =
     both low high (sum +ℤ n) (above low sum n count (at_least low high sum f) (at_least low high end g))
     (below high sum n count (at_most low high sum f) (at_most low high end g))
 
+-- a number from the least to the greatest is in the range
+pub is_within-between : (range : SumRange) (n : ℤ) → least range ≤ℤ n → n ≤ℤ greatest range → is_within range n ≡ true
+is_within-between range n low high = both (least range) (greatest range) n low high
+
 -- 0 is in each range
 pub is_within-zero : (range : SumRange) → is_within range (pos 0) ≡ true
 is_within-zero SignedRange = refl

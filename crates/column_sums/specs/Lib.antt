@@ -5,3 +5,4 @@ pub mod SumState
 pub mod SumAnswer
 pub mod Summed
 pub mod Room
+pub mod Reach

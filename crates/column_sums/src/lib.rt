@@ -6,6 +6,7 @@ mod calls;
 mod flat;
 mod items;
 mod numbers;
+mod part;
 mod signed;
 mod signed_runs;
 mod unsigned;

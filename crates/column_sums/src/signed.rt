@@ -1,5 +1,5 @@
 //! A sum of signed numbers.
-ghost use Rattle.std.specs.Prelude.{◌≡◌, ◌-◌, ◌≤◌, ◌+ℤ◌, ◌*ℤ◌, pos, [], ◌∷◌, ◌++◌, true, false, FitsSigned, MatchOption};
+ghost use Rattle.std.specs.Prelude.{◌≡◌, ◌-◌, ◌≤◌, ◌<◌, ◌^◌, ◌+ℤ◌, ◌*ℤ◌, pos, [], ◌∷◌, ◌++◌, true, false, FitsSigned, MatchOption};
 ghost use Rattle.std.specs.Int.{w32};
 ghost use Rattle.column_sums.specs.Room.{HasRoom};
 ghost use Rattle.column_sums.specs.SumRange.{SignedRange, is_within};
@@ -76,11 +76,39 @@ impl SignedSum {
             None => false,
         }
     }
+
+    // Adds `value` as often as the run has rows, where the result is known to be in the range.
+    #[inline(always)]
+    pub(crate) fn add_within(&mut self, value: i64, len: usize)
+        requires few { len < 2 ^ 31 }
+        requires fits { is_within SignedRange (self.old.value +ℤ value *ℤ pos len) ≡ true }
+        requires product { is_within SignedRange (value *ℤ pos len) ≡ true }
+        ensures added { self.new.value ≡ self.old.value +ℤ value *ℤ pos len }
+        ensures calls { self.new.calls ≡ self.old.calls ++ (value, len) ∷ [] }
+    {
+        *self = SignedSum {
+            value: sum_within(self.value, value, len),
+            room: 0,
+            calls: self.calls.and_signed(&value, &len),
+        };
+    }
 }
 
-// Does the value have 32 bits?
+// The sum and `len` times the value, in 64 bits. The cast lets two rows be multiplied at once.
 #[inline(always)]
-fn has_32_bits(value: i64) -> bool
+fn sum_within(sum: i64, value: i64, len: usize) -> i64
+    requires few { len < 2 ^ 31 }
+    requires fits { is_within SignedRange (sum +ℤ value *ℤ pos len) ≡ true }
+    requires product { is_within SignedRange (value *ℤ pos len) ≡ true }
+    ensures sum { result ≡ sum +ℤ value *ℤ pos len }
+    ensures room { HasRoom result 0 }
+{
+    sum + value * i64::from(len as i32)
+}
+
+/// Does the value have 32 bits? The compiler knows it of a type that has no more.
+#[inline(always)]
+pub(crate) fn has_32_bits(value: i64) -> bool
     ensures { result ≡ true → FitsSigned w32 value }
 {
     i32::try_from(value).is_ok()

@@ -2,11 +2,13 @@
 ghost use Rattle.std.specs.Prelude.{◌≡◌, ◌<◌, ◌+◌, ◌≤◌, ◌++◌, ℕ, ℤ, pos, List, Option, None, Some, length, option_map, slice_get, IfSome, false, true};
 ghost use Rattle.column_sums.specs.Summed.{IsSummed, IsSumOfRuns};
 ghost use Rattle.column_sums.specs.SumRange.{SignedRange};
+ghost use Rattle.column_sums.specs.Reach.{IsSignedReach};
 ghost use Rattle.column_sums.specs.RunSum.{calls_of, rows_of_runs, valid_runs};
 ghost use Rattle.column_sums.specs.SumAnswer.{answer_of};
 
 use crate::answer::{SumAnswer, SumValue};
-use crate::signed::SignedSum;
+use crate::part::Part;
+use crate::signed::{SignedSum, has_32_bits};
 use std::mem;
 
 /// Runs of signed numbers, each of them shown by some row.
@@ -38,6 +40,15 @@ pub trait SignedRuns {
         ensures shown { 0 < result }
     {
         self.row_count(run)
+    }
+
+    /// A number of rows than which all runs together have no more, where it is known. It lets values that cannot take
+    /// the sum out of the range be added untested.
+    #[inline(always)]
+    fn row_bound(&self) -> Option<u32>
+        ensures { IfSome result (λ rows. length (rows_of_runs (runs self.now)) ≤ rows) }
+    {
+        None
     }
 }
 
@@ -91,8 +102,89 @@ fn add_parts<R: SignedRuns>(runs: &R, sum: &mut SignedSum) -> Option<bool>
     let first = count.min(1);
     let last = count.saturating_sub(1).max(first);
     let start_empty = add_between::<false, R>(runs, 0, first, sum, true)?;
-    let inner_empty = add_between::<true, R>(runs, first, last, sum, start_empty)?;
+    let inner_empty = add_inner(runs, first, last, sum, start_empty)?;
     add_between::<false, R>(runs, last, count, sum, inner_empty)
+}
+
+// The runs from one to before another, of which neither is the first nor the last of all: untested as far as values
+// have 32 bits, and the others one by one.
+#[inline(always)]
+fn add_inner<R: SignedRuns>(
+    runs: &R,
+    from: usize,
+    to: usize,
+    sum: &mut SignedSum,
+    is_empty: bool,
+) -> Option<bool>
+    requires within { to ≤ length (R.runs runs.now) }
+    requires ordered { from ≤ to }
+    requires inner { from < to → (0 < from) × (to < length (R.runs runs.now)) }
+    ensures summed { IfSome result (λ empty. (before : List (ℤ × ℕ)) →
+        IsSummed SignedRange before (R.runs runs.now) from sum.old is_empty
+        → IsSummed SignedRange before (R.runs runs.now) to sum.new empty) }
+    ensures left { result ≡ None → (before : List (ℤ × ℕ)) →
+        IsSummed SignedRange before (R.runs runs.now) from sum.old is_empty
+        → IsSumOfRuns SignedRange before (R.runs runs.now) None sum.new.calls false }
+{
+    let part = add_untested(runs, from, to, sum, is_empty);
+    add_between::<true, R>(runs, part.end, to, sum, part.is_empty)
+}
+
+// The runs up to the first whose value has more than 32 bits, where they leave the sum in the range.
+#[inline(always)]
+fn add_untested<R: SignedRuns>(
+    runs: &R,
+    from: usize,
+    to: usize,
+    sum: &mut SignedSum,
+    is_empty: bool,
+) -> Part
+    requires within { to ≤ length (R.runs runs.now) }
+    requires ordered { from ≤ to }
+    requires inner { from < to → (0 < from) × (to < length (R.runs runs.now)) }
+    ensures from { from ≤ result.end }
+    ensures to { result.end ≤ to }
+    ensures summed { (before : List (ℤ × ℕ)) → IsSummed SignedRange before (R.runs runs.now) from sum.old is_empty
+        → IsSummed SignedRange before (R.runs runs.now) result.end sum.new result.is_empty }
+{
+    let mut all_null = is_empty;
+    if !leaves_room(runs, sum.value()) {
+        return Part {
+            end: from,
+            is_empty,
+        };
+    }
+    for run in from..to {
+        if let Some(value) = runs.value(run) {
+            if !has_32_bits(value) {
+                return Part {
+                    end: run,
+                    is_empty: all_null,
+                };
+            }
+            all_null = false;
+            sum.add_within(value, runs.inner_row_count(run));
+        }
+    }
+    Part {
+        end: to,
+        is_empty: all_null,
+    }
+}
+
+// Do all rows of the runs leave the sum in the range, where their values have 32 bits?
+fn leaves_room<R: SignedRuns>(runs: &R, sum: i64) -> bool
+    ensures { result ≡ true → IsSignedReach (R.runs runs.now) sum }
+{
+    match runs.row_bound() {
+        Some(rows) => {
+            let size = sum.unsigned_abs();
+            rows < 1 << 31
+                && size < 1 << 63
+                && u64::from(rows) <= ((1 << 63) - 1 - size) / (1 << 31)
+        }
+        None => false,
+    }
 }
 
 // The runs from one to before another, where `INNER` says that neither the first nor the last of all is among them.

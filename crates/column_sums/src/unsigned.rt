@@ -1,5 +1,5 @@
 //! A sum of unsigned numbers.
-ghost use Rattle.std.specs.Prelude.{◌≡◌, ◌+◌, ◌*◌, ◌+ℤ◌, ◌*ℤ◌, pos, [], ◌∷◌, ◌++◌, true, false};
+ghost use Rattle.std.specs.Prelude.{◌≡◌, ◌+◌, ◌*◌, ◌+ℤ◌, ◌*ℤ◌, ◌<◌, ◌^◌, pos, [], ◌∷◌, ◌++◌, true, false};
 
 use crate::calls::Calls;
 use std::marker::Model;
@@ -61,6 +61,30 @@ impl UnsignedSum {
             Err(_) => false,
         }
     }
+
+    // Adds `value` as often as the run has rows, where the result is known to be in the range.
+    #[inline(always)]
+    pub(crate) fn add_within(&mut self, value: u64, len: usize)
+        requires few { len < 2 ^ 32 }
+        requires fits { is_within UnsignedRange (self.old.value +ℤ pos value *ℤ pos len) ≡ true }
+        ensures added { self.new.value ≡ self.old.value +ℤ pos value *ℤ pos len }
+        ensures calls { self.new.calls ≡ self.old.calls ++ (pos value, len) ∷ [] }
+    {
+        *self = UnsignedSum {
+            value: sum_within(self.value, value, len),
+            calls: self.calls.and_unsigned(&value, &len),
+        };
+    }
+}
+
+// The sum and `len` times the value, in 64 bits. The cast lets four rows be multiplied at once.
+#[inline(always)]
+fn sum_within(sum: u64, value: u64, len: usize) -> u64
+    requires few { len < 2 ^ 32 }
+    requires fits { sum + value * len < 2 ^ 64 }
+    ensures { result ≡ sum + value * len }
+{
+    sum + value * u64::from(len as u32)
 }
 
 // The sum and `len` times the value. The greatest is 2^128 - 2^64, which fits.

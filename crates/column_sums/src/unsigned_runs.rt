@@ -1,11 +1,13 @@
 //! Sums of runs of unsigned numbers.
-ghost use Rattle.std.specs.Prelude.{◌≡◌, ◌<◌, ◌+◌, ◌≤◌, ◌++◌, ℕ, ℤ, pos, List, Option, None, Some, length, option_map, slice_get, unsigned_abs, IfSome, false, true};
+ghost use Rattle.std.specs.Prelude.{◌≡◌, ◌<◌, ◌+◌, ◌≤◌, ◌-◌, ◌^◌, ◌++◌, ℕ, ℤ, pos, List, Option, None, Some, length, option_map, slice_get, unsigned_abs, IfSome, false, true};
 ghost use Rattle.column_sums.specs.Summed.{IsSummed, IsSumOfRuns};
 ghost use Rattle.column_sums.specs.SumRange.{UnsignedRange};
+ghost use Rattle.column_sums.specs.Reach.{IsUnsignedReach};
 ghost use Rattle.column_sums.specs.RunSum.{calls_of, rows_of_runs, valid_runs};
 ghost use Rattle.column_sums.specs.SumAnswer.{answer_of};
 
 use crate::answer::{SumAnswer, SumValue};
+use crate::part::Part;
 use crate::unsigned::UnsignedSum;
 use std::mem;
 
@@ -38,6 +40,15 @@ pub trait UnsignedRuns {
         ensures shown { 0 < result }
     {
         self.row_count(run)
+    }
+
+    /// A number of rows than which all runs together have no more, where it is known. It lets values that cannot take
+    /// the sum out of the range be added untested.
+    #[inline(always)]
+    fn row_bound(&self) -> Option<u32>
+        ensures { IfSome result (λ rows. length (rows_of_runs (runs self.now)) ≤ rows) }
+    {
+        None
     }
 }
 
@@ -91,8 +102,92 @@ fn add_parts<R: UnsignedRuns>(runs: &R, sum: &mut UnsignedSum) -> Option<bool>
     let first = count.min(1);
     let last = count.saturating_sub(1).max(first);
     let start_empty = add_between::<false, R>(runs, 0, first, sum, true)?;
-    let inner_empty = add_between::<true, R>(runs, first, last, sum, start_empty)?;
+    let inner_empty = add_inner(runs, first, last, sum, start_empty)?;
     add_between::<false, R>(runs, last, count, sum, inner_empty)
+}
+
+// The runs from one to before another, of which neither is the first nor the last of all: untested as far as values
+// have 32 bits, and the others one by one.
+#[inline(always)]
+fn add_inner<R: UnsignedRuns>(
+    runs: &R,
+    from: usize,
+    to: usize,
+    sum: &mut UnsignedSum,
+    is_empty: bool,
+) -> Option<bool>
+    requires within { to ≤ length (R.runs runs.now) }
+    requires ordered { from ≤ to }
+    requires inner { from < to → (0 < from) × (to < length (R.runs runs.now)) }
+    ensures summed { IfSome result (λ empty. (before : List (ℤ × ℕ)) →
+        IsSummed UnsignedRange before (R.runs runs.now) from sum.old is_empty
+        → IsSummed UnsignedRange before (R.runs runs.now) to sum.new empty) }
+    ensures left { result ≡ None → (before : List (ℤ × ℕ)) →
+        IsSummed UnsignedRange before (R.runs runs.now) from sum.old is_empty
+        → IsSumOfRuns UnsignedRange before (R.runs runs.now) None sum.new.calls false }
+{
+    let part = add_untested(runs, from, to, sum, is_empty);
+    add_between::<true, R>(runs, part.end, to, sum, part.is_empty)
+}
+
+// The runs up to the first whose value has more than 32 bits, where they leave the sum in the range.
+#[inline(always)]
+fn add_untested<R: UnsignedRuns>(
+    runs: &R,
+    from: usize,
+    to: usize,
+    sum: &mut UnsignedSum,
+    is_empty: bool,
+) -> Part
+    requires within { to ≤ length (R.runs runs.now) }
+    requires ordered { from ≤ to }
+    requires inner { from < to → (0 < from) × (to < length (R.runs runs.now)) }
+    ensures from { from ≤ result.end }
+    ensures to { result.end ≤ to }
+    ensures summed { (before : List (ℤ × ℕ)) → IsSummed UnsignedRange before (R.runs runs.now) from sum.old is_empty
+        → IsSummed UnsignedRange before (R.runs runs.now) result.end sum.new result.is_empty }
+{
+    let mut all_null = is_empty;
+    if !leaves_room(runs, sum.value()) {
+        return Part {
+            end: from,
+            is_empty,
+        };
+    }
+    for run in from..to {
+        if let Some(value) = runs.value(run) {
+            if !has_32_bits(value) {
+                return Part {
+                    end: run,
+                    is_empty: all_null,
+                };
+            }
+            all_null = false;
+            sum.add_within(value, runs.inner_row_count(run));
+        }
+    }
+    Part {
+        end: to,
+        is_empty: all_null,
+    }
+}
+
+// Do all rows of the runs leave the sum in the range, where their values have 32 bits?
+fn leaves_room<R: UnsignedRuns>(runs: &R, sum: u64) -> bool
+    ensures { result ≡ true → IsUnsignedReach (R.runs runs.now) (pos sum) }
+{
+    match runs.row_bound() {
+        Some(rows) => u64::from(rows) <= (u64::MAX - sum) / u64::from(u32::MAX),
+        None => false,
+    }
+}
+
+// Does the value have 32 bits? The compiler knows it of a type that has no more.
+#[inline(always)]
+fn has_32_bits(value: u64) -> bool
+    ensures { result ≡ true → value < 2 ^ 32 }
+{
+    value <= u64::from(u32::MAX)
 }
 
 // The runs from one to before another, where `INNER` says that neither the first nor the last of all is among them.

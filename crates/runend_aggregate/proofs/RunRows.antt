@@ -58,6 +58,21 @@ Decoded-runs ends numbers offset count (suc n) run rows window paired within dec
     let later = rows_of_runs (runs_from ends numbers offset count (run + 1) n) in
     subst (λ (k : ℕ). P k (rows ++ (replicate copies value ++ later))) at (subst (P (run + 1 + n)) (append_assoc rows (replicate copies value) later) rest)
 
+-- the visible runs show as many rows as the window has
+pub length-rows_from : (ends : List ℕ) (numbers : List (Option ℤ)) (offset count : ℕ) → IsWindow ends offset count → length numbers ≡ length ends
+    → length (rows_of_runs (runs_from ends numbers offset count (first_visible ends offset count) (stop_visible ends offset count - first_visible ends offset count))) ≡ count
+length-rows_from ends numbers offset zero window paired = refl
+length-rows_from ends numbers offset (suc n) window paired =
+    let first = run_at ends offset in
+    let last = run_at ends (offset + n) in
+    let order = run_at-le-run_at ends offset (offset + n) (omega arith) in
+    let inside = run_of_row_within ends offset (suc n) n window (omega arith) in
+    let past = ends_past ends (offset + n) inside in
+    let all = Decoded-runs ends numbers offset (suc n) (last + 1 - first) first [] window paired (omega arith) (Decoded-first ends numbers offset (suc n)) in
+    let at : first + (last + 1 - first) ≡ suc last = omega arith in
+    let whole : reached ends offset (suc n) (suc last) ≡ suc n = omega arith in
+    all.counted ∙ ap (reached ends offset (suc n)) at ∙ whole
+
 rows_of_visible : (ends : List ℕ) (values : List (Option Value)) (offset count : ℕ) → IsWindow ends offset count → length values ≡ length ends
     → rows_of_runs (runs_from ends (map number_in values) offset count (first_visible ends offset count) (stop_visible ends offset count - first_visible ends offset count))
     ≡ map number_in (run_rows ends values offset count)
@@ -69,12 +84,9 @@ rows_of_visible ends values offset (suc n) window paired =
     let counted = length-map values number_in ∙ paired in
     let order = run_at-le-run_at ends offset (offset + n) (omega arith) in
     let inside = run_of_row_within ends offset (suc n) n window (omega arith) in
-    let past = ends_past ends (offset + n) inside in
     let all = Decoded-runs ends numbers offset (suc n) (last + 1 - first) first [] window counted (omega arith) (Decoded-first ends numbers offset (suc n)) in
     let rows = rows_of_runs (runs_from ends numbers offset (suc n) first (last + 1 - first)) in
-    let at : first + (last + 1 - first) ≡ suc last = omega arith in
-    let whole : reached ends offset (suc n) (suc last) ≡ suc n = omega arith in
-    let full : length rows ≡ suc n = all.counted ∙ ap (reached ends offset (suc n)) at ∙ whole in
+    let full : length rows ≡ suc n = length-rows_from ends numbers offset (suc n) window counted in
     let cover : Covers rows ends numbers offset (suc n) = record { window = window; paired = counted; counted = full; each = λ i h. all.each i (omega (arith, full)) } in
     equal_from_Covers rows (map number_in (run_rows ends values offset (suc n))) ends numbers offset (suc n) cover
     (Covers-map number_in (run_rows ends values offset (suc n)) ends values offset (suc n) (Covers-run_rows ends values offset (suc n) window paired))

@@ -188,6 +188,14 @@ impl<'a, E: UnsignedPType, N: UnsignedNumbers> UnsignedRuns for UnsignedVisible<
         prove!(run < self.stop - self.first);
         visible::rows_between(self.ends, self.first + run)
     }
+
+    #[inline(always)]
+    fn row_bound(&self) -> Option<u32> {
+        match u32::try_from(self.count) {
+            Ok(rows) => Some(rows),
+            Err(_) => None,
+        }
+    }
 }
 
 // The numbers of values of any form, each looked up as a row.

@@ -16,4 +16,4 @@ returns-in_err-inner_empty-clause-left g c =
 pub returns-clause-left : goal.returns-clause-left
 returns-clause-left g c =
     let sum = c.args.sum.now in
-    λ none. c.add_between-3.ensures.left none sum.calls (c.in_ok-inner_empty.ensures.summed sum.calls (c.in_ok-start_empty.ensures.summed sum.calls (begun SignedRange (g.R.SignedRuns.runs c.args.runs.now) sum c.requires)))
+    λ none. c.add_between-2.ensures.left none sum.calls (c.in_ok-inner_empty.ensures.summed sum.calls (c.in_ok-start_empty.ensures.summed sum.calls (begun SignedRange (g.R.SignedRuns.runs c.args.runs.now) sum c.requires)))
