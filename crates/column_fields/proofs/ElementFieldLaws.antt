@@ -1,6 +1,6 @@
 -- The type of elements is read as it is written, and in no other way.
-use Rattle.std.proofs.Common.{◌≡◌, ◌⊎◌, inl, inr, ℕ, ◌^◌, ◌<◌, List, [], ◌++◌, length, cond, eqb, refl, sym, ap, ◌∙◌, arith, append_assoc}
-use Rattle.std.proofs.lemmas.List.{append-nil, nil_from_length}
+use Rattle.std.proofs.Common.{◌≡◌, ◌⊎◌, inl, inr, ℕ, ◌+◌, ◌^◌, ◌<◌, List, [], ◌++◌, length, cond, eqb, refl, sym, ap, ◌∙◌, arith, append_assoc}
+use Rattle.std.proofs.lemmas.List.{append-nil, length-append, nil_from_length}
 use Rattle.column_base.specs.declared.dtype.PType.{PType}
 use Rattle.column_base.specs.declared.dtype.PType.TheVariants.{U8, U16, U32, U64, I8, I16, I32, I64}
 use Rattle.column_base.specs.declared.dtype.Nullability.{Nullability}
@@ -57,6 +57,10 @@ no_told bytes first k lt b h = record { none = λ number n small e. h.none (null
 
 pub other_told : (bytes first second : List ℕ) (k told : ℕ) → k < 2 ^ 64 → told < 2 ^ 64 → bytes ≡ number_field 20 k ++ first → first ≡ number_field 21 told ++ second → HasNoNullability told → IsNoNumberedType bytes
 other_told bytes first second k told lt lt' b f h = record { none = λ number n small e. h.none n (sym (after_told number n bytes small e k told first second lt lt' b f).0) }
+
+pub numbered_long : (number : ℕ) (n : Nullability) → length (numbered_type number n) ≡ length (number_field 20 number) + length (number_field 21 (nullability_number n))
+unfolding numbered_type
+numbered_long number n = length-append (number_field 20 number) (number_field 21 (nullability_number n))
 
 pub more_behind : (bytes first second : List ℕ) (k told : ℕ) → k < 2 ^ 64 → told < 2 ^ 64 → bytes ≡ number_field 20 k ++ first → first ≡ number_field 21 told ++ second → (length second ≡ 0 → ⊥) → IsNoNumberedType bytes
 more_behind bytes first second k told lt lt' b f ne = record { none = λ number n small e. ne (ap length (after_told number n bytes small e k told first second lt lt' b f).1) }

@@ -28,7 +28,7 @@ pub lengths_none : (start : ℕ) → lengths_bytes start [] ≡ []
 unfolding lengths_bytes lengths_from
 lengths_none start = refl
 
-ahead : {X : Type 0} (xs : List X) (i : ℕ) (x : X) → i < length xs → x ≡ get_or xs i x → drop i xs ≡ x ∷ drop (i + 1) xs
+pub ahead : {X : Type 0} (xs : List X) (i : ℕ) (x : X) → i < length xs → x ≡ get_or xs i x → drop i xs ≡ x ∷ drop (i + 1) xs
 ahead xs i x lt is = drop-cons xs i x lt ∙ ap (λ y. y ∷ drop (suc i) xs) (sym is) ∙ ap (λ (k : ℕ). x ∷ drop k xs) (sym (add-one i))
 
 pub lengths_ahead : {X : Type 0} (f : X → ℕ) (xs : List X) (i start : ℕ) (x : X) → i < length xs → x ≡ get_or xs i x → lengths_bytes start (map f (drop i xs)) ≡ varint (f x - start) ++ lengths_bytes (f x) (map f (drop (i + 1) xs))

@@ -1,5 +1,6 @@
 pub mod FieldLaws
 pub mod KeptLaws
+pub mod RoomLaws
 pub mod SizeLaws
 pub mod TypeLaws
 pub mod NumberLaws

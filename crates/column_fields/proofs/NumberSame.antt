@@ -14,7 +14,7 @@ use Rattle.column_base.specs.Types.{HasNumber}
 use Rattle.column_fields.specs.NumberBytes.{size_of, number_bytes, numbers_bytes}
 use Rattle.column_fields.proofs.FieldLaws.{content_same}
 
-length-number_bytes : (t : PType) (n : ℤ) → length (number_bytes t n) ≡ size_of t
+pub length-number_bytes : (t : PType) (n : ℤ) → length (number_bytes t n) ≡ size_of t
 length-number_bytes U8 n = refl
 length-number_bytes U16 n = refl
 length-number_bytes U32 n = refl

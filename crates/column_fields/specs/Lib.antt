@@ -1,6 +1,7 @@
 pub mod Field
 pub mod Sizes
 pub mod Kept
+pub mod Room
 pub mod Types
 pub mod NumberBytes
 pub mod BitBytes

@@ -3,6 +3,7 @@ ghost use Rattle.std.specs.Prelude.{◌↔◌, IsTrue, ◌≡◌, ◌+◌, ◌-�
 ghost use Rattle.std.specs.Int.{w64, to_le_bytes};
 ghost use Rattle.column_fields.specs.BitBytes.{bit_bytes, words_bytes, IsPadded, HasNoBits};
 ghost use Rattle.column_fields.specs.Kept.{StaysInFront};
+ghost use Rattle.column_fields.specs.Room.{UsesRoom};
 ghost use Rattle.column_fields.specs.Refusal.{IsBadOrMemory};
 
 use crate::decimals::load_word;
@@ -25,6 +26,7 @@ pub fn bytes_for(count: usize) -> usize
 /// Writes the bits at the end. Refused as `OutOfMemory` alone.
 pub fn put_bits<A: Allocator, W: BufMut>(out: &mut W, bits: &BitBuffer<A>) -> VortexResult<()>
     ensures ok { OnOk result (W.written out.new ≡ W.written out.old ++ bit_bytes bits.now) }
+    ensures room { UsesRoom result (W.spare out.old) (W.spare out.new) (length (bit_bytes bits.now)) }
     ensures kept { StaysInFront (W.written out.old) (W.written out.new) }
     ensures only { IsOkUnless result VortexError.OutOfMemory }
 {
@@ -41,6 +43,7 @@ pub fn put_bits<A: Allocator, W: BufMut>(out: &mut W, bits: &BitBuffer<A>) -> Vo
 // Writes words at the end.
 fn put_words<W: BufMut>(out: &mut W, words: &[u64]) -> VortexResult<()>
     ensures ok { OnOk result (W.written out.new ≡ W.written out.old ++ words_bytes words.now) }
+    ensures room { UsesRoom result (W.spare out.old) (W.spare out.new) (length (words_bytes words.now)) }
     ensures kept { StaysInFront (W.written out.old) (W.written out.new) }
     ensures only { IsOkUnless result VortexError.OutOfMemory }
 {

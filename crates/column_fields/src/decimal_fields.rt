@@ -5,6 +5,7 @@ ghost use Rattle.column_base.specs.Validity.{form_of};
 ghost use Rattle.column_base.specs.ValidityForm.{HasLength};
 ghost use Rattle.column_fields.specs.DecimalFields.{decimal_fields, decimal_items, decimal_type, AreNoDecimalFields, AreNoDecimalItems, BeginsWithNoDecimalType, IsDecimalType, scale_number, HasNoScale};
 ghost use Rattle.column_fields.specs.Kept.{StaysInFront};
+ghost use Rattle.column_fields.specs.Room.{UsesRoom};
 ghost use Rattle.column_fields.specs.Refusal.{IsBadOrMemory};
 
 use crate::fields::{put_number, read_bytes, read_number};
@@ -16,6 +17,7 @@ use std::alloc::Allocator;
 /// Writes the precision and the scale at the end. Refused as `OutOfMemory` alone.
 pub fn put_decimal_type<W: BufMut>(out: &mut W, decimal: DecimalDType) -> VortexResult<()>
     ensures ok { OnOk result (W.written out.new ≡ W.written out.old ++ decimal_type decimal) }
+    ensures room { UsesRoom result (W.spare out.old) (W.spare out.new) (length (decimal_type decimal)) }
     ensures typed { IsDecimalType decimal }
     ensures kept { StaysInFront (W.written out.old) (W.written out.new) }
     ensures only { IsOkUnless result VortexError.OutOfMemory }

@@ -3,6 +3,7 @@ ghost use Rattle.std.specs.Prelude.{◌≡◌, ◌*◌, ◌++◌, length, All, O
 ghost use Rattle.std.specs.Int.{w64, w128, to_le_bytes};
 ghost use Rattle.column_fields.specs.DecimalBytes.{decimal_bytes, decimals_bytes};
 ghost use Rattle.column_fields.specs.Kept.{StaysInFront};
+ghost use Rattle.column_fields.specs.Room.{UsesRoom};
 
 use bytes::BufMut;
 use column_base::{VortexError, VortexResult};
@@ -17,6 +18,7 @@ const WORD: u128 = 1 << 64;
 /// Writes the integers of decimals at the end.
 pub fn put_decimals<W: BufMut>(out: &mut W, numbers: &[i128]) -> VortexResult<()>
     ensures ok { OnOk result (W.written out.new ≡ W.written out.old ++ decimals_bytes numbers.now) }
+    ensures room { UsesRoom result (W.spare out.old) (W.spare out.new) (length (decimals_bytes numbers.now)) }
     ensures fits { OnOk result (All (λ n. FitsSigned w128 n) numbers.now) }
     ensures kept { StaysInFront (W.written out.old) (W.written out.new) }
     ensures only { IsOkUnless result VortexError.OutOfMemory }
@@ -35,6 +37,7 @@ pub fn put_decimals<W: BufMut>(out: &mut W, numbers: &[i128]) -> VortexResult<()
 fn put_four<W: BufMut>(out: &mut W, numbers: &[i128]) -> VortexResult<()>
     requires { length numbers.now ≡ 4 }
     ensures ok { OnOk result (W.written out.new ≡ W.written out.old ++ decimals_bytes numbers.now) }
+    ensures room { UsesRoom result (W.spare out.old) (W.spare out.new) (length (decimals_bytes numbers.now)) }
     ensures fits { All (λ n. FitsSigned w128 n) numbers.now }
     ensures kept { StaysInFront (W.written out.old) (W.written out.new) }
     ensures only { IsOkUnless result VortexError.OutOfMemory }
@@ -60,6 +63,7 @@ fn put_four<W: BufMut>(out: &mut W, numbers: &[i128]) -> VortexResult<()>
 // Writes the integers of decimals at the end, one by one.
 fn put_each<W: BufMut>(out: &mut W, numbers: &[i128]) -> VortexResult<()>
     ensures ok { OnOk result (W.written out.new ≡ W.written out.old ++ decimals_bytes numbers.now) }
+    ensures room { UsesRoom result (W.spare out.old) (W.spare out.new) (length (decimals_bytes numbers.now)) }
     ensures fits { OnOk result (All (λ n. FitsSigned w128 n) numbers.now) }
     ensures kept { StaysInFront (W.written out.old) (W.written out.new) }
     ensures only { IsOkUnless result VortexError.OutOfMemory }
@@ -73,6 +77,7 @@ fn put_each<W: BufMut>(out: &mut W, numbers: &[i128]) -> VortexResult<()>
 /// Writes the integer of one decimal at the end.
 pub fn put_decimal<W: BufMut>(out: &mut W, number: i128) -> VortexResult<()>
     ensures ok { OnOk result (W.written out.new ≡ W.written out.old ++ decimal_bytes number) }
+    ensures room { UsesRoom result (W.spare out.old) (W.spare out.new) (length (decimal_bytes number)) }
     ensures fits { FitsSigned w128 number }
     ensures kept { StaysInFront (W.written out.old) (W.written out.new) }
     ensures only { IsOkUnless result VortexError.OutOfMemory }

@@ -1,7 +1,8 @@
 //! The fields that tell of which type the elements of lists are.
-ghost use Rattle.std.specs.Prelude.{◌≡◌, ◌++◌, IfSome, IfNone, OnOk, IsOkUnless};
+ghost use Rattle.std.specs.Prelude.{◌≡◌, ◌++◌, length, IfSome, IfNone, OnOk, IsOkUnless};
 ghost use Rattle.column_fields.specs.ElementFields.{element_type, numbered_type, nullability_number, IsElementType, IsNoElementType, IsNoNumberedType, HasNoNullability};
 ghost use Rattle.column_fields.specs.Kept.{StaysInFront};
+ghost use Rattle.column_fields.specs.Room.{UsesRoom};
 
 use crate::decimal_fields::{put_decimal_type, read_decimal_type};
 use crate::fields::{put_number, read_number};
@@ -12,6 +13,7 @@ use column_base::{ElementDType, Nullability, VortexError, VortexResult};
 /// Writes the type of the elements at the end. Refused as `OutOfMemory` alone.
 pub fn put_element_type<W: BufMut>(out: &mut W, element: ElementDType) -> VortexResult<()>
     ensures ok { OnOk result (W.written out.new ≡ W.written out.old ++ element_type element) }
+    ensures room { UsesRoom result (W.spare out.old) (W.spare out.new) (length (element_type element)) }
     ensures typed { IsElementType element }
     ensures kept { StaysInFront (W.written out.old) (W.written out.new) }
     ensures only { IsOkUnless result VortexError.OutOfMemory }
@@ -37,6 +39,7 @@ fn put_numbered_type<W: BufMut>(
     nullability: Nullability,
 ) -> VortexResult<()>
     ensures ok { OnOk result (W.written out.new ≡ W.written out.old ++ numbered_type number nullability) }
+    ensures room { UsesRoom result (W.spare out.old) (W.spare out.new) (length (numbered_type number nullability)) }
     ensures kept { StaysInFront (W.written out.old) (W.written out.new) }
     ensures only { IsOkUnless result VortexError.OutOfMemory }
 {

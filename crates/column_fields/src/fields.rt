@@ -3,6 +3,7 @@ ghost use Rattle.std.specs.Prelude.{◌≡◌, ◌≢◌, ◌+◌, ◌*◌, ◌^
 ghost use Rattle.varints.specs.Varint.{varint};
 ghost use Rattle.column_fields.specs.Field.{number_field, bytes_field, HasNoNumberField, HasNoConstantField, HasNoBytesField, IsNoBytesField};
 ghost use Rattle.column_fields.specs.Kept.{StaysInFront};
+ghost use Rattle.column_fields.specs.Room.{UsesRoom};
 
 use bytes::BufMut;
 use column_base::{VortexError, VortexResult};
@@ -12,6 +13,7 @@ use varints::read_shortest;
 #[inline(always)]
 pub fn put_varint<W: BufMut>(out: &mut W, number: u64) -> VortexResult<()>
     ensures ok { OnOk result (W.written out.new ≡ W.written out.old ++ varint number) }
+    ensures room { UsesRoom result (W.spare out.old) (W.spare out.new) (length (varint number)) }
     ensures kept { StaysInFront (W.written out.old) (W.written out.new) }
     ensures only { IsOkUnless result VortexError.OutOfMemory }
 {
@@ -28,6 +30,7 @@ pub fn put_varint<W: BufMut>(out: &mut W, number: u64) -> VortexResult<()>
 pub fn put_number<W: BufMut>(out: &mut W, field: u64, number: u64) -> VortexResult<()>
     requires { field < 32 }
     ensures ok { OnOk result (W.written out.new ≡ W.written out.old ++ number_field field number) }
+    ensures room { UsesRoom result (W.spare out.old) (W.spare out.new) (length (number_field field number)) }
     ensures kept { StaysInFront (W.written out.old) (W.written out.new) }
     ensures only { IsOkUnless result VortexError.OutOfMemory }
 {
@@ -41,6 +44,8 @@ pub fn put_number<W: BufMut>(out: &mut W, field: u64, number: u64) -> VortexResu
 pub fn put_bytes_key<W: BufMut>(out: &mut W, field: u64, count: usize) -> VortexResult<()>
     requires { field < 32 }
     ensures ok { OnOk result (W.written out.new ≡ W.written out.old ++ (varint (field * 8 + 2) ++ varint count)) }
+    ensures room { UsesRoom result (W.spare out.old) (W.spare out.new)
+        (length (varint (field * 8 + 2) ++ varint count)) }
     ensures kept { StaysInFront (W.written out.old) (W.written out.new) }
     ensures only { IsOkUnless result VortexError.OutOfMemory }
 {
@@ -53,6 +58,7 @@ pub fn put_bytes_key<W: BufMut>(out: &mut W, field: u64, count: usize) -> Vortex
 pub fn put_bytes<W: BufMut>(out: &mut W, field: u64, content: &[u8]) -> VortexResult<()>
     requires { field < 32 }
     ensures ok { OnOk result (W.written out.new ≡ W.written out.old ++ bytes_field field content.now) }
+    ensures room { UsesRoom result (W.spare out.old) (W.spare out.new) (length (bytes_field field content.now)) }
     ensures kept { StaysInFront (W.written out.old) (W.written out.new) }
     ensures only { IsOkUnless result VortexError.OutOfMemory }
 {

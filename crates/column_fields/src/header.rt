@@ -1,7 +1,8 @@
 //! What each message begins with.
-ghost use Rattle.std.specs.Prelude.{◌≡◌, ◌^◌, ◌<◌, ◌++◌, IfSome, IfNone, OnOk, IsOkUnless};
+ghost use Rattle.std.specs.Prelude.{◌≡◌, ◌^◌, ◌<◌, ◌++◌, length, IfSome, IfNone, OnOk, IsOkUnless};
 ghost use Rattle.column_fields.specs.Header.{header_bytes, HasNoHeader};
 ghost use Rattle.column_fields.specs.Kept.{StaysInFront};
+ghost use Rattle.column_fields.specs.Room.{UsesRoom};
 
 use crate::fields::{put_number, read_constant, read_number};
 use bytes::BufMut;
@@ -19,6 +20,8 @@ pub struct Header {
 pub fn put_header<W: BufMut>(out: &mut W, stated: Header) -> VortexResult<()>
     ensures ok { OnOk result (W.written out.new ≡
         W.written out.old ++ header_bytes stated.kind stated.form stated.rows) }
+    ensures room { UsesRoom result (W.spare out.old) (W.spare out.new)
+        (length (header_bytes stated.kind stated.form stated.rows)) }
     ensures kept { StaysInFront (W.written out.old) (W.written out.new) }
     ensures only { IsOkUnless result VortexError.OutOfMemory }
 {

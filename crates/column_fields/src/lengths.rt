@@ -4,6 +4,7 @@ ghost use Rattle.column_base.specs.Numbers.{numbers, ptype_of};
 ghost use Rattle.column_base.specs.Types.{IsUnsigned, HasNumber};
 ghost use Rattle.column_fields.specs.Field.{bytes_field};
 ghost use Rattle.column_fields.specs.Kept.{StaysInFront};
+ghost use Rattle.column_fields.specs.Room.{UsesRoom, UsesCountedRoom};
 ghost use Rattle.column_fields.specs.Lengths.{lengths_bytes, lengths_from, AreEndsOf};
 ghost use Rattle.varints.specs.Varint.{varint};
 
@@ -25,6 +26,8 @@ pub fn put_lengths_field<A: Allocator, W: BufMut>(
     requires unsigned { IsUnsigned (ptype_of ends.now) }
     ensures ok { OnOk result (W.written out.new ≡ W.written out.old ++
         bytes_field field (lengths_bytes 0 (map unsigned_abs (numbers ends.now)))) }
+    ensures room { UsesCountedRoom result (W.spare out.old) (W.spare out.new)
+        (length (bytes_field field (lengths_bytes 0 (map unsigned_abs (numbers ends.now))))) }
     ensures fit { AreEndsOf (ptype_of ends.now) (map unsigned_abs (numbers ends.now)) }
     ensures kept { StaysInFront (W.written out.old) (W.written out.new) }
     ensures only { IsOkUnless result VortexError.OutOfMemory }
@@ -44,6 +47,8 @@ fn put_lengths_of<A: Allocator, W: BufMut>(
     requires { IsUnsigned (ptype_of ends.now) }
     ensures ok { OnOk result
         (W.written out.new ≡ W.written out.old ++ lengths_bytes 0 (map unsigned_abs (numbers ends.now))) }
+    ensures room { UsesRoom result (W.spare out.old) (W.spare out.new)
+        (length (lengths_bytes 0 (map unsigned_abs (numbers ends.now)))) }
     ensures kept { StaysInFront (W.written out.old) (W.written out.new) }
     ensures only { IsOkUnless result VortexError.OutOfMemory }
 {
@@ -56,6 +61,8 @@ fn put_lengths_of<A: Allocator, W: BufMut>(
 // Writes the lengths of runs with these ends at the end, eight in one step.
 fn put_lengths<E: StoredEnd, W: BufMut>(out: &mut W, ends: &[E]) -> VortexResult<()>
     ensures ok { OnOk result (W.written out.new ≡ W.written out.old ++ lengths_bytes 0 (map E.natural ends.now)) }
+    ensures room { UsesRoom result (W.spare out.old) (W.spare out.new)
+        (length (lengths_bytes 0 (map E.natural ends.now))) }
     ensures kept { StaysInFront (W.written out.old) (W.written out.new) }
     ensures only { IsOkUnless result VortexError.OutOfMemory }
 {
@@ -76,6 +83,8 @@ fn put_lengths<E: StoredEnd, W: BufMut>(out: &mut W, ends: &[E]) -> VortexResult
 fn put_eight<E: StoredEnd, W: BufMut>(out: &mut W, start: u64, ends: &[E]) -> VortexResult<()>
     requires { length ends.now ≡ 8 }
     ensures ok { OnOk result (W.written out.new ≡ W.written out.old ++ lengths_bytes start (map E.natural ends.now)) }
+    ensures room { UsesRoom result (W.spare out.old) (W.spare out.new)
+        (length (lengths_bytes start (map E.natural ends.now))) }
     ensures kept { StaysInFront (W.written out.old) (W.written out.new) }
     ensures only { IsOkUnless result VortexError.OutOfMemory }
 {
@@ -121,6 +130,8 @@ fn eight_lengths<E: StoredEnd>(start: u64, ends: &[E]) -> [u64; 8]
 // Writes the lengths of runs that begin there at the end, one by one.
 fn put_each<E: StoredEnd, W: BufMut>(out: &mut W, start: u64, ends: &[E]) -> VortexResult<()>
     ensures ok { OnOk result (W.written out.new ≡ W.written out.old ++ lengths_bytes start (map E.natural ends.now)) }
+    ensures room { UsesRoom result (W.spare out.old) (W.spare out.new)
+        (length (lengths_bytes start (map E.natural ends.now))) }
     ensures kept { StaysInFront (W.written out.old) (W.written out.new) }
     ensures only { IsOkUnless result VortexError.OutOfMemory }
 {

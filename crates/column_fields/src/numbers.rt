@@ -4,6 +4,7 @@ ghost use Rattle.column_base.specs.Types.{HasNumber};
 ghost use Rattle.column_base.specs.declared.dtype.PType.TheVariants.{U8};
 ghost use Rattle.column_base.specs.Numbers.{numbers, ptype_of};
 ghost use Rattle.column_fields.specs.Kept.{StaysInFront};
+ghost use Rattle.column_fields.specs.Room.{UsesRoom};
 ghost use Rattle.column_fields.specs.NumberBytes.{number_bytes, numbers_bytes, size_of};
 
 use crate::stored::StoredNumber;
@@ -27,6 +28,7 @@ pub fn size_of_type(ptype: PType) -> usize
 pub fn put_value<W: BufMut>(out: &mut W, ptype: PType, number: i128) -> VortexResult<()>
     requires { HasNumber ptype number }
     ensures ok { OnOk result (W.written out.new ≡ W.written out.old ++ number_bytes ptype number) }
+    ensures room { UsesRoom result (W.spare out.old) (W.spare out.new) (length (number_bytes ptype number)) }
     ensures kept { StaysInFront (W.written out.old) (W.written out.new) }
     ensures only { IsOkUnless result VortexError.OutOfMemory }
 {
@@ -45,6 +47,7 @@ pub fn put_value<W: BufMut>(out: &mut W, ptype: PType, number: i128) -> VortexRe
 fn put_one<T: StoredNumber, W: BufMut>(out: &mut W, number: i128) -> VortexResult<()>
     requires { HasNumber T.PTYPE number }
     ensures ok { OnOk result (W.written out.new ≡ W.written out.old ++ number_bytes T.PTYPE number) }
+    ensures room { UsesRoom result (W.spare out.old) (W.spare out.new) (length (number_bytes T.PTYPE number)) }
     ensures kept { StaysInFront (W.written out.old) (W.written out.new) }
     ensures only { IsOkUnless result VortexError.OutOfMemory }
 {
@@ -85,6 +88,8 @@ fn load_one<T: StoredNumber>(bytes: &[u8]) -> i128
 pub(crate) fn put_all<T: StoredNumber, W: BufMut>(out: &mut W, items: &[T]) -> VortexResult<()>
     ensures ok { OnOk result
         (W.written out.new ≡ W.written out.old ++ numbers_bytes T.PTYPE (map T.number items.now)) }
+    ensures room { UsesRoom result (W.spare out.old) (W.spare out.new)
+        (length (numbers_bytes T.PTYPE (map T.number items.now))) }
     ensures fits { OnOk result (All (λ n. HasNumber T.PTYPE n) (map T.number items.now)) }
     ensures kept { StaysInFront (W.written out.old) (W.written out.new) }
     ensures only { IsOkUnless result VortexError.OutOfMemory }
@@ -103,6 +108,8 @@ pub(crate) fn put_all<T: StoredNumber, W: BufMut>(out: &mut W, items: &[T]) -> V
 fn put_each<T: StoredNumber, W: BufMut>(out: &mut W, items: &[T]) -> VortexResult<()>
     ensures ok { OnOk result
         (W.written out.new ≡ W.written out.old ++ numbers_bytes T.PTYPE (map T.number items.now)) }
+    ensures room { UsesRoom result (W.spare out.old) (W.spare out.new)
+        (length (numbers_bytes T.PTYPE (map T.number items.now))) }
     ensures fits { OnOk result (All (λ n. HasNumber T.PTYPE n) (map T.number items.now)) }
     ensures kept { StaysInFront (W.written out.old) (W.written out.new) }
     ensures only { IsOkUnless result VortexError.OutOfMemory }
@@ -116,6 +123,8 @@ fn put_each<T: StoredNumber, W: BufMut>(out: &mut W, items: &[T]) -> VortexResul
 // Writes numbers of one byte each at the end, which are their bytes.
 fn put_u8<W: BufMut>(out: &mut W, items: &[u8]) -> VortexResult<()>
     ensures ok { OnOk result (W.written out.new ≡ W.written out.old ++ numbers_bytes U8 (map (λ n. pos n) items.now)) }
+    ensures room { UsesRoom result (W.spare out.old) (W.spare out.new)
+        (length (numbers_bytes U8 (map (λ n. pos n) items.now))) }
     ensures fits { OnOk result (All (λ n. HasNumber U8 n) (map (λ n. pos n) items.now)) }
     ensures kept { StaysInFront (W.written out.old) (W.written out.new) }
     ensures only { IsOkUnless result VortexError.OutOfMemory }
@@ -131,6 +140,8 @@ pub fn put_values<A: Allocator, W: BufMut>(
 ) -> VortexResult<()>
     ensures ok { OnOk result (W.written out.new ≡ W.written out.old ++ numbers_bytes (ptype_of values.now)
         (numbers values.now)) }
+    ensures room { UsesRoom result (W.spare out.old) (W.spare out.new)
+        (length (numbers_bytes (ptype_of values.now) (numbers values.now))) }
     ensures fits { OnOk result (All (λ n. HasNumber (ptype_of values.now) n) (numbers values.now)) }
     ensures kept { StaysInFront (W.written out.old) (W.written out.new) }
     ensures only { IsOkUnless result VortexError.OutOfMemory }

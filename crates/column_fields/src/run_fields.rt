@@ -1,9 +1,10 @@
 //! What a message of runs ends with.
-ghost use Rattle.std.specs.Prelude.{◌≡◌, ℕ, ◌^◌, ◌<◌, List, ◌++◌, length, map, unsigned_abs, IfSome, IfNone, IfOk, IfErr, OnOk, IsOkUnless};
+ghost use Rattle.std.specs.Prelude.{◌≡◌, ℕ, ◌+◌, ◌^◌, ◌<◌, List, ◌++◌, length, map, unsigned_abs, IfSome, IfNone, IfOk, IfErr, OnOk, IsOkUnless};
 ghost use Rattle.column_base.specs.Numbers.{numbers, ptype_of};
 ghost use Rattle.column_base.specs.Types.{IsUnsigned};
 ghost use Rattle.column_fields.specs.Kept.{StaysInFront};
 ghost use Rattle.column_fields.specs.Lengths.{lengths_bytes, AreEndsOf};
+ghost use Rattle.column_fields.specs.Room.{UsesCountedRoom};
 ghost use Rattle.column_fields.specs.RunFields.{run_fields, AreNoRunFields};
 ghost use Rattle.column_fields.specs.Sizes.{IsPast};
 
@@ -38,6 +39,9 @@ pub fn put_run_fields<A: Allocator, W: BufMut>(
     ensures ok { OnOk result ((message : List ℕ) → length message ≡ values →
         W.written out.new ++ message ≡ W.written out.old ++
         run_fields offset ends_type (lengths_bytes 0 (map unsigned_abs (numbers ends.now))) message) }
+    ensures room { (message : List ℕ) → length message ≡ values →
+        UsesCountedRoom result (W.spare out.old + values) (W.spare out.new)
+        (length (run_fields offset ends_type (lengths_bytes 0 (map unsigned_abs (numbers ends.now))) message)) }
     ensures fit { OnOk result (AreEndsOf (ptype_of ends.now) (map unsigned_abs (numbers ends.now))) }
     ensures kept { StaysInFront (W.written out.old) (W.written out.new) }
     ensures only { IsOkUnless result VortexError.OutOfMemory }

@@ -1,6 +1,7 @@
 //! Native numbers as bytes, the lowest first.
 ghost use Rattle.std.specs.Prelude.{◌≡◌, ◌++◌, ◌+◌, ◌-◌, ◌≤◌, length, map, pos, All, OnOk, IsOkUnless};
 ghost use Rattle.column_fields.specs.Kept.{StaysInFront};
+ghost use Rattle.column_fields.specs.Room.{UsesRoom};
 ghost use Rattle.column_fields.specs.NumberBytes.{number_bytes, numbers_bytes, size_of};
 ghost use Rattle.column_base.specs.Number.{Narrows};
 ghost use Rattle.column_base.specs.Types.{HasNumber};
@@ -20,6 +21,8 @@ pub(crate) trait StoredNumber: NativePType {
         ensures fits { HasNumber Self.PTYPE (Self.number self) }
         ensures ok { OnOk result
             (W.written out.new ≡ W.written out.old ++ number_bytes Self.PTYPE (Self.number self)) }
+        ensures room { UsesRoom result (W.spare out.old) (W.spare out.new)
+            (length (number_bytes Self.PTYPE (Self.number self))) }
         ensures kept { StaysInFront (W.written out.old) (W.written out.new) }
         ensures only { IsOkUnless result VortexError.OutOfMemory };
 
@@ -29,6 +32,8 @@ pub(crate) trait StoredNumber: NativePType {
         ensures fits { All (λ n. HasNumber Self.PTYPE n) (map Self.number items.now) }
         ensures ok { OnOk result
             (W.written out.new ≡ W.written out.old ++ numbers_bytes Self.PTYPE (map Self.number items.now)) }
+        ensures room { UsesRoom result (W.spare out.old) (W.spare out.new)
+            (length (numbers_bytes Self.PTYPE (map Self.number items.now))) }
         ensures kept { StaysInFront (W.written out.old) (W.written out.new) }
         ensures only { IsOkUnless result VortexError.OutOfMemory };
 

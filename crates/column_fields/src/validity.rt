@@ -1,8 +1,9 @@
 //! The fields that tell which rows are null.
-ghost use Rattle.std.specs.Prelude.{◌≡◌, ◌++◌, OnOk, IfOk, IfErr, IsErrOf, IsOkUnless};
+ghost use Rattle.std.specs.Prelude.{◌≡◌, ◌++◌, length, OnOk, IfOk, IfErr, IsErrOf, IsOkUnless};
 ghost use Rattle.column_base.specs.Validity.{form_of};
 ghost use Rattle.column_base.specs.ValidityForm.{HasLength, ByBits};
 ghost use Rattle.column_fields.specs.Kept.{StaysInFront};
+ghost use Rattle.column_fields.specs.Room.{UsesRoom};
 ghost use Rattle.column_fields.specs.Validity.{validity_field, HasNoValidity};
 ghost use Rattle.column_fields.specs.Refusal.{IsBadOrMemory};
 
@@ -19,6 +20,8 @@ pub fn put_validity<A: Allocator, W: BufMut>(
     validity: &Validity<A>,
 ) -> VortexResult<()>
     ensures ok { OnOk result (W.written out.new ≡ W.written out.old ++ validity_field (form_of validity.now)) }
+    ensures room { UsesRoom result (W.spare out.old) (W.spare out.new)
+        (length (validity_field (form_of validity.now))) }
     ensures kept { StaysInFront (W.written out.old) (W.written out.new) }
     ensures only { IsOkUnless result VortexError.OutOfMemory }
 {
@@ -36,6 +39,7 @@ pub fn put_bit_validity<A: Allocator, W: BufMut>(
     bits: &BitBuffer<A>,
 ) -> VortexResult<()>
     ensures ok { OnOk result (W.written out.new ≡ W.written out.old ++ validity_field (ByBits bits.now)) }
+    ensures room { UsesRoom result (W.spare out.old) (W.spare out.new) (length (validity_field (ByBits bits.now))) }
     ensures kept { StaysInFront (W.written out.old) (W.written out.new) }
     ensures only { IsOkUnless result VortexError.OutOfMemory }
 {

@@ -2,9 +2,11 @@
 use Rattle.std.proofs.Common.{◌≡◌, ℕ, ◌+◌, ◌<◌, ◌≤◌, List, [], ◌∷◌, ◌++◌, length, map, get_or, drop, sum, zero, suc, refl, sym, ap, ◌∙◌, arith, append_assoc}
 use Rattle.std.specs.List.{concat}
 use Rattle.std.proofs.lemmas.List.{append-nil, drop_all, drop_more, length-append, length-map}
-use Rattle.column_core.specs.VarBinForm.{VarBinForm}
+use Rattle.std.specs.Prelude.{option_map}
+use Rattle.column_core.specs.Value.{Single}
+use Rattle.column_core.specs.VarBinForm.{VarBinForm, varbin_rows}
 use Rattle.varints.specs.Varint.{varint}
-use Rattle.text_fields.specs.Texts.{shown_rows, sizes_bytes, text_sizes}
+use Rattle.text_fields.specs.Texts.{shown_row, shown_rows, sizes_bytes, text_sizes}
 use Rattle.text_fields.proofs.Pieces.{sum-cons}
 use Rattle.text_fields.proofs.Sizes.{sizes_none, sizes_cons}
 
@@ -24,7 +26,7 @@ one_size form row size bytes out new whole lt b s inv n =
     ap (λ (t : List ℕ). t ++ sizes_bytes (drop (row + 1) (text_sizes form))) n ∙ append_assoc out (varint size) (sizes_bytes (drop (row + 1) (text_sizes form))) ∙ ap (λ (t : List ℕ). out ++ t) (sym (sizes_cons size (drop (row + 1) (text_sizes form))) ∙ ap sizes_bytes (sym (size_here form row size bytes lt b s))) ∙ inv
 
 -- how many bytes are left to tell
-left_size : (form : VarBinForm) (row size : ℕ) (bytes : List ℕ) → row < length (shown_rows form) → bytes ≡ get_or (shown_rows form) row [] → size ≡ length bytes → length (sizes_bytes (drop row (text_sizes form))) ≡ length (varint size) + length (sizes_bytes (drop (row + 1) (text_sizes form)))
+pub left_size : (form : VarBinForm) (row size : ℕ) (bytes : List ℕ) → row < length (shown_rows form) → bytes ≡ get_or (shown_rows form) row [] → size ≡ length bytes → length (sizes_bytes (drop row (text_sizes form))) ≡ length (varint size) + length (sizes_bytes (drop (row + 1) (text_sizes form)))
 left_size form row size bytes lt b s =
     ap (λ (ns : List ℕ). length (sizes_bytes ns)) (size_here form row size bytes lt b s) ∙ ap length (sizes_cons size (drop (row + 1) (text_sizes form))) ∙ length-append (varint size) (sizes_bytes (drop (row + 1) (text_sizes form)))
 
@@ -57,3 +59,11 @@ pub all_shown : (form : VarBinForm) (row : ℕ) (out whole : List ℕ) → lengt
 all_shown form row out whole le inv =
     let none : drop row (shown_rows form) ≡ [] = drop_all row (shown_rows form) le in
     sym (append-nil out) ∙ ap (λ (xss : List (List ℕ)). out ++ concat xss) (sym none) ∙ inv
+
+pub shown-count : (form : VarBinForm) → length (shown_rows form) ≡ length (varbin_rows form)
+shown-count form = length-map (map (option_map Single) (varbin_rows form)) shown_row ∙ length-map (varbin_rows form) (option_map Single)
+
+-- how many bytes are left to show
+pub shown_left : (form : VarBinForm) (row : ℕ) (bytes : List ℕ) → row < length (shown_rows form) → bytes ≡ get_or (shown_rows form) row [] → length (concat (drop row (shown_rows form))) ≡ length bytes + length (concat (drop (row + 1) (shown_rows form)))
+shown_left form row bytes lt b =
+    ap (λ (xss : List (List ℕ)). length (concat xss)) (drop_more (shown_rows form) row [] lt) ∙ length-append (get_or (shown_rows form) row []) (concat (drop (row + 1) (shown_rows form))) ∙ ap (λ (x : List ℕ). length x + length (concat (drop (row + 1) (shown_rows form)))) (sym b)

@@ -2,6 +2,7 @@
 ghost use Rattle.std.specs.Prelude.{◌≡◌, ◌+◌, ◌^◌, ◌<◌, ◌++◌, [], length, slice_index_or, sum, OnOk, IfOk, IfErr, IsOkUnless};
 ghost use Rattle.column_core.specs.VarBinForm.{AreVarBins};
 ghost use Rattle.column_fields.specs.Kept.{StaysInFront};
+ghost use Rattle.column_fields.specs.Room.{UsesRoom, UsesCountedRoom};
 ghost use Rattle.column_fields.specs.Sizes.{IsPast};
 ghost use Rattle.text_fields.specs.Texts.{AreTexts, shown_rows, sizes_bytes, text_bytes, text_fields, text_sizes};
 
@@ -18,13 +19,16 @@ use std::alloc::Allocator;
 const MOST: u128 = usize::MAX as u128;
 
 /// Writes which rows are null, how many bytes each row shows, and these bytes, at the end. Refused as `OutOfMemory`
-/// alone; what stood in the buffer stays in front also then.
+/// only, where the buffer has less room or no count says how many bytes these are; what it held stays in front also
+/// then.
 pub fn put_text_fields<A: Allocator, W: BufMut>(
     out: &mut W,
     array: &VarBinViewArray<A>,
 ) -> VortexResult<()>
     ensures ok { OnOk result (W.written out.new ≡ W.written out.old ++
         text_fields array.now.validity (text_sizes array.now) (text_bytes array.now)) }
+    ensures room { UsesCountedRoom result (W.spare out.old) (W.spare out.new)
+        (length (text_fields array.now.validity (text_sizes array.now) (text_bytes array.now))) }
     ensures stored { OnOk result (AreTexts array.now) }
     ensures kept { StaysInFront (W.written out.old) (W.written out.new) }
     ensures only { IsOkUnless result VortexError.OutOfMemory }
@@ -96,6 +100,7 @@ fn measure<A: Allocator>(array: &VarBinViewArray<A>) -> (u128, u128)
 // Writes how many bytes each row shows at the end.
 fn put_sizes<A: Allocator, W: BufMut>(out: &mut W, array: &VarBinViewArray<A>) -> VortexResult<()>
     ensures ok { OnOk result (W.written out.new ≡ W.written out.old ++ sizes_bytes (text_sizes array.now)) }
+    ensures room { UsesRoom result (W.spare out.old) (W.spare out.new) (length (sizes_bytes (text_sizes array.now))) }
     ensures kept { StaysInFront (W.written out.old) (W.written out.new) }
     ensures only { IsOkUnless result VortexError.OutOfMemory }
 {
@@ -108,6 +113,7 @@ fn put_sizes<A: Allocator, W: BufMut>(out: &mut W, array: &VarBinViewArray<A>) -
 // Writes the bytes that the rows show at the end.
 fn put_shown<A: Allocator, W: BufMut>(out: &mut W, array: &VarBinViewArray<A>) -> VortexResult<()>
     ensures ok { OnOk result (W.written out.new ≡ W.written out.old ++ text_bytes array.now) }
+    ensures room { UsesRoom result (W.spare out.old) (W.spare out.new) (length (text_bytes array.now)) }
     ensures kept { StaysInFront (W.written out.old) (W.written out.new) }
     ensures only { IsOkUnless result VortexError.OutOfMemory }
 {

@@ -1,8 +1,9 @@
-use Rattle.std.proofs.Common.{◌≡◌, ◌∙◌, ℤ, pos, get_or, ap, rules, FitsSigned}
+use Rattle.std.proofs.Common.{◌≡◌, ◌∙◌, ℤ, pos, get_or, ap, rules, FitsSigned, arith, length}
 use Rattle.std.specs.Int.{w128, cast_signed, cast_unsigned}
 use Rattle.std.proofs.lemmas.Int.{to_z-of_z}
 use Rattle.column_fields.specs.DecimalBytes.{decimal_bytes}
-use Rattle.column_fields.proofs.DecimalLaws.{four_put, four_all, pairs_shown}
+use Rattle.column_fields.proofs.DecimalLaws.{four_put, four_all, pairs_shown, length-decimals_bytes}
+use Rattle.column_fields.proofs.RoomLaws.{refused, flat_long}
 use Rattle.column_fields.proofs.decimals.put_four.Goals as goal
 
 pub returns-clause-fits : goal.returns-clause-fits
@@ -37,3 +38,9 @@ returns-clause-ok g c =
     (pairs_shown _ _ _ _ _ c.to_le_bytes-5.ensures c.to_le_bytes-6.ensures (c.words_of-third_low.ensures ∙ again (get_or ns 2 (pos 0)) f2))
     (pairs_shown _ _ _ _ _ c.to_le_bytes-7.ensures c.to_le_bytes-8.ensures (c.words_of-fourth_low.ensures ∙ again (get_or ns 3 (pos 0)) f3))
     c.as_flattened.ensures.value c.in_ok-put_slice.ensures.ok
+
+pub returns-in_err-put_slice-clause-room : goal.returns-in_err-put_slice-clause-room
+returns-in_err-put_slice-clause-room g c = refused _ _ _ _ c.from_residual.ensures.0 (omega (arith, flat_long _ c.to_le_bytes.result c.to_le_bytes-2.result c.to_le_bytes-3.result c.to_le_bytes-4.result c.to_le_bytes-5.result c.to_le_bytes-6.result c.to_le_bytes-7.result c.to_le_bytes-8.result c.as_flattened.ensures.value, ap length c.to_le_bytes.ensures, ap length c.to_le_bytes-2.ensures, ap length c.to_le_bytes-3.ensures, ap length c.to_le_bytes-4.ensures, ap length c.to_le_bytes-5.ensures, ap length c.to_le_bytes-6.ensures, ap length c.to_le_bytes-7.ensures, ap length c.to_le_bytes-8.ensures, length-decimals_bytes c.args.numbers.now, c.requires, c.in_err-put_slice.ensures.spare.0))
+
+pub returns-clause-room : goal.returns-clause-room
+returns-clause-room g c = omega (arith, flat_long _ c.to_le_bytes.result c.to_le_bytes-2.result c.to_le_bytes-3.result c.to_le_bytes-4.result c.to_le_bytes-5.result c.to_le_bytes-6.result c.to_le_bytes-7.result c.to_le_bytes-8.result c.as_flattened.ensures.value, ap length c.to_le_bytes.ensures, ap length c.to_le_bytes-2.ensures, ap length c.to_le_bytes-3.ensures, ap length c.to_le_bytes-4.ensures, ap length c.to_le_bytes-5.ensures, ap length c.to_le_bytes-6.ensures, ap length c.to_le_bytes-7.ensures, ap length c.to_le_bytes-8.ensures, length-decimals_bytes c.args.numbers.now, c.requires, c.in_ok-put_slice.ensures.spare)

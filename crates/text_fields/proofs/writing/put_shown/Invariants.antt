@@ -1,4 +1,4 @@
-use Rattle.std.proofs.Common.{◌≡◌, ◌++◌, drop}
+use Rattle.std.proofs.Common.{◌≡◌, ◌+◌, ◌≤◌, ◌++◌, length, drop}
 use Rattle.std.specs.List.{concat}
 use Rattle.text_fields.specs.Texts.{shown_rows, text_bytes}
 use Rattle.column_fields.specs.Kept.{StaysInFront}
@@ -8,4 +8,5 @@ abbrev pub invariant-loop-row : goal.invariant-loop-row
 invariant-loop-row g l = record {
   shows : g.W.BufMut.written l.out ++ concat (drop l.row (shown_rows l.array)) ≡ g.W.BufMut.written l.fn.out ++ text_bytes l.array;
   kept : StaysInFront (g.W.BufMut.written l.fn.out) (g.W.BufMut.written l.out);
+  room : g.W.BufMut.spare l.fn.out + length (concat (drop l.row (shown_rows l.array))) ≤ g.W.BufMut.spare l.out + length (text_bytes l.array);
 }

@@ -1,10 +1,11 @@
-use Rattle.std.proofs.Common.{◌≡◌, ◌∙◌, ℤ, pos, get_or, refl, ap, rules, FitsSigned}
+use Rattle.std.proofs.Common.{◌≡◌, ◌∙◌, ℤ, pos, get_or, refl, ap, rules, FitsSigned, arith, length}
 use Rattle.std.specs.Int.{w32, cast_signed, cast_unsigned}
 use Rattle.std.proofs.lemmas.Int.{to_z-of_z}
 use Rattle.column_base.specs.Types.{HasNumber}
 use Rattle.column_base.specs.declared.dtype.PType.TheVariants.{I32}
 use Rattle.column_fields.specs.NumberBytes.{number_bytes}
 use Rattle.column_fields.proofs.EightLaws.{eight_put, eight_all}
+use Rattle.column_fields.proofs.RoomLaws.{refused, eight_long}
 use Rattle.column_fields.proofs.stored.I32StoredNumber.put_eight.Goals as goal
 
 pub returns-clause-fits : goal.returns-clause-fits
@@ -55,3 +56,9 @@ returns-clause-ok g c =
     (c.to_le_bytes-7.ensures ∙ again (get_or items 6 (pos 0)) f6)
     (c.to_le_bytes-8.ensures ∙ again (get_or items 7 (pos 0)) f7)
     c.as_flattened.ensures.value c.in_ok-put_slice.ensures.ok
+
+pub returns-in_err-put_slice-clause-room : goal.returns-in_err-put_slice-clause-room
+returns-in_err-put_slice-clause-room g c = refused _ _ _ _ c.from_residual.ensures.0 (omega (arith, eight_long I32 (λ n. n) c.args.items.now _ _ _ _ _ _ _ _ _ c.requires c.as_flattened.ensures.value (ap length c.to_le_bytes.ensures) (ap length c.to_le_bytes-2.ensures) (ap length c.to_le_bytes-3.ensures) (ap length c.to_le_bytes-4.ensures) (ap length c.to_le_bytes-5.ensures) (ap length c.to_le_bytes-6.ensures) (ap length c.to_le_bytes-7.ensures) (ap length c.to_le_bytes-8.ensures), c.in_err-put_slice.ensures.spare.0))
+
+pub returns-clause-room : goal.returns-clause-room
+returns-clause-room g c = omega (arith, eight_long I32 (λ n. n) c.args.items.now _ _ _ _ _ _ _ _ _ c.requires c.as_flattened.ensures.value (ap length c.to_le_bytes.ensures) (ap length c.to_le_bytes-2.ensures) (ap length c.to_le_bytes-3.ensures) (ap length c.to_le_bytes-4.ensures) (ap length c.to_le_bytes-5.ensures) (ap length c.to_le_bytes-6.ensures) (ap length c.to_le_bytes-7.ensures) (ap length c.to_le_bytes-8.ensures), c.in_ok-put_slice.ensures.spare)

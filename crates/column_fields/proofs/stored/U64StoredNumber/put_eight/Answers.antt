@@ -1,8 +1,9 @@
-use Rattle.std.proofs.Common.{pos, refl, rules}
+use Rattle.std.proofs.Common.{pos, refl, rules, arith, length, ap}
 use Rattle.std.specs.Int.{w64, to_le_bytes}
 use Rattle.column_base.specs.Types.{HasNumber}
 use Rattle.column_base.specs.declared.dtype.PType.TheVariants.{U64}
 use Rattle.column_fields.proofs.EightLaws.{eight_put, all_mapped}
+use Rattle.column_fields.proofs.RoomLaws.{refused, eight_long}
 use Rattle.column_fields.proofs.stored.U64StoredNumber.put_eight.Goals as goal
 
 pub returns-clause-fits : goal.returns-clause-fits
@@ -16,3 +17,9 @@ returns-clause-ok g c =
     eight_put U64 (λ n. pos n) (to_le_bytes w64) 0 c.args.items.now (g.W.BufMut.written c.args.out.now) _ _ _ _ _ _ _ _ _ _ (λ x. refl) c.requires
     c.to_le_bytes.ensures c.to_le_bytes-2.ensures c.to_le_bytes-3.ensures c.to_le_bytes-4.ensures c.to_le_bytes-5.ensures c.to_le_bytes-6.ensures c.to_le_bytes-7.ensures c.to_le_bytes-8.ensures
     c.as_flattened.ensures.value c.in_ok-put_slice.ensures.ok
+
+pub returns-in_err-put_slice-clause-room : goal.returns-in_err-put_slice-clause-room
+returns-in_err-put_slice-clause-room g c = refused _ _ _ _ c.from_residual.ensures.0 (omega (arith, eight_long U64 (λ n. pos n) c.args.items.now _ _ _ _ _ _ _ _ _ c.requires c.as_flattened.ensures.value (ap length c.to_le_bytes.ensures) (ap length c.to_le_bytes-2.ensures) (ap length c.to_le_bytes-3.ensures) (ap length c.to_le_bytes-4.ensures) (ap length c.to_le_bytes-5.ensures) (ap length c.to_le_bytes-6.ensures) (ap length c.to_le_bytes-7.ensures) (ap length c.to_le_bytes-8.ensures), c.in_err-put_slice.ensures.spare.0))
+
+pub returns-clause-room : goal.returns-clause-room
+returns-clause-room g c = omega (arith, eight_long U64 (λ n. pos n) c.args.items.now _ _ _ _ _ _ _ _ _ c.requires c.as_flattened.ensures.value (ap length c.to_le_bytes.ensures) (ap length c.to_le_bytes-2.ensures) (ap length c.to_le_bytes-3.ensures) (ap length c.to_le_bytes-4.ensures) (ap length c.to_le_bytes-5.ensures) (ap length c.to_le_bytes-6.ensures) (ap length c.to_le_bytes-7.ensures) (ap length c.to_le_bytes-8.ensures), c.in_ok-put_slice.ensures.spare)
