@@ -411,7 +411,7 @@ HV_ANSWER hv_write_size(const hv_column *column, size_t *size, hv_error *error);
  * where they have no room there. Refused by 11 or 13, it leaves `bytes` as it was. */
 HV_ANSWER hv_write(const hv_column *column, uint8_t *bytes, size_t bytes_len, size_t *size, hv_error *error);
 /* The column that was written so; 17 for bytes that are the message of no column, or 21 where memory is refused before
- * the damage is found: always 17 where the bytes do not begin as a message does. */
+ * the damage of lists is found, under runs too; of other bytes 21 only for those of a message. */
 HV_ANSWER hv_read_column(const uint8_t *bytes, size_t bytes_len, hv_column *out, hv_error *error);
 
 /* Frees the column, if there is one; the handle is empty after. */

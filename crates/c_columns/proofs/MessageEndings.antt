@@ -7,8 +7,7 @@ use Rattle.column_base.specs.Error.{number_of}
 use Rattle.column_base.specs.declared.error.VortexError.{VortexError}
 use Rattle.column_base.specs.declared.error.VortexError.TheVariants.{BadMetadata, ColumnLength, OutOfMemory, Unsupported}
 use Rattle.column_bytes.specs.Bytes.{column_bytes}
-use Rattle.column_bytes.specs.Read.{IsFramed, IsNoMessage, IsUnsupportedOrMemory, IsWritable}
-use Rattle.column_bytes.proofs.Framing.{message_framed}
+use Rattle.column_bytes.specs.Read.{IsNoMessage, IsUnsupportedOrMemory, IsWritable, MayBeMessage}
 use Rattle.runend_array.specs.Array.{column_of}
 use Rattle.runend_array.specs.Column.{depth}
 use Rattle.runend_array.specs.declared.array_ref.ArrayRef.{ArrayRef}
@@ -60,13 +59,13 @@ write_refused room c a error code fields some why is told = subst (λ (h : Held)
 
 -- ---- read
 
-pub read_fault : (bytes : List ℕ) (error : VortexError) → (error ≡ BadMetadata) ⊎ (error ≡ OutOfMemory) → (error ≡ BadMetadata → IsNoMessage 16 bytes) → (error ≡ OutOfMemory → IsFramed 16 bytes) → ReadFault bytes error
-read_fault bytes error (inl bad) none framed = inl (record { told = bad; none = none bad })
-read_fault bytes error (inr short) none framed = inr (record { told = short; framed = framed short })
+pub read_fault : (bytes : List ℕ) (error : VortexError) → (error ≡ BadMetadata) ⊎ (error ≡ OutOfMemory) → (error ≡ BadMetadata → IsNoMessage 16 bytes) → (error ≡ OutOfMemory → MayBeMessage 16 bytes) → ReadFault bytes error
+read_fault bytes error (inl bad) none message = inl (record { told = bad; none = none bad })
+read_fault bytes error (inr short) none message = inr (record { told = short; message = message short })
 
 -- memory was refused for the box of a column that was read
 pub read_short : (bytes : List ℕ) (a : ArrayRef Global) (error : VortexError) → IsColumnOfMessage bytes a → error ≡ OutOfMemory → ReadFault bytes error
-read_short bytes a error made short = inr (record { told = short; framed = message_framed (column_of a) 16 bytes made })
+read_short bytes a error made short = inr (record { told = short; message = inl (column_of a, made) })
 
 pub read_served : (bytes : List ℕ) (a : ArrayRef Global) → IsColumnOfMessage bytes a → (error : VortexError) → ¬ IsUnreadable bytes error
 read_served bytes a made error fault = fault.none.none (column_of a) made

@@ -4,7 +4,7 @@ use Rattle.std.specs.Global.{Global}
 use Rattle.column_base.specs.declared.error.VortexError.{VortexError}
 use Rattle.column_base.specs.declared.error.VortexError.TheVariants.{BadMetadata, ColumnLength, OutOfMemory, Unsupported}
 use Rattle.column_bytes.specs.Bytes.{column_bytes}
-use Rattle.column_bytes.specs.Read.{IsFramed, IsMessage, IsNoMessage, IsWritable}
+use Rattle.column_bytes.specs.Read.{IsMessage, IsNoMessage, IsWritable, MayBeMessage}
 use Rattle.runend_array.specs.Array.{column_of}
 use Rattle.runend_array.specs.Column.{Column, depth}
 use Rattle.runend_array.specs.declared.array_ref.ArrayRef.{ArrayRef}
@@ -75,10 +75,10 @@ pub record IsUnreadable (bytes : List ℕ) (error : VortexError) : Type 0 where
   pub told : error ≡ BadMetadata
   pub none : IsNoMessage 16 bytes
 
--- memory was refused: the bytes begin as a message does
+-- memory was refused: the bytes are a message, or begin as one of lists does
 pub record IsShortOfRead (bytes : List ℕ) (error : VortexError) : Type 0 where
   pub told : error ≡ OutOfMemory
-  pub framed : IsFramed 16 bytes
+  pub message : MayBeMessage 16 bytes
 
 abbrev pub ReadFault : List ℕ → VortexError → Type 0
 ReadFault bytes error = IsUnreadable bytes error ⊎ IsShortOfRead bytes error

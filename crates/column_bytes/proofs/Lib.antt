@@ -16,4 +16,7 @@ pub mod FlatReads
 pub mod ListReads
 pub mod BytesTaken
 pub mod SameRows
-pub mod Framing
+pub mod LeafChecks
+pub mod ConstantChecks
+pub mod RunChecks
+pub mod MessageChecks

@@ -44,16 +44,14 @@ pub record IsMessage (levels : ℕ) (bytes : List ℕ) (c : Column) : Type 0 whe
 pub record IsNoMessage (levels : ℕ) (bytes : List ℕ) : Type 0 where
   pub none : (c : Column) → IsMessage levels bytes c → ⊥
 
--- ---- how far bytes are a message where a reader is refused memory: each header is there, and all fields of runs are
+-- ---- what bytes are where a reader is refused memory: a message, or lists under runs that are checked
 
--- the bytes begin with the header of a flat column, of a constant or of lists
-pub record BeginsUnderNoRuns (bytes : List ℕ) : Type 0 where
+-- the bytes begin with the header of lists
+pub record BeginsWithLists (bytes : List ℕ) : Type 0 where
   pub kind : ℕ
-  pub form : ℕ
   pub rows : ℕ
   pub rest : List ℕ
-  pub form_is : (form ≡ 1) ⊎ (form ≡ 3) ⊎ (form ≡ 4)
-  pub spelt : bytes ≡ header_bytes kind form rows ++ rest
+  pub spelt : bytes ≡ header_bytes kind 4 rows ++ rest
 
 -- the bytes are a header of runs and their fields, in which these bytes are those of the values
 pub record AreFieldsOver (bytes values : List ℕ) : Type 0 where
@@ -64,10 +62,14 @@ pub record AreFieldsOver (bytes values : List ℕ) : Type 0 where
   pub lengths : List ℕ
   pub spelt : bytes ≡ header_bytes kind 2 rows ++ run_fields offset ends_type lengths values
 
--- the bytes begin as a message does, with at most this number of levels of runs
-abbrev pub IsFramed : ℕ → List ℕ → Type 0
-IsFramed zero bytes = BeginsUnderNoRuns bytes
-IsFramed (suc levels) bytes = BeginsUnderNoRuns bytes ⊎ ((values : List ℕ) × AreFieldsOver bytes values × IsFramed levels values)
+-- the bytes begin so, or they are the fields of runs over values that do, with at most this number of levels of runs
+abbrev pub IsOverLists : ℕ → List ℕ → Type 0
+IsOverLists zero bytes = BeginsWithLists bytes
+IsOverLists (suc levels) bytes = BeginsWithLists bytes ⊎ ((values : List ℕ) × AreFieldsOver bytes values × IsOverLists levels values)
+
+-- the bytes are the message of some column, or begin as one of lists does
+abbrev pub MayBeMessage : ℕ → List ℕ → Type 0
+MayBeMessage levels bytes = ((c : Column) × IsMessage levels bytes c) ⊎ IsOverLists levels bytes
 
 -- ---- what follows a header
 
@@ -209,3 +211,10 @@ pub record AreNoRunsOf (kind rows offset : ℕ) (t : PType) (lengths : List ℕ)
 -- writing is refused
 abbrev pub IsUnsupportedOrMemory : VortexError → Type 0
 IsUnsupportedOrMemory error = (error ≡ Unsupported) ⊎ (error ≡ OutOfMemory)
+
+-- over each column of which the values are the message, these are runs
+pub record JoinsRuns (kind rows offset : ℕ) (t : PType) (lengths values : List ℕ) : Type 0 where
+  pub some : (levels : ℕ) (v : Column) → IsMessage levels values v → (c : Column) × AreRunsOf kind rows offset t lengths v c
+
+pub record JoinsNoRuns (kind rows offset : ℕ) (t : PType) (lengths values : List ℕ) : Type 0 where
+  pub none : (levels : ℕ) (v : Column) → IsMessage levels values v → AreNoRunsOf kind rows offset t lengths v

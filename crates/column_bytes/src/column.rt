@@ -3,7 +3,7 @@ ghost use Rattle.std.specs.Prelude.{◌≡◌, ◌<◌, ◌++◌, IfOk, IfErr, I
 ghost use Rattle.runend_array.specs.Array.{column_of};
 ghost use Rattle.runend_array.specs.Column.{depth};
 ghost use Rattle.column_bytes.specs.Bytes.{column_bytes};
-ghost use Rattle.column_bytes.specs.Read.{IsFramed, IsMessage, IsNoMessage, IsWritable, IsUnsupportedOrMemory};
+ghost use Rattle.column_bytes.specs.Read.{MayBeMessage, IsMessage, IsNoMessage, IsWritable, IsUnsupportedOrMemory};
 ghost use Rattle.column_fields.specs.Kept.{StaysInFront};
 ghost use Rattle.column_fields.specs.Refusal.{IsBadOrMemory};
 
@@ -11,6 +11,7 @@ use crate::constants::{put_constant, read_constant};
 use crate::flat::{put_decimal_rows, put_numbers, put_truths, read_leaf};
 use crate::list_reading::read_lists;
 use crate::lists::put_lists;
+use crate::message_checks::may_be_message;
 use crate::runs::{put_runs, read_runs};
 use crate::sizes::{message_size, size_within};
 use crate::texts::put_texts;
@@ -63,15 +64,26 @@ pub fn put_message<A: Allocator + Copy, W: BufMut>(
 }
 
 /// Returns the column of which the bytes are the message. Refused as `BadMetadata` only where they are the message of
-/// no column with at most 16 levels of runs, and always where they do not even begin as one does: with a header of one
-/// of the four forms, runs with all of their fields, and so their values. Fails else only with `OutOfMemory`.
+/// no column with at most 16 levels of runs. Fails else only with `OutOfMemory`, and only for bytes that are a message:
+/// after a refusal for memory they are looked at once more, without memory. Only the header of lists is looked at then,
+/// under runs too.
 pub fn read_column<A: Allocator + Copy>(alloc: A, bytes: &[u8]) -> VortexResult<ArrayRef<A>>
     ensures found { IfOk result (λ array. IsMessage 16 bytes.now (column_of array)) }
     ensures bad { IsErrOf result VortexError.BadMetadata → IsNoMessage 16 bytes.now }
-    ensures short { IsErrOf result VortexError.OutOfMemory → IsFramed 16 bytes.now }
+    ensures short { IsErrOf result VortexError.OutOfMemory → MayBeMessage 16 bytes.now }
     ensures only { IfErr result IsBadOrMemory }
 {
-    read_message(alloc, bytes, MOST_LEVELS)
+    match read_message(alloc, bytes, MOST_LEVELS) {
+        Ok(array) => Ok(array),
+        Err(VortexError::OutOfMemory) => {
+            if may_be_message(bytes, MOST_LEVELS) {
+                Err(VortexError::OutOfMemory)
+            } else {
+                Err(VortexError::BadMetadata)
+            }
+        }
+        Err(error) => Err(error),
+    }
 }
 
 // Writes the message of a column with at most so many levels of runs at the end.
@@ -115,7 +127,6 @@ fn read_message<A: Allocator + Copy>(
 ) -> VortexResult<ArrayRef<A>>
     ensures found { IfOk result (λ array. IsMessage levels bytes.now (column_of array)) }
     ensures bad { IsErrOf result VortexError.BadMetadata → IsNoMessage levels bytes.now }
-    ensures short { IsErrOf result VortexError.OutOfMemory → IsFramed levels bytes.now }
     ensures only { IfErr result IsBadOrMemory }
 {
     let Some((header, body)) = read_header(bytes) else {

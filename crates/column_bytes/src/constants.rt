@@ -289,7 +289,7 @@ fn read_value<A: Allocator + Copy>(
 }
 
 // The boolean of which this is the byte.
-fn read_truth(bytes: &[u8]) -> Option<bool>
+pub(crate) fn read_truth(bytes: &[u8]) -> Option<bool>
     ensures found { IfSome result (λ truth. one_if truth ∷ [] ≡ bytes.now) }
     ensures none { IfNone result ((truth : Bool) → one_if truth ∷ [] ≡ bytes.now → ⊥) }
 {

@@ -28,10 +28,10 @@ pub(crate) const TRUTHS: u64 = 9;
 pub(crate) const DECIMALS: u64 = 10;
 
 /// The number of the type of texts.
-const TEXTS: u64 = 11;
+pub(crate) const TEXTS: u64 = 11;
 
 /// The number of the type of bytes.
-const BYTES: u64 = 12;
+pub(crate) const BYTES: u64 = 12;
 
 /// Writes a flat column of integers at the end. Refused as `OutOfMemory` alone.
 pub(crate) fn put_numbers<A: Allocator, W: BufMut>(

@@ -2,6 +2,7 @@
 #![tactic(auto)]
 
 mod column;
+mod constant_checks;
 mod constant_sizes;
 mod constants;
 mod decimal_constants;
@@ -10,11 +11,14 @@ mod flat_messages;
 mod flat_sizes;
 mod kinds;
 pub mod laws;
+mod leaf_checks;
 mod list_constants;
 mod list_parts;
 mod list_reading;
 mod list_sizes;
 mod lists;
+mod message_checks;
+mod run_checks;
 mod runs;
 mod sizes;
 mod texts;

@@ -21,7 +21,7 @@ pub(crate) fn read_null_list<A: Allocator>(bytes: &[u8]) -> VortexResult<Scalar<
 }
 
 // The type of the elements of lists, behind the fields of null.
-fn read_element(bytes: &[u8]) -> Option<ElementDType>
+pub(crate) fn read_element(bytes: &[u8]) -> Option<ElementDType>
     ensures found { IfSome result (λ element. IsNullOfLists bytes.now element) }
     ensures none { IfNone result (IsNullOfNoLists bytes.now) }
 {

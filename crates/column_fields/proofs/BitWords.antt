@@ -17,7 +17,7 @@ use Rattle.column_fields.proofs.FieldLaws.{cut}
 use Rattle.column_fields.proofs.BitReading.{length-bits_of, length-bits_from, length-bit_bytes, padded_shows, padded_bits}
 
 -- bit i of the bytes as a number, where bit j of byte k is bit 8 * k + j
-byte_digit : List ℕ → ℕ → ℕ
+unfoldable pub byte_digit : List ℕ → ℕ → ℕ
 byte_digit bytes i = bit_at (get_or bytes (i / 8) 0) (i % 8)
 
 -- ---- the bytes of words
@@ -148,7 +148,7 @@ digit_head byte bytes i h =
     let here : i % 8 ≡ i = omega arith in
     rw (first, here) refl
 
-from_digit : (count : ℕ) (bytes : List ℕ) (i : ℕ) → length bytes ≡ (count + 7) / 8 → i < count → byte_digit bytes i ≡ one_if (get_or (bits_from count bytes) i false)
+pub from_digit : (count : ℕ) (bytes : List ℕ) (i : ℕ) → length bytes ≡ (count + 7) / 8 → i < count → byte_digit bytes i ≡ one_if (get_or (bits_from count bytes) i false)
 from_digit count [] i len h = absurd (omega arith)
 from_digit count (byte ∷ bytes) i len h =
     let p = bits_of (min 8 count) byte in

@@ -25,3 +25,5 @@ pub mod RunFieldLaws
 pub mod ListFieldLaws
 pub mod DecimalFieldLaws
 pub mod ElementFieldLaws
+pub mod HeldNumbers
+pub mod SpanReading

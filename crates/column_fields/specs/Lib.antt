@@ -15,3 +15,6 @@ pub mod DecimalFields
 pub mod RunFields
 pub mod ListFields
 pub mod ElementFields
+pub mod Held
+pub mod ValidityViews
+pub mod Spans

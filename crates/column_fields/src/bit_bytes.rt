@@ -70,7 +70,7 @@ pub fn load_bits<A: Allocator + Copy>(
 }
 
 // Is each bit above the first ones 0? Only the last byte has such bits.
-fn is_padded(bytes: &[u8], count: usize) -> bool
+pub(crate) fn is_padded(bytes: &[u8], count: usize) -> bool
     requires { length bytes.now ≡ (count + 7) / 8 }
     ensures { IsTrue result ↔ IsPadded count bytes.now }
 {

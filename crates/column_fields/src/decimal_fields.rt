@@ -68,7 +68,7 @@ pub fn read_decimal_fields<A: Allocator + Copy>(
 }
 
 // The precision and the scale, and the bytes of the items, which the bytes are.
-fn read_decimal_items(bytes: &[u8]) -> Option<(DecimalDType, &[u8])>
+pub(crate) fn read_decimal_items(bytes: &[u8]) -> Option<(DecimalDType, &[u8])>
     ensures found { IfSome result (λ r. bytes.now ≡ decimal_items r.0 r.1.now) }
     ensures typed { IfSome result (λ r. IsDecimalType r.0) }
     ensures small { IfSome result (λ r. length r.1.now < 2 ^ 64) }

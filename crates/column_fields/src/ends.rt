@@ -238,7 +238,7 @@ fn known_end<E: StoredEnd>(number: u64) -> E
 }
 
 // The end of a run of that length, where its type has it.
-fn end_behind<E: StoredEnd>(start: u64, length: u64) -> Option<E>
+pub(crate) fn end_behind<E: StoredEnd>(start: u64, length: u64) -> Option<E>
     ensures { Narrows E.number (HasNumber E.PTYPE) (pos (start + length)) result }
 {
     E::of_end(start.checked_add(length)?)
@@ -246,7 +246,7 @@ fn end_behind<E: StoredEnd>(start: u64, length: u64) -> Option<E>
 
 // The shortest varint at the front, and the bytes after it. One byte or two are most.
 #[inline(always)]
-fn read_length(bytes: &[u8]) -> Option<(u64, &[u8])>
+pub(crate) fn read_length(bytes: &[u8]) -> Option<(u64, &[u8])>
     ensures found { IfSome result (λ r. bytes.now ≡ varint r.0 ++ r.1.now) }
     ensures small { IfSome result (λ r. r.0 < 2 ^ 64) }
     ensures none { IfNone result (BeginsWithNoShortest bytes.now) }

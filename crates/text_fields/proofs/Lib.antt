@@ -3,4 +3,5 @@ pub mod Packing
 pub mod Sizes
 pub mod TextLaws
 pub mod Nulls
+pub mod TextChecks
 pub mod Written

@@ -31,6 +31,9 @@ pub all_blank : (v : ValidityForm) (count : ℕ) (ns : List ℕ) → HasLength v
 all_blank v count ns has h =
     blank_from ns (flags v count) (λ k p q e. let lt : k < count = omega (arith, length-flags v count has) in h k lt (sym (flag_is v count k has lt) ∙ e))
 
+pub blank_of : (v : ValidityForm) (count k : ℕ) (ns : List ℕ) → HasLength v count → k < count → k < length ns → flag_at v k ≡ false → AreBlankAtNulls 0 ns (flags v count) → get_or ns k 0 ≡ 0
+blank_of v count k ns has lt within null blank = blank_at ns (flags v count) k blank within (omega (arith, length-flags v count has)) (flag_is v count k has lt ∙ null)
+
 pub not_blank_at : (v : ValidityForm) (count k : ℕ) (ns : List ℕ) → HasLength v count → k < count → k < length ns → flag_at v k ≡ false → (get_or ns k 0 ≡ 0 → ⊥) → ¬ AreBlankAtNulls 0 ns (flags v count)
 not_blank_at v count k ns has lt within null some blank =
     some (blank_at ns (flags v count) k blank within (omega (arith, length-flags v count has)) (flag_is v count k has lt ∙ null))

@@ -29,7 +29,7 @@ sizes_long (n ∷ ns) small =
     omega (arith, ap length (sizes_cons n ns), length-append (varint n) (sizes_bytes ns), varint_some n (omega arith), sizes_long ns (omega arith))
 
 -- sizes whose bytes begin with those of these begin with these
-record Rest (read sizes rest : List ℕ) : Type 0 where
+pub record Rest (read sizes rest : List ℕ) : Type 0 where
   pub tail : List ℕ
   pub is : sizes ≡ read ++ tail
   pub rest_is : rest ≡ sizes_bytes tail
@@ -91,7 +91,7 @@ all_read rows total bytes rest start views h count none last = record {
 }
 
 -- what is left of the sizes of each column with these bytes
-left : (rows total : ℕ) (bytes rest : List ℕ) (start : ℕ) (views : List View) (sizes : List ℕ) → AreSoFar bytes rest start views → length views ≤ rows → start < 2 ^ 64 → total < 2 ^ 64 → length sizes ≡ rows → sum sizes ≡ total → bytes ≡ sizes_bytes sizes → Rest (sizes_in views) sizes rest
+pub left : (rows total : ℕ) (bytes rest : List ℕ) (start : ℕ) (views : List View) (sizes : List ℕ) → AreSoFar bytes rest start views → length views ≤ rows → start < 2 ^ 64 → total < 2 ^ 64 → length sizes ≡ rows → sum sizes ≡ total → bytes ≡ sizes_bytes sizes → Rest (sizes_in views) sizes rest
 left rows total bytes rest start views sizes h le p q count summed e =
     rest_of (sizes_in views) sizes rest (omega (arith, h.start_is)) (omega arith) (omega (arith, length-map views (λ (view : View). view.size))) (sym h.spelt ∙ e)
 

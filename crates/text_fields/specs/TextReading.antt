@@ -1,10 +1,10 @@
 -- What bytes are as the fields of texts or of bytes.
-use Rattle.std.specs.Prelude.{◌≡◌, ℕ, ◌^◌, ◌<◌, List, [], ◌∷◌, length, sum}
+use Rattle.std.specs.Prelude.{◌≡◌, ℕ, ◌^◌, ◌<◌, Bool, true, false, List, [], ◌∷◌, length, sum}
 use Rattle.column_base.specs.ValidityForm.{ValidityForm, flags}
 use Rattle.column_core.specs.declared.varbinview.View.{View}
 use Rattle.column_core.specs.declared.varbinview.VarBinKind.{VarBinKind}
 use Rattle.column_core.specs.Optionals.{AreBlankAtNulls}
-use Rattle.column_core.specs.VarBinForm.{VarBinForm, AreVarBins, varbin_with}
+use Rattle.column_core.specs.VarBinForm.{VarBinForm, AreVarBins, IsOfKind, varbin_with}
 use Rattle.text_fields.specs.Texts.{AreTexts, packed, sizes_bytes, sizes_in, text_bytes, text_fields, text_items, text_sizes, views_from}
 
 -- the bytes are the fields of the packed column of so many rows of texts, or of bytes
@@ -60,3 +60,8 @@ pub record AreTextsIn (kind : VarBinKind) (rows : ℕ) (validity : ValidityForm)
 
 pub record AreNoTextsIn (kind : VarBinKind) (rows : ℕ) (validity : ValidityForm) (bytes content : List ℕ) : Type 0 where
   pub none : (form : VarBinForm) → AreTextsIn kind rows validity bytes content form → ⊥
+
+-- a row may show these bytes: a text where texts are wanted, and none where the row is null
+abbrev pub FitsRow : VarBinKind → Bool → List ℕ → Type 0
+FitsRow kind true bytes = IsOfKind kind bytes
+FitsRow kind false bytes = length bytes ≡ 0

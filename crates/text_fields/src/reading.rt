@@ -37,7 +37,7 @@ pub fn read_text_fields<A: Allocator + Copy>(
 }
 
 // The bytes of the sizes, and the bytes that the rows show, which the bytes are.
-fn read_text_items(bytes: &[u8]) -> Option<(&[u8], &[u8])>
+pub(crate) fn read_text_items(bytes: &[u8]) -> Option<(&[u8], &[u8])>
     ensures found { IfSome result (λ r. bytes.now ≡ text_items r.0.now r.1.now) }
     ensures small { IfSome result (λ r. (length r.0.now < 2 ^ 64) × (length r.1.now < 2 ^ 64)) }
     ensures none { IfNone result (AreNoTextItems bytes.now) }

@@ -1,8 +1,7 @@
-use Rattle.std.proofs.Common.{arith, ◌-◌, inl, inr}
+use Rattle.std.proofs.Common.{arith, ◌-◌}
 use Rattle.std.proofs.lemmas.Result.{IfOk-weaker, err_from_is_err_and}
 use Rattle.runend_array.specs.Array.{column_of}
 use Rattle.column_fields.proofs.Refusals.{same_error}
-use Rattle.column_bytes.proofs.Framing.{begins, message_framed, over}
 use Rattle.column_bytes.proofs.Messages.{no_body, other_form, no_levels, no_fields, no_values, no_runs, runs_body}
 use Rattle.column_bytes.proofs.RunLaws.{no_body_of, body_message, rest_small}
 use Rattle.column_bytes.proofs.column.+read_message.Goals as goal
@@ -50,23 +49,3 @@ pub returns-clause-bad : goal.returns-clause-bad
 returns-clause-bad g t c =
     let f = c.in-Some-read_run_fields.ensures in
     λ e. no_body_of c.args.levels _ _ 2 _ c.args.bytes.now c.in-Some.body.now c.in-Some.ensures.small.0 c.in-Some.ensures.small.1 c.in-Some.ensures.small.2 (omega arith) c.in-Some.ensures.found (no_runs c.args.levels (c.args.levels - 1) _ _ _ _ _ _ c.in-Some.body.now (column_of c.in_ok-values.values) (omega arith) (rest_small _ _ _ c.args.bytes.now c.in-Some.body.now (omega arith) c.in-Some.ensures.found) f.small.0 f.small.1 f.small.2 f.found c.in_ok-values.ensures.found (c.read_runs.ensures.bad e))
-
-pub returns-then-header-eq1-clause-short : goal.returns-then-header-eq1-clause-short
-returns-then-header-eq1-clause-short g t c = λ _. begins c.args.levels _ _ _ c.args.bytes.now c.in-Some.body.now (inl (omega arith)) c.in-Some.ensures.found
-
-pub returns-then-header-eq3-clause-short : goal.returns-then-header-eq3-clause-short
-returns-then-header-eq3-clause-short g t c = λ _. begins c.args.levels _ _ _ c.args.bytes.now c.in-Some.body.now (inr (inl (omega arith))) c.in-Some.ensures.found
-
-pub returns-then-header-eq4-clause-short : goal.returns-then-header-eq4-clause-short
-returns-then-header-eq4-clause-short g t c = λ _. begins c.args.levels _ _ _ c.args.bytes.now c.in-Some.body.now (inr (inr (omega arith))) c.in-Some.ensures.found
-
-pub returns-in_err-values-clause-short : goal.returns-in_err-values-clause-short
-returns-in_err-values-clause-short g t c =
-    let p = err_from_is_err_and c.from_residual.result c.from_residual.ensures.1 in
-    let f = c.in-Some-read_run_fields.ensures in
-    rw (p.1, p.2) (λ e. over c.args.levels (c.args.levels - 1) _ _ _ _ _ _ _ c.args.bytes.now c.in-Some.body.now (omega arith) (omega arith) c.in-Some.ensures.found f.found (c.in_err-values.ensures.short (same_error _ _ e)))
-
-pub returns-clause-short : goal.returns-clause-short
-returns-clause-short g t c =
-    let f = c.in-Some-read_run_fields.ensures in
-    λ _. over c.args.levels (c.args.levels - 1) _ _ _ _ _ _ _ c.args.bytes.now c.in-Some.body.now (omega arith) (omega arith) c.in-Some.ensures.found f.found (message_framed (column_of c.in_ok-values.values) (c.args.levels - 1) _ c.in_ok-values.ensures.found)
