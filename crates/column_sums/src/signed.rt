@@ -94,7 +94,7 @@ impl SignedSum {
     }
 }
 
-// The sum and `len` times the value, in 64 bits. The cast lets two rows be multiplied at once.
+// The sum and `len` times the value, in 64 bits.
 #[inline(always)]
 fn sum_within(sum: i64, value: i64, len: usize) -> i64
     requires few { len < 2 ^ 31 }
@@ -103,7 +103,7 @@ fn sum_within(sum: i64, value: i64, len: usize) -> i64
     ensures sum { result ≡ sum +ℤ value *ℤ pos len }
     ensures room { HasRoom result 0 }
 {
-    sum + value * i64::from(len as i32)
+    sum + value * len as i64
 }
 
 /// Does the value have 32 bits? The compiler knows it of a type that has no more.

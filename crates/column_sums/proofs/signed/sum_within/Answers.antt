@@ -1,15 +1,22 @@
-use Rattle.std.proofs.Common.{◌≡◌, ◌*ℤ◌, ◌+ℤ◌, FitsSigned, arith, pos, refl, w64}
-use Rattle.std.proofs.lemmas.Int.{ints, to_z-of_z}
-use Rattle.column_sums.proofs.Within.{signed-is_within}
+use Rattle.std.proofs.Common.{◌∙◌, ◌*ℤ◌, ◌+ℤ◌, ◌<◌, ◌^◌, ap, arith, of_z, pos, to_z, w64}
+use Rattle.std.proofs.lemmas.Int.{to_z-of_z}
+use Rattle.column_sums.proofs.Within.{product-computed, signed-is_within, sum-computed}
 use Rattle.column_sums.proofs.signed.sum_within.Goals as goal
+
+pub overflow_mul-result : goal.overflow_mul-result
+overflow_mul-result c =
+    let few : c.args.len < 2 ^ 32 = omega (arith, c.requires.few) in
+    rw (product-computed c.args.value c.args.len c.ranges.value few) (signed-is_within (c.args.value *ℤ pos c.args.len) c.requires.product)
+
+pub overflow_add-result : goal.overflow_add-result
+overflow_add-result c =
+    let few : c.args.len < 2 ^ 32 = omega (arith, c.requires.few) in
+    let product = signed-is_within (c.args.value *ℤ pos c.args.len) c.requires.product in
+    rw (sum-computed c.args.sum c.args.value c.args.len c.ranges.sum c.ranges.value few product) (signed-is_within (c.args.sum +ℤ c.args.value *ℤ pos c.args.len) c.requires.fits)
 
 pub returns-clause-sum : goal.returns-clause-sum
 returns-clause-sum c =
-    let sum = c.args.sum in
-    let value = c.args.value in
-    let len = c.args.len in
-    let len_is : c.from.result ≡ pos len = omega (arith, ints, c.from.ensures, c.requires.few) in
-    let len_fits : FitsSigned w64 (pos len) = omega (arith, ints, c.requires.few) in
-    let product = signed-is_within (value *ℤ pos len) c.requires.product in
-    let total = signed-is_within (sum +ℤ value *ℤ pos len) c.requires.fits in
-    rw (len_is, to_z-of_z w64 (pos len) len_fits, to_z-of_z w64 value c.ranges.value, to_z-of_z w64 sum c.ranges.sum, to_z-of_z w64 (value *ℤ pos len) product, to_z-of_z w64 (sum +ℤ value *ℤ pos len) total) refl
+    let few : c.args.len < 2 ^ 32 = omega (arith, c.requires.few) in
+    let product = signed-is_within (c.args.value *ℤ pos c.args.len) c.requires.product in
+    let total = signed-is_within (c.args.sum +ℤ c.args.value *ℤ pos c.args.len) c.requires.fits in
+    ap (λ n. to_z w64 (of_z w64 n)) (sum-computed c.args.sum c.args.value c.args.len c.ranges.sum c.ranges.value few product) ∙ to_z-of_z w64 _ total
