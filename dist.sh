@@ -30,6 +30,8 @@ SOURCE_DATE_EPOCH=${SOURCE_DATE_EPOCH:-$(time_of_sources)}
 export SOURCE_DATE_EPOCH
 
 has() { command -v "$1" >/dev/null 2>&1; }
+# is the C library in the program $1?
+is_static() { ! ldd "$1" >/dev/null 2>&1; }
 
 # what install.sh needs, as it is in a checkout
 make_tar() {
@@ -39,7 +41,9 @@ make_tar() {
     rm -f "$work/$name/lib/"*_sqlite.so
     [ ! -e "$work/bin" ] || cp -R "$work/bin" "$work/$name/"
     cp -R "$top/tools/packages" "$work/$name/tools/"
-    for page in ABI.md BYTES.md ERRORS.md column.proto; do cp "$top/docs/$page" "$work/$name/docs/"; done
+    for page in ABI.md BYTES.md ERRORS.md PROMISE.md column.proto; do cp "$top/docs/$page" "$work/$name/docs/"; done
+    mkdir -p "$work/$name/examples/corpus"
+    cp "$top/examples/corpus/messages.txt" "$work/$name/examples/corpus/"
     for part in Cargo.toml build.rs src tests examples; do cp -R "$top/rust/$part" "$work/$name/rust/"; done
     tar -C "$work" --sort=name --mtime="@$SOURCE_DATE_EPOCH" --owner=0 --group=0 --numeric-owner --mode=go=u-w \
         -cf - "$name" | gzip -9n >"$out/$name.tar.gz"
@@ -77,9 +81,8 @@ make_program_deb() {
     mkdir -p "$root/usr/bin" "$root/usr/share/man/man1" "$root/usr/share/doc/hivevigil"
     cp "$work/bin/hivevigil" "$root/usr/bin/"
     cp "$top/man/hivevigil.1" "$root/usr/share/man/man1/"
-    # what is linked with an archive needs no package
     needs=
-    ! ldd "$work/bin/hivevigil" >/dev/null 2>&1 || needs=libc6
+    is_static "$work/bin/hivevigil" || needs=libc6
     deb hivevigil "$needs" utils "run-end encoded columns from the command line" <<'TEXT'
 What a CSV file takes with each stretch of equal rows stored once, one of its
 columns kept in a file, and such a file shown and asked.
@@ -161,11 +164,18 @@ pack_site() {
         -cf - "$name" | gzip -9n >"$out/$name.tar.gz"
 }
 
-# What is packed, in SPDX's words: the library's two files by their checksums, and what is linked into them.
+# What is packed, in SPDX's words: the library's two files and the program by their checksums, and what is linked into
+# them. What the program is not linked with, and the program where there is none, is left out.
 list_parts() {
-    sum_of() { sha256sum "$top/lib/$1" | cut -d' ' -f1; }
-    sed -e "s|@VERSION@|$version|g" -e "s|@CREATED@|$(date -u -d "@$SOURCE_DATE_EPOCH" +%Y-%m-%dT%H:%M:%SZ)|" \
-        -e "s|@ARCHIVE@|$(sum_of libhivevigil.a)|g" -e "s|@SHARED@|$(sum_of libhivevigil.so)|" \
+    sum_of() { sha256sum "$1" | cut -d' ' -f1; }
+    of_program='' without='SPDXRef-program|SPDXRef-glibc|SPDXRef-gcc-runtime'
+    if [ -e "$work/bin/hivevigil" ]; then
+        of_program=$(sum_of "$work/bin/hivevigil")
+        is_static "$work/bin/hivevigil" && without='nothing' || without='SPDXRef-glibc'
+    fi
+    sed -E -e "/$without/d" -e "s|@PROGRAM@|$of_program|" -e "s|@VERSION@|$version|g" \
+        -e "s|@CREATED@|$(date -u -d "@$SOURCE_DATE_EPOCH" +%Y-%m-%dT%H:%M:%SZ)|" \
+        -e "s|@ARCHIVE@|$(sum_of "$top/lib/libhivevigil.a")|g" -e "s|@SHARED@|$(sum_of "$top/lib/libhivevigil.so")|" \
         "$top/tools/packages/parts.spdx.json" >"$out/hivevigil-$version.spdx.json"
 }
 

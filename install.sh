@@ -1,7 +1,7 @@
 #!/bin/sh
 # Puts the built library in place: headers, archive, shared object, pkg-config and CMake files, licence, pages of the
-# manual, and those that its users read: the binary interface, errors, columns as bytes and their schema. So is the
-# program hivevigil, where program/build.sh has built it.
+# manual, and those that its users read: the binary interface, errors, what stays, columns as bytes, their schema, and
+# stored messages with their rows. So is the program hivevigil, where program/build.sh has built it.
 #     sh install.sh --prefix DIR [--libdir lib]     installs below DIR
 #     sh install.sh --prefix DIR --uninstall        takes away what an install put there, and nothing else
 # DESTDIR, if set, comes before DIR, as for other installers. sh examples/build.sh builds the library first.
@@ -98,7 +98,10 @@ sed -nE 's/^(HV_EXPORT )?[a-z0-9_]+ (hv_[a-z0-9_]+)\(.*/\2/p' "$top/include/hive
     "$top/include/hivevigil_exports.h" | sort -u >"$work/calls"
 while read -r call; do link hivevigil.3 "share/man/man3/$call.3"; done <"$work/calls"
 place 644 "$top/LICENSE" share/doc/hivevigil/LICENSE
-for page in ABI.md BYTES.md ERRORS.md column.proto; do place 644 "$top/docs/$page" "share/doc/hivevigil/$page"; done
+for page in ABI.md BYTES.md ERRORS.md PROMISE.md column.proto; do
+    place 644 "$top/docs/$page" "share/doc/hivevigil/$page"
+done
+place 644 "$top/examples/corpus/messages.txt" share/doc/hivevigil/messages.txt
 if [ -e "$top/lib/UNPROVED" ]; then
     echo "install: this library was built without proof" >&2
     place 644 "$top/lib/UNPROVED" share/doc/hivevigil/UNPROVED

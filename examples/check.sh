@@ -285,8 +285,8 @@ else
     skip "postgres/test.sql" "PostgreSQL with its headers (and runuser, as root)"
 fi
 
-# what is installed and packed, used in empty folders
-package() { run "$1" timeout 300 sh examples/packages.sh "$2" "$work/dist"; }
+# what is installed and packed, used in empty folders; on a busy machine all packages take minutes to be made again
+package() { run "$1" timeout 900 sh examples/packages.sh "$2" "$work/dist"; }
 run "dist.sh" sh dist.sh "$work/dist"
 if has pkg-config; then
     package "installed, C" c

@@ -38,9 +38,13 @@ refused: rows 2 to 12 are not among 9 rows'
     "$cc" -std=c11 program.c $(pkg-config --cflags hivevigil) "$(pkg-config --variable=libdir hivevigil)/libhivevigil.a" \
         -o program
     expect "$said" ./program
-    # the schema by which others read columns as bytes
-    grep -q '^message Column' "$(pkg-config --variable=prefix hivevigil)/share/doc/hivevigil/column.proto" ||
-        fail "no schema of messages is installed"
+    # the schema by which others read columns as bytes, and messages to try them on
+    pages=$(pkg-config --variable=prefix hivevigil)/share/doc/hivevigil
+    grep -q '^message Column' "$pages/column.proto" || fail "no schema of messages is installed"
+    # shellcheck disable=SC2046
+    "$cc" -std=c11 "$top/examples/c/corpus.c" "-I$top/examples/c" $(pkg-config --cflags hivevigil) \
+        "$(pkg-config --variable=libdir hivevigil)/libhivevigil.a" -o corpus
+    ./corpus "$pages/messages.txt" >corpus.log 2>&1 || fail "stored messages: $(tail -n 2 corpus.log)"
     echo "Hivevigil $(pkg-config --modversion hivevigil) by pkg-config, shared object and archive"
 }
 
@@ -127,7 +131,14 @@ python_program() {
 from hivevigil import Column
 runs = Column.of([4, 4, 4, 7, 7, 9, 9, 9, 9]).encode()
 print(runs.sum(), runs[2:4].to_list())'
-    echo "pip install of $(basename "$dist"/hivevigil-*.whl)"
+    wheel=$(basename "$dist"/hivevigil-*.whl)
+    # the machines that it says it is for are those that have what the shared object asks of glibc
+    if command -v objdump >/dev/null; then
+        found=$(objdump -T "$work"/venv/lib/python*/site-packages/hivevigil/libhivevigil.so |
+            grep -o 'GLIBC_[0-9.]*' | sort -uV | tail -n 1 | sed 's/GLIBC_//; s/\./_/')
+        case $wheel in *-py3-none-manylinux_"$found"_"$(uname -m)".whl) ;; *) fail "$wheel, and glibc $found" ;; esac
+    fi
+    echo "pip install of $wheel"
 }
 
 # the extensions of the databases: SQLite's is loaded, of PostgreSQL's all that a server looks for is there
@@ -199,6 +210,7 @@ site)
     ;;
 sums)
     (cd "$dist" && sha256sum --quiet --check SHA256SUMS)
+    "${PYTHON:-python3}" -m json.tool "$dist"/hivevigil-*.spdx.json >/dev/null || fail "the list of parts is no JSON"
     [ "$(wc -l <"$dist/SHA256SUMS")" = "$(($(find "$dist" -type f | wc -l) - 1))" ] || fail "a package has no checksum"
     sh "$top/dist.sh" "$work/again" >/dev/null 2>&1
     diff "$dist/SHA256SUMS" "$work/again/SHA256SUMS" || fail "made again, the packages are others"

@@ -22,6 +22,7 @@ WORD = re.compile(r"[A-Za-z]\w*")
 OTHERS = {
     "also_shares": "the toolchain",
     "RT_SECONDS": "the toolchain",
+    "manylinux": "Python's packages",
     "perf": "Linux",
     "array_agg": "PostgreSQL",
     "work_mem": "PostgreSQL",

@@ -25,6 +25,7 @@ from man_pages import constants, described
 ROOT = Path(__file__).resolve().parent.parent
 FILES = Path(__file__).resolve().parent / "website"
 HEADER, PACKAGE, RUST, CRATES = "include/hivevigil.h", "python/hivevigil", "rust", "crates.txt"
+MESSAGES = "examples/corpus/messages.txt"
 # The pages by their titles, in groups. What is not a file of this list, and not a crate's page, is not in the site.
 GROUPS = {
     "Use it": {
@@ -35,7 +36,8 @@ GROUPS = {
     "Reference": {
         HEADER: "Calls of C", PACKAGE: "Python package", RUST: "Rust crate", "docs/ERRORS.md": "Errors",
         "docs/BYTES.md": "A column as bytes", "docs/column.proto": "Schema of messages",
-        "docs/ABI.md": "Binary interface", "docs/SCRIPT.md": "Script", "docs/VECTORS.md": "Vectors",
+        "docs/ABI.md": "Binary interface", "docs/PROMISE.md": "What stays within 1.x", "docs/SCRIPT.md": "Script",
+        "docs/VECTORS.md": "Vectors",
     },
     "What is proved": {
         "docs/PROVED.md": "Proved, tested, trusted", "docs/HEADLINE.md": "The headline", CRATES: "Crates",
@@ -286,7 +288,7 @@ def targets_of(places: dict[str, str]) -> dict[str, str]:
     """What code may name, with its page: paths, crates and calls of C."""
     crates = {path.split("/")[1]: where for path, where in places.items() if path.startswith("crates/")}
     calls = {name: f"{places[HEADER]}#{name}" for name in re.findall(r'id="(hv_\w+)"', c_page())}
-    return {**crates, **calls, **places, "crates/NAME/README.md": places[CRATES]}
+    return {**crates, **calls, **places, "crates/NAME/README.md": places[CRATES], MESSAGES: "messages.txt"}
 
 
 def make(folder: Path, rust: Path | None) -> int:
@@ -294,6 +296,7 @@ def make(folder: Path, rust: Path | None) -> int:
     targets = targets_of(places)
     folder.mkdir(parents=True, exist_ok=True)
     shutil.copyfile(FILES / "style.css", folder / "style.css")
+    shutil.copyfile(ROOT / MESSAGES, folder / "messages.txt")
     if rust:
         shutil.copytree(rust, folder / "rust", ignore=shutil.ignore_patterns(".lock"))
         (folder / "rust/index.html").write_text(FORWARD, encoding="utf-8")
