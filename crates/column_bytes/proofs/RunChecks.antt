@@ -1,5 +1,5 @@
 -- Runs that are found to fit the header of their values are runs over each column with that header.
-use Rattle.std.proofs.Common.{◌≡◌, ℕ, ◌-◌, ◌+◌, ◌^◌, ◌<◌, true, List, ◌++◌, length, refl, sym, subst, ◌∙◌}
+use Rattle.std.proofs.Common.{◌≡◌, ℕ, ◌^◌, ◌<◌, true, List, ◌++◌, length, refl, sym, subst, ◌∙◌}
 use Rattle.std.proofs.lemmas.List.{length-map, length-replicate}
 use Rattle.column_base.specs.declared.dtype.PType.{PType}
 use Rattle.column_core.specs.Value.{FlatValue, Single}

@@ -1,4 +1,4 @@
-use Rattle.std.proofs.Common.{arith, true}
+use Rattle.std.proofs.Common.{arith}
 use Rattle.std.proofs.lemmas.Bool.{OnTrue_from, OnFalse_from}
 use Rattle.column_fields.proofs.Refusals.{not_true}
 use Rattle.column_bytes.proofs.RunChecks.{no_values_header, other_kind, no_span, joined, not_joined}
