@@ -210,7 +210,7 @@ site)
     ;;
 sums)
     (cd "$dist" && sha256sum --quiet --check SHA256SUMS)
-    "${PYTHON:-python3}" -m json.tool "$dist"/hivevigil-*.spdx.json >/dev/null || fail "the list of parts is no JSON"
+    "${PYTHON:-python3}" -m json.tool "$dist"/hivevigil-*.spdx.json >/dev/null || fail "the list of parts is not JSON"
     [ "$(wc -l <"$dist/SHA256SUMS")" = "$(($(find "$dist" -type f | wc -l) - 1))" ] || fail "a package has no checksum"
     sh "$top/dist.sh" "$work/again" >/dev/null 2>&1
     diff "$dist/SHA256SUMS" "$work/again/SHA256SUMS" || fail "made again, the packages are others"

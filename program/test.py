@@ -4,7 +4,7 @@ with the library.
 
     python3 program/test.py PROGRAM [--files N] [--seed N] [--messages N]
 
-Random CSV files are reported, converted, shown and asked; what is no CSV file, no column or no command line is refused
+Random CSV files are reported, converted, shown and asked; what is not a CSV file, a column or a command line is refused
 with a sentence and a status, and leaves every file as it was. Messages by docs/column.proto, every third one damaged,
 are shown or refused as the model of examples/bytes has it, where Protocol Buffers are there.
 """
@@ -165,7 +165,7 @@ def random_fields(chance: random.Random, count: int) -> list[str]:
 
 def random_csv(chance: random.Random) -> tuple[dict[str, list[str]], bytes, list[str]]:
     """Columns by name, a file of them, and the options by which it is read. One column is never empty, since a line
-    without a byte is no row."""
+    without a byte is not a row."""
     rows = chance.choice([0, 1, 2, 9, 64, 300, 700])
     names = ["row", *chance.sample(["count", "place, or town", "größe", 'a "b"', " ", "x;y"], chance.randrange(5))]
     columns = {name: random_fields(chance, rows) for name in names}

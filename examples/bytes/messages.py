@@ -42,7 +42,7 @@ def begun(kind: int, form: int, rows: int):
 
 
 def flat(chance: random.Random, rows: int):
-    """A flat column of so many rows, with anything stored under null."""
+    """A flat column of this number of rows, with anything stored under null."""
     kind = chance.choice([*PLAIN])
     message = begun(kind, FLAT, rows)
     message.validity = chance.choice([NEVER_NULL, NONE_NULL, ALL_NULL, BY_BITS, BY_BITS])
@@ -76,7 +76,7 @@ def flat_numbers(numbers: list[int]):
 
 
 def null_of_lists(chance: random.Random, rows: int):
-    """Null in each of so many rows, of lists of any type."""
+    """Null in each of this number of rows, of lists of any type."""
     message = begun(LIST, CONSTANT, rows)
     message.validity, message.items = ALL_NULL, b""
     message.element_type = chance.choice([*PLAIN, DECIMAL])
@@ -87,7 +87,7 @@ def null_of_lists(chance: random.Random, rows: int):
 
 
 def constant(chance: random.Random, rows: int):
-    """One value in each of so many rows, or null."""
+    """One value in each of this number of rows, or null."""
     kind = chance.choice([*PLAIN, LIST])
     if kind == LIST:
         return null_of_lists(chance, rows)

@@ -3,7 +3,7 @@
 
 static const row_value null_row = {HV_NULL, 0, NULL, 0};
 
-/* Adds `count` rows of a value, or of null; as long as each row is null, there is no builder to add them to. */
+/* Adds `count` rows of a value, or of null. As long as each row is null, they are only counted. */
 static int32_t append_rows(row_builder *rows, const row_value *value, uint64_t count, hv_error *error) {
     const hv_value scalar = {.kind = value->kind, .as_signed = value->number};
     if (rows->kind == HV_NULL) return HV_OK;
