@@ -17,6 +17,7 @@ import json
 import os
 import random
 import re
+import resource
 import shlex
 import stat
 import subprocess
@@ -347,6 +348,7 @@ BAD_TYPES = {
     ("i64", ""): "null does not fit i64", ("u64?", str(2**64)): f"{2**64} does not fit u64",
     ("decimal(3,1)", "1.25"): "1.25 does not fit decimal(3, 1)",
     ("decimal(38,0)", "9" * 39): f"{'9' * 39} has more than 38 digits",
+    ("decimal(38,37)", "1." + "0" * 38): f"1.{'0' * 38} has more than 38 digits",
     ("binary", "0g"): "'0g' is not bytes in hexadecimal digits",
     ("binary", "abc"): "'abc' is not bytes in hexadecimal digits",
 }
@@ -371,6 +373,9 @@ def check_bad_files(program: Program) -> None:
     convert = ["convert", "bad.csv", "--column"]
     program.refuses(1, r"bad\.csv: no column has the name 'c'", *convert, "c", "--to", "kept.hv")
     program.refuses(1, r"none/x\.hv: No such .*", *convert, "a", "--to", "none/x.hv")
+    # a file that cannot be written whole
+    too_large = {"preexec_fn": lambda: resource.setrlimit(resource.RLIMIT_FSIZE, (0, 0)), "restore_signals": False}
+    program.refuses(1, r".*kept\.hv: File too large", *convert, "a", "--to", "kept.hv", **too_large)
     program.refuses(1, r"bad\.csv, of 8 bytes, is not the file of a column", "show", "bad.csv")
     assert kept.read_bytes() == b"as it was"
     assert not [path for path in program.folder.iterdir() if ".hv." in path.name], "a part of a file was left"
@@ -488,6 +493,13 @@ def check_message(program: Program, model, data: bytes) -> bool:
     assert found == due, f"{data.hex()}: {found} and not {due}"
     assert program.answers("query", "message.hv", "count") == f"{len(rows) - rows.count('null')}\n", data.hex()
     assert f": {len(rows):,} rows" in program.answers("show", "message.hv")
+    # of a window of runs the rows that are shown, and no other
+    some = next((row for row in rows[::-1] if row != "null"), None)
+    if some is not None and message.type not in (model.LIST, model.DECIMAL):
+        value = item_of(model, flat_of(message), some)
+        word = value if isinstance(value, str) else value.hex() if message.type == model.BINARY else value.decode()
+        found = program.answers("query", "message.hv", "count", "--where", f"= {word}")
+        assert found == f"{rows.count(some)}\n", f"{data.hex()}: {found} and not {rows.count(some)} of {word}"
     return True
 
 
