@@ -232,7 +232,9 @@ HV_ANSWER hv_compact(const hv_column *column, hv_column *out, hv_error *error);
 
 /* ---- Commands: what they leave goes to `out` ----
  * Refused exactly as is said here, with these fields, or as 21. The session decides in which form rows are left. A run
- * column of integers that is left has as few runs as can be, from row 0 on; hv_slice keeps those that there are. */
+ * column of integers that is left has as few runs as can be, from row 0 on; hv_slice keeps those that there are. A
+ * constant stays one, whatever the session, under hv_slice and hv_filter, and, where it has a row, under hv_cast,
+ * hv_fill, hv_compare_scalar, and hv_compare with another constant: no row is written. */
 /* as few runs as there can be, with ends of the least type, which may be u64 where all rows are null; 20 unless the
  * rows are integers. In runs and constants it looks only at the runs that the column shows. */
 HV_ANSWER hv_encode(const hv_session *session, const hv_column *column, hv_column *out, hv_error *error);

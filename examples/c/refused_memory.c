@@ -17,6 +17,9 @@ static hv_column *const lent[] = {&flat, &runs,   &part,   &texts,    &truths,  
                                   &ends, &values, &places, &constant, &large_texts, &truth_runs, &place_runs, &text_runs,
                                   &lists, &list_runs, &decoded_lists};
 static char rows_before[COUNT(lent)][8192];
+/* constants of 2^60 rows, and a mask of as many in two runs; their rows are not shown */
+#define MANY (UINT64_C(1) << 60)
+static hv_column many = HV_EMPTY, as_many = HV_EMPTY, many_texts = HV_EMPTY, many_truths = HV_EMPTY;
 static hv_column out = HV_EMPTY;
 static struct ArrowSchema schema, texts_schema, codes_schema;
 static struct ArrowArray array, texts_array, codes_array;
@@ -77,6 +80,18 @@ static void make_run_columns(void) {
     hv_free(&last), hv_free(&two);
 }
 
+/* constants of 2^60 rows, and 2^59 rows that are true before as many that are not */
+static void make_many(void) {
+    const uint64_t two_ends[2] = {MANY / 2, MANY};
+    const uint8_t truth[1] = {1};
+    hv_column last = HV_EMPTY, two = HV_EMPTY;
+    CHECK(!hv_constant(&i64_type, &five, NO_TEXT, MANY, &many, &error) && !hv_clone(&many, &as_many, &error));
+    CHECK(!hv_constant(&text_or_null, &letter, letters, 1, MANY, &many_texts, &error));
+    CHECK(!hv_u64(two_ends, 2, NOT_NULLABLE, &last, &error) && !hv_bools(truth, 1, 0, 2, NO_NULLS, &two, &error));
+    CHECK(!hv_runs(&last, &two, 0, MANY, &many_truths, &error));
+    hv_free(&last), hv_free(&two);
+}
+
 static void make_lent(void) {
     hv_session_initial(&session);
     CHECK(!hv_i64(items, ROWS, NULLS_BY(bits, 0), &flat, &error) && !hv_encode(&session, &flat, &runs, &error));
@@ -89,6 +104,7 @@ static void make_lent(void) {
     CHECK(!hv_u16(some_places, 5, NOT_NULLABLE, &places, &error));
     make_run_columns();
     make_list_columns();
+    make_many();
     CHECK(!hv_write(&part, kept_message, sizeof kept_message, &message_size, &error));
     CHECK(!hv_write(&decimals, decimals_message, sizeof decimals_message, &decimals_size, &error));
     CHECK(!hv_arrow_export(&session, &texts, "texts", &texts_schema, &texts_array, &error));
@@ -99,8 +115,18 @@ static void make_lent(void) {
     }
 }
 
+/* the first row of a column of 2^60 rows in this form */
+static void check_many(const hv_column *column, uint8_t form, uint8_t kind) {
+    hv_value first;
+    uint8_t room[4];
+    CHECK(hv_form(column) == form && hv_length(column) == MANY);
+    CHECK(!hv_at(column, 0, &first, room, sizeof room, &error) && first.kind == kind);
+}
+
 static void check_lent(void) {
     for (size_t i = 0; i < COUNT(lent); i++) CHECK_ROWS(lent[i], rows_before[i]);
+    check_many(&many, HV_FORM_CONSTANT, HV_SIGNED), check_many(&as_many, HV_FORM_CONSTANT, HV_SIGNED);
+    check_many(&many_texts, HV_FORM_CONSTANT, HV_TEXT), check_many(&many_truths, HV_FORM_RUNS, HV_TRUTH);
 }
 
 /* ---- A step for each call ---- */
@@ -154,6 +180,11 @@ STEP(compare_scalar, hv_compare_scalar(&session, &runs, HV_GT, &five, NO_TEXT, &
 STEP(compare_text, hv_compare_scalar(&session, &texts, HV_GT, &letter, letters, 1, &out, &error))
 STEP(fill, hv_fill(&session, &runs, &five, NO_TEXT, &out, &error))
 STEP(fill_text, hv_fill(&session, &texts, &letter, letters, 1, &out, &error))
+STEP(cast_constant, hv_cast(&session, &many, &i32_type, &out, &error))
+STEP(compare_constants, hv_compare(&session, &many, HV_LE, &as_many, &out, &error))
+STEP(compare_constant, hv_compare_scalar(&session, &many_texts, HV_GT, &letter, letters, 1, &out, &error))
+STEP(fill_constant, hv_fill(&session, &many_texts, &letter, letters, 1, &out, &error))
+STEP(filter_constant, hv_filter(&session, &many_texts, &many_truths, &out, &error))
 STEP(sum, hv_sum(&session, &runs, &total, &error))
 STEP(is_constant, hv_is_constant(&session, &runs, &truth, &error))
 STEP(is_sorted, hv_is_sorted(&session, &runs, 0, &truth, &error))
@@ -312,7 +343,8 @@ static const step steps[] = {
     NAMED(compact_runs), NAMED(compact_texts),
     NAMED(slice_runs), NAMED(slice_texts), NAMED(cast), NAMED(take), NAMED(take_texts), NAMED(filter),
     NAMED(filter_texts), NAMED(filter_by_runs), NAMED(take_by_runs), NAMED(take_from), NAMED(compare), NAMED(compare_scalar), NAMED(compare_text), NAMED(fill),
-    NAMED(fill_text), NAMED(sum), NAMED(is_constant), NAMED(is_sorted), NAMED(extreme), NAMED(extreme_text),
+    NAMED(fill_text), NAMED(cast_constant), NAMED(compare_constants), NAMED(compare_constant), NAMED(fill_constant),
+    NAMED(filter_constant), NAMED(sum), NAMED(is_constant), NAMED(is_sorted), NAMED(extreme), NAMED(extreme_text),
     NAMED(min_max_numbers),
     NAMED(min_max), NAMED(at), NAMED(read_i64), NAMED(read_decimals), NAMED(read_bools), NAMED(read_validity), NAMED(read_no_nulls),
     NAMED(read_offsets), NAMED(read_large_offsets), NAMED(read_bytes), NAMED(window_numbers),
@@ -382,6 +414,7 @@ int main(void) {
         }
     hv_free(&out);
     for (size_t i = 0; i < COUNT(lent); i++) hv_free(lent[i]);
+    hv_free(&many), hv_free(&as_many), hv_free(&many_texts), hv_free(&many_truths);
     hv_arrow_release(&texts_schema, &texts_array);
     hv_arrow_release(&codes_schema, &codes_array);
     CHECK(blocks == 0);

@@ -200,6 +200,36 @@ def test_values_are_looked_for_by_runs():
     assert [1] in lists and None in lists and [2] not in lists
 
 
+def shown(column):
+    return column.form, column.type, len(column), column[-1] if len(column) else None
+
+
+def test_a_constant_stays_one():
+    rows = 2**60
+    many, none = Column.constant(7, rows, "i64?"), Column.constant(None, rows, "i64?")
+    assert shown(many.cast("u8")) == ("constant", "u8", rows, 7)
+    assert shown(many.fill(9)) == ("constant", "i64", rows, 7) and shown(none.fill(9)) == ("constant", "i64", rows, 9)
+    assert shown(many.lt(300)) == ("constant", "bool?", rows, True)
+    for left, right, due in ((many, many, False), (many, none, None), (none, many, None)):
+        assert shown(left.compare("!=", right)) == ("constant", "bool?", rows, due)
+    with pytest.raises(errors.ColumnLength):
+        many.compare("<", Column.constant(7, rows - 1, "i64?"))
+    with pytest.raises(errors.NullNotAllowed):
+        none.cast("u8")
+
+
+def test_a_filter_counts_the_rows_of_a_constant():
+    rows = 2**60
+    many = Column.constant("oak", rows)
+    runs = Column.from_runs([2**58, rows - 8, rows - 3, rows], [True, None, True, False])
+    all_rows, no_rows = Column.constant(True, rows), Column.constant(None, rows, "bool?")
+    for mask, count in ((runs, 2**58 + 5), (all_rows, rows), (no_rows, 0)):
+        assert shown(many.filter(mask)) == ("constant", "utf8", count, "oak" if count else None)
+    with pytest.raises(errors.MaskLength):
+        many.filter(runs[1:])
+    assert many[:5].filter([True, None, False, True, False]).to_list() == ["oak", "oak"]
+
+
 def test_runs_over_runs():
     column = Column.of([4, None, 7])
     for _ in range(60):

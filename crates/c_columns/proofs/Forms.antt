@@ -1,5 +1,5 @@
 -- In which forms commands leave columns, and that their runs of integers are as few as can be.
-use Rattle.std.proofs.Common.{◌≡◌, ◌∙◌, refl, sym, ap, subst, ℤ, List, Option}
+use Rattle.std.proofs.Common.{◌≡◌, ◌∙◌, refl, sym, ap, subst, inl, inr, ℤ, List, Option}
 use Rattle.std.specs.Prelude.{Bool, true, false, count_by, length}
 use Rattle.std.proofs.lemmas.Bool.{false≢true}
 use Rattle.std.specs.Global.{Global}
@@ -23,10 +23,13 @@ use Rattle.runend_array.specs.declared.session.Kernel.{Kernel}
 use Rattle.runend_array.specs.declared.session.Kernel.TheVariants as kernel
 use Rattle.runend_array.specs.declared.session.Thresholds.{Thresholds}
 use Rattle.runend_commands.specs.KernelForms.{ByKernel, LeavesByKernel, OnRuns}
+use Rattle.runend_commands.specs.Kept.{LeavesKept}
 use Rattle.runend_commands.specs.Meaning.{IsTightColumn, dtype_after, plain, rows_after}
 use Rattle.runend_commands.specs.declared.command.Answer.TheVariants.{Done}
 use Rattle.runend_commands.specs.declared.command.Command.{Command}
 use Rattle.runend_commands.specs.declared.command.Command.TheVariants.{Slice, Filter, Take, TakeFrom, CompareScalar, CompareColumn, Cast, FillNull, Encode, Decode, At, Sum, MinMax, IsConstant, IsSorted}
+use Rattle.runend_commands.proofs.Kept.{decide_kept}
+use Rattle.runend_encode_rows.specs.Encoded.{IsConstantForm}
 use Rattle.runend_map.specs.Codes.{keeps_runs}
 use Rattle.runend_map.specs.ComparisonForm.{IsComparisonForm}
 use Rattle.runend_map.specs.TakenForm.{TakeFromLeaves}
@@ -146,42 +149,66 @@ tight_least before (OfLists lists) is form = tt
 tight_least before (OfRuns ends_type ends values offset count) is form =
     λ numbers. record { cover = subst (λ (l : List (Option Value)). IsTightCover l ends (column_rows values)) (sym is) form.0; offset = form.1 }
 
+-- a constant has no runs
+constant_least : (d : Column) → IsConstantForm d → IsLeastIfRuns d
+constant_least (OfLeaf leaf) is = tt
+constant_least (OfConstant constant) is = tt
+constant_least (OfLists lists) is = tt
+constant_least (OfRuns ends_type ends values offset count) is = absurd is
+
 -- what commands on two columns leave
-pub filtered_least : (session : SessionForm) (mask : Mask Global) (c d : ArrayRef Global) → dtype_of d ≡ dtype_of c
+filtered_least : (session : SessionForm) (mask : Mask Global) (c d : ArrayRef Global) → dtype_of d ≡ dtype_of c
     → ByKernel session kernel.Filter (column_of c) (λ runs. IsFilterForm session.thresholds runs mask (column_of d)) (IsFlat (column_of d)) → IsLeastIfRuns (column_of d)
 filtered_least session mask c d typed by =
     kernel_least session kernel.Filter (column_of c) (column_of d) (λ runs. IsFilterForm session.thresholds runs mask (column_of d)) (λ whole same form. filter_least session.thresholds whole mask (column_of d) (typed ∙ same) form) by
 
-pub indexed_least : (session : SessionForm) (indices : List (Option ℤ)) (c d : ArrayRef Global) → ByKernel session kernel.Take (column_of c) (λ runs. TakeLeaves indices (column_of d)) (IsFlat (column_of d)) → IsLeastIfRuns (column_of d)
+indexed_least : (session : SessionForm) (indices : List (Option ℤ)) (c d : ArrayRef Global) → ByKernel session kernel.Take (column_of c) (λ runs. TakeLeaves indices (column_of d)) (IsFlat (column_of d)) → IsLeastIfRuns (column_of d)
 indexed_least session indices c d by = kernel_least session kernel.Take (column_of c) (column_of d) (λ runs. TakeLeaves indices (column_of d)) (λ whole same form. taken_least indices (column_of d) form) by
 
-pub coded_least : (session : SessionForm) (codes dictionary d : ArrayRef Global) → dtype_of d ≡ take_dtype (dtype_of dictionary) (dtype_of codes)
+coded_least : (session : SessionForm) (codes dictionary d : ArrayRef Global) → dtype_of d ≡ take_dtype (dtype_of dictionary) (dtype_of codes)
     → ByKernel session kernel.TakeFrom (column_of codes) (λ runs. TakeFromLeaves (keeps_runs (dtype_of dictionary)) (dtype_of dictionary) runs (column_of d)) (IsFlat (column_of d)) → IsLeastIfRuns (column_of d)
 coded_least session codes dictionary d typed by =
     kernel_least session kernel.TakeFrom (column_of codes) (column_of d) (λ runs. TakeFromLeaves (keeps_runs (dtype_of dictionary)) (dtype_of dictionary) runs (column_of d))
     (λ whole same form. looked_up_least (dtype_of dictionary) (dtype_of codes) whole (column_of d) typed form) by
 
-pub beside_least : (session : SessionForm) (c right d : ArrayRef Global) → ByKernel session kernel.Compare (column_of c) (λ runs. IsComparisonForm (column_of right) (column_of d)) (IsFlat (column_of d)) → IsLeastIfRuns (column_of d)
+beside_least : (session : SessionForm) (c right d : ArrayRef Global) → ByKernel session kernel.Compare (column_of c) (λ runs. IsComparisonForm (column_of right) (column_of d)) (IsFlat (column_of d)) → IsLeastIfRuns (column_of d)
 beside_least session c right d by = kernel_least session kernel.Compare (column_of c) (column_of d) (λ runs. IsComparisonForm (column_of right) (column_of d)) (λ whole same form. compared_least (column_of right) (column_of d) form) by
 
--- what a command leaves
-pub least_left : (session : SessionForm) (a d : ArrayRef Global) (command : Command Global) → rows d ≡ rows_after (plain a) command → dtype_of d ≡ dtype_after (plain a) command
+-- what a command leaves by its kernel
+least_by_kernel : (session : SessionForm) (a d : ArrayRef Global) (command : Command Global) → rows d ≡ rows_after (plain a) command → dtype_of d ≡ dtype_after (plain a) command
     → LeavesShape (column_of a) command (column_of d) → LeavesByKernel session a command Done d → LeavesLeast command (column_of d)
-least_left session a d (Slice range) is typed shape by = tt
-least_left session a d (Filter mask) is typed shape by = filtered_least session mask a d typed by
-least_left session a d (Take indices) is typed shape by = indexed_least session (optional_numbers indices) a d by
-least_left session a d (TakeFrom dictionary) is typed shape by = coded_least session a dictionary d typed by
-least_left session a d (CompareScalar operator value) is typed shape by =
+least_by_kernel session a d (Slice range) is typed shape by = tt
+least_by_kernel session a d (Filter mask) is typed shape by = filtered_least session mask a d typed by
+least_by_kernel session a d (Take indices) is typed shape by = indexed_least session (optional_numbers indices) a d by
+least_by_kernel session a d (TakeFrom dictionary) is typed shape by = coded_least session a dictionary d typed by
+least_by_kernel session a d (CompareScalar operator value) is typed shape by =
     kernel_least session kernel.Compare (column_of a) (column_of d) (λ runs. IsDecodedForm (rows d) (column_of d)) (λ whole same form. decoded_least (rows d) (column_of d) form) by
-least_left session a d (CompareColumn operator right) is typed shape by = beside_least session a right d by
-least_left session a d (Cast dtype) is typed shape by =
+least_by_kernel session a d (CompareColumn operator right) is typed shape by = beside_least session a right d by
+least_by_kernel session a d (Cast dtype) is typed shape by =
     kernel_least session kernel.Cast (column_of a) (column_of d) (λ runs. IsRunForm dtype runs (column_of d)) (λ whole same form. run_form_least dtype whole (column_of d) typed form) by
-least_left session a d (FillNull value) is typed shape by =
+least_by_kernel session a d (FillNull value) is typed shape by =
     kernel_least session kernel.FillNull (column_of a) (column_of d) (λ runs. IsRunForm (fill_dtype (dtype_of a)) runs (column_of d)) (λ whole same form. run_form_least (fill_dtype (dtype_of a)) whole (column_of d) typed form) by
-least_left session a d Encode is typed shape by = tight_least (rows a) (column_of d) is shape
-least_left session a d Decode is typed shape by = flat_least (column_of d) shape
-least_left session a d (At index) is typed shape by = tt
-least_left session a d Sum is typed shape by = tt
-least_left session a d MinMax is typed shape by = tt
-least_left session a d IsConstant is typed shape by = tt
-least_left session a d (IsSorted strict) is typed shape by = tt
+least_by_kernel session a d Encode is typed shape by = tight_least (rows a) (column_of d) is shape
+least_by_kernel session a d Decode is typed shape by = flat_least (column_of d) shape
+least_by_kernel session a d (At index) is typed shape by = tt
+least_by_kernel session a d Sum is typed shape by = tt
+least_by_kernel session a d MinMax is typed shape by = tt
+least_by_kernel session a d IsConstant is typed shape by = tt
+least_by_kernel session a d (IsSorted strict) is typed shape by = tt
+
+kept_least : (d : Column) (command : Command Global) → IsConstantForm d → LeavesLeast command d
+kept_least d (Slice range) is = tt
+kept_least d (At index) is = tt
+kept_least d Sum is = tt
+kept_least d MinMax is = tt
+kept_least d IsConstant is = tt
+kept_least d (IsSorted strict) is = tt
+kept_least d command is = constant_least d is
+
+-- what a command leaves where constants are kept
+pub least_left : (session : SessionForm) (a d : ArrayRef Global) (command : Command Global) → rows d ≡ rows_after (plain a) command → dtype_of d ≡ dtype_after (plain a) command
+    → LeavesShape (column_of a) command (column_of d) → LeavesKept session a command Done d → LeavesLeast command (column_of d)
+least_left session a d command is typed shape left = elim (decide_kept (column_of a) command) [
+  | inl keeps ↦ kept_least (column_of d) command (left.constant keeps)
+  | inr not ↦ least_by_kernel session a d command is typed shape (left.by_kernel not)
+]

@@ -33,6 +33,9 @@ use Rattle.runend_commands.specs.declared.command.Command.TheVariants.{Slice, Fi
 use Rattle.runend_commands.specs.declared.command.Answer.{Answer}
 use Rattle.runend_commands.specs.declared.command.Answer.TheVariants.{Done, Refused, Bool as BoolIs}
 use Rattle.runend_commands.specs.KernelForms.{ByKernel, HasKernel, LeavesByKernel, OnRuns}
+use Rattle.runend_commands.specs.Kept.{LeavesKept}
+use Rattle.runend_commands.proofs.Kept.{constant_if_kept}
+use Rattle.runend_encode_rows.specs.Encoded.{IsConstantForm}
 use Rattle.runend_commands.specs.Meaning.{IsAnswer, LeavesForm, plain}
 use Rattle.runend_commands.specs.Step.{IsDone}
 use Rattle.c_columns.specs.Calls.{Leaves, LeavesShape}
@@ -40,7 +43,7 @@ use Rattle.c_columns.specs.Flags.{Tells, byte_of}
 use Rattle.c_columns.specs.Makers.{IsCopyOf}
 use Rattle.c_columns.specs.Sessions.{IsSessionOf}
 use Rattle.c_columns.specs.declared.sessions.Session.{Session}
-use Rattle.c_columns.proofs.Forms.{filtered_least, indexed_least, least_left, on_runs}
+use Rattle.c_columns.proofs.Forms.{least_left, on_runs}
 
 shape_of : (b d : ArrayRef Global) (command : Command Global) → LeavesForm b command d → LeavesShape (column_of b) command (column_of d)
 shape_of b d Encode form = form
@@ -60,16 +63,16 @@ shape_of b d IsConstant form = tt
 shape_of b d (IsSorted strict) form = tt
 
 -- a column took the place of the one before
-pub left_new : (s : Session) (session : SessionForm) (a d : ArrayRef Global) (command : Command Global) → IsSessionOf s session → IsDone a command Done d → LeavesByKernel session a command Done d → Leaves s command a d
-left_new s session a d command set done by =
+pub left_new : (s : Session) (session : SessionForm) (a d : ArrayRef Global) (command : Command Global) → IsSessionOf s session → IsDone a command Done d → LeavesKept session a command Done d → Leaves s command a d
+left_new s session a d command set done left =
     let shape = shape_of a d command done.form in
     record {
       accepted = done.accepted;
       rows = done.rows;
       dtype = done.dtype;
       shape = shape;
-      form = record { session = session; set = set; by_kernel = by };
-      least = least_left session a d command done.rows done.dtype shape by;
+      form = record { session = session; set = set; left = left };
+      least = least_left session a d command done.rows done.dtype shape left;
     }
 
 -- the column stayed, of which there is a copy
@@ -100,13 +103,16 @@ left_same s session a b command answer set done by same =
     let kept = ap column_rows same ∙ done.rows in
     let typed = ap column_dtype same ∙ done.dtype in
     let shape = subst (λ (c : Column). LeavesShape (column_of a) command c) (sym same) (shape_of a a command done.form) in
-    let formed = as_done session a b same command answer done.answered by in
+    let formed : LeavesKept session a command Done b = record {
+      constant = λ keeps. subst IsConstantForm (sym same) (constant_if_kept (column_of a) command keeps);
+      by_kernel = λ not. as_done session a b same command answer done.answered by;
+    } in
     record {
       accepted = done.accepted;
       rows = kept;
       dtype = typed;
       shape = shape;
-      form = record { session = session; set = set; by_kernel = formed };
+      form = record { session = session; set = set; left = formed };
       least = least_left session a b command kept typed shape formed;
     }
 
@@ -119,17 +125,17 @@ left_sliced s session a d range set accepted kept typed served otherwise = recor
   rows = kept;
   dtype = typed;
   shape = tt;
-  form = record { session = session; set = set; by_kernel = record { served = served; otherwise = otherwise } };
+  form = record { session = session; set = set; left = record { constant = λ no. absurd no; by_kernel = λ not. record { served = served; otherwise = otherwise } } };
   least = tt;
 }
 
 -- a filter, of which the command's kernel is asked alone
 pub left_filtered : (s : Session) (session : SessionForm) (a d : ArrayRef Global) (mask : Mask Global) → IsSessionOf s session → filter_fault (length (mask_bits mask)) (length (rows a)) ≡ None
     → rows d ≡ filter_rows (mask_bits mask) (rows a) → dtype_of d ≡ dtype_of a → (HasKernel session kernel.Filter (column_of a) → OnRuns (column_of a) (λ runs. IsFilterForm session.thresholds runs mask (column_of d)))
-    → (¬ HasKernel session kernel.Filter (column_of a) → IsFlat (column_of d)) → Leaves s (Filter mask) a d
-left_filtered s session a d mask set accepted kept typed served otherwise =
-    let by : ByKernel session kernel.Filter (column_of a) (λ runs. IsFilterForm session.thresholds runs mask (column_of d)) (IsFlat (column_of d)) = record { served = served; otherwise = otherwise } in
-    record { accepted = accepted; rows = kept; dtype = typed; shape = tt; form = record { session = session; set = set; by_kernel = by }; least = filtered_least session mask a d typed by }
+    → (IsConstantForm (column_of a) → IsConstantForm (column_of d)) → (¬ HasKernel session kernel.Filter (column_of a) → ¬ IsConstantForm (column_of a) → IsFlat (column_of d)) → Leaves s (Filter mask) a d
+left_filtered s session a d mask set accepted kept typed served constant otherwise =
+    let left : LeavesKept session a (Filter mask) Done d = record { constant = constant; by_kernel = λ not. record { served = served; otherwise = λ has. otherwise has not } } in
+    record { accepted = accepted; rows = kept; dtype = typed; shape = tt; form = record { session = session; set = set; left = left }; least = least_left session a d (Filter mask) kept typed tt left }
 
 -- a take, likewise
 pub left_taken : (s : Session) (session : SessionForm) (a d : ArrayRef Global) (indices : PrimitiveForm) → IsSessionOf s session → take_fault (optional_numbers indices) (length (rows a)) ≡ None
@@ -137,7 +143,8 @@ pub left_taken : (s : Session) (session : SessionForm) (a d : ArrayRef Global) (
     → (HasKernel session kernel.Take (column_of a) → TakeLeaves (optional_numbers indices) (column_of d)) → (¬ HasKernel session kernel.Take (column_of a) → IsFlat (column_of d)) → Leaves s (Take indices) a d
 left_taken s session a d indices set accepted kept typed served otherwise =
     let by : ByKernel session kernel.Take (column_of a) (λ runs. TakeLeaves (optional_numbers indices) (column_of d)) (IsFlat (column_of d)) = record { served = λ has. on_runs (column_of a) (TakeLeaves (optional_numbers indices) (column_of d)) (served has); otherwise = otherwise } in
-    record { accepted = accepted; rows = kept; dtype = typed; shape = tt; form = record { session = session; set = set; by_kernel = by }; least = indexed_least session (optional_numbers indices) a d by }
+    let left : LeavesKept session a (Take indices) Done d = record { constant = λ no. absurd no; by_kernel = λ not. by } in
+    record { accepted = accepted; rows = kept; dtype = typed; shape = tt; form = record { session = session; set = set; left = left }; least = least_left session a d (Take indices) kept typed tt left }
 
 -- a boolean as a byte
 pub tells_of : (truth : Bool) (P : Type 0) → (IsTrue truth ↔ P) → Tells (byte_of truth) P

@@ -1,6 +1,7 @@
 mod Appended
 mod BuilderValues
 pub mod CountedRows
+pub mod ConstantFilters
 mod Cuts
 pub mod Endings
 pub mod Extremes
@@ -21,6 +22,7 @@ mod Served
 pub mod Short
 pub mod TextRows
 pub mod Told
+pub mod TrueCounts
 pub mod TwoColumns
 pub mod MessageEndings
 mod NoRuns

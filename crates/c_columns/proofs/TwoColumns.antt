@@ -26,7 +26,10 @@ use Rattle.runend_array.specs.declared.array_ref.ArrayRef.{ArrayRef}
 use Rattle.runend_array.specs.declared.array_ref.ArrayRef.TheVariants as array
 use Rattle.runend_array.specs.declared.session.Kernel.TheVariants as kernel
 use Rattle.runend_commands.specs.KernelForms.{ByKernel, HasKernel, OnRuns}
-use Rattle.runend_commands.specs.declared.command.Command.TheVariants.{Filter, Take}
+use Rattle.runend_commands.specs.Kept.{AreConstants, LeavesKept}
+use Rattle.runend_commands.specs.declared.command.Answer.TheVariants.{Done}
+use Rattle.runend_commands.specs.declared.command.Command.TheVariants.{CompareColumn, Filter, Take, TakeFrom}
+use Rattle.runend_encode_rows.specs.Encoded.{IsConstantForm}
 use Rattle.runend_map.specs.Codes.{keeps_runs}
 use Rattle.runend_map.specs.ComparisonForm.{IsComparisonForm}
 use Rattle.runend_map.specs.TakenForm.{TakeFromLeaves}
@@ -34,7 +37,7 @@ use Rattle.c_columns.specs.Calls.{Leaves}
 use Rattle.c_columns.specs.Sessions.{IsSessionOf}
 use Rattle.c_columns.specs.TwoColumns.{HasPlain, IsComparedIn, IsFilteredIn, IsLookedUpIn, IsTakenIn, compared_by, filtered_by, is_true, looked_up_by, mask_fault, mask_filter_fault}
 use Rattle.c_columns.specs.declared.sessions.Session.{Session}
-use Rattle.c_columns.proofs.Forms.{beside_least, coded_least, on_runs}
+use Rattle.c_columns.proofs.Forms.{least_left, on_runs}
 
 -- one row more of a mask
 pub one_row_more : (rows : List (Option Value)) (row : ℕ) (bits more : List Bool) (bit : Bool) (seen : Option Value) → bits ≡ map is_true (take row rows) → more ≡ bits ++ bit ∷ [] → bit ≡ is_true seen
@@ -98,8 +101,8 @@ pub look_up_left : (s : Session) (session : SessionForm) (codes c d : ArrayRef G
     → (HasKernel session kernel.TakeFrom (column_of codes) → OnRuns (column_of codes) (λ runs. TakeFromLeaves (keeps_runs (dtype_of c)) (dtype_of c) runs (column_of d)))
     → (¬ HasKernel session kernel.TakeFrom (column_of codes) → IsFlat (column_of d)) → HasPlain (looked_up_by codes c) (IsLookedUpIn s codes c) d
 look_up_left s session codes c d set kept typed served otherwise =
-    let by : ByKernel session kernel.TakeFrom (column_of codes) (λ runs. TakeFromLeaves (keeps_runs (dtype_of c)) (dtype_of c) runs (column_of d)) (IsFlat (column_of d)) = record { served = served; otherwise = otherwise } in
-    record { rows = kept; dtype = typed; form = record { session = session; set = set; by_kernel = by }; least = coded_least session codes c d typed by }
+    let left : LeavesKept session codes (TakeFrom c) Done d = record { constant = λ no. absurd no; by_kernel = λ not. record { served = served; otherwise = otherwise } } in
+    record { rows = kept; dtype = typed; form = record { session = session; set = set; left = left }; least = least_left session codes d (TakeFrom c) kept typed tt left }
 
 -- indices that do not lie flat are looked up as codes
 pub looked_up_taken : (s : Session) (indices c d : ArrayRef Global) → ((numbers : PrimitiveForm) → ¬ (indices ≡ array.Primitive numbers)) → HasPlain (looked_up_by indices c) (IsLookedUpIn s indices c) d → HasPlain (looked_up_by indices c) (IsTakenIn s indices c) d
@@ -113,8 +116,10 @@ all_looked_up_taken (Err error) value s indices c other left = tt
 
 -- rows that are compared
 pub compare_left : (operator : CompareOperator) (s : Session) (session : SessionForm) (c right d : ArrayRef Global) → IsSessionOf s session → rows d ≡ compare_rows operator (rows c) (rows right) → dtype_of d ≡ compare_dtype (dtype_of c) (dtype_of right)
-    → (HasKernel session kernel.Compare (column_of c) → IsComparisonForm (column_of right) (column_of d)) → (¬ HasKernel session kernel.Compare (column_of c) → IsFlat (column_of d))
-    → HasPlain (compared_by operator c right) (IsComparedIn operator s c right) d
-compare_left operator s session c right d set kept typed served otherwise =
-    let by : ByKernel session kernel.Compare (column_of c) (λ runs. IsComparisonForm (column_of right) (column_of d)) (IsFlat (column_of d)) = record { served = λ has. on_runs (column_of c) (IsComparisonForm (column_of right) (column_of d)) (served has); otherwise = otherwise } in
-    record { rows = kept; dtype = typed; form = record { session = session; set = set; by_kernel = by }; least = beside_least session c right d by }
+    → (HasKernel session kernel.Compare (column_of c) → IsComparisonForm (column_of right) (column_of d)) → (AreConstants (column_of c) (column_of right) → IsConstantForm (column_of d))
+    → (¬ HasKernel session kernel.Compare (column_of c) → ¬ AreConstants (column_of c) (column_of right) → IsFlat (column_of d)) → HasPlain (compared_by operator c right) (IsComparedIn operator s c right) d
+compare_left operator s session c right d set kept typed served constants otherwise =
+    let by : ¬ AreConstants (column_of c) (column_of right) → ByKernel session kernel.Compare (column_of c) (λ runs. IsComparisonForm (column_of right) (column_of d)) (IsFlat (column_of d)) =
+    λ not. record { served = λ has. on_runs (column_of c) (IsComparisonForm (column_of right) (column_of d)) (served has); otherwise = λ has. otherwise has not } in
+    let left : LeavesKept session c (CompareColumn operator right) Done d = record { constant = constants; by_kernel = by } in
+    record { rows = kept; dtype = typed; form = record { session = session; set = set; left = left }; least = least_left session c d (CompareColumn operator right) kept typed tt left }

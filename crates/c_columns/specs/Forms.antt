@@ -6,18 +6,19 @@ use Rattle.runend_windows.specs.Cover.{IsTightCover}
 use Rattle.runend_array.specs.Column.{Column, OfLeaf, OfConstant, OfLists, OfRuns, Runs, column_dtype, column_of_runs, column_rows, runs_with}
 use Rattle.runend_array.specs.SessionForm.{SessionForm}
 use Rattle.runend_array.specs.declared.array_ref.ArrayRef.{ArrayRef}
-use Rattle.runend_commands.specs.KernelForms.{LeavesByKernel}
+use Rattle.runend_commands.specs.Kept.{LeavesKept}
 use Rattle.runend_commands.specs.declared.command.Answer.TheVariants.{Done}
 use Rattle.runend_commands.specs.declared.command.Command.{Command}
 use Rattle.runend_commands.specs.declared.command.Command.TheVariants.{Slice, At, Sum, MinMax, IsConstant, IsSorted}
 use Rattle.c_columns.specs.Sessions.{IsSessionOf}
 use Rattle.c_columns.specs.declared.sessions.Session.{Session}
 
--- the form that a command leaves by its kernel, in a session of these flags and thresholds
+-- the form that a command leaves where constants are kept, by its kernel where it keeps none, in a session of these
+-- flags and thresholds
 pub record LeavesFormIn (s : Session) (command : Command Global) (c d : ArrayRef Global) : Type 0 where
   pub session : SessionForm
   pub set : IsSessionOf s session
-  pub by_kernel : LeavesByKernel session c command Done d
+  pub left : LeavesKept session c command Done d
 
 -- runs from position 0 on that are a tight exact cover of their rows, so as few as can be
 pub record AreLeastRuns (part : Runs) : Type 0 where

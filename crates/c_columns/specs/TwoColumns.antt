@@ -1,5 +1,5 @@
 -- Commands that are made of a second column, which may have any form: why they are refused, and what they leave.
-use Rattle.std.specs.Prelude.{◌≡◌, ◌<◌, ℕ, ℤ, pos, List, Bool, true, false, bit_and, length, map, slice_index, slice_index_or, Option, Some, None}
+use Rattle.std.specs.Prelude.{◌≡◌, ◌<◌, ◌-◌, ℕ, ℤ, pos, List, Bool, true, false, bit_and, cond, count_by, length, map, slice_index, slice_index_or, Option, Some, None}
 use Rattle.std.specs.Option.{option_or}
 use Rattle.std.specs.Global.{Global}
 use Rattle.column_base.specs.declared.dtype.DType.{DType}
@@ -17,12 +17,13 @@ use Rattle.column_order.specs.CompareFault.{compare_column_fault}
 use Rattle.column_order.specs.Comparing.{compare_dtype, compare_rows}
 use Rattle.column_order.specs.declared.operator.CompareOperator.{CompareOperator}
 use Rattle.runend_array.specs.Array.{column_of, dtype_of, rows}
-use Rattle.runend_array.specs.Column.{Column, OfLeaf}
+use Rattle.runend_array.specs.Column.{Column, OfLeaf, Runs, column_rows}
 use Rattle.runend_array.specs.declared.array_ref.ArrayRef.{ArrayRef}
 use Rattle.runend_commands.specs.declared.command.Command.TheVariants.{Filter, Take, TakeFrom, CompareColumn}
 use Rattle.runend_commands.specs.Meaning.{plain}
 use Rattle.c_columns.specs.Ending.{EndsBy}
 use Rattle.c_columns.specs.Forms.{IsLeastIfRuns, LeavesFormIn}
+use Rattle.c_columns.specs.RunReads.{start_of, stop_of}
 use Rattle.c_columns.specs.declared.error_fields.ErrorFields.{ErrorFields}
 use Rattle.c_columns.specs.declared.sessions.Session.{Session}
 
@@ -30,6 +31,14 @@ use Rattle.c_columns.specs.declared.sessions.Session.{Session}
 abbrev pub is_true : Option Value → Bool
 is_true (Some (Single (Truth truth))) = truth
 is_true row = false
+
+-- how many rows are true
+abbrev pub true_rows : List (Option Value) → ℕ
+true_rows rows = count_by (λ bit. bit) (map is_true rows)
+
+-- how many rows show a run of booleans, where its value is true, and else none
+abbrev pub true_rows_in : Runs → ℕ → ℕ
+true_rows_in r run = cond (is_true (slice_index_or (column_rows r.values) run None)) (stop_of r run - start_of r run) 0
 
 -- each bit that is true is true in the other list too
 abbrev pub AreWithin : List Bool → List Bool → Type 0

@@ -14,7 +14,7 @@ use crate::runs::boxed_copy;
 use crate::sessions::{Session, context};
 use column_core::VortexResult;
 use runend_array::ArrayRef;
-use runend_commands::{Command, StepResult, outcome_of};
+use runend_commands::{Command, StepResult, kept_outcome_of};
 use std::alloc::Global;
 
 /// A command on the column of a handle, which stays. What it leaves is put into `out`.
@@ -89,7 +89,7 @@ fn left_of(
     ensures refused { IfErr result (λ error. IsErrorFor (refusal (plain array.now) command.now) error) }
 {
     let mut ctx = context(alloc, session);
-    match outcome_of(command, array, &mut ctx)? {
+    match kept_outcome_of(command, array, &mut ctx)? {
         StepResult::Becomes(left) => boxed(alloc, left),
         StepResult::Answers(answer) => {
             drop(answer);

@@ -29,6 +29,7 @@ pub mod slices;
 mod text_rows;
 pub mod texts;
 pub mod totals;
+mod true_counts;
 pub mod two_columns;
 pub mod windows;
 mod words;

@@ -166,7 +166,8 @@ fn mask_of_constant(constant: &ConstantArray<Global>) -> Mask<Global>
     }
 }
 
-fn is_selected(row: ScalarView<'_, Global>) -> bool
+/// Is the row true? Null is not.
+pub(crate) fn is_selected(row: ScalarView<'_, Global>) -> bool
     ensures { result ≡ is_true (sees row.entry) }
 {
     match row {

@@ -107,8 +107,8 @@ fn put_stops(runs: &RunEndArray<Global>, first: usize, stops: &mut [u64])
     }
 }
 
-// The rows that a run shows.
-fn rows_of_run(runs: &RunEndArray<Global>, run: usize) -> Range<usize>
+/// Returns the rows that a run shows.
+pub(crate) fn rows_of_run(runs: &RunEndArray<Global>, run: usize) -> Range<usize>
     requires { run < length runs.now.ends }
     ensures start { result.start ≡ start_of runs.now run }
     ensures stop { result.end ≡ stop_of runs.now run }

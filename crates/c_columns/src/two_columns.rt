@@ -1,28 +1,73 @@
 //! Commands that are made of a second column, which may have any form. Neither column is copied.
-ghost use Rattle.std.specs.Prelude.{IfOk, length};
+ghost use Rattle.std.specs.Prelude.{◌≡◌, IfOk, length};
 ghost use Rattle.column_base.specs.Mask.{mask_bits};
 ghost use Rattle.column_core.specs.Refusal.{IsRefusedBy};
 ghost use Rattle.column_core.specs.PrimitiveForm.{optional_numbers};
 ghost use Rattle.column_ops.specs.Filter.{filter_fault};
 ghost use Rattle.column_ops.specs.Take.{take_fault};
 ghost use Rattle.runend_array.specs.Array.{rows};
+ghost use Rattle.runend_array.specs.Column.{repeated};
+ghost use Rattle.runend_array.specs.declared.array_ref.ArrayRef.TheVariants.{Constant};
 ghost use Rattle.runend_commands.specs.declared.command.Command.TheVariants.{Filter, Take};
 ghost use Rattle.c_columns.specs.Calls.{Leaves};
-ghost use Rattle.c_columns.specs.TwoColumns.{HasPlain, IsComparedIn, IsFilteredIn, IsLookedUpIn, IsTakenIn, beside_fault, code_look_up_fault, compared_by, filtered_by, looked_up_by, mask_filter_fault};
+ghost use Rattle.c_columns.specs.TwoColumns.{HasPlain, IsComparedIn, IsFilteredIn, IsLookedUpIn, IsTakenIn, beside_fault, code_look_up_fault, compared_by, filtered_by, looked_up_by, mask_filter_fault, true_rows};
 
 use crate::flat::{Boxed, boxed};
 use crate::masks::mask_of;
 use crate::sessions::{Session, context};
-use column_core::{Mask, PrimitiveArray, VortexResult};
+use crate::true_counts::true_count;
+use column_core::{Mask, PrimitiveArray, VortexError, VortexResult};
 use column_order::CompareOperator;
-use runend_array::ArrayRef;
+use runend_array::{ArrayRef, ConstantArray};
 use runend_commands::compute;
 use std::alloc::Global;
 
-/// The rows at which the mask is true: null selects nothing. Refused as `TypeMismatch` unless the mask is of booleans,
-/// and then as `MaskLength` where it has not a row for each row.
-#[tactic(auto, using(crate::proofs::TwoColumns::mask_refused, crate::proofs::TwoColumns::filter_refused, crate::proofs::TwoColumns::filter_done, crate::proofs::TwoColumns::filter_left))]
+/// Returns the rows at which the mask is true: null selects nothing. A constant stays one: the true rows of the mask
+/// are counted. Refused as `TypeMismatch` unless the mask is of booleans, and then as `MaskLength` where it has not a
+/// row for each row.
+#[tactic(auto, using(crate::proofs::ConstantFilters::constant_left))]
 pub fn filtered(
+    alloc: Global,
+    session: &Session,
+    mask: &ArrayRef<Global>,
+    array: &ArrayRef<Global>,
+) -> VortexResult<Boxed>
+    ensures left { IfOk result (λ made.
+        HasPlain (filtered_by mask.now array.now) (IsFilteredIn session.now mask.now array.now) made.value) }
+    ensures refused { IsRefusedBy (mask_filter_fault mask.now array.now) result }
+{
+    match array {
+        ArrayRef::Constant(constant) => {
+            let kept = constant_selected(alloc, mask, constant)?;
+            boxed(alloc, ArrayRef::Constant(kept))
+        }
+        _ => filtered_by_bits(alloc, session, mask, array),
+    }
+}
+
+// A constant with a row for each row at which the mask is true.
+#[tactic(auto, using(crate::proofs::ConstantFilters::type_refused, crate::proofs::ConstantFilters::counted_refused, crate::proofs::ConstantFilters::counted_done))]
+fn constant_selected(
+    alloc: Global,
+    mask: &ArrayRef<Global>,
+    constant: &ConstantArray<Global>,
+) -> VortexResult<ConstantArray<Global>>
+    ensures kept { IfOk result (λ kept. kept ≡ repeated constant.now (true_rows (rows mask.now))) }
+    ensures refused { IsRefusedBy (mask_filter_fault mask.now (Constant constant.now)) result }
+{
+    let count = true_count(alloc, mask)?;
+    if mask.len() != constant.len() {
+        return Err(VortexError::MaskLength {
+            mask: mask.len(),
+            length: constant.len(),
+        });
+    }
+    constant.repeated(alloc, count)
+}
+
+// The rows at which the mask is true, by a bit for each row.
+#[tactic(auto, using(crate::proofs::TwoColumns::mask_refused, crate::proofs::TwoColumns::filter_refused, crate::proofs::TwoColumns::filter_done, crate::proofs::TwoColumns::filter_left))]
+fn filtered_by_bits(
     alloc: Global,
     session: &Session,
     mask: &ArrayRef<Global>,
