@@ -69,7 +69,7 @@ class Platform(Distribution):
 
 
 class Wheel(bdist_wheel):
-    """For every Python, since the shared object is linked with none, and for every machine whose glibc is no older than
+    """For every Python, since the shared object is linked with none, and for every machine whose glibc is as new as
     what it needs."""
 
     def get_tag(self):
