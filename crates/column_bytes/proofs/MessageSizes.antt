@@ -56,6 +56,17 @@ pub flat_long : (v : ValidityForm) (items : List ℕ) (count : ℕ) → length i
 unfolding flat_fields
 flat_long v items count is = omega (arith, length-append (validity_field v) (bytes_field 7 items), bytes_long 7 items, ap (λ (n : ℕ). length (varint (7 * 8 + 2) ++ varint n)) is, is)
 
+pub some_long : (v : ValidityForm) (items : List ℕ) → length (flat_fields v items) ≡ length (validity_field v) + length (bytes_field 7 items)
+unfolding flat_fields
+some_long v items = length-append (validity_field v) (bytes_field 7 items)
+
+-- as many bytes as were counted
+pub numbers_counted : (f : PrimitiveForm) (t u : PType) (ns : List ℤ) (rows count : ℕ) → t ≡ f.ptype → u ≡ f.ptype → ns ≡ f.numbers → rows ≡ length f.numbers → count ≡ rows * size_of t → length (numbers_bytes u ns) ≡ count
+numbers_counted f t u ns rows count t-is u-is n-is r c =
+    let same : numbers_bytes u ns ≡ numbers_bytes f.ptype f.numbers = cc in
+    let all : count ≡ length f.numbers * size_of f.ptype = cc in
+    ap length same ∙ length-numbers_bytes f.ptype f.numbers ∙ sym all
+
 pub null_long : length (number_field 5 3) + length (varint (7 * 8 + 2) ++ varint 0) ≡ length (flat_fields AllNull [])
 unfolding validity_field
 null_long = omega (arith, flat_long AllNull [] 0 refl)
@@ -99,7 +110,7 @@ texts_sized f kind rows header fields k r h p =
 
 -- ---- runs, constants and lists
 
-runs_message : (r : Runs) → length (header_bytes (kind_number (column_dtype r.values)) 2 r.count ++ run_fields r.offset r.ends_type (lengths_bytes 0 r.ends) (column_bytes r.values)) ≡ length (column_bytes (column_of_runs r))
+pub runs_message : (r : Runs) → length (header_bytes (kind_number (column_dtype r.values)) 2 r.count ++ run_fields r.offset r.ends_type (lengths_bytes 0 r.ends) (column_bytes r.values)) ≡ length (column_bytes (column_of_runs r))
 runs_message r = ap (λ (x : List ℕ). length (header_bytes (kind_number (column_dtype r.values)) 2 r.count ++ x)) (sym (run_body r.ends_type r.ends r.values r.offset r.count))
 
 pub runs_sized : (r : Runs) (t : PType) (kind form rows offset header fields : ℕ) (lengths : List ℕ) → t ≡ r.ends_type → kind ≡ kind_number (column_dtype r.values) → form ≡ 2 → rows ≡ r.count → offset ≡ r.offset → lengths ≡ lengths_bytes 0 r.ends → header ≡ length (header_bytes kind form rows) → fields ≡ length (run_fields offset t lengths (column_bytes r.values)) → header + fields ≡ length (column_bytes (column_of_runs r))
@@ -108,6 +119,15 @@ runs_sized r t kind form rows offset header fields lengths t-is k f n o l h p =
     let body : run_fields offset t lengths (column_bytes r.values) ≡ run_fields r.offset r.ends_type (lengths_bytes 0 r.ends) (column_bytes r.values) = cc in
     let sum : header + fields ≡ length (header_bytes (kind_number (column_dtype r.values)) 2 r.count ++ run_fields r.offset r.ends_type (lengths_bytes 0 r.ends) (column_bytes r.values)) = omega (arith, h, p, ap length head, ap length body, length-append (header_bytes (kind_number (column_dtype r.values)) 2 r.count) (run_fields r.offset r.ends_type (lengths_bytes 0 r.ends) (column_bytes r.values))) in
     sum ∙ runs_message r
+
+-- the header, and the fields with that message
+pub runs_parts : (r : Runs) (kind form rows : ℕ) → kind ≡ kind_number (column_dtype r.values) → form ≡ 2 → rows ≡ r.count → length (column_bytes (column_of_runs r)) ≡ length (header_bytes kind form rows) + length (run_fields r.offset r.ends_type (lengths_bytes 0 r.ends) (column_bytes r.values))
+runs_parts r kind form rows k f n =
+    let head : header_bytes kind form rows ≡ header_bytes (kind_number (column_dtype r.values)) 2 r.count = cc in
+    omega (arith, ap length head, runs_message r, length-append (header_bytes (kind_number (column_dtype r.values)) 2 r.count) (run_fields r.offset r.ends_type (lengths_bytes 0 r.ends) (column_bytes r.values)))
+
+pub values_in_fields : (r : Runs) → length (column_bytes r.values) ≤ length (run_fields r.offset r.ends_type (lengths_bytes 0 r.ends) (column_bytes r.values))
+values_in_fields r = omega (arith, run_fields_long r.offset r.ends_type (lengths_bytes 0 r.ends) (column_bytes r.values), bytes_long 11 (column_bytes r.values))
 
 -- the message of runs is longer than that of their values
 pub values_within : (r : Runs) → length (column_bytes r.values) ≤ length (column_bytes (column_of_runs r))

@@ -1,10 +1,11 @@
 //! A column of any form, written and read.
-ghost use Rattle.std.specs.Prelude.{◌≡◌, ◌<◌, ◌++◌, IfOk, IfErr, IsErrOf, OnOk};
+ghost use Rattle.std.specs.Prelude.{◌≡◌, ◌<◌, ◌++◌, length, IfOk, IfErr, IsErrOf, OnOk};
 ghost use Rattle.runend_array.specs.Array.{column_of};
 ghost use Rattle.runend_array.specs.Column.{depth};
 ghost use Rattle.column_bytes.specs.Bytes.{column_bytes};
 ghost use Rattle.column_bytes.specs.Read.{MayBeMessage, IsMessage, IsNoMessage, IsWritable, IsUnsupportedOrMemory};
 ghost use Rattle.column_fields.specs.Kept.{StaysInFront};
+ghost use Rattle.column_fields.specs.Room.{UsesCountedRoom};
 ghost use Rattle.column_fields.specs.Refusal.{IsBadOrMemory};
 
 use crate::constants::{put_constant, read_constant};
@@ -45,14 +46,16 @@ pub fn write_column<A: Allocator + Copy, B: Allocator + Copy>(
 
 /// Writes the message of a column to the end of a buffer: a vector, or any other of the crate `bytes`. Takes no memory
 /// but what the buffer takes for these bytes. Refused as `Unsupported` exactly where there are more than 16 levels of
-/// runs, else as `OutOfMemory` alone, as where the buffer has no room; `message_size` tells how much room that is. An
-/// `Err` may leave a part of the message at the end. The earlier content of the buffer stays in front all the same:
-/// cut to its old length, the buffer is as it was.
+/// runs, else as `OutOfMemory`, and so only where the buffer has less room for certain than `message_size` says, or no
+/// count says it. An `Err` may leave a part of the message at the end. The earlier content of the buffer stays in front
+/// all the same: cut to its old length, the buffer is as it was.
 pub fn put_message<A: Allocator + Copy, W: BufMut>(
     out: &mut W,
     array: &ArrayRef<A>,
 ) -> VortexResult<()>
     ensures ok { OnOk result (W.written out.new ≡ W.written out.old ++ column_bytes (column_of array.now)) }
+    ensures room { UsesCountedRoom result (W.spare out.old) (W.spare out.new)
+        (length (column_bytes (column_of array.now))) }
     ensures deep { IsErrOf result VortexError.Unsupported → 16 < depth (column_of array.now) }
     ensures exact { 16 < depth (column_of array.now) → IsErrOf result VortexError.Unsupported }
     ensures refused { IsErrOf result VortexError.Unsupported → ¬ IsWritable 16 (column_of array.now) }
@@ -93,6 +96,8 @@ fn put_column<A: Allocator + Copy, W: BufMut>(
     levels: usize,
 ) -> VortexResult<()>
     ensures ok { OnOk result (W.written out.new ≡ W.written out.old ++ column_bytes (column_of array.now)) }
+    ensures room { UsesCountedRoom result (W.spare out.old) (W.spare out.new)
+        (length (column_bytes (column_of array.now))) }
     ensures writable { OnOk result (IsWritable levels (column_of array.now)) }
     ensures deep { IsErrOf result VortexError.Unsupported → levels < depth (column_of array.now) }
     ensures exact { levels < depth (column_of array.now) → IsErrOf result VortexError.Unsupported }

@@ -1,5 +1,5 @@
 //! Constants: one value in each row, or null.
-ghost use Rattle.std.specs.Prelude.{◌≡◌, ◌++◌, ◌∷◌, [], ℕ, ℤ, Bool, Some, option_map, OnOk, IfOk, IfErr, IfSome, IfNone, IsErrOf, IsOkUnless};
+ghost use Rattle.std.specs.Prelude.{◌≡◌, ◌++◌, ◌∷◌, [], length, ℕ, ℤ, Bool, Some, option_map, OnOk, IfOk, IfErr, IfSome, IfNone, IsErrOf, IsOkUnless};
 ghost use Rattle.column_base.specs.declared.dtype.Nullability.{Nullability};
 ghost use Rattle.column_base.specs.declared.dtype.DType.TheVariants.{Primitive};
 ghost use Rattle.column_base.specs.Types.{nullability_of};
@@ -12,6 +12,7 @@ ghost use Rattle.runend_array.specs.Column.{OfConstant};
 ghost use Rattle.column_fields.specs.DecimalBytes.{decimal_bytes};
 ghost use Rattle.column_fields.specs.FlatFields.{flat_fields};
 ghost use Rattle.column_fields.specs.Kept.{StaysInFront};
+ghost use Rattle.column_fields.specs.Room.{UsesRoom, UsesCountedRoom};
 ghost use Rattle.column_fields.specs.NumberBytes.{number_bytes};
 ghost use Rattle.column_fields.specs.Validity.{validity_field};
 ghost use Rattle.column_fields.specs.Refusal.{IsBadOrMemory};
@@ -41,6 +42,8 @@ pub(crate) fn put_constant<A: Allocator, W: BufMut>(
     array: &ConstantArray<A>,
 ) -> VortexResult<()>
     ensures ok { OnOk result (W.written out.new ≡ W.written out.old ++ column_bytes (OfConstant array.now)) }
+    ensures room { UsesCountedRoom result (W.spare out.old) (W.spare out.new)
+        (length (column_bytes (OfConstant array.now))) }
     ensures stored { OnOk result (IsStoredConstant array.now) }
     ensures kept { StaysInFront (W.written out.old) (W.written out.new) }
     ensures only { IsOkUnless result VortexError.OutOfMemory }
@@ -62,6 +65,7 @@ pub(crate) fn put_constant<A: Allocator, W: BufMut>(
 // Writes what its number does not tell of a type.
 fn put_type<W: BufMut>(out: &mut W, dtype: DType) -> VortexResult<()>
     ensures ok { OnOk result (W.written out.new ≡ W.written out.old ++ type_fields dtype) }
+    ensures room { UsesRoom result (W.spare out.old) (W.spare out.new) (length (type_fields dtype)) }
     ensures stored { OnOk result (IsStoredType dtype) }
     ensures kept { StaysInFront (W.written out.old) (W.written out.new) }
     ensures only { IsOkUnless result VortexError.OutOfMemory }
@@ -76,6 +80,8 @@ fn put_type<W: BufMut>(out: &mut W, dtype: DType) -> VortexResult<()>
 // Writes what the message of a constant says of its value.
 fn put_scalar<A: Allocator, W: BufMut>(out: &mut W, scalar: &Scalar<A>) -> VortexResult<()>
     ensures ok { OnOk result (W.written out.new ≡ W.written out.old ++ value_fields scalar.now.dtype scalar.now.value) }
+    ensures room { UsesRoom result (W.spare out.old) (W.spare out.new)
+        (length (value_fields scalar.now.dtype scalar.now.value)) }
     ensures typed { IsRowOf scalar.now.dtype (option_map Single scalar.now.value) }
     ensures kept { StaysInFront (W.written out.old) (W.written out.new) }
     ensures only { IsOkUnless result VortexError.OutOfMemory }
@@ -96,6 +102,7 @@ fn put_scalar<A: Allocator, W: BufMut>(out: &mut W, scalar: &Scalar<A>) -> Vorte
 // Writes that the value is null.
 fn put_null<W: BufMut>(out: &mut W) -> VortexResult<()>
     ensures ok { OnOk result (W.written out.new ≡ W.written out.old ++ flat_fields AllNull []) }
+    ensures room { UsesRoom result (W.spare out.old) (W.spare out.new) (length (flat_fields AllNull [])) }
     ensures kept { StaysInFront (W.written out.old) (W.written out.new) }
     ensures only { IsOkUnless result VortexError.OutOfMemory }
 {
@@ -108,6 +115,8 @@ fn put_null<W: BufMut>(out: &mut W) -> VortexResult<()>
 fn put_some<W: BufMut>(out: &mut W, nullability: Nullability, bytes: &[u8]) -> VortexResult<()>
     ensures ok { OnOk result (W.written out.new ≡ W.written out.old ++
         flat_fields (some_validity nullability) bytes.now) }
+    ensures room { UsesRoom result (W.spare out.old) (W.spare out.new)
+        (length (flat_fields (some_validity nullability) bytes.now)) }
     ensures kept { StaysInFront (W.written out.old) (W.written out.new) }
     ensures only { IsOkUnless result VortexError.OutOfMemory }
 {
@@ -120,6 +129,8 @@ fn put_some<W: BufMut>(out: &mut W, nullability: Nullability, bytes: &[u8]) -> V
 fn put_truth<W: BufMut>(out: &mut W, nullability: Nullability, truth: bool) -> VortexResult<()>
     ensures ok { OnOk result (W.written out.new ≡ W.written out.old ++
         flat_fields (some_validity nullability) (one_if truth ∷ [])) }
+    ensures room { UsesRoom result (W.spare out.old) (W.spare out.new)
+        (length (flat_fields (some_validity nullability) (one_if truth ∷ []))) }
     ensures kept { StaysInFront (W.written out.old) (W.written out.new) }
     ensures only { IsOkUnless result VortexError.OutOfMemory }
 {
@@ -132,6 +143,8 @@ fn put_truth<W: BufMut>(out: &mut W, nullability: Nullability, truth: bool) -> V
 fn put_number_of<W: BufMut>(out: &mut W, nullability: Nullability, number: i128) -> VortexResult<()>
     ensures ok { OnOk result (W.written out.new ≡ W.written out.old ++
         flat_fields (some_validity nullability) (decimal_bytes number)) }
+    ensures room { UsesRoom result (W.spare out.old) (W.spare out.new)
+        (length (flat_fields (some_validity nullability) (decimal_bytes number))) }
     ensures kept { StaysInFront (W.written out.old) (W.written out.new) }
     ensures only { IsOkUnless result VortexError.OutOfMemory }
 {
@@ -146,6 +159,8 @@ fn put_whole<W: BufMut>(out: &mut W, dtype: DType, number: i128) -> VortexResult
     requires { IsNumberIn dtype number }
     ensures ok { OnOk result (W.written out.new ≡ W.written out.old ++
         flat_fields (some_validity (nullability_of dtype)) (some_bytes dtype (Number number))) }
+    ensures room { UsesRoom result (W.spare out.old) (W.spare out.new)
+        (length (flat_fields (some_validity (nullability_of dtype)) (some_bytes dtype (Number number)))) }
     ensures kept { StaysInFront (W.written out.old) (W.written out.new) }
     ensures only { IsOkUnless result VortexError.OutOfMemory }
 {
@@ -164,6 +179,8 @@ fn put_whole<W: BufMut>(out: &mut W, dtype: DType, number: i128) -> VortexResult
 #[tactic(auto, unfolding(column_fields::specs::Validity::validity_field))]
 fn put_told<W: BufMut>(out: &mut W, nullability: Nullability) -> VortexResult<()>
     ensures ok { OnOk result (W.written out.new ≡ W.written out.old ++ validity_field (some_validity nullability)) }
+    ensures room { UsesRoom result (W.spare out.old) (W.spare out.new)
+        (length (validity_field (some_validity nullability))) }
     ensures kept { StaysInFront (W.written out.old) (W.written out.new) }
     ensures only { IsOkUnless result VortexError.OutOfMemory }
 {

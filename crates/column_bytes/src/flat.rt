@@ -4,6 +4,7 @@ ghost use Rattle.column_core.specs.Leaf.{OfNumbers, OfTruths, OfDecimals};
 ghost use Rattle.runend_array.specs.Column.{OfLeaf};
 ghost use Rattle.runend_array.specs.Array.{column_of};
 ghost use Rattle.column_fields.specs.Kept.{StaysInFront};
+ghost use Rattle.column_fields.specs.Room.{UsesCountedRoom};
 ghost use Rattle.column_fields.specs.Refusal.{IsBadOrMemory};
 ghost use Rattle.column_bytes.specs.Bytes.{column_bytes};
 ghost use Rattle.column_bytes.specs.Stored.{AreNumbers, AreTruths, AreDecimals};
@@ -39,6 +40,8 @@ pub(crate) fn put_numbers<A: Allocator, W: BufMut>(
     array: &PrimitiveArray<A>,
 ) -> VortexResult<()>
     ensures ok { OnOk result (W.written out.new ≡ W.written out.old ++ column_bytes (OfLeaf (OfNumbers array.now))) }
+    ensures room { UsesCountedRoom result (W.spare out.old) (W.spare out.new)
+        (length (column_bytes (OfLeaf (OfNumbers array.now)))) }
     ensures stored { OnOk result (AreNumbers array.now) }
     ensures kept { StaysInFront (W.written out.old) (W.written out.new) }
     ensures only { IsOkUnless result VortexError.OutOfMemory }
@@ -70,6 +73,8 @@ pub(crate) fn put_truths<A: Allocator, W: BufMut>(
     array: &BoolArray<A>,
 ) -> VortexResult<()>
     ensures ok { OnOk result (W.written out.new ≡ W.written out.old ++ column_bytes (OfLeaf (OfTruths array.now))) }
+    ensures room { UsesCountedRoom result (W.spare out.old) (W.spare out.new)
+        (length (column_bytes (OfLeaf (OfTruths array.now)))) }
     ensures stored { OnOk result (AreTruths array.now) }
     ensures kept { StaysInFront (W.written out.old) (W.written out.new) }
     ensures only { IsOkUnless result VortexError.OutOfMemory }
@@ -95,6 +100,8 @@ pub(crate) fn put_decimal_rows<A: Allocator, W: BufMut>(
     array: &DecimalArray<A>,
 ) -> VortexResult<()>
     ensures ok { OnOk result (W.written out.new ≡ W.written out.old ++ column_bytes (OfLeaf (OfDecimals array.now))) }
+    ensures room { UsesCountedRoom result (W.spare out.old) (W.spare out.new)
+        (length (column_bytes (OfLeaf (OfDecimals array.now)))) }
     ensures stored { OnOk result (AreDecimals array.now) }
     ensures kept { StaysInFront (W.written out.old) (W.written out.new) }
     ensures only { IsOkUnless result VortexError.OutOfMemory }

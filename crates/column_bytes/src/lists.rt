@@ -1,8 +1,9 @@
 //! Columns of lists, written.
-ghost use Rattle.std.specs.Prelude.{◌≡◌, ◌<◌, ◌⊎◌, ◌++◌, IsTrue, OnOk, IfErr, IsErrOf, IsOkUnless};
+ghost use Rattle.std.specs.Prelude.{◌≡◌, ◌<◌, ◌⊎◌, ◌++◌, length, IsTrue, OnOk, IfErr, IsErrOf, IsOkUnless};
 ghost use Rattle.column_core.specs.FlatColumn.{leaf_of};
 ghost use Rattle.column_fields.specs.Field.{bytes_field};
 ghost use Rattle.column_fields.specs.Kept.{StaysInFront};
+ghost use Rattle.column_fields.specs.Room.{UsesCountedRoom};
 ghost use Rattle.column_fields.specs.ListFields.{list_fields};
 ghost use Rattle.runend_array.specs.Array.{column_of, validity_of, IsRowValidity};
 ghost use Rattle.runend_array.specs.Column.{OfLeaf, OfLists, IsIndex, IsPlainIndex, IsPlainTruths, index_of, column_of_runs, runs_validity};
@@ -33,6 +34,8 @@ pub(crate) fn put_lists<A: Allocator + Copy, W: BufMut>(
     levels: usize,
 ) -> VortexResult<()>
     ensures ok { OnOk result (W.written out.new ≡ W.written out.old ++ column_bytes (OfLists lists.now)) }
+    ensures room { UsesCountedRoom result (W.spare out.old) (W.spare out.new)
+        (length (column_bytes (OfLists lists.now))) }
     ensures writable { OnOk result (IsWritable levels (OfLists lists.now)) }
     ensures deep { IsErrOf result VortexError.Unsupported → levels < lists_depth lists.now }
     ensures exact { levels < lists_depth lists.now → IsErrOf result VortexError.Unsupported }
@@ -88,6 +91,8 @@ fn put_row_validity<A: Allocator + Copy, W: BufMut>(
 ) -> VortexResult<()>
     requires { IsRowValidity validity.now }
     ensures ok { OnOk result (W.written out.new ≡ W.written out.old ++ row_validity_field (validity_of validity.now)) }
+    ensures room { UsesCountedRoom result (W.spare out.old) (W.spare out.new)
+        (length (row_validity_field (validity_of validity.now))) }
     ensures stored { OnOk result (IsStoredValidity (validity_of validity.now)) }
     ensures kept { StaysInFront (W.written out.old) (W.written out.new) }
     ensures only { IsOkUnless result VortexError.OutOfMemory }
@@ -108,6 +113,8 @@ fn put_run_validity<A: Allocator + Copy, W: BufMut>(
 ) -> VortexResult<()>
     requires { IsPlainTruths runs.now.values }
     ensures ok { OnOk result (W.written out.new ≡ W.written out.old ++ row_validity_field (runs_validity runs.now)) }
+    ensures room { UsesCountedRoom result (W.spare out.old) (W.spare out.new)
+        (length (row_validity_field (runs_validity runs.now))) }
     ensures stored { OnOk result (IsStoredValidity (runs_validity runs.now)) }
     ensures kept { StaysInFront (W.written out.old) (W.written out.new) }
     ensures only { IsOkUnless result VortexError.OutOfMemory }
@@ -126,6 +133,9 @@ fn put_parts<A: Allocator + Copy, W: BufMut>(
 ) -> VortexResult<()>
     ensures ok { OnOk result (W.written out.new ≡ W.written out.old ++ list_fields (leaf_message lists.now.elements)
         (index_message lists.now.offsets) (index_message lists.now.sizes)) }
+    ensures room { UsesCountedRoom result (W.spare out.old) (W.spare out.new)
+        (length (list_fields (leaf_message lists.now.elements) (index_message lists.now.offsets)
+        (index_message lists.now.sizes))) }
     ensures elements { OnOk result (IsStoredLeaf lists.now.elements) }
     ensures offsets { OnOk result (IsStoredIndex lists.now.offsets) }
     ensures sizes { OnOk result (IsStoredIndex lists.now.sizes) }
@@ -143,6 +153,8 @@ fn put_parts<A: Allocator + Copy, W: BufMut>(
 // Writes the message of the elements at the end.
 fn put_elements<A: Allocator, W: BufMut>(out: &mut W, column: &FlatColumn<A>) -> VortexResult<()>
     ensures ok { OnOk result (W.written out.new ≡ W.written out.old ++ column_bytes (OfLeaf (leaf_of column.now))) }
+    ensures room { UsesCountedRoom result (W.spare out.old) (W.spare out.new)
+        (length (column_bytes (OfLeaf (leaf_of column.now)))) }
     ensures stored { OnOk result (IsStoredLeaf (leaf_of column.now)) }
     ensures kept { StaysInFront (W.written out.old) (W.written out.new) }
     ensures only { IsOkUnless result VortexError.OutOfMemory }
@@ -165,6 +177,9 @@ fn put_index_field<A: Allocator + Copy, W: BufMut>(
     requires index { IsIndex (column_of index.now) }
     ensures ok { OnOk result (W.written out.new ≡ W.written out.old ++
         bytes_field field (column_bytes (column_of index.now))) }
+    ensures room { UsesCountedRoom result (W.spare out.old) (W.spare out.new)
+        (length (bytes_field field (column_bytes (column_of index.now)))) }
+    ensures same { column_bytes (column_of index.now) ≡ index_message (index_of (column_of index.now)) }
     ensures stored { OnOk result (IsStored (column_of index.now)) }
     ensures kept { StaysInFront (W.written out.old) (W.written out.new) }
     ensures only { IsOkUnless result VortexError.OutOfMemory }
@@ -179,6 +194,8 @@ fn put_index_field<A: Allocator + Copy, W: BufMut>(
 fn put_index<A: Allocator + Copy, W: BufMut>(out: &mut W, index: &ArrayRef<A>) -> VortexResult<()>
     requires { IsIndex (column_of index.now) }
     ensures ok { OnOk result (W.written out.new ≡ W.written out.old ++ column_bytes (column_of index.now)) }
+    ensures room { UsesCountedRoom result (W.spare out.old) (W.spare out.new)
+        (length (column_bytes (column_of index.now))) }
     ensures kept { StaysInFront (W.written out.old) (W.written out.new) }
     ensures only { IsOkUnless result VortexError.OutOfMemory }
 {
@@ -196,6 +213,8 @@ fn put_flat_runs<A: Allocator + Copy, W: BufMut>(
 ) -> VortexResult<()>
     requires { IsPlainIndex runs.now.values ⊎ IsPlainTruths runs.now.values }
     ensures ok { OnOk result (W.written out.new ≡ W.written out.old ++ column_bytes (column_of_runs runs.now)) }
+    ensures room { UsesCountedRoom result (W.spare out.old) (W.spare out.new)
+        (length (column_bytes (column_of_runs runs.now))) }
     ensures kept { StaysInFront (W.written out.old) (W.written out.new) }
     ensures only { IsOkUnless result VortexError.OutOfMemory }
 {
@@ -212,6 +231,8 @@ fn put_run_values<A: Allocator + Copy, W: BufMut>(
 ) -> VortexResult<()>
     requires { IsPlainIndex (column_of values.now) ⊎ IsPlainTruths (column_of values.now) }
     ensures ok { OnOk result (W.written out.new ≡ W.written out.old ++ column_bytes (column_of values.now)) }
+    ensures room { UsesCountedRoom result (W.spare out.old) (W.spare out.new)
+        (length (column_bytes (column_of values.now))) }
     ensures kept { StaysInFront (W.written out.old) (W.written out.new) }
     ensures only { IsOkUnless result VortexError.OutOfMemory }
 {

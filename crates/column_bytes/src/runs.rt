@@ -1,5 +1,5 @@
 //! Run columns over values that are read and written by themselves.
-ghost use Rattle.std.specs.Prelude.{◌≡◌, ◌<◌, ◌++◌, ◌↔◌, IsTrue, length, true, slice_index, OnOk, IfOk, IfErr, IsErrOf, IsOkUnless};
+ghost use Rattle.std.specs.Prelude.{◌≡◌, ◌+◌, ◌<◌, ◌++◌, ◌↔◌, IsTrue, length, true, slice_index, OnOk, IfOk, IfErr, IsErrOf, IsOkUnless};
 ghost use Rattle.column_core.specs.PrimitiveForm.{primitive_dtype};
 ghost use Rattle.runend_windows.specs.Ends.{IsEndsType, ends_of};
 ghost use Rattle.runend_array.specs.Array.{column_of, dtype_of};
@@ -8,6 +8,7 @@ ghost use Rattle.runend_windows.specs.Window.{IsWindow};
 ghost use Rattle.column_fields.specs.Kept.{StaysInFront};
 ghost use Rattle.column_fields.specs.Lengths.{AreEndsOf, HasNoEndsOf, Rises};
 ghost use Rattle.column_fields.specs.Refusal.{IsBadOrMemory};
+ghost use Rattle.column_fields.specs.Room.{UsesCountedRoom};
 ghost use Rattle.column_fields.specs.Sizes.{IsPast};
 ghost use Rattle.column_bytes.specs.Bytes.{column_bytes, kind_number};
 ghost use Rattle.column_bytes.specs.Read.{AreRunsOf, AreNoRunsOf, IsEndsColumn};
@@ -34,6 +35,8 @@ pub(crate) fn put_runs<A: Allocator + Copy, W: BufMut>(
     requires { values ≡ length (column_bytes runs.now.values) }
     ensures ok { OnOk result (W.written out.new ++ column_bytes runs.now.values ≡
         W.written out.old ++ column_bytes (column_of_runs runs.now)) }
+    ensures room { UsesCountedRoom result (W.spare out.old + values) (W.spare out.new)
+        (length (column_bytes (column_of_runs runs.now))) }
     ensures fit { OnOk result (AreEndsOf runs.now.ends_type runs.now.ends) }
     ensures runs { AreRuns runs.now }
     ensures kept { StaysInFront (W.written out.old) (W.written out.new) }

@@ -1,9 +1,10 @@
 //! Flat columns of texts or of bytes.
-ghost use Rattle.std.specs.Prelude.{◌≡◌, ◌++◌, ℕ, OnOk, IfOk, IfErr, IsErrOf, IsOkUnless};
+ghost use Rattle.std.specs.Prelude.{◌≡◌, ◌++◌, length, ℕ, OnOk, IfOk, IfErr, IsErrOf, IsOkUnless};
 ghost use Rattle.column_core.specs.Leaf.{OfVarBins};
 ghost use Rattle.runend_array.specs.Array.{column_of};
 ghost use Rattle.runend_array.specs.Column.{OfLeaf};
 ghost use Rattle.column_fields.specs.Kept.{StaysInFront};
+ghost use Rattle.column_fields.specs.Room.{UsesCountedRoom};
 ghost use Rattle.column_fields.specs.Refusal.{IsBadOrMemory};
 ghost use Rattle.text_fields.specs.Texts.{AreTexts};
 ghost use Rattle.column_bytes.specs.Bytes.{column_bytes, varbin_number};
@@ -24,6 +25,8 @@ pub(crate) fn put_texts<A: Allocator, W: BufMut>(
     array: &VarBinViewArray<A>,
 ) -> VortexResult<()>
     ensures ok { OnOk result (W.written out.new ≡ W.written out.old ++ column_bytes (OfLeaf (OfVarBins array.now))) }
+    ensures room { UsesCountedRoom result (W.spare out.old) (W.spare out.new)
+        (length (column_bytes (OfLeaf (OfVarBins array.now)))) }
     ensures stored { OnOk result (AreTexts array.now) }
     ensures kept { StaysInFront (W.written out.old) (W.written out.new) }
     ensures only { IsOkUnless result VortexError.OutOfMemory }
