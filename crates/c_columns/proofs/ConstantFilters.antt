@@ -9,7 +9,7 @@ use Rattle.column_base.specs.declared.error.VortexError.{VortexError}
 use Rattle.column_base.specs.declared.error.VortexError.TheVariants.{MaskLength}
 use Rattle.column_base.specs.declared.mask.Mask.TheVariants.{Values}
 use Rattle.column_core.specs.Refusal.{IsErrorFor}
-use Rattle.column_core.specs.Value.{FlatValue, Single, Value}
+use Rattle.column_core.specs.Value.{FlatValue, Single}
 use Rattle.column_ops.specs.Filter.{filter_fault}
 use Rattle.array_rowwise.proofs.ConstantRows.{selected-constant}
 use Rattle.array_rowwise.proofs.FilterFaults.{fault_here, no_fault}
@@ -19,7 +19,6 @@ use Rattle.runend_array.specs.SessionForm.{SessionForm}
 use Rattle.runend_array.specs.declared.array_ref.ArrayRef.{ArrayRef}
 use Rattle.runend_array.specs.declared.array_ref.ArrayRef.TheVariants as array
 use Rattle.runend_array.specs.SessionForm.{kernel_index}
-use Rattle.runend_commands.specs.Kept.{LeavesKept}
 use Rattle.c_columns.specs.Flags.{flag_of}
 use Rattle.c_columns.specs.Sessions.{IsSessionOf, thresholds_in}
 use Rattle.c_columns.specs.TwoColumns.{HasPlain, IsFilteredIn, filtered_by, is_true, mask_fault, mask_filter_fault, true_rows}
@@ -37,21 +36,24 @@ session_in s = record { flags = map flag_of s.kernels; thresholds = thresholds_i
 session_is : (s : Session) → IsSessionOf s (session_in s)
 session_is s = record { kernels = λ k. flags_are s.kernels (kernel_index k); thresholds = refl }
 
--- the rows of a constant
-rows_counted : (k : Constant) → length (rows (array.Constant k)) ≡ k.count
+-- a constant as a column, and how many rows it has
+abbrev held : Constant → ArrayRef Global
+held k = array.Constant k
+
+rows_counted : (k : Constant) → length (rows (held k)) ≡ k.count
 rows_counted k = length-replicate k.count (option_map (λ (v : FlatValue). Single v) k.value)
 
 -- the mask is of another type
 pub type_refused : (mask : ArrayRef Global) (k : Constant) (error : VortexError) → IsErrorFor (mask_fault (dtype_of mask)) error → IsErrorFor (mask_filter_fault mask (array.Constant k)) error
 type_refused mask k error (inl short) = inl short
-type_refused mask k error (inr fault) = inr (ap (λ (f : Option VortexError). option_or f (filter_fault (length (map is_true (rows mask))) (length (rows (array.Constant k))))) fault)
+type_refused mask k error (inr fault) = inr (ap (λ (f : Option VortexError). option_or f (filter_fault (length (map is_true (rows mask))) (length (rows (held k))))) fault)
 
 -- a mask of booleans: its length decides
 counted_fault : (mask : ArrayRef Global) (k : Constant) → mask_fault (dtype_of mask) ≡ None → filter_fault (length (rows mask)) k.count ≡ mask_filter_fault mask (array.Constant k)
 counted_fault mask k none =
     ap (λ (n : ℕ). filter_fault n k.count) (sym (length-map (rows mask) is_true))
     ∙ ap (λ (n : ℕ). filter_fault (length (map is_true (rows mask))) n) (sym (rows_counted k))
-    ∙ sym (ap (λ (f : Option VortexError). option_or f (filter_fault (length (map is_true (rows mask))) (length (rows (array.Constant k))))) none)
+    ∙ sym (ap (λ (f : Option VortexError). option_or f (filter_fault (length (map is_true (rows mask))) (length (rows (held k))))) none)
 
 pub counted_refused : (mask : ArrayRef Global) (k : Constant) (x y : ℕ) → mask_fault (dtype_of mask) ≡ None → length (rows mask) ≢ k.count → x ≡ length (rows mask) → y ≡ k.count
     → IsErrorFor (mask_filter_fault mask (array.Constant k)) (MaskLength x y)
@@ -73,7 +75,7 @@ same_by m n false is none = absurd (cc)
 as_long : (mask : ArrayRef Global) (k : Constant) → mask_filter_fault mask (array.Constant k) ≡ None → length (map is_true (rows mask)) ≡ k.count
 as_long mask k none =
     let n = length (map is_true (rows mask)) in
-    let m = length (rows (array.Constant k)) in
+    let m = length (rows (held k)) in
     same_by n m (n == m) refl (no_other_fault (mask_fault (dtype_of mask)) (filter_fault n m) none) ∙ rows_counted k
 
 -- a constant whose rows were counted

@@ -1,16 +1,16 @@
 -- The rows of runs that are true, counted run by run.
-use Rattle.std.proofs.Common.{◌≡◌, ◌∙◌, ◌+◌, ◌-◌, ◌<◌, ◌≤◌, ◌^◌, refl, sym, ap, subst, ℕ, zero, suc, List, [], ◌∷◌, ◌++◌, Bool, true, false, Option, Some, None, cond, count_by, length, map, min, replicate, slice_index, arith}
+use Rattle.std.proofs.Common.{◌≡◌, ◌∙◌, ◌+◌, ◌-◌, ◌<◌, ◌≤◌, ◌^◌, refl, sym, ap, ℕ, zero, suc, List, [], ◌∷◌, ◌++◌, Bool, true, false, Option, Some, None, cond, count_by, length, map, min, replicate, slice_index, arith}
 use Rattle.std.specs.Prelude.{slice_get, slice_index_or}
 use Rattle.std.proofs.lemmas.List.{length-map, get_or-map, map-append}
 use Rattle.std.proofs.lemmas.List.Sums.{count_by-le-length, sum_by-append}
-use Rattle.std.proofs.lemmas.Option.{get_or_from_slice_get, slice_get-get_or}
+use Rattle.std.proofs.lemmas.Option.{slice_get-get_or}
 use Rattle.column_base.proofs.BitLists.{count_by-false, count_by-true}
 use Rattle.column_core.specs.Value.{Value}
 use Rattle.runend_array.specs.Column.{AreRuns, Runs, column_of_runs, column_rows}
 use Rattle.runend_array.specs.RowRuns.{first_visible, stop_visible}
 use Rattle.runend_windows.specs.Cover.{Covers}
 use Rattle.runend_windows.specs.Window.{IsWindow, run_at, run_rows}
-use Rattle.runend_windows.proofs.Decoded.{Decoded, Decoded-next, Decoded-none, reached}
+use Rattle.runend_windows.proofs.Decoded.{Decoded, Decoded-next, reached}
 use Rattle.runend_windows.proofs.RunAt.{ended_before, ends_past, run_of_row_within}
 use Rattle.runend_windows.proofs.RunRows.{Covers-run_rows}
 use Rattle.runend_windows.proofs.ShownRuns.{equal_from_Covers}
