@@ -410,7 +410,7 @@ HV_CALL void hv_builder_free(hv_builder *builder);
 /* How many bytes they are, by a pass over lengths that takes no memory. */
 HV_ANSWER hv_write_size(const hv_column *column, size_t *size, hv_error *error);
 /* They go to the front of `bytes`, which takes no memory, and *size says how many they are; 11 (needed, bytes_len)
- * where they have no room there. Refused by 11 or 13, it leaves `bytes` as it was. */
+ * where they have no room there. Refused, it leaves `bytes` as it was. 21 only for 2^64 bytes or more. */
 HV_ANSWER hv_write(const hv_column *column, uint8_t *bytes, size_t bytes_len, size_t *size, hv_error *error);
 /* The column that was written so; 17 for bytes that are the message of no column, or 21 where memory is refused before
  * the damage of lists is found, under runs too; of other bytes 21 only for those of a message. */

@@ -1,6 +1,6 @@
 -- How calls end that say how many bytes a message has, write it or read it.
-use Rattle.std.proofs.Common.{◌≡◌, ◌⊎◌, ℕ, ℤ, ◌^◌, ◌<◌, ◌≤◌, pos, List, length, ap, sym, subst, arith, inl, inr}
-use Rattle.std.specs.Prelude.{Option, Some, None}
+use Rattle.std.proofs.Common.{◌≡◌, ◌⊎◌, ℕ, ℤ, ◌-◌, ◌^◌, ◌<◌, ◌≤◌, pos, List, length, ap, sym, subst, arith, inl, inr}
+use Rattle.std.specs.Prelude.{Option, Some, None, min}
 use Rattle.std.specs.Global.{Global}
 use Rattle.std.proofs.lemmas.Bool.{cases_lt}
 use Rattle.column_base.specs.Error.{number_of}
@@ -12,7 +12,7 @@ use Rattle.runend_array.specs.Array.{column_of}
 use Rattle.runend_array.specs.Column.{depth}
 use Rattle.runend_array.specs.declared.array_ref.ArrayRef.{ArrayRef}
 use Rattle.c_columns.specs.Ending.{HasFields}
-use Rattle.c_columns.specs.Messages.{EndsOnReading, EndsOnWrite, HasMessage, HasNoMessageRoom, IsColumnOfMessage, IsCutOff, IsUnreadable, MessageFault, ReadFault, SizeFault}
+use Rattle.c_columns.specs.Messages.{EndsOnReading, EndsOnWrite, HasMessage, HasNoMessageRoom, IsColumnOfMessage, IsUnreadable, MessageFault, ReadFault, SizeFault}
 use Rattle.c_columns.specs.declared.error_fields.ErrorFields.{ErrorFields}
 
 abbrev Held : Type 0
@@ -42,10 +42,11 @@ put_served c room size small has fits error (inr short) = absurd (omega (arith, 
 pub no_room : (c : ArrayRef Global) (room size : ℕ) → size < 2 ^ 64 → HasMessage (column_of c) size → room < size → HasNoMessageRoom (column_of c) room (ColumnLength size room)
 no_room c room size small has short = record { writable = has.writable; told = ap (λ (n : ℕ). ColumnLength n room) has.size_is; counted = omega (arith, small, has.size_is); short = omega (arith, short, has.size_is) }
 
-pub cut_off : (c : ArrayRef Global) (room size : ℕ) (error : VortexError) → HasMessage (column_of c) size → size ≤ room → IsUnsupportedOrMemory error → (error ≡ Unsupported → ¬ IsWritable 16 (column_of c))
-    → MessageFault room c error ⊎ IsCutOff (column_of c) room error
-cut_off c room size error has fits (inl deep) refused = absurd (refused deep has.writable)
-cut_off c room size error has fits (inr short) refused = inr (record { writable = has.writable; told = short; fits = omega (arith, fits, has.size_is) })
+-- no writer is refused where the message has room
+pub never_cut : (c : ArrayRef Global) (room size : ℕ) (error : VortexError) → size < 2 ^ 64 → HasMessage (column_of c) size → size ≤ room → IsUnsupportedOrMemory error → (error ≡ Unsupported → ¬ IsWritable 16 (column_of c))
+    → (error ≡ OutOfMemory → min room (2 ^ 64 - 1) < length (column_bytes (column_of c))) → ⊥
+never_cut c room size error small has fits (inl deep) refused lacks = refused deep has.writable
+never_cut c room size error small has fits (inr memory) refused lacks = (let less : min room (2 ^ 64 - 1) < length (column_bytes (column_of c)) = lacks memory in absurd (omega (arith, small, fits, less, has.size_is)))
 
 pub write_empty : (room : ℕ) (c : Held) (code : ℤ) (fields : ErrorFields) → c ≡ None → code ≡ pos 22 → EndsOnWrite room c code fields
 write_empty room c code fields none is = subst (λ (h : Held). EndsOnWrite room h code fields) (sym none) is
@@ -54,7 +55,7 @@ pub write_done : (room : ℕ) (c : Held) (a : ArrayRef Global) (code : ℤ) (fie
 write_done room c a code fields some none is = subst (λ (h : Held). EndsOnWrite room h code fields) (sym some) (inl (is, none))
 
 pub write_refused : (room : ℕ) (c : Held) (a : ArrayRef Global) (error : VortexError) (code : ℤ) (fields : ErrorFields)
-    → c ≡ Some a → MessageFault room a error ⊎ IsCutOff (column_of a) room error → code ≡ pos (number_of error) → HasFields error fields → EndsOnWrite room c code fields
+    → c ≡ Some a → MessageFault room a error → code ≡ pos (number_of error) → HasFields error fields → EndsOnWrite room c code fields
 write_refused room c a error code fields some why is told = subst (λ (h : Held). EndsOnWrite room h code fields) (sym some) (inr (error, why, (is, told)))
 
 -- ---- read

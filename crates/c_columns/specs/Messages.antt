@@ -40,12 +40,6 @@ pub record HasNoMessageRoom (column : Column) (room : ℕ) (error : VortexError)
   pub counted : length (column_bytes column) < 2 ^ 64
   pub short : room < length (column_bytes column)
 
--- the message has room, but a writer was refused room for its bytes, as no clause of a buffer excludes
-pub record IsCutOff (column : Column) (room : ℕ) (error : VortexError) : Type 0 where
-  pub writable : IsWritable 16 column
-  pub told : error ≡ OutOfMemory
-  pub fits : length (column_bytes column) ≤ room
-
 -- why a call does not say how many bytes the message has
 abbrev pub SizeFault : ArrayRef Global → VortexError → Type 0
 SizeFault c error = IsUnwritable (column_of c) error ⊎ IsUncounted (column_of c) error
@@ -64,11 +58,10 @@ abbrev pub EndsOnSize : Option (ArrayRef Global) → ℤ → ErrorFields → Typ
 EndsOnSize None code fields = code ≡ pos 22
 EndsOnSize (Some c) code fields = EndsExactly (SizeFault c) code fields
 
--- how a call ends that writes it: with 0 only where there is no fault; it has one more than these where it was cut off
+-- how a call ends that writes it: memory is never refused where the message has room
 abbrev pub EndsOnWrite : ℕ → Option (ArrayRef Global) → ℤ → ErrorFields → Type 0
 EndsOnWrite room None code fields = code ≡ pos 22
-EndsOnWrite room (Some c) code fields =
-    ((code ≡ pos 0) × ((error : VortexError) → ¬ MessageFault room c error)) ⊎ ((error : VortexError) × (MessageFault room c error ⊎ IsCutOff (column_of c) room error) × IsRefusedAs error code fields)
+EndsOnWrite room (Some c) code fields = EndsExactly (MessageFault room c) code fields
 
 -- the bytes are the message of no column
 pub record IsUnreadable (bytes : List ℕ) (error : VortexError) : Type 0 where

@@ -1,7 +1,7 @@
 //! Columns as messages, and columns of messages.
-ghost use Rattle.std.specs.Prelude.{◌≡◌, ◌≢◌, ◌⊎◌, length, IfOk, IfErr, OnOk};
+ghost use Rattle.std.specs.Prelude.{◌≡◌, length, IfOk, IfErr, OnErr, OnOk};
 ghost use Rattle.runend_array.specs.Array.{column_of};
-ghost use Rattle.c_columns.specs.Messages.{HasMessage, IsColumnOfMessage, IsCutOff, IsMessageAtFront, IsUnreadable, MessageFault, ReadFault, SizeFault};
+ghost use Rattle.c_columns.specs.Messages.{HasMessage, IsColumnOfMessage, IsMessageAtFront, IsUnreadable, MessageFault, ReadFault, SizeFault};
 
 use crate::flat::{Boxed, boxed};
 use crate::front::Front;
@@ -25,15 +25,14 @@ pub fn message_size(array: &ArrayRef<Global>) -> VortexResult<usize>
 }
 
 /// Puts the message of a column to the front of `room`, and answers how many bytes it has. Takes no memory. Refused as
-/// `message_size` is, and else exactly where it has no room there as `ColumnLength`, with that number and the room:
-/// `room` is as it was then.
+/// `message_size` is, and else exactly where it has no room there as `ColumnLength`, with that number and the room.
+/// Where it is refused, `room` is as it was.
 #[tactic(auto, using(crate::proofs::MessageEndings::no_room))]
 pub fn put_message(array: &ArrayRef<Global>, room: &mut [u8]) -> VortexResult<usize>
     ensures put { IfOk result (λ size. IsMessageAtFront (column_of array.now) size room.new) }
-    ensures refused { IfErr result (λ error.
-        MessageFault (length room.old) array.now error ⊎ IsCutOff (column_of array.now) (length room.old) error) }
+    ensures refused { IfErr result (λ error. MessageFault (length room.old) array.now error) }
     ensures served { OnOk result ((error : VortexError) → ¬ (MessageFault (length room.old) array.now error)) }
-    ensures kept { IfErr result (λ error. error ≢ VortexError.OutOfMemory → room.new ≡ room.old) }
+    ensures kept { OnErr result (room.new ≡ room.old) }
     ensures len { length room.new ≡ length room.old }
 {
     let size = message_size(array)?;

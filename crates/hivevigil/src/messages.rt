@@ -33,7 +33,7 @@ pub extern "C" fn hv_write_size(
 
 /// Writes the message of a column: its bytes go to the front of `bytes`, and `size` says how many they are. Takes no
 /// memory. Refused as `hv_write_size` is; else answers 11, with their number and the room, exactly where they have no
-/// room there: `bytes` is as it was then.
+/// room there. Where it is refused, `bytes` is as it was.
 #[tactic(auto, using(c_columns::proofs::MessageEndings::write_empty, c_columns::proofs::MessageEndings::write_done, c_columns::proofs::MessageEndings::write_refused))]
 #[unsafe(no_mangle)]
 pub extern "C" fn hv_write(
@@ -46,7 +46,7 @@ pub extern "C" fn hv_write(
     ensures same { column.new.column ≡ column.old.column }
     ensures told { result ≡ pos 0
         → IsSomeAnd column.old.column (λ c. IsMessageAtFront (column_of c) size.new bytes.new) }
-    ensures kept { result ≢ pos 0 → result ≢ pos 21 → bytes.new ≡ bytes.old }
+    ensures kept { result ≢ pos 0 → bytes.new ≡ bytes.old }
     ensures ended { EndsOnWrite (length bytes.old) column.old.column result error.new }
 {
     let Some(array) = column.take(alloc) else {

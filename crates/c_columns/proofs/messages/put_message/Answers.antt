@@ -1,10 +1,9 @@
-use Rattle.std.proofs.Common.{Err, ◌≡◌, ◌∷◌, ◌∙◌, ap, arith, length, rules}
-use Rattle.std.proofs.lemmas.Result.{err_from_is_err_and}
+use Rattle.std.proofs.Common.{Err, ◌≡◌, ◌-◌, ◌∷◌, ◌∙◌, ap, arith, length, rules}
 use Rattle.column_bytes.specs.Bytes.{column_bytes}
 use Rattle.runend_array.specs.Array.{column_of}
 use Rattle.c_columns.specs.Front.{front_written}
 use Rattle.c_columns.proofs.Fronts.{at_front, same_bytes}
-use Rattle.c_columns.proofs.MessageEndings.{cut_off, put_served}
+use Rattle.c_columns.proofs.MessageEndings.{never_cut, put_served}
 use Rattle.c_columns.proofs.messages.put_message.Goals as goal
 
 pub returns-clause-put : goal.returns-clause-put
@@ -23,6 +22,12 @@ returns-clause-served c = put_served c.args.array.now (length c.args.room.now) c
 
 pub returns-in_err-put_message-clause-refused : goal.returns-in_err-put_message-clause-refused
 returns-in_err-put_message-clause-refused c =
-    let p = err_from_is_err_and c.from_residual-in_err-put_message.result c.from_residual-in_err-put_message.ensures.1 in
     let e = c.in_err-put_message.ensures in
-    rw (p.1, p.2) (cut_off c.args.array.now (length c.args.room.now) c.in_ok-size.size _ c.in_ok-size.ensures.told (omega arith) e.only (λ h. e.refused (ap Err h)))
+    let bytes : length c.new-front.result.room.now ≡ length c.args.room.now = ap length c.new-front.ensures.room in
+    absurd (never_cut c.args.array.now (length c.new-front.result.room.now - c.new-front.result.count) c.in_ok-size.size _ (omega arith) c.in_ok-size.ensures.told (omega (arith, bytes, c.new-front.ensures.count)) e.only (λ h. e.refused (ap Err h)) e.room)
+
+pub returns-in_err-put_message-clause-kept : goal.returns-in_err-put_message-clause-kept
+returns-in_err-put_message-clause-kept c =
+    let e = c.in_err-put_message.ensures in
+    let bytes : length c.new-front.result.room.now ≡ length c.args.room.now = ap length c.new-front.ensures.room in
+    absurd (never_cut c.args.array.now (length c.new-front.result.room.now - c.new-front.result.count) c.in_ok-size.size _ (omega arith) c.in_ok-size.ensures.told (omega (arith, bytes, c.new-front.ensures.count)) e.only (λ h. e.refused (ap Err h)) e.room)
