@@ -272,6 +272,16 @@ HV_ANSWER hv_compare_scalar(const hv_session *session, const hv_column *column, 
 HV_ANSWER hv_fill(const hv_session *session, const hv_column *column, const hv_value *value, const uint8_t *text,
                   size_t text_len, hv_column *out, hv_error *error);
 
+/* what is answered of the values in each group: their sum, in i64 or u64; the number of rows, or of values that are not
+ * null, in u64; the least, greatest, first or last value that is not null, of the values' type */
+enum { HV_FOLD_SUM, HV_FOLD_ROWS, HV_FOLD_COUNT, HV_FOLD_LEAST, HV_FOLD_GREATEST, HV_FOLD_FIRST, HV_FOLD_LAST };
+/* The rows of `values` are grouped by runs of equal neighbouring rows of `keys`, null equal to null: the key of each
+ * group, and what is answered of it, null where it has no value that is not null (a count: 0), both flat, and the
+ * answers of a type that has null. 13 where keys are lists or values are not integers, then 11 (keys, values) for
+ * another number of rows, then 14 (group, from 0) for the first sum that does not fit 64 bits; 23 for no fold. */
+HV_ANSWER hv_fold_by(const hv_column *keys, const hv_column *values, uint8_t fold, hv_column *out_keys,
+                     hv_column *out_answers, hv_error *error);
+
 /* ---- Questions ----
  * Refused exactly as is said here, with these fields, or, but for hv_at, as 21: never so over a flat column, nor, where
  * the question's kernel is registered, over runs or a constant, but for hv_extreme and hv_min_max of texts or bytes. */

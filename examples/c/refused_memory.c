@@ -320,6 +320,17 @@ static int32_t finished(const built_rows *it) {
 static int32_t finish_numbers(void) { return finished(&of_numbers); }
 static int32_t finish_texts(void) { return finished(&of_texts); }
 
+/* A call that makes two columns makes neither where it is refused memory. */
+static int32_t summed(const hv_column *keys) {
+    hv_column sums = HV_EMPTY;
+    const int32_t answer = hv_fold_by(keys, &flat, HV_FOLD_SUM, &out, &sums, &error);
+    CHECK((answer != 0) == (hv_form(&sums) == HV_FORM_NONE));
+    hv_free(&sums);
+    return answer;
+}
+static int32_t sum_by_runs(void) { return summed(&runs); }
+static int32_t sum_by_texts(void) { return summed(&texts); }
+
 /* what is exported and imported again, as one step */
 static int32_t export_and_import(void) {
     int32_t answer = hv_arrow_export(&session, &part, "runs", &schema, &array, &error);
@@ -343,8 +354,9 @@ static const step steps[] = {
     NAMED(compact_runs), NAMED(compact_texts),
     NAMED(slice_runs), NAMED(slice_texts), NAMED(cast), NAMED(take), NAMED(take_texts), NAMED(filter),
     NAMED(filter_texts), NAMED(filter_by_runs), NAMED(take_by_runs), NAMED(take_from), NAMED(compare), NAMED(compare_scalar), NAMED(compare_text), NAMED(fill),
-    NAMED(fill_text), NAMED(cast_constant), NAMED(compare_constants), NAMED(compare_constant), NAMED(fill_constant),
-    NAMED(filter_constant), NAMED(sum), NAMED(is_constant), NAMED(is_sorted), NAMED(extreme), NAMED(extreme_text),
+    NAMED(fill_text), NAMED(sum_by_runs), NAMED(sum_by_texts), NAMED(cast_constant), NAMED(compare_constants),
+    NAMED(compare_constant), NAMED(fill_constant), NAMED(filter_constant), NAMED(sum), NAMED(is_constant),
+    NAMED(is_sorted), NAMED(extreme), NAMED(extreme_text),
     NAMED(min_max_numbers),
     NAMED(min_max), NAMED(at), NAMED(read_i64), NAMED(read_decimals), NAMED(read_bools), NAMED(read_validity), NAMED(read_no_nulls),
     NAMED(read_offsets), NAMED(read_large_offsets), NAMED(read_bytes), NAMED(window_numbers),

@@ -77,6 +77,9 @@ CALLS: dict[str, tuple[list[Any], Any]] = {
     "hv_fill": ([
         POINTER(Session), POINTER(Handle), POINTER(Value), c_char_p, c_size_t, POINTER(Handle), POINTER(Fields),
     ], c_int32),
+    "hv_fold_by": ([
+        POINTER(Handle), POINTER(Handle), c_uint8, POINTER(Handle), POINTER(Handle), POINTER(Fields),
+    ], c_int32),
     "hv_sum": ([POINTER(Session), POINTER(Handle), POINTER(Total), POINTER(Fields)], c_int32),
     "hv_is_constant": ([POINTER(Session), POINTER(Handle), POINTER(c_uint8), POINTER(Fields)], c_int32),
     "hv_is_sorted": ([POINTER(Session), POINTER(Handle), c_uint8, POINTER(c_uint8), POINTER(Fields)], c_int32),

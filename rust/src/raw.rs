@@ -280,6 +280,14 @@ extern "C" {
         out: *mut Handle,
         error: *mut Fields,
     ) -> i32;
+    pub fn hv_fold_by(
+        keys: *mut Handle,
+        values: *mut Handle,
+        fold: u8,
+        out_keys: *mut Handle,
+        out_answers: *mut Handle,
+        error: *mut Fields,
+    ) -> i32;
     pub fn hv_sum(
         settings: *const Session,
         column: *mut Handle,

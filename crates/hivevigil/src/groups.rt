@@ -1,0 +1,33 @@
+//! The call that groups the rows of one column by runs of equal rows of another.
+ghost use Rattle.std.specs.Prelude.{◌≡◌, ◌≢◌, IsSomeAnd, MatchOption, pos};
+ghost use Rattle.c_groups.specs.Grouped.{fold_numbered, AreMade, EndsOnGroups};
+
+use c_columns::error_fields::ErrorFields;
+use c_columns::handle::Handle;
+use c_groups::fold_handles;
+use std::alloc::Global;
+
+/// Makes the keys of the groups of rows with equal neighbouring keys, and what the fold of this number answers of the
+/// values in each, both flat. Refused as `Unsupported` where keys are lists or values are not integers, then as
+/// `ColumnLength`; with 14 and the group for a sum that does not fit 64 bits. Returns 23 for a number of no fold.
+#[unsafe(no_mangle)]
+pub extern "C" fn hv_fold_by(
+    alloc: Global,
+    keys: &mut Handle,
+    values: &mut Handle,
+    fold: u8,
+    out_keys: &mut Handle,
+    out_answers: &mut Handle,
+    error: &mut ErrorFields,
+) -> i32
+    ensures same { keys.new.column ≡ keys.old.column }
+    ensures same_values { values.new.column ≡ values.old.column }
+    ensures made { result ≡ pos 0 → IsSomeAnd (fold_numbered fold)
+        (λ fold. AreMade fold keys.old.column values.old.column out_keys.new.column out_answers.new.column) }
+    ensures kept { result ≢ pos 0 → out_keys.new.column ≡ out_keys.old.column }
+    ensures kept_answers { result ≢ pos 0 → out_answers.new.column ≡ out_answers.old.column }
+    ensures ended { MatchOption (fold_numbered fold) (result ≡ pos 23)
+        (λ fold. EndsOnGroups fold keys.old.column values.old.column result error.new) }
+{
+    fold_handles(alloc, keys, values, fold, out_keys, out_answers, error)
+}
