@@ -215,6 +215,24 @@ public:
             detail::words_of_value(row, kind()));
     }
 
+    // ---- Two columns ----
+
+    // The key of each group of equal neighbouring rows of this column, null equal to null, and what is answered of the
+    // values in these rows. Refused as HV_CAST_OUT_OF_RANGE where a sum does not fit 64 bits; the first field is its
+    // group, counted from 0.
+    std::pair<Column, Column> fold_by(const Column &values, Fold fold) const {
+        if (&values == this) return clone().fold_by(values, fold);
+        std::pair<Column, Column> made;
+        hv_error fields{};
+        const int32_t answer = hv_fold_by(&handle, &values.handle, static_cast<uint8_t>(fold), &made.first.handle,
+                                          &made.second.handle, &fields);
+        if (answer == HV_CAST_OUT_OF_RANGE) throw Error(answer, fields, detail::words_of_group(values.kind(), fields));
+        if (answer) throw Error(answer, fields);
+        return made;
+    }
+    // The sum of the values in each group, null where all of them are null.
+    std::pair<Column, Column> sum_by(const Column &values) const { return fold_by(values, Fold::sum); }
+
     // ---- Questions ----
 
     // Is there a column? Not of one that was moved away.

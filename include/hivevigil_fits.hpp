@@ -155,6 +155,12 @@ inline auto words_of_type(hv_kind kind, const char *after) {
     return [=](int32_t answer) { return answer == HV_UNSUPPORTED ? to_string(kind) + after : std::string(); };
 }
 
+// A group whose sum does not fit the type of sums of these values.
+inline std::string words_of_group(hv_kind values, const hv_error &fields) {
+    const char *const type = values.number < HV_I8 ? "u64" : "i64";
+    return "integer overflow: the sum of group " + std::to_string(fields.first) + " does not fit " + type;
+}
+
 inline auto words_of_read(hv_kind kind, hv_kind asked) {
     return [=](int32_t answer) -> std::string {
         if (answer != HV_TYPE_MISMATCH && answer != HV_UNSUPPORTED) return "";

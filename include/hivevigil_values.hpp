@@ -81,6 +81,17 @@ enum class Operator : uint8_t {
     less_or_equal = HV_LE
 };
 
+// What is answered of the values in a group, as hivevigil.h has it.
+enum class Fold : uint8_t {
+    sum = HV_FOLD_SUM,
+    rows = HV_FOLD_ROWS,
+    count = HV_FOLD_COUNT,
+    least = HV_FOLD_LEAST,
+    greatest = HV_FOLD_GREATEST,
+    first = HV_FOLD_FIRST,
+    last = HV_FOLD_LAST
+};
+
 // Rows start to stop - 1 of a column, which are stored once.
 struct Run {
     size_t start, stop;

@@ -67,13 +67,18 @@ impl Column {
     pub(crate) fn made(
         call: impl FnOnce(*mut Handle, *mut Fields) -> i32,
     ) -> Result<Column, Error> {
-        let column = Column {
+        let column = Column::none();
+        ask(|fields| call(column.handle.get(), fields))?;
+        Ok(column)
+    }
+
+    /// Holds no column yet, for a call to put one in.
+    pub(crate) fn none() -> Column {
+        Column {
             handle: UnsafeCell::new(Handle {
                 at: ptr::null_mut(),
             }),
-        };
-        ask(|fields| call(column.handle.get(), fields))?;
-        Ok(column)
+        }
     }
 
     /// Calls with this column.

@@ -62,6 +62,8 @@ enum Detail {
     NotCompared(Kind, &'static str),
     /// The sum leaves the range of a type with this row.
     Overflow(usize, Kind),
+    /// The sum of this group does not fit a type.
+    GroupOverflow(u64, Kind),
 }
 
 #[derive(Clone, Copy)]
@@ -213,6 +215,14 @@ impl Error {
         Error::new(ErrorKind::CastOutOfRange as i32, fields).with(Detail::Overflow(row, kind))
     }
 
+    /// Names the group whose sum does not fit, where that is what was refused.
+    pub(crate) fn of_group(self, kind: Kind) -> Error {
+        if self.kind() == Some(ErrorKind::CastOutOfRange) {
+            return self.with(Detail::GroupOverflow(self.fields.first, kind));
+        }
+        self
+    }
+
     /// Names the row of the value.
     pub(crate) fn at_row(self, at: usize) -> Error {
         let row = Some(at);
@@ -313,6 +323,10 @@ impl fmt::Display for Error {
             Detail::Overflow(row, kind) => write!(
                 formatter,
                 "integer overflow: with row {row} the sum leaves the range of {kind}"
+            ),
+            Detail::GroupOverflow(group, kind) => write!(
+                formatter,
+                "integer overflow: the sum of group {group} does not fit {kind}"
             ),
         }
     }

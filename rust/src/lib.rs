@@ -24,6 +24,7 @@ mod convert;
 mod decimal;
 mod error;
 mod fits;
+mod groups;
 mod iterate;
 mod kind;
 mod native;
@@ -41,7 +42,7 @@ pub use error::{Error, ErrorKind, Fields};
 pub use iterate::{Rows, Run, Runs};
 pub use kind::{Form, Kind};
 pub use native::Native;
-pub use value::{Operator, Sum, Value};
+pub use value::{Fold, Operator, Sum, Value};
 
 /// Which kernels are registered, and the numbers by which they choose: form and cost, never an answer.
 #[repr(C)]

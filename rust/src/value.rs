@@ -64,6 +64,27 @@ pub enum Operator {
     LessOrEqual = 5,
 }
 
+/// Names what is answered of the values in a group, by the numbers of `hivevigil.h`. Each but `Rows` looks only at the
+/// values that are not null.
+#[derive(Clone, Copy, Debug, PartialEq, Eq)]
+#[repr(u8)]
+pub enum Fold {
+    /// Their sum, in `i64` for signed values and in `u64` for unsigned ones.
+    Sum = 0,
+    /// The number of rows, in `u64`: null counts.
+    Rows = 1,
+    /// The number of values, in `u64`.
+    Count = 2,
+    /// The least of them.
+    Least = 3,
+    /// The greatest of them.
+    Greatest = 4,
+    /// The first of them.
+    First = 5,
+    /// The last of them.
+    Last = 6,
+}
+
 impl Value {
     /// Takes what a call showed of a column, with the room that it was given for a text.
     pub(crate) fn of(raw: RawValue, mut text: Vec<u8>, column: &Column) -> Value {
