@@ -1,6 +1,6 @@
 #!/usr/bin/env python3
-"""Errors, types, operators and forms stand once, in include/hivevigil.h, and the version in VERSION: looks that each
-language has the same.
+"""Errors, types, operators, folds and forms are listed once, in include/hivevigil.h, and the version in VERSION: looks
+that each language has the same.
 
     python3 tools/lists.py      names what differs; ends in the count of what agrees
 
@@ -76,6 +76,8 @@ class Lists:
         self.operators = enum_with(enums, "EQ")
         forms = enum_with(enums, "FORM_RUNS")
         self.forms = {name.removeprefix("FORM_"): number for name, number in forms.items()}
+        folds = enum_with(enums, "FOLD_SUM")
+        self.folds = {name.removeprefix("FOLD_"): number for name, number in folds.items()}
         self.agreed, self.faults = 0, []
 
     def same(self, what: str, found: object, expected: object) -> None:
@@ -90,7 +92,8 @@ class Lists:
     def check_cpp(self) -> None:
         """C++ names the header's constants: each of its enums has all of them."""
         code = text_of("include/hivevigil_values.hpp")
-        for what, prefix, numbers in (("Form", "HV_FORM_", self.forms), ("Operator", "HV_", self.operators)):
+        lists = ("Form", "HV_FORM_", self.forms), ("Operator", "HV_", self.operators), ("Fold", "HV_FOLD_", self.folds)
+        for what, prefix, numbers in lists:
             body = re.search(rf"enum class {what} : uint8_t \{{(.*?)\}}", code, re.S)
             found = re.findall(rf"= {prefix}(\w+)", body[1] if body else "")
             self.same(f"{what} of hivevigil_values.hpp", found, list(numbers))
@@ -119,6 +122,8 @@ class Lists:
         self.same("Form of Rust", rust_enum("rust/src/kind.rs", "Form"), forms)
         operators = {WORDS[name]: number for name, number in self.operators.items()}
         self.same("Operator of Rust", rust_enum("rust/src/value.rs", "Operator"), operators)
+        folds = {camel(name): number for name, number in self.folds.items()}
+        self.same("Fold of Rust", rust_enum("rust/src/value.rs", "Fold"), folds)
 
     def check_page(self) -> None:
         """docs/ERRORS.md has the errors that Rattle has too, which end with want of memory."""
@@ -143,6 +148,7 @@ class Lists:
         self.same("exceptions of Python", classes, expected)
         self.same("types of Python", list(package.TYPES), [name.lower() for name in self.types])
         self.same("operators of Python", list(package.OPERATORS), [SIGNS[name] for name in self.operators])
+        self.same("folds of Python", list(package.groups.FOLDS), [name.lower() for name in self.folds])
         forms = {number: name.lower() for name, number in without(self.forms, "NONE").items()}
         self.same("forms of Python", dict(package.FORMS), forms)
 

@@ -15,6 +15,7 @@ from ._runs import Run
 from ._types import FORMS, LETTERS, SIGNED, TYPES, kind_of, text_of
 from ._values import Scalar, is_missing, passed, row_of, size_of, whole
 from .errors import NoColumn, Unsupported, in_words
+from .groups import Groups
 
 
 class Column(_comparing.Comparisons):
@@ -320,6 +321,11 @@ class Column(_comparing.Comparisons):
         """The sum of the rows that are not null, 0 where there is none. OverflowError where it leaves 64 bits on the
         way from row to row, which names the row."""
         return _questions.total(self)
+
+    def group_by(self, keys: Any) -> Groups:
+        """The rows of this column by runs of equal neighbouring rows of another, a column or what `Column.of` takes:
+        `values.group_by(keys).sum()` is the keys of the groups and their sums."""
+        return Groups(keys if isinstance(keys, Column) else self.of(keys), self._there())
 
     def is_constant(self) -> bool:
         """Whether all rows are equal, null equal to null."""

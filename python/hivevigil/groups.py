@@ -1,0 +1,69 @@
+"""The rows of a column, grouped by runs of equal neighbouring rows of another: `values.group_by(keys)`."""
+from __future__ import annotations
+
+from typing import TYPE_CHECKING
+
+from ._library import Handle, ask, calls
+from ._types import TYPES
+from .errors import CastOutOfRange
+
+if TYPE_CHECKING:
+    from .column import Column
+
+FOLDS = ("sum", "rows", "count", "least", "greatest", "first", "last")  # as hivevigil.h numbers them
+
+
+class Groups:
+    """The groups of a column of integers by keys of any type but lists. As with itertools.groupby, each run of equal
+    neighbouring keys is a group, null equal to null: keys that are sorted come once each.
+
+    Each method returns two flat columns: the key of each group, and its answer, which is null where no value of the
+    group is valid (a count is 0). `size()` counts rows; all others look only at the values that are not null.
+    """
+
+    __slots__ = ("_keys", "_values")
+    _keys: Column
+    _values: Column
+
+    def __init__(self, keys: Column, values: Column) -> None:
+        self._keys, self._values = keys, values
+
+    def sum(self) -> tuple[Column, Column]:
+        """The sum of each group, 'i64?' or 'u64?'. OverflowError, with the group counted from 0 in its first field,
+        where one does not fit 64 bits."""
+        try:
+            return self._folded("sum")
+        except CastOutOfRange as large:
+            name = "u64" if TYPES[self._values._kind.number][0] == "u" else "i64"
+            raise large.saying(f"sum: group {large.fields[0]} does not fit {name}") from None
+
+    def size(self) -> tuple[Column, Column]:
+        """The number of rows of each group, null or not, 'u64?'."""
+        return self._folded("rows")
+
+    def count(self) -> tuple[Column, Column]:
+        """The number of values of each group that are not null, 'u64?'."""
+        return self._folded("count")
+
+    def min(self) -> tuple[Column, Column]:
+        """The least value of each group."""
+        return self._folded("least")
+
+    def max(self) -> tuple[Column, Column]:
+        """The greatest value of each group."""
+        return self._folded("greatest")
+
+    def first(self) -> tuple[Column, Column]:
+        """The first value of each group that is not null."""
+        return self._folded("first")
+
+    def last(self) -> tuple[Column, Column]:
+        """The last value of each group that is not null."""
+        return self._folded("last")
+
+    def _folded(self, fold: str) -> tuple[Column, Column]:
+        kind = type(self._values)
+        keys, answers = kind._owning(Handle()), kind._owning(Handle())
+        values, number = self._keys._beside(self._values), FOLDS.index(fold)
+        ask(calls.hv_fold_by, self._keys, values, number, keys._handle, answers._handle)
+        return keys, answers
