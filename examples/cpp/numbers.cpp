@@ -249,12 +249,43 @@ static void check_same() {
     CHECK(lists != Column::lists(texts, {1, 2}, {2, 1}, &valid) && lists != Column::lists(texts, {0, 2}, {1, 1}, &valid));
 }
 
+// ---- Groups ----
+
+// The groups of six rows by their keys: their keys, and what each fold answers of them.
+static void check_groups() {
+    using Rows = std::vector<std::optional<int16_t>>;
+    const Column keys = Column::of(std::vector<std::optional<uint8_t>>{4, 4, std::nullopt, std::nullopt, 4, 7});
+    const Column values = Column::of(Rows{3, -9, std::nullopt, std::nullopt, std::nullopt, 300}).encode();
+    const std::vector<Value> of_keys{uint64_t{4}, Null(), uint64_t{4}, uint64_t{7}};
+    const auto are = [&](hv::Fold fold, const std::vector<Value> &due, hv_kind kind) {
+        const auto [groups, answers] = keys.fold_by(values, fold);
+        return rows_of(groups) == of_keys && rows_of(answers) == due && answers.kind().number == kind.number &&
+               answers.kind().nullable && answers.form() == hv::Form::flat;
+    };
+    const Value null = Null(), last = int64_t{300};
+    CHECK(are(hv::Fold::sum, {int64_t{-6}, null, null, last}, hv::kinds::i64));
+    CHECK(are(hv::Fold::rows, {uint64_t{2}, uint64_t{2}, uint64_t{1}, uint64_t{1}}, hv::kinds::u64));
+    CHECK(are(hv::Fold::count, {uint64_t{2}, uint64_t{0}, uint64_t{0}, uint64_t{1}}, hv::kinds::u64));
+    CHECK(are(hv::Fold::least, {int64_t{-9}, null, null, last}, hv::kinds::i16));
+    CHECK(are(hv::Fold::greatest, {int64_t{3}, null, null, last}, hv::kinds::i16));
+    CHECK(are(hv::Fold::first, {int64_t{3}, null, null, last}, hv::kinds::i16));
+    CHECK(are(hv::Fold::last, {int64_t{-9}, null, null, last}, hv::kinds::i16));
+    CHECK(rows_of(values.fold_by(values, hv::Fold::rows).first).size() == 4);
+
+    const Column of_two = Column::of({1, 2, 2}), large = Column::of(std::vector<int64_t>{1, INT64_MAX, 1});
+    check_refused(HV_CAST_OUT_OF_RANGE, "integer overflow: the sum of group 1 does not fit i64",
+                  [&] { of_two.sum_by(large); });
+    check_refused(HV_COLUMN_LENGTH, "a length of 6 next to one of 3", [&] { keys.sum_by(large); });
+    CHECK(rows_of(of_two.fold_by(large, hv::Fold::greatest).second)[1] == Value(INT64_MAX));
+}
+
 int main() {
     check_same();
     check_types();
     check_decimals();
     check_comparisons();
     check_sums();
+    check_groups();
     check_rows_in_words();
     check_values_in_words();
     std::cout << "numbers of every type are read, shown, compared and refused by their values\n";

@@ -6,6 +6,7 @@
  *     hv_rows(c)  hv_count(c)  hv_sum(c)  hv_min(c)  hv_max(c)  hv_at(c, row)
  *     hv_filter(c, '>', 5)  hv_slice(c, start, stop)            a blob of some of the rows
  *     SELECT start, stop, value FROM hv_runs(c)                 a row for each run
+ *     SELECT key, sum FROM hv_groups(keys, values)              a row for each run of equal keys
  *
  * A column holds integers, texts or blobs of one kind, and NULL. A refusal is an SQL error in a sentence. */
 #include <sqlite3ext.h>
@@ -406,5 +407,6 @@ int sqlite3_hivevigilsqlite_init(sqlite3 *db, char **error, const sqlite3_api_ro
     for (size_t i = 0; !answer && i < sizeof functions / sizeof *functions; i++)
         answer = sqlite3_create_function(db, functions[i].name, functions[i].arguments, flags, (void *)&functions[i],
                                          ask, NULL, NULL);
-    return answer ? answer : register_runs_table(db);
+    if (!answer) answer = register_runs_table(db);
+    return answer ? answer : register_groups_table(db);
 }

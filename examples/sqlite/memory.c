@@ -58,6 +58,7 @@ int main(void) {
         "SELECT length(hv_filter(w, '<', 'a text of number 4')) FROM p",
         "SELECT length(hv_slice(c, 3, 20)) FROM p",
         "SELECT length(hv_slice(c, 3, 4)) FROM p",
+        "SELECT sum(length(key) + sum + first + rows) FROM p, hv_groups(w, c)",
         "SELECT sum(stop * length(value)) FROM p, hv_runs(w)",
         "SELECT sum(hv_count(c)) FROM (SELECT hv_concat(x'0801100B180120022803620200006A00') AS c)",
         "SELECT hv_sum(hv_concat(x'080110011803200528013A0107'))",

@@ -20,7 +20,8 @@ bool column_of(const char *function, sqlite3_value *value, hv_column *out, char 
 
 void answer_value(sqlite3_context *context, const row_value *value);
 
-/* The table-valued function hv_runs. */
+/* The table-valued functions hv_runs and hv_groups. */
 int register_runs_table(sqlite3 *db);
+int register_groups_table(sqlite3 *db);
 
 #endif

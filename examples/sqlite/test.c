@@ -238,6 +238,38 @@ static void same(const char *runs, const char *rows) {
     check_text(ask(runs), wanted, runs, __FILE__, __LINE__);
 }
 
+/* Values by runs of equal keys: by hand, and next to SQLite's own answers over the same groups. */
+static void check_groups(void) {
+    ask("CREATE TABLE g(i INTEGER PRIMARY KEY, k, v)");
+    ask("INSERT INTO g(k, v) VALUES ('a', 3), ('a', 4), (NULL, NULL), (NULL, NULL), ('a', -5), "
+        "('long' || hex(zeroblob(99)), 7)");
+    ask("CREATE TABLE h AS SELECT hv_column(k) AS k, hv_column(v) AS v FROM (SELECT k, v FROM g ORDER BY i)");
+    CHECK_SQL("SELECT substr(key, 1, 5), rows, count, sum, min, max, first, last FROM h, hv_groups(k, v)",
+              "a|2|2|7|3|4|3|4 NULL|2|0|NULL|NULL|NULL|NULL|NULL a|1|1|-5|-5|-5|-5|-5 long0|1|1|7|7|7|7|7");
+    CHECK_SQL("SELECT length(key) FROM h, hv_groups(k, v)", "1 NULL 1 202");
+    CHECK_SQL("SELECT count(*), max(rows) FROM h, hv_groups(v, v)", "5|2");
+    CHECK_SQL("SELECT count(*) FROM h, hv_groups(k, NULL)", "0");
+    CHECK_SQL("SELECT * FROM h, hv_groups(k)", "error: hv_groups: two columns are asked for, hv_groups(keys, values)");
+    CHECK_SQL("SELECT sum FROM h, hv_groups(v, k)",
+              "error: hv_groups: only integers are grouped, and this is a column of texts");
+    CHECK_SQL("SELECT sum FROM h, hv_groups(k, hv_slice(v, 0, 2))", "error: hv_groups: a length of 6 next to one of 2");
+    CHECK_SQL("SELECT sum FROM hv_groups(x'01', x'01')", "error: hv_groups: the blob is not a column");
+    ask("CREATE TABLE l AS SELECT hv_column(k) AS k, hv_column(v) AS v FROM (SELECT 1 AS k, 5 AS v UNION ALL "
+        "SELECT 2, 9223372036854775807 UNION ALL SELECT 2, 1)");
+    CHECK_SQL("SELECT sum FROM l, hv_groups(k, v)", "error: hv_groups: integer overflow in group 1");
+    CHECK_SQL("SELECT key, max FROM l, hv_groups(k, v)", "1|5 2|9223372036854775807");
+
+    ask("CREATE TABLE gb AS WITH RECURSIVE n(i, s) AS (SELECT 0, 7 UNION ALL SELECT i + 1, (s * 1103515245 + 12345) & "
+        "2147483647 FROM n WHERE i < 1999) SELECT i, CASE WHEN s / 65536 % 4 THEN s / 65536 % 3 END AS k, "
+        "CASE WHEN s / 4096 % 5 THEN s / 1024 % 2001 - 1000 END AS v FROM n");
+    ask("CREATE TABLE bg AS SELECT i, k, v, i - row_number() OVER (PARTITION BY k ORDER BY i) AS island FROM gb");
+    same("SELECT key, rows, count, sum, min, max, first, last FROM hv_groups((SELECT hv_column(k) FROM (SELECT k FROM gb "
+         "ORDER BY i)), (SELECT hv_column(v) FROM (SELECT v FROM gb ORDER BY i)))",
+         "SELECT k, count(*), count(v), sum(v), min(v), max(v), (SELECT v FROM bg AS o WHERE o.k IS g.k AND o.island = "
+         "g.island AND v NOT NULL ORDER BY i LIMIT 1), (SELECT v FROM bg AS o WHERE o.k IS g.k AND o.island = g.island "
+         "AND v NOT NULL ORDER BY i DESC LIMIT 1) FROM bg AS g GROUP BY k, island ORDER BY min(i)");
+}
+
 /* More rows, and more bytes of texts, than wait for the library's builder at a time. */
 static void check_many(void) {
     ask("CREATE TABLE m AS WITH RECURSIVE n(i) AS (SELECT 0 UNION ALL SELECT i + 1 FROM n WHERE i < 4999) SELECT i, "
@@ -392,6 +424,7 @@ int main(int count, char **words) {
     check_many();
     check_others();
     check_constants();
+    check_groups();
     check_refusals();
     ask("CREATE TABLE r(v)");
     ask("CREATE TABLE k AS SELECT 0 AS first, 0 AS stop");
