@@ -62,7 +62,7 @@ enum Detail {
     NotCompared(Kind, &'static str),
     /// The sum leaves the range of a type with this row.
     Overflow(usize, Kind),
-    /// The sum of this group does not fit a type.
+    /// Says that the sum of this group does not fit its type.
     GroupOverflow(u64, Kind),
 }
 

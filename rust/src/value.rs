@@ -69,19 +69,19 @@ pub enum Operator {
 #[derive(Clone, Copy, Debug, PartialEq, Eq)]
 #[repr(u8)]
 pub enum Fold {
-    /// Their sum, in `i64` for signed values and in `u64` for unsigned ones.
+    /// Sums them, in `i64` for signed values and in `u64` for unsigned ones.
     Sum = 0,
-    /// The number of rows, in `u64`: null counts.
+    /// Counts the rows, in `u64`, null too.
     Rows = 1,
-    /// The number of values, in `u64`.
+    /// Counts the values, in `u64`.
     Count = 2,
-    /// The least of them.
+    /// Names the least of them.
     Least = 3,
-    /// The greatest of them.
+    /// Names the greatest of them.
     Greatest = 4,
-    /// The first of them.
+    /// Names the first of them.
     First = 5,
-    /// The last of them.
+    /// Names the last of them.
     Last = 6,
 }
 
