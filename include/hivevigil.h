@@ -1,38 +1,38 @@
 /* Run-end encoded columns for C, over libhivevigil.a. Each call is an exported function of the library, and in C and
- * C++ an inline function over it, which takes null where there is nothing. Where no arguments follow, as where its
- * address is taken, a name is that of the export (hivevigil_exports.h), and hv_u8 one of eight arguments; hv_call_u8 is
- * the inline function.
+ * C++ an inline function over it, which takes null where there is nothing. Where no arguments follow, for example where
+ * its address is taken, a name is the name of the export (hivevigil_exports.h), and hv_u8 has eight arguments;
+ * hv_call_u8 is the inline function.
  *
- * A column is a list of rows of one type, each a value or null. It may lie flat, as one constant, as lists, or as runs,
- * which store each stretch of equal rows once. Calls that ask about rows answer the same in whichever form.
+ * A column is a list of rows of one type, each a value or null. It may be flat, one constant, lists, or runs, which
+ * store each stretch of equal rows once. Calls that ask about rows answer the same in every form.
  *
- * ANSWERS. A call that can be refused answers an int32_t: 0 when it is done, else the number of an error (below). Then
- * every column is as it was, `out` too; under 1 to 21 `*error` has the fields of the error; what else a call writes may
- * hold anything. Under 0 `out` has the column that was made, and the one that it held before is freed. Nothing is
- * printed, nothing ends the process, and a refused malloc is answered 21.
+ * ANSWERS. A call that can be refused returns an int32_t: 0 when it is done, else the number of an error (below). After
+ * an error every column is as it was, `out` too; for 1 to 21 `*error` has the fields of the error; anything else that a
+ * call writes may hold any value. After 0 `out` has the column that was made, and the one that it held before is freed.
+ * Nothing is printed, nothing ends the process, and after a refused malloc the call returns 21.
  *
- * OWNERSHIP. A handle, hv_column, owns its column. A call that is lent columns leaves them as they are; what it makes
- * is a column of its own. What C passes (numbers, bits, bytes) is copied, and is C's own again when the call returns.
+ * OWNERSHIP. A handle, hv_column, owns its column. A call that is lent columns leaves them as they are; it makes a
+ * column of its own. What C passes (numbers, bits, bytes) is copied, and belongs to C again when the call returns.
  *
- * WHAT IS BEHIND IT. What a call leaves, what it answers, and the number and fields by which it is refused are proved
- * of the library, where callers do what they owe (next): crates/hivevigil/README.md, and docs/PROVED.md what is tested.
+ * WHAT IS PROVED. It is proved of the library what a call leaves, what it answers, and with which number and fields it
+ * is refused, where callers do what they owe (below): crates/hivevigil/README.md. docs/PROVED.md says what is tested.
  *
- * WHAT MAY BE NULL: a pointer to no items, where the length beside it is 0; `error`, where nobody asks for the fields;
+ * WHAT MAY BE NULL: a pointer to no items, where its length is 0; `error`, where the caller does not need the fields;
  * the handle that hv_free or hv_builder_free is given, which then does nothing. A pointer to items, to bits of validity
- * or to room for either that is null beside a length above 0 is refused as 11 (length, 0), before all else.
+ * or to room for either that is null with a length above 0 is refused as 11 (length, 0), before any other refusal.
  *
  * WHAT A CALLER OWES:
- *  - a handle starts as HV_EMPTY, is written by this library alone, and hv_free empties it; a copy of the struct is no
+ *  - a handle starts as HV_EMPTY, only this library writes it, and hv_free empties it; a copy of the struct is not a
  *    second handle (to move one, copy it and set the old one to HV_EMPTY), and `at` is never followed;
  *  - any other pointer is not null, and each is valid for what it points to, and aligned for its type; a length times
  *    the width of an item is below 2^63;
- *  - what a call writes, and each handle that it is given, overlaps no other argument: to compare a column with
- *    itself lend hv_clone's result. A handle that is lent (const hv_column *) is the same when the call returns, but
- *    is written while it runs: it is no object that is defined const;
- *  - input is initialised; what a call only writes may hold any bytes before, but for `out`, which is a handle;
+ *  - what a call writes, and each handle that it is given, overlaps no other argument: to compare a column with itself
+ *    lend hv_clone's result. A handle that is lent (const hv_column *) is the same when the call returns, but is
+ *    written while it runs: it is not an object that is defined const;
+ *  - input is initialised; what a call only writes may hold any bytes before, except for `out`, which is a handle;
  *  - one call at a time on each column, also where it only reads. Any thread may make it: columns that were made one
- *    from the other share buffers, whose owners are counted by atomics, and threads may use them at once (tested). Of
- *    lists, and of runs over lists, this does not hold: those made one from the other are used by one thread at a time,
+ *    from the other share buffers, whose owners are counted by atomics, and threads may use them at once (tested). This
+ *    does not hold for lists and for runs over lists: those made one from the other are used by one thread at a time,
  *    also where one is freed;
  *  - malloc, realloc and free are one allocator, aligned to 16 bytes; no call comes from a signal handler, or from the
  *    forked child of a process with threads.
@@ -49,7 +49,7 @@
 extern "C" {
 #endif
 
-/* Calls are inline functions; that of an answer which is not looked at is told by the compiler. */
+/* Calls are inline functions; the compiler warns where the answer of one is not used. */
 #define HV_CALL static inline
 #ifdef __GNUC__
 #define HV_ANSWER __attribute__((warn_unused_result)) static inline int32_t
@@ -57,9 +57,9 @@ extern "C" {
 #define HV_ANSWER static inline int32_t
 #endif
 
-/* The version of this header, and the number of its binary interface. hv_version answers the version of the library,
- * as major * 1000000 + minor * 1000 + patch, and hv_abi its interface: a program runs with a library of its own
- * HV_ABI, and finds there every call of a header that is no newer than the library. */
+/* The version of this header, and the number of its binary interface. hv_version returns the version of the library, as
+ * major * 1000000 + minor * 1000 + patch, and hv_abi its interface: a program runs with a library of its own HV_ABI,
+ * and finds there every call of a header that is no newer than the library. */
 #define HV_VERSION_MAJOR 0
 #define HV_VERSION_MINOR 1
 #define HV_VERSION_PATCH 0
@@ -74,7 +74,7 @@ typedef struct hv_column { void *at; } hv_column;
 typedef struct hv_builder { void *at; } hv_builder;
 #define HV_EMPTY {0}
 
-/* The fields of an error, in the order that the list below gives, and 0 for each that it does not have. */
+/* The fields of an error, in the order of the list below, and 0 for each that it does not have. */
 typedef struct hv_error { uint64_t first, second, third; } hv_error;
 
 enum {
@@ -101,37 +101,37 @@ enum {
     HV_BAD_METADATA = 17,
     HV_ENDS_TYPE_NUMBER = 18,       /* number */
     HV_RUN_COUNT = 19,              /* stated, found */
-    HV_ONLY_PRIMITIVE = 20,         /* integers alone are encoded */
+    HV_ONLY_PRIMITIVE = 20,         /* only integers are encoded */
     HV_OUT_OF_MEMORY = 21,
     HV_NO_COLUMN = 22,              /* a handle that is lent has no column; no fields */
-    HV_BAD_NUMBER = 23              /* a number that stands for no type, or for no operator; no fields */
+    HV_BAD_NUMBER = 23              /* a number that names no type, or no operator; no fields */
 };
 
-/* Types by number. precision and scale are of decimals. HV_LIST says nothing of the items, whose type is that of
- * hv_list_elements: lists are made by hv_lists and hv_read_column, and a call that is given this number refuses it. */
+/* Types by number. Only decimals have precision and scale. HV_LIST says nothing of the items, whose type is that of
+ * hv_list_elements: hv_lists and hv_read_column make lists, and a call that is given this number refuses it. */
 enum { HV_U8, HV_U16, HV_U32, HV_U64, HV_I8, HV_I16, HV_I32, HV_I64, HV_BOOL, HV_DECIMAL, HV_UTF8, HV_BINARY, HV_LIST };
 typedef struct hv_kind { uint8_t number, nullable, precision; int8_t scale; } hv_kind;
 
 /* A value. kind HV_NULL: null; HV_UNSIGNED: as_unsigned; HV_SIGNED: as_signed; HV_TRUTH: truth; HV_DECIMAL_VALUE:
- * as_signed * 2^64 + as_unsigned; HV_TEXT and HV_BYTES: as_unsigned bytes, which stand in a buffer beside it. A value
- * of an unsigned type is HV_UNSIGNED, one of a signed type HV_SIGNED. Where C passes a text, its bytes are those of
- * the buffer, and as_unsigned is not read. */
+ * as_signed * 2^64 + as_unsigned; HV_TEXT and HV_BYTES: as_unsigned bytes, which are in a separate buffer. A value of
+ * an unsigned type is HV_UNSIGNED, one of a signed type HV_SIGNED. Where C passes a text, its bytes are those of the
+ * buffer, and as_unsigned is not read. */
 enum { HV_NULL, HV_UNSIGNED, HV_SIGNED, HV_TRUTH, HV_DECIMAL_VALUE, HV_TEXT, HV_BYTES };
 typedef struct hv_value { uint64_t as_unsigned; int64_t as_signed; uint8_t kind, truth; } hv_value;
 
-/* A sum. kind HV_UNSIGNED: as_unsigned; HV_SIGNED: as_signed; HV_NULL: it left the range of 64 bits. empty: no row is
- * valid, and the sum is 0. */
+/* A sum. kind HV_UNSIGNED: as_unsigned; HV_SIGNED: as_signed; HV_NULL: the sum left the range of 64 bits. empty: no row
+ * is valid, and the sum is 0. */
 typedef struct hv_total { uint64_t as_unsigned; int64_t as_signed; uint8_t kind, empty; } hv_total;
 
 /* A number of 128 bits: high * 2^64 + low, as in the buffers of Arrow's decimal128 on little-endian machines. */
 typedef struct hv_pair { uint64_t low; int64_t high; } hv_pair;
 
-/* How a column lies, as hv_form answers it. */
+/* The form of a column, as hv_form returns it. */
 enum { HV_FORM_FLAT, HV_FORM_CONSTANT, HV_FORM_LISTS, HV_FORM_RUNS, HV_FORM_NONE = 255 };
 
 /* Which kernels are registered, a flag for each in this order, and the numbers by which they choose. A session decides
- * which form is left and at what cost, never an answer. {0} has no kernel; hv_session_initial sets all kernels and the
- * numbers of the crate that is ported. */
+ * which form is left and at what cost, and never changes an answer. {0} has no kernel; hv_session_initial sets all
+ * kernels and the numbers of the crate that is ported. */
 enum {
     HV_SLICE,
     HV_FILTER,
@@ -146,8 +146,8 @@ enum {
     HV_IS_CONSTANT,
     HV_IS_SORTED
 };
-/* `size` is sizeof(hv_session), or 0, which stands for the size of the first version, 80. A later header may have more
- * behind `kernels`, which counts where `size` says that it is there; what was compiled before runs as it did. */
+/* `size` is sizeof(hv_session), or 0, which means the size of the first version, 80. A later header may have more after
+ * `kernels`, which counts where `size` says that it is there; what was compiled before runs as it did. */
 typedef struct hv_session {
     size_t size;
     size_t prefill_runs, min_run_filter_rows, filter_factor, sorted_runs_per_index;
@@ -174,13 +174,13 @@ HV_CALL hv_validity hv_not_nullable(void) {
     hv_validity validity = {NULL, 0, 0, 0};
     return validity;
 }
-/* That of a type with null, of which no row is null. */
+/* The validity of a type with null where no row is null. */
 HV_CALL hv_validity hv_all_valid(void) {
     hv_validity validity = {NULL, 0, 0, 1};
     return validity;
 }
-/* That by bits: row i is null where bit `first + i` is 0, and bit k is bit k % 8 of byte k / 8, as in Arrow. A call is
- * refused as 11 (rows, bytes) where these are fewer bits than rows. */
+/* The validity by bits: row i is null where bit `first + i` is 0, and bit k is bit k % 8 of byte k / 8, as in Arrow. A
+ * call is refused as 11 (rows, bytes) where these are fewer bits than rows. */
 HV_CALL hv_validity hv_valid_bits(const uint8_t *bits, size_t bits_len, size_t first) {
     hv_validity validity = {bits, bits_len, first, 2};
     return validity;
@@ -197,7 +197,8 @@ HV_ANSWER hv_i64(const int64_t *items, size_t len, hv_validity validity, hv_colu
 /* `count` booleans, row i by bit `start + i` of `truths`; 11 (rows, bytes) where there are fewer bits */
 HV_ANSWER hv_bools(const uint8_t *truths, size_t truths_len, size_t start, size_t count, hv_validity validity,
                    hv_column *out, hv_error *error);
-/* Numbers of more digits than the precision says are taken as they are, also where Arrow brings them: no call looks. */
+/* Numbers of more digits than the precision says are taken as they are, also where they come from Arrow: no call
+ * checks. */
 HV_ANSWER hv_decimals(const hv_pair *pairs, size_t len, uint8_t precision, int8_t scale, hv_validity validity,
                       hv_column *out, hv_error *error);
 /* Row i is the bytes from offsets[i] to offsets[i + 1] - 1; there is one offset more than rows. 4 for offsets that
@@ -208,14 +209,14 @@ HV_ANSWER hv_texts(uint8_t binary, const int32_t *offsets, size_t offsets_len, c
 HV_ANSWER hv_large_texts(uint8_t binary, const int64_t *offsets, size_t offsets_len, const uint8_t *bytes,
                          size_t bytes_len, hv_validity validity, hv_column *out, hv_error *error);
 /* The value, of this type, in each of `count` rows, in memory for one: 15 for null in a type without null, 12 for a
- * value that is none of the type, or a text that is not UTF-8; 23 where kind names no type, or lists. */
+ * value that is not of the type, or a text that is not UTF-8; 23 where kind names no type, or lists. */
 HV_ANSWER hv_constant(const hv_kind *kind, const hv_value *value, const uint8_t *text, size_t text_len, size_t count,
                       hv_column *out, hv_error *error);
-/* The run column of these ends and one value for each, of which `count` rows from row `offset` on are shown. Ends are
- * a flat column of an unsigned type without null, each above the one before. The column is over clones of both. 13
- * where there would be more than 64 levels of runs one in the other, which is what every call serves, and no call makes
- * more (lists whose offsets, sizes or validity are in runs count as two); then the first fault of 1 to 7 in their
- * order, or 21. Where `count` is 0 neither 6 nor 7 comes: the offset may then be any. */
+/* The run column of these ends and one value for each; it shows `count` rows from row `offset` on. Ends are a flat
+ * column of an unsigned type without null, each above the one before. The column is over clones of both. 13 where there
+ * would be more than 64 nested levels of runs: every call serves 64, and no call makes more (lists whose offsets, sizes
+ * or validity are in runs count as two); then the first fault of 1 to 7 in their order, or 21. Where `count` is 0
+ * neither 6 nor 7 comes: any offset is allowed then. */
 HV_ANSWER hv_runs(const hv_column *ends, const hv_column *values, size_t offset, size_t count, hv_column *out,
                   hv_error *error);
 /* Lists: row i is the sizes[i] items of `elements` from item offsets[i] on, and lists may lie in any order and
@@ -226,25 +227,26 @@ HV_ANSWER hv_lists(const hv_column *elements, const uint64_t *offsets, size_t of
                    size_t sizes_len, hv_validity validity, hv_column *out, hv_error *error);
 /* The same column in the same form. What holds 32 items or more is shared and not copied. */
 HV_ANSWER hv_clone(const hv_column *column, hv_column *out, hv_error *error);
-/* The same column in the same form, in buffers that no other column shares but for the bytes of texts. A slice of a few
- * rows keeps the whole buffers that it is a part of; of its compact copy they may be freed. */
+/* The same column in the same form, in buffers that no other column shares, except for the bytes of texts. A slice of a
+ * few rows keeps the whole buffers that it is a part of; its compact copy lets them be freed. */
 HV_ANSWER hv_compact(const hv_column *column, hv_column *out, hv_error *error);
 
 /* ---- Commands: what they leave goes to `out` ----
  * Refused exactly as is said here, with these fields, or as 21. The session decides in which form rows are left. A run
- * column of integers that is left has as few runs as can be, from row 0 on; hv_slice keeps those that there are. A
+ * column of integers that is left has as few runs as possible, from row 0 on; hv_slice keeps the existing runs. A
  * constant stays one, whatever the session, under hv_slice and hv_filter, and, where it has a row, under hv_cast,
  * hv_fill, hv_compare_scalar, and hv_compare with another constant: no row is written. */
-/* as few runs as there can be, with ends of the least type, which may be u64 where all rows are null; 20 unless the
- * rows are integers. In runs and constants it looks only at the runs that the column shows. */
+/* as few runs as possible, with ends of the least type, which may be u64 where all rows are null; 20 unless the rows
+ * are integers. In runs and constants it looks only at the runs that the column shows. */
 HV_ANSWER hv_encode(const hv_session *session, const hv_column *column, hv_column *out, hv_error *error);
 /* the rows written out in a flat form */
 HV_ANSWER hv_decode(const hv_session *session, const hv_column *column, hv_column *out, hv_error *error);
 /* the rows from start to stop - 1; 9 (start, stop, length) where start is above stop, or stop above the length */
 HV_ANSWER hv_slice(const hv_session *session, const hv_column *column, size_t start, size_t stop, hv_column *out,
                    hv_error *error);
-/* each row as the same value of this type: 13 unless both types are of integers or of one kind that is no list; at the
- * first row that is no value of the type 15 for null and 14 for a number; 23 where kind names no type, or lists */
+/* each row as the same value of this type: 13 unless both types are of integers or of one kind that is not a list; at
+ * the first row that is not a value of the type 15 for null and 14 for a number; 23 where kind names no type, or
+ * lists */
 HV_ANSWER hv_cast(const hv_session *session, const hv_column *column, const hv_kind *kind, hv_column *out,
                   hv_error *error);
 /* the rows at the indices, integers in any form (else 12): null at a null index; 8 (index, length) */
@@ -263,7 +265,7 @@ HV_ANSWER hv_take_from(const hv_session *session, const hv_column *codes, const 
 enum { HV_EQ, HV_NE, HV_GT, HV_GE, HV_LT, HV_LE };
 HV_ANSWER hv_compare(const hv_session *session, const hv_column *column, uint8_t operator_, const hv_column *right,
                      hv_column *out, hv_error *error);
-/* the same against one value, of the column's type or null; 12 where it is none of that type, or a text that is not
+/* the same against one value, of the column's type or null; 12 where it is not of that type, or a text that is not
  * UTF-8 */
 HV_ANSWER hv_compare_scalar(const hv_session *session, const hv_column *column, uint8_t operator_,
                             const hv_value *value, const uint8_t *text, size_t text_len, hv_column *out,
@@ -283,13 +285,14 @@ HV_ANSWER hv_fold_by(const hv_column *keys, const hv_column *values, uint8_t fol
                      hv_column *out_answers, hv_error *error);
 
 /* ---- Questions ----
- * Refused exactly as is said here, with these fields, or, but for hv_at, as 21: never so over a flat column, nor, where
- * the question's kernel is registered, over runs or a constant, but for hv_extreme and hv_min_max of texts or bytes. */
+ * Refused exactly as is said here, with these fields, or, except for hv_at, as 21: never as 21 over a flat column, nor,
+ * where the question's kernel is registered, over runs or a constant, except for hv_extreme and hv_min_max of texts or
+ * bytes. */
 /* the sum of the rows that are not null; 13 unless they are integers */
 HV_ANSWER hv_sum(const hv_session *session, const hv_column *column, hv_total *total, hv_error *error);
-/* are all rows equal, null equal to null? 13 for lists */
+/* whether all rows are equal, null equal to null; 13 for lists */
 HV_ANSWER hv_is_constant(const hv_session *session, const hv_column *column, uint8_t *truth, hv_error *error);
-/* is no row above the next (strict: is each below it), null below all else? 13 for lists */
+/* whether no row is above the next (strict: whether each is below it), with null below all else; 13 for lists */
 HV_ANSWER hv_is_sorted(const hv_session *session, const hv_column *column, uint8_t strict, uint8_t *truth,
                        hv_error *error);
 /* the least (greatest: the greatest) row that is not null, HV_NULL where all are; 13 for lists, 11 as with hv_at */
@@ -303,25 +306,25 @@ HV_ANSWER hv_min_max(const hv_session *session, const hv_column *column, hv_valu
 /* row `row`, which takes no memory; 13 for lists, then 8 (row, length). A text goes to the front of `text`: 11 (bytes
  * of the text, text_len) where it has no room there. */
 HV_ANSWER hv_at(const hv_column *column, size_t row, hv_value *value, uint8_t *text, size_t text_len, hv_error *error);
-HV_CALL size_t hv_length(const hv_column *column);     /* rows; 0 of no column */
-HV_CALL hv_kind hv_kind_of(const hv_column *column);   /* the type; number 255 of no column */
-HV_CALL uint8_t hv_form(const hv_column *column);      /* HV_FORM_FLAT to HV_FORM_RUNS; HV_FORM_NONE of no column */
-HV_CALL size_t hv_offset(const hv_column *column);     /* of runs: how many rows lie before the window; else 0 */
+HV_CALL size_t hv_length(const hv_column *column);     /* rows; 0 without a column */
+HV_CALL hv_kind hv_kind_of(const hv_column *column);   /* the type; number 255 without a column */
+HV_CALL uint8_t hv_form(const hv_column *column);      /* HV_FORM_FLAT to HV_FORM_RUNS; HV_FORM_NONE without a column */
+HV_CALL size_t hv_offset(const hv_column *column);     /* for runs: how many rows lie before the window; else 0 */
 
-/* How many bytes the column takes for what it shows, in its form: numbers as wide as their type, decimals 16 each,
- * bits eight to a byte, of texts and bytes 24 for each row and what the rows show. Bits of validity count where there
- * are some. Runs take their ends and their values, a constant its value, lists an offset and a size of 8 each and all
- * elements. What columns share counts for each of them; 2^64 - 1 where there are more, 0 of no column. No memory is
- * taken. */
+/* How many bytes the column takes for what it shows, in its form: numbers as wide as their type, decimals 16 each, bits
+ * eight to a byte, texts and bytes 24 for each row and what the rows show. Bits of validity count where there are some.
+ * Runs take their ends and their values, a constant its value, lists an offset and a size of 8 each and all elements.
+ * What columns share counts for each of them; 2^64 - 1 where there are more, 0 without a column. The call takes no
+ * memory. */
 HV_CALL size_t hv_bytes_used(const hv_column *column);
 
 /* ---- Reading many rows ----
- * Of columns in any form. Of a flat column it takes no memory, and what is stored under null is read as it stands.
- * Rows in any other form are written flat first, these alone, which may be refused as 21; under null any number may
- * stand. Refused exactly as is said here, with these fields; 9 also where no row is asked for, from a row past the
+ * These calls read columns in any form. Reading a flat column takes no memory, and what is stored under null is read as
+ * it is. In any other form only these rows are written flat first, which may be refused as 21; under null there may be
+ * any number. Refused exactly as is said here, with these fields; 9 also where no row is asked for, from a row past the
  * end on, and its stop is 2^64 - 1 where no uint64_t has it. */
-/* as many integers as there is room for, from row `start` on: 13 unless the rows are integers, 12 where they are
- * of another type, 9 (start, stop, length) past the end; of decimals 13 unless they are decimals, 9 */
+/* as many integers as there is room for, from row `start` on: 13 unless the rows are integers, 12 where they are of
+ * another type, 9 (start, stop, length) past the end; for hv_read_decimals 13 unless the rows are decimals, then 9 */
 HV_ANSWER hv_read_u8(const hv_column *column, size_t start, uint8_t *items, size_t len, hv_error *error);
 HV_ANSWER hv_read_u16(const hv_column *column, size_t start, uint16_t *items, size_t len, hv_error *error);
 HV_ANSWER hv_read_u32(const hv_column *column, size_t start, uint32_t *items, size_t len, hv_error *error);
@@ -331,22 +334,22 @@ HV_ANSWER hv_read_i16(const hv_column *column, size_t start, int16_t *items, siz
 HV_ANSWER hv_read_i32(const hv_column *column, size_t start, int32_t *items, size_t len, hv_error *error);
 HV_ANSWER hv_read_i64(const hv_column *column, size_t start, int64_t *items, size_t len, hv_error *error);
 HV_ANSWER hv_read_decimals(const hv_column *column, size_t start, hv_pair *pairs, size_t len, hv_error *error);
-/* Bits, 64 to a word, all rows of the column, and 0 behind the last: 13 unless they are flat booleans, for validity
+/* Bits, 64 to a word, for all rows of the column, and 0 after the last: 13 unless they are flat booleans, for validity
  * unless the column is flat; 11 (needed, len) unless len is (length + 63) / 64. No memory is taken. On a little-endian
  * machine the words are the bytes of Arrow's bitmaps. */
 HV_ANSWER hv_read_bools(const hv_column *column, uint64_t *words, size_t len, hv_error *error);
 HV_ANSWER hv_read_validity(const hv_column *column, uint64_t *words, size_t len, hv_error *error);
-/* The same of `rows` rows from row `start` on, in any form, the bit of row `start` first: 13 unless they are booleans,
+/* The same for `rows` rows from row `start` on, in any form, the bit of row `start` first: 13 unless they are booleans,
  * for validity 13 for lists; 9, then 11 (needed, len) unless len is (rows + 63) / 64, or 21. */
 HV_ANSWER hv_read_bools_from(const hv_column *column, size_t start, size_t rows, uint64_t *words, size_t len,
                              hv_error *error);
 HV_ANSWER hv_read_validity_from(const hv_column *column, size_t start, size_t rows, uint64_t *words, size_t len,
                                 hv_error *error);
 /* Texts and bytes, in two calls: 13 unless the rows are texts or bytes. First the offsets of `len - 1` rows from row
- * `start` on, from 0: row k is bytes offsets[k] to offsets[k + 1] - 1, and the last offset is how many bytes there
- * are; a null is no bytes. 9 (start, start, length) where len is 0, 9 past the end, 14 where the type has no such
- * offset. Then the bytes of `rows` rows one after the other: 9, and 11 (needed, len) unless len is their number, for
- * which needed is 2^64 - 1 where no uint64_t has it. */
+ * `start` on, from 0: row k is bytes offsets[k] to offsets[k + 1] - 1, and the last offset is the number of bytes; a
+ * null has no bytes. 9 (start, start, length) where len is 0, 9 past the end, 14 where the type has no such offset.
+ * Then the bytes of `rows` rows one after the other: 9, and 11 (needed, len) unless len is their number; needed is
+ * 2^64 - 1 where no uint64_t has that number. */
 HV_ANSWER hv_read_offsets(const hv_column *column, size_t start, int32_t *offsets, size_t len, hv_error *error);
 HV_ANSWER hv_read_large_offsets(const hv_column *column, size_t start, int64_t *offsets, size_t len, hv_error *error);
 HV_ANSWER hv_read_bytes(const hv_column *column, size_t start, size_t rows, uint8_t *bytes, size_t len,
@@ -357,8 +360,8 @@ HV_ANSWER hv_read_bytes(const hv_column *column, size_t start, size_t rows, uint
 HV_ANSWER hv_ends(const hv_column *column, hv_column *out, hv_error *error);
 HV_ANSWER hv_values(const hv_column *column, hv_column *out, hv_error *error);
 /* How many runs there are. Runs are counted from 0, as hv_ends and hv_values have them, and rows are those of the
- * column: run k shows the rows from its start to its stop - 1, and starts where run k - 1 stops. One that the column
- * does not reach shows none. None of these calls takes memory. */
+ * column: run k shows the rows from its start to its stop - 1, and starts where run k - 1 stops. A run that the column
+ * does not reach shows no rows. None of these calls takes memory. */
 HV_ANSWER hv_run_count(const hv_column *column, size_t *count, hv_error *error);
 /* The rows of run `run` and the value that they have; 13 also for lists, 8 (run, runs), 11 as with hv_at. */
 HV_ANSWER hv_run(const hv_column *column, size_t run, size_t *start, size_t *stop, hv_value *value, uint8_t *text,
@@ -367,66 +370,66 @@ HV_ANSWER hv_run(const hv_column *column, size_t run, size_t *start, size_t *sto
 HV_ANSWER hv_run_of(const hv_column *column, size_t row, size_t *run, hv_error *error);
 /* Where `len` runs stop, from run `first` on; 9 (first, stop, runs) past the last run. */
 HV_ANSWER hv_read_ends_u64(const hv_column *column, size_t first, uint64_t *stops, size_t len, hv_error *error);
-/* The metadata record: it goes to the front of `bytes`, and *size says how many they are; 11 (needed, bytes_len)
- * where it has no room there. */
+/* Writes the metadata record to the front of `bytes`, and its number of bytes to *size; 11 (needed, bytes_len) where
+ * it does not fit. */
 HV_ANSWER hv_serialize(const hv_column *column, uint8_t *bytes, size_t bytes_len, size_t *size, hv_error *error);
 /* The run column of `count` rows of this type by its record, over clones of these ends and values; 17 for bytes that
- * are no record, 18 (number), 12 for ends that are not of the type that it states or values that are not of this one,
- * 19 (stated, found), 23 where kind names no type, or as hv_runs, whose 13 comes before these. */
+ * are not a record, 18 (number), 12 for ends that are not of the type that it states or values that are not of this
+ * one, 19 (stated, found), 23 where kind names no type, or as hv_runs, whose 13 comes before these. */
 HV_ANSWER hv_deserialize(const hv_kind *kind, size_t count, const uint8_t *bytes, size_t bytes_len,
                          const hv_column *ends, const hv_column *values, hv_column *out, hv_error *error);
 
 /* ---- Lists ---- (13 of other forms: hv_decode writes runs and constants of lists as lists)
- * Row i is the items of the elements from its offset on, as many as its size; where it is null any offset and size may
- * stand. Offsets and sizes are u64 without null, flat or in runs, and read by hv_read_u64. All are shared. */
+ * Row i is the items of the elements from its offset on, as many as its size; a null row may have any offset and size.
+ * Offsets and sizes are u64 without null, flat or in runs, and hv_read_u64 reads them. All are shared. */
 HV_ANSWER hv_list_elements(const hv_column *column, hv_column *out, hv_error *error);  /* of all lists, flat */
 HV_ANSWER hv_list_offsets(const hv_column *column, hv_column *out, hv_error *error);
 HV_ANSWER hv_list_sizes(const hv_column *column, hv_column *out, hv_error *error);
 HV_ANSWER hv_list_validity(const hv_column *column, hv_column *out, hv_error *error);  /* booleans: is the row valid? */
 
 /* ---- Encodings of any column, and of rows that come batch by batch ----
- * An encoding is a run column of as few runs as there can be, with ends of the least type and with flat values. */
-/* The rows, of any type but lists (13), encoded. Of runs and of a constant only the runs that the column shows are
- * looked at, and not the rows. */
+ * An encoding is a run column of as few runs as possible, with ends of the least type and with flat values. */
+/* The rows, of any type except lists (13), encoded. In runs and in a constant it looks only at the runs that the column
+ * shows, and not at the rows. */
 HV_ANSWER hv_encode_rows(const hv_column *column, hv_column *out, hv_error *error);
 
 /* A builder takes rows batch by batch, joins runs of equal rows across the seams of the batches, and holds an end and a
- * value for each run, and nothing for a row. Its handle owns it as that of a column does. Where a call is refused, the
- * builder is as it was. */
+ * value for each run, and nothing for a row. Its handle owns it as a column's handle owns a column. Where a call is
+ * refused, the builder is as it was. */
 /* A builder of rows of this type, without rows; the one that the handle held before is freed. 23 where kind names no
  * type, or lists. */
 HV_ANSWER hv_builder_new(const hv_kind *kind, hv_builder *builder, hv_error *error);
-/* The rows of a column, in any form, go behind those of the builder: 12 unless its type is the builder's (null or not
+/* Appends the rows of a column, in any form, to those of the builder: 12 unless its type is the builder's (null or not
  * belongs to a type), then 5 for 2^64 rows or more in all. */
 HV_ANSWER hv_append(hv_builder *builder, const hv_column *column, hv_error *error);
-/* `count` rows of one value of the builder's type: 15 for null in a type without null, 12 for a value that is none of
- * the type, or a text that is not UTF-8, also for a count of 0; then 5 as above. */
+/* Appends `count` rows of one value of the builder's type: 15 for null in a type without null, 12 for a value that is
+ * not of the type, or a text that is not UTF-8, also for a count of 0; then 5 as above. */
 HV_ANSWER hv_append_value(hv_builder *builder, const hv_value *value, const uint8_t *text, size_t text_len,
                           size_t count, hv_error *error);
 /* The encoding of all rows so far, which the builder keeps. */
 HV_ANSWER hv_encoding(const hv_builder *builder, hv_column *out, hv_error *error);
-/* The encoding of all rows so far, which leave the builder: it has none after, and takes rows of its type again. Made of
- * the builder's own memory where that can be: ends are narrowed, bits packed, all else is moved. */
+/* The encoding of all rows so far, which leave the builder: it has no rows afterwards, and takes rows of its type
+ * again. It is made from the builder's own memory where possible: ends are narrowed, bits packed, all else is moved. */
 HV_ANSWER hv_finish(hv_builder *builder, hv_column *out, hv_error *error);
-HV_CALL size_t hv_builder_rows(const hv_builder *builder);  /* 0 of no builder */
-HV_CALL size_t hv_builder_runs(const hv_builder *builder);  /* as many as the encoding has; 0 of no builder */
-/* Frees the builder, if there is one; the handle is empty after. */
+HV_CALL size_t hv_builder_rows(const hv_builder *builder);  /* 0 without a builder */
+HV_CALL size_t hv_builder_runs(const hv_builder *builder);  /* as many as the encoding has; 0 without a builder */
+/* Frees the builder, if there is one; the handle is empty afterwards. */
 HV_CALL void hv_builder_free(hv_builder *builder);
 
 /* A column as bytes, in any form, to keep or to send: a message of the Protocol Buffers encoding (docs/column.proto),
- * in the form that the column has, with its window; of flat texts and bytes the rows, which are read into one buffer.
- * Equal forms have equal bytes. 13 exactly for more than 16 levels of runs, where lists that runs were decoded to, whose
- * offsets, sizes or validity are in runs, count as two. */
-/* How many bytes they are, by a pass over lengths that takes no memory. */
+ * in the form that the column has, with its window; for flat texts and bytes the rows, which are read into one buffer.
+ * Equal forms have equal bytes. 13 exactly for more than 16 levels of runs, where lists that runs were decoded to,
+ * whose offsets, sizes or validity are in runs, count as two. */
+/* How many bytes the message has, by a pass over lengths that takes no memory. */
 HV_ANSWER hv_write_size(const hv_column *column, size_t *size, hv_error *error);
-/* They go to the front of `bytes`, which takes no memory, and *size says how many they are; 11 (needed, bytes_len)
- * where they have no room there. Refused, it leaves `bytes` as it was. 21 only for 2^64 bytes or more. */
+/* Writes the message to the front of `bytes`, which takes no memory, and its number of bytes to *size; 11 (needed,
+ * bytes_len) where it does not fit. Refused, it leaves `bytes` as it was. 21 only for 2^64 bytes or more. */
 HV_ANSWER hv_write(const hv_column *column, uint8_t *bytes, size_t bytes_len, size_t *size, hv_error *error);
 /* The column that was written so; 17 for bytes that are the message of no column, or 21 where memory is refused before
- * the damage of lists is found, under runs too; of other bytes 21 only for those of a message. */
+ * the damage of lists is found, under runs too; for other bytes 21 comes only where they are a message. */
 HV_ANSWER hv_read_column(const uint8_t *bytes, size_t bytes_len, hv_column *out, hv_error *error);
 
-/* Frees the column, if there is one; the handle is empty after. */
+/* Frees the column, if there is one; the handle is empty afterwards. */
 HV_CALL void hv_free(hv_column *column);
 
 #include "hivevigil_calls.h"

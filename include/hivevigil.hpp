@@ -1,12 +1,12 @@
-// Columns as C++17 values, over hivevigil.h: made by a call, moved and never copied unawares, freed by scope.
-// A refusal is thrown as hv::Error. Headers only; nothing here is proved.
+// Columns as C++17 values, over hivevigil.h: made by a call, moved and never copied implicitly, freed by scope. A
+// refusal is thrown as hv::Error. Headers only; nothing here is proved.
 //
 //     hv::Column runs = hv::Column::of(std::vector<int64_t>{4, 4, 4, 7, 7, 9}).encode();
 //     for (const hv::Run &run : runs.runs()) use(run.start, run.stop, run.value);
 //     for (const hv::Value &row : runs) use(row);
 //
-// A column is used by one thread at a time, any thread; those that were made one from the other may be used at once,
-// but for lists.
+// Any thread may use a column, one thread at a time; columns that were made one from the other may be used at once,
+// except for lists.
 #ifndef HIVEVIGIL_HPP
 #define HIVEVIGIL_HPP
 #include "hivevigil_fits.hpp"

@@ -92,7 +92,7 @@ enum {
     HV_ARROW_LENGTH = 4,       /* a length or an offset is negative, or past what memory or a child has */
     HV_ARROW_NULL_COUNT = 5,   /* null_count is not the number of nulls in the bitmap */
     HV_ARROW_NULL_IN_RUNS = 6, /* an array of runs has a bitmap, or a run end is null */
-    HV_ARROW_DICTIONARY = 7,   /* schema and array differ in having a dictionary, or the codes are no integers */
+    HV_ARROW_DICTIONARY = 7,   /* schema and array differ in having a dictionary, or the codes are not integers */
     HV_ARROW_VIEW = 8          /* a view of texts is not within its buffers, or begins otherwise than they do */
 };
 
@@ -168,8 +168,8 @@ static inline int32_t hv_arrow_open(struct ArrowArrayStream *stream, hv_arrow_re
 static inline const struct ArrowSchema *hv_arrow_schema_of(const hv_arrow_reader *reader);
 /* How many columns a chunk has. */
 static inline size_t hv_arrow_width(const hv_arrow_reader *reader);
-/* How a column of the chunks that follow is read; at first each is HV_ARROW_READ. Of one that is left out the handle
- * stays as it is. A number that no column has is passed over. */
+/* How a column of the chunks that follow is read; at first each is HV_ARROW_READ. The handle of one that is left out
+ * stays as it is. A number that no column has is ignored. */
 enum { HV_ARROW_READ = 0, HV_ARROW_LEAVE_OUT = 1, HV_ARROW_READ_BITS = 2 };
 static inline void hv_arrow_choose(hv_arrow_reader *reader, size_t column, uint8_t how);
 /* The next chunk as columns; *more is 0 where there was none, and then they stay. `count` is their number, else 11
@@ -182,9 +182,9 @@ static inline const char *hv_arrow_words(const hv_arrow_reader *reader);
 /* Releases the stream, and frees the reader, if there is one. */
 static inline void hv_arrow_close(hv_arrow_reader *reader);
 
-/* All chunks, one column of all rows for each column of a chunk, of no rows where there is no chunk: runs where each
- * chunk came as runs, else flat. `how` says for each column how it is read, all are read where it is null. What the
- * stream said of its failure goes to `words`, as much of it as there is room for, ended by 0; nothing does where
+/* All chunks, one column of all rows for each column of a chunk, without rows where the stream has no chunk: runs where
+ * each chunk came as runs, else flat. `how` says for each column how it is read, all are read where it is null. What
+ * the stream said of its failure goes to `words`, as much of it as there is room for, ended by 0; nothing does where
  * words_len is 0. The stream is released in all cases. */
 static inline int32_t hv_arrow_import_stream(const hv_session *session, struct ArrowArrayStream *stream,
                                              hv_column *columns, size_t count, const uint8_t *how, char *words,

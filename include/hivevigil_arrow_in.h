@@ -170,7 +170,7 @@ static inline const uint8_t *hv_arrow_viewed(const hv_arrow_rows *rows, size_t i
     return memcmp(bytes + view.start, view.front, sizeof view.front) == 0 ? bytes + view.start : NULL;
 }
 
-/* Where each text starts once they stand one after the other, or the index of a view that is none. */
+/* Where each text starts once they lie one after the other, or the index of a view that is not valid. */
 static inline int32_t hv_arrow_view_offsets(const hv_arrow_rows *rows, int64_t *offsets, hv_error *error) {
     offsets[0] = 0;
     for (size_t i = 0; i < rows->count; i++) {

@@ -180,8 +180,9 @@ static inline int32_t hv_arrow_read_chunks(const hv_session *session, hv_arrow_r
     return answer;
 }
 
-/* An array of no rows, with the buffers, children and dictionary that a schema asks for, all empty. Of what is not
- * served it has none: reading it is refused before they are looked at. False where memory is refused. */
+/* An array of no rows, with the buffers, children and dictionary that a schema asks for, all empty. For a schema that
+ * is not served it has none of these: reading it is refused before they are looked at. False where memory is
+ * refused. */
 static inline bool hv_arrow_new_empty(const struct ArrowSchema *schema, struct ArrowArray *array, int depth) {
     hv_arrow_layout layout;
     bool served = schema && schema->format && depth < HV_ARROW_DEPTH && hv_arrow_layout_of(schema->format, &layout);

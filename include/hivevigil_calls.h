@@ -1,18 +1,18 @@
 /* The calls of hivevigil.h, which includes this one and says what each answers: inline functions over the exports of
- * the same names, which stand here in parentheses. A null pointer for no items becomes an address, and so does an
- * `error` that nobody asks for; one for items that are to be there is refused. Nothing here is proved. */
+ * the same names, which are in parentheses here. A null pointer for no items becomes an address, and so does an `error`
+ * that is null; a null pointer with a length above 0 is refused. Nothing here is proved. */
 #ifndef HIVEVIGIL_CALLS_H
 #define HIVEVIGIL_CALLS_H
 #ifndef HIVEVIGIL_EXPORTS_H
 #error "include hivevigil.h, which includes this part"
 #endif
 
-/* an address for no items, behind which nothing is read or written */
+/* an address for no items, at which nothing is read or written */
 static inline void *hv_nowhere(void) {
     static const uint64_t nothing = 0;
     return (void *)(uintptr_t)&nothing;
 }
-/* the refusal of a null pointer next to a length above 0: that many items are wanted, and none is there */
+/* the refusal of a null pointer next to a length above 0: the call expects that many items, and there are none */
 static inline int32_t hv_missing(size_t len, hv_error *error) {
     error->first = len;
     error->second = error->third = 0;
@@ -32,7 +32,7 @@ static inline int32_t hv_missing(size_t len, hv_error *error) {
 static inline hv_column *hv_lent(const hv_column *column) { return (hv_column *)(uintptr_t)column; }
 static inline hv_builder *hv_lent_builder(const hv_builder *builder) { return (hv_builder *)(uintptr_t)builder; }
 
-/* what the exports read of a session, which stands behind its size */
+/* the part of a session that the exports read, which follows its size */
 static inline hv_settings *hv_settings_of(const hv_session *session) {
     return (hv_settings *)((uintptr_t)session + offsetof(hv_session, prefill_runs));
 }

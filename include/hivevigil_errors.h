@@ -12,8 +12,8 @@
 extern "C" {
 #endif
 
-/* Each number with its sentence, in which %1, %2 and %3 stand for the fields. Rust and Python take their sentences from
- * here (tools/declarations.py). */
+/* Each number with its sentence, in which %1, %2 and %3 are replaced by the fields. Rust and Python take their
+ * sentences from here (tools/declarations.py). */
 #define HV_ERRORS(X) \
     X(HV_OK, "done") \
     X(HV_ENDS_NOT_UNSIGNED, "ends of runs are a flat column of an unsigned type without null") \

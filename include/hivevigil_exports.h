@@ -1,12 +1,13 @@
-/* The calls as the library exports them, for hivevigil.h, which includes this one, and for other languages. What a call
- * answers is said in hivevigil.h under its name. What it takes here is what the library takes: no pointer that is null,
- * also where a length is 0; of a session what stands behind its size; and a validity in four parts, of which `nulls` is
- * 0 for a type without null, 1 where no row is null, and any other number where the bits from bit `first` on tell it.
+/* The calls as the library exports them, for hivevigil.h, which includes this one, and for other languages. hivevigil.h
+ * says under its name what a call answers. Here each call has the parameters of the library: no pointer that is null,
+ * also where a length is 0; the part of a session that follows its size; and a validity in four parts, of which `nulls`
+ * is 0 for a type without null, 1 where no row is null, and any other number where the bits from bit `first` on say
+ * which rows are valid.
  *
- * In C and C++ the same names are inline functions over the exports (hivevigil_calls.h), by macros as they stand below.
- * Parentheses reach the export, as of the functions of C's own library: (hv_length)(&column); so does a name that no
- * arguments follow, as that of a function pointer, where hv_call_length is the inline function. A program that defines
- * HV_EXPORTS_ALONE before it includes hivevigil.h has the types and the exports, and nothing over them. */
+ * In C and C++ the same names are inline functions over the exports (hivevigil_calls.h), by the macros below.
+ * Parentheses reach the export, as for functions of C's own library: (hv_length)(&column); so does a name that no
+ * arguments follow, such as that of a function pointer, where hv_call_length is the inline function. A program that
+ * defines HV_EXPORTS_ALONE before it includes hivevigil.h has the types and the exports, and nothing over them. */
 #ifndef HIVEVIGIL_EXPORTS_H
 #define HIVEVIGIL_EXPORTS_H
 #ifndef HIVEVIGIL_H

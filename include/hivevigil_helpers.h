@@ -7,7 +7,7 @@
 extern "C" {
 #endif
 
-/* The column of a handle, which is empty after: hv_column kept = hv_moved(&made). Empty where there is no handle. */
+/* The column of a handle, which is empty afterwards: hv_column kept = hv_moved(&made). Empty where `from` is null. */
 static inline hv_column hv_moved(hv_column *from) {
     hv_column column = HV_EMPTY;
     if (from) {

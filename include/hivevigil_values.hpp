@@ -104,7 +104,7 @@ template <class T> class View {
 public:
     constexpr View() = default;
     constexpr View(const T *first, size_t size) : items(first), count(size) {}
-    // Of a vector, an array or a span.
+    // From a vector, an array or a span.
     template <class Items, class = std::enable_if_t<std::is_convertible_v<
                                decltype(std::data(std::declval<const Items &>())), const T *>>>
     constexpr View(const Items &all) : items(std::data(all)), count(std::size(all)) {}
@@ -262,7 +262,7 @@ template <class Items>
 using Item = std::remove_cv_t<std::remove_pointer_t<decltype(std::data(std::declval<const Items &>()))>>;
 template <class T> inline constexpr bool is_text = std::is_convertible_v<const T &, std::string_view>;
 
-// A row as it stands in a container, and what it is where it is not null.
+// A row as it is in a container, and its type where it is not null.
 template <class Items> using Row = std::decay_t<decltype(*std::begin(std::declval<const Items &>()))>;
 template <class T> struct Inner {
     using type = T;
