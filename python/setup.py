@@ -69,8 +69,8 @@ class Platform(Distribution):
 
 
 class Wheel(bdist_wheel):
-    """For every Python, since the shared object is linked with none, and for every machine whose glibc is as new as
-    what it needs."""
+    """For every Python, since the shared object is linked with none, and for every machine whose glibc is at least what
+    it needs."""
 
     def get_tag(self):
         platform, glibc = super().get_tag()[2], glibc_of(shared_object())

@@ -1,5 +1,5 @@
-//! Links libhivevigil.a, from the folder that HIVEVIGIL_LIB names, from lib/ beside this crate's folder (a checkout, or
-//! an unpacked release), or from where pkg-config says that it is installed.
+//! Links libhivevigil.a, from the folder that HIVEVIGIL_LIB names, from lib/ next to this crate's folder (a checkout,
+//! or an unpacked release), or from where pkg-config says that it is installed.
 use std::env;
 use std::path::PathBuf;
 use std::process::Command;

@@ -50,7 +50,7 @@ COMMENTS = {
     (".md",): r"(?s:.*)",
 }
 NOT_READ = ("bench/results/",)
-# Lines of sources that may be longer than so many characters. Lower the numbers when lines become shorter.
+# Lines of sources that may be longer than this number of characters. Lower the numbers when lines become shorter.
 LONG_LINES = {120: 0, 140: 0}
 ITEM = re.compile(r" *(?:\d+\.|[-*]) ")
 ONE_LINE = re.compile(r"\s*(?:(?:pub )?(?:ghost )?use |#!?\[)")

@@ -1,6 +1,6 @@
 #!/usr/bin/env python3
-"""Errors, types, operators, folds and forms are listed once, in include/hivevigil.h, and the version in VERSION: looks
-that each language has the same.
+"""Errors, types, operators, folds and forms are defined once, in include/hivevigil.h, and the version in VERSION: looks that
+each language has the same.
 
     python3 tools/lists.py      names what differs; ends in the count of what agrees
 
@@ -126,7 +126,7 @@ class Lists:
         self.same("Fold of Rust", rust_enum("rust/src/value.rs", "Fold"), folds)
 
     def check_page(self) -> None:
-        """docs/ERRORS.md has the errors that Rattle has too, which end with want of memory."""
+        """docs/ERRORS.md has the errors that Rattle has too, which end with the one for memory."""
         lines = re.findall(r"^\| (\d+) \| `(\w+)` \|", text_of("docs/ERRORS.md"), re.M)
         last = self.errors["OUT_OF_MEMORY"]
         expected = {camel(name): number for name, number in self.errors.items() if 0 < number <= last}

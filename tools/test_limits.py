@@ -26,7 +26,7 @@ from limits import (
 
 
 def function(name: str, lines: int, indent: str = "") -> str:
-    """A function whose body has so many lines."""
+    """A function whose body has this number of lines."""
     head = [f"{indent}pub fn {name}(items: &[u8]) -> usize", f"{indent}    ensures answer {{ result ≡ 0 }}", indent + "{"]
     return "\n".join(head + [f"{indent}    let _ = items;"] * lines + [indent + "}"])
 

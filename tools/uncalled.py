@@ -14,7 +14,7 @@ from pathlib import Path
 
 ROOT = Path(__file__).resolve().parent.parent
 PUBLIC = re.compile(r"^\s*pub (?:const )?fn (\w+)", re.M)
-# By file the functions that nothing here calls, and why they stand.
+# By file the functions that nothing here calls, and why they remain.
 REASONS = {
     "crates/vortex_runend/src/laws.rt": "laws: their contracts are what they are for",
     "crates/column_bytes/src/laws.rt": "laws: their contracts are what they are for",

@@ -20,7 +20,7 @@ def check(what, found, due):
 
 
 def windows(rows):
-    """Every offset and length within so many rows."""
+    """Every offset and length within this number of rows."""
     return [(offset, length) for offset in range(rows + 1) for length in range(rows - offset + 1)]
 
 

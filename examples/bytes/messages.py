@@ -4,7 +4,7 @@ reader.c, a program over the library, has to answer to each.
 
     /usr/bin/python3 messages.py lines COUNT SEED        the messages, a line each in hexadecimal digits
     /usr/bin/python3 messages.py answers < LINES         the answer that is due to each line
-    /usr/bin/python3 messages.py try PROGRAM COUNT SEED  runs the program on so many, and compares
+    /usr/bin/python3 messages.py try PROGRAM COUNT SEED  runs the program on COUNT of them, and compares
 
 Of three messages the second is the first with a byte or two changed, put in or left out, and the third the first with a
 field of it, or of a message in it, changed, put in or left out. Needs what model.py needs.
@@ -110,7 +110,7 @@ def constant(chance: random.Random, rows: int):
 
 
 def window(chance: random.Random, rows: int) -> tuple[int, int, list[int]] | None:
-    """A type of ends, an offset, and ends that show so many rows from there on; None where they have no room."""
+    """A type of ends, an offset, and ends that show `rows` rows from there on; None where they do not fit."""
     ends_type, offset = chance.choice([*UNSIGNED]), chance.choice([0, 0, 1, 3])
     most = 2 ** (8 * SIZES[ends_type]) - 1
     if offset + rows > most:
@@ -144,7 +144,7 @@ def numbers(chance: random.Random, rows: int, most: int, may_be_runs: bool):
 
 
 def lists(chance: random.Random, rows: int, levels: int):
-    """So many lists, which lie anywhere in some elements. Some of them may end behind the last, which is refused unless
+    """So many lists, which lie anywhere in some elements. Some of them may end after the last, which is refused unless
     they are null."""
     message = begun(LIST, LISTS, rows)
     count = chance.choice([0, 1, 2, 5, 10])
@@ -163,7 +163,7 @@ def lists(chance: random.Random, rows: int, levels: int):
 
 
 def column(chance: random.Random, rows: int, levels: int):
-    """A column of so many rows under at most so many levels of runs."""
+    """A column of this number of rows, under at most this number of levels of runs."""
     cut = window(chance, rows)
     if levels == 0 or chance.random() < 0.2 or cut is None:
         form = chance.choice([constant, constant, flat, flat, lists, lists])

@@ -238,7 +238,7 @@ def are_lists(message, levels: int) -> bool:
 
 
 def is_column(message, levels: int = MOST_LEVELS) -> bool:
-    """Whether the message is a column's, with at most so many levels of runs."""
+    """Whether the message is a column's, with at most this number of levels of runs."""
     forms = {
         FLAT: is_flat,
         RUNS: lambda runs: are_runs(runs, levels),
@@ -261,7 +261,7 @@ def item(message, index: int) -> str:
 
 
 def row(message, index: int) -> str:
-    """A row as text: of a decimal the digits of its 16 bytes, of a text those of its bytes behind a quote."""
+    """A row as text: of a decimal the digits of its 16 bytes, of a text those of its bytes after a quote."""
     if message.form == RUNS:
         position = message.offset + index
         return row(message.values, next(run for run, end in enumerate(ends_of(message)) if end > position))
@@ -281,7 +281,7 @@ def row(message, index: int) -> str:
 
 
 def column(data: bytes):
-    """The message, or None where the bytes are no column's."""
+    """The message, or None where the bytes are not those of a column."""
     message = Column()
     try:
         message.ParseFromString(data)

@@ -3,9 +3,9 @@
 
     /usr/bin/python3 vectors.py < ../../crates/vectors/stdin        ends in 'N messages are those of the schema'
 
-A line `NAME = from bytes HH ..` has to be refused exactly where the bytes are no column's, and the answer to
+A line `NAME = from bytes HH ..` has to be refused exactly where the bytes are not those of a column, and the answer to
 `NAME bytes` has to be a column's: the one that was read, where NAME has just been made of bytes. A line `NAME form`
-right behind one of these has to tell the form of that message. Needs what model.py needs.
+right after one of these has to give the form of that message. Needs what model.py needs.
 """
 
 import re

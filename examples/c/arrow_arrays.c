@@ -130,7 +130,7 @@ static void check_width_of_ends(void) {
     CHECK(!hv_runs(&ends, &values, INT64_MAX, 3, &column, &error));
     check_round_trip("+r", "1 2 2");
     CHECK(!hv_runs(&ends, &values, 0, (uint64_t)INT64_MAX + 1, &column, &error));
-    CHECK_REFUSED(EXPORT(&column), HV_UNSUPPORTED, 0, 0, 0); /* no array has so many rows */
+    CHECK_REFUSED(EXPORT(&column), HV_UNSUPPORTED, 0, 0, 0); /* no array has that number of rows */
     CHECK(!out_schema.release && !out_array.release);
     hv_free(&ends);
     hv_free(&values);
@@ -170,7 +170,7 @@ static void check_runs_in_runs(void) {
     check_round_trip("+r", "7 7 7 null");
 }
 
-/* A dictionary of texts, codes with an offset and a null, under which a code of no text stands. */
+/* A dictionary of texts, codes with an offset and a null, under which there is a code of no text. */
 static void check_dictionary(void) {
     int8_t codes[5] = {7, 1, 0, 9, 1};
     const uint8_t bits[1] = {0x17};

@@ -16,7 +16,7 @@ static struct ArrowSchema *schemas[STRUCTS];
 static struct ArrowArray *arrays[STRUCTS];
 static size_t structs;
 
-/* All structs of an array, each schema beside its array. */
+/* All structs of an array, each schema next to its array. */
 static void collect(struct ArrowSchema *schema, struct ArrowArray *array) {
     schemas[structs] = schema;
     arrays[structs++] = array;

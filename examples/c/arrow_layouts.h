@@ -217,7 +217,7 @@ static inline void lay_any(const type *of, rows shown, int depth, struct ArrowSc
 }
 
 /* A batch of these columns, all of one number of rows. Where the batch is null the columns become null; in the arrays
- * any row stands there. */
+ * there is any row. */
 static inline void lay_batch(const type *const *of, rows *columns, size_t count, struct ArrowSchema *schema,
                              struct ArrowArray *array) {
     static const type marks = {"c", NUMBER, 1};

@@ -3,7 +3,7 @@
 #define HIVEVIGIL_ARROW_LIST_LAYOUTS_H
 #include "arrow_layouts.h"
 
-/* A row: null, or some items, which stand in `items` from `start` on. */
+/* A row: null, or some items, which are in `items` from `start` on. */
 typedef struct list {
     bool null;
     size_t start, size;

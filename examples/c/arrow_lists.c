@@ -69,7 +69,7 @@ static void check_lists(hv_column *from, const lists *values, const size_t *due,
     hv_free(&elements), hv_free(&flags);
 }
 
-/* The same of an array that went out as lists, by the two structs alone. */
+/* The same of an array that went out as lists, only by the two structs. */
 static void check_array(const struct ArrowSchema *schema, const struct ArrowArray *array, const lists *values,
                         const size_t *due, size_t count) {
     if (strcmp(schema->format, "+l") != 0 && strcmp(schema->format, "+L") != 0) stop("the format of lists", 0);
@@ -213,7 +213,7 @@ static void check_refusals(void) {
 
 /* ---- Streams ---- */
 
-/* [7] and [8 9], as the only column of `out`, and beside numbers as batches. */
+/* [7] and [8 9], as the only column of `out`, and next to numbers as batches. */
 static void check_batches_of_lists(void) {
     const int32_t items[3] = {7, 8, 9};
     const uint64_t offsets[2] = {0, 1}, sizes[2] = {1, 2};

@@ -55,7 +55,7 @@ static void check_floats(void) {
     hv_arrow_release(&out_schema, &out_array);
     schema.format = "l", array = array_of(1, 0, 2, BUFFERS(NULL, (const int64_t[]){-3}));
     CHECK(!hv_arrow_import_bits(&session, &schema, &array, &column, &error));
-    CHECK_ROWS(&column, "-3"); /* what is no float comes in as ever */
+    CHECK_ROWS(&column, "-3"); /* what is not a float comes in as ever */
     CHECK_REFUSED(hv_arrow_export_bits(&session, &column, "x", &out_schema, &out_array, &error), HV_TYPE_MISMATCH, 0, 0,
                   0);
 }
@@ -117,7 +117,7 @@ static void check_options_refused(void) {
     }
 }
 
-/* Codes that go out are within their dictionary; under null anything may stand. */
+/* Codes that go out are within their dictionary; under null there may be anything. */
 static void check_codes_out(void) {
     const int16_t codes[4] = {1, 2, -7, 0};
     const uint8_t bits[1] = {0x09};

@@ -340,7 +340,7 @@ static void check_slices_of_texts(void) {
                                        BUFFERS(NULL, offsets,
                                                "\xff\xff\xff\xff"
                                                "cde"));
-    CHECK(!IMPORT(&schema, &array)); /* the bytes before are no text, and are not read */
+    CHECK(!IMPORT(&schema, &array)); /* the bytes before are not a text, and are not read */
     CHECK_ROWS(&column, "\"c\" \"\" \"de\"");
     schema.format = "U", array.buffers[1] = wide;
     CHECK(!IMPORT(&schema, &array));

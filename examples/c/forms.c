@@ -56,7 +56,7 @@ static void make_truths(const rows *of, hv_column *out) {
     CHECK(!hv_bools(truths, sizeof truths, 0, of->len, NULLS_BY(bits, 0), out, &error));
 }
 
-/* row `row` is its number in decimal digits, and null is no bytes */
+/* row `row` is its number in decimal digits, and null has no bytes */
 static size_t make_text(const rows *of, size_t row, char *to) {
     return of->valid[row] ? (size_t)sprintf(to, "%" PRId64, of->number[row]) : 0;
 }

@@ -190,7 +190,7 @@ static void check_levels(hv_column *column, int levels, int32_t answer) {
     hv_free(&ends), hv_free(&over), hv_free(&next), hv_free(&read);
 }
 
-/* Rows of lists that no index names are a constant, null: its bytes tell of which type the elements would be. */
+/* Rows of lists that no index names are a constant, null: its bytes say of which type the elements would be. */
 static void check_null_lists(void) {
     const int8_t items[2] = {1, 2};
     const uint64_t offsets[1] = {0}, sizes[1] = {2};

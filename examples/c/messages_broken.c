@@ -196,7 +196,7 @@ static size_t edit(uint8_t *bytes, size_t len) {
     case 0: bytes[at] ^= (uint8_t)(1 << below(8)); return len;
     case 1: bytes[at] = numbers[below(COUNT(numbers))]; return len;
     case 2: return 1 + at; /* cut short */
-    case 3: /* put in, a copy of what stands elsewhere */
+    case 3: /* put in, a copy of what is elsewhere */
         memmove(bytes + at + count, bytes + at, len - at);
         memmove(bytes + at, bytes + below(len), count);
         return len + count;

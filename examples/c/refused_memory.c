@@ -252,7 +252,7 @@ STEP(export_dictionary, hv_arrow_export_dictionary(&session, &places, &texts, "c
 STEP(import_texts, hv_arrow_import(&session, &texts_schema, &texts_array, &out, &error))
 STEP(import_dictionary, hv_arrow_import(&session, &codes_schema, &codes_array, &out, &error))
 
-/* Batches and a value three times behind each, built as one step, and the rows that are due. */
+/* Batches and a value three times after each, built as one step, and the rows that are due. */
 typedef struct built_rows {
     const hv_kind *kind;
     hv_column *batches[2];
@@ -403,7 +403,7 @@ static bool try_step(const step *it, long number, bool rest) {
 }
 
 /* Reads, messages that are measured or written, and these questions over runs whose kernels are registered and whose
- * values are no texts, take no memory. */
+ * values are not texts, take no memory. */
 static bool takes_no_memory(const char *name) {
     static const char *const questions[] = {"sum", "is_constant", "is_sorted", "extreme", "min_max_numbers"};
     static const char *const fronts[] = {"read_", "size_of_", "write_"};

@@ -31,7 +31,7 @@ int32_t column_cast(const hv_column *column, const hv_kind *kind, hv_column *out
     return answer;
 }
 
-/* The rows of an encoding of null alone as numbers, which are null by bits. */
+/* The rows of an encoding of only null as numbers, which are null by bits. */
 static int32_t null_numbers(const hv_column *runs, hv_column *out, hv_error *error) {
     const int64_t under_null = 0;
     const uint8_t no_bit = 0;

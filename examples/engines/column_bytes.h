@@ -3,7 +3,7 @@
 #define HIVEVIGIL_COLUMN_BYTES_H
 #include "hivevigil.h"
 
-/* The column's rows in the fewest runs with the least ends, null by bits where a row is null, and null alone as
+/* The column's rows in the fewest runs with the least ends, null by bits where a row is null, and only null as
  * numbers, so that equal rows are equal bytes. They go to memory of malloc's, which is the caller's to free; 13 for
  * lists, 21. */
 int32_t column_bytes_write(const hv_column *column, uint8_t **bytes, size_t *size, hv_error *error);

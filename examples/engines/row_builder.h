@@ -28,17 +28,17 @@ typedef struct row_value {
 /* Adds a row. 12 where the rows are of another type, or where the text is not UTF-8; 5 for 2^64 rows, 21. */
 int32_t row_builder_add(row_builder *rows, const row_value *value, hv_error *error);
 
-/* Adds all rows of a column of any form; one of null alone goes with rows of every type. Refused as above, and as 13
+/* Adds all rows of a column of any form; one of only null goes with rows of every type. Refused as above, and as 13
  * unless the column is one of signed numbers of 64 bits, texts or bytes. */
 int32_t row_builder_add_column(row_builder *rows, const hv_column *column, hv_error *error);
 
 /* Adds all rows of another builder, which has none after; where it is refused, the other may have none too. */
 int32_t row_builder_append(row_builder *rows, row_builder *others, hv_error *error);
 
-/* The encoding of all rows, which are kept. Rows of null alone are numbers. */
+/* The encoding of all rows, which are kept. Rows of only null are numbers. */
 int32_t row_builder_encoding(row_builder *rows, hv_column *out, hv_error *error);
 
-/* The same, made of the builder's own memory where that can be: there are no rows after. */
+/* The same, made of the builder's own memory where that can be: it has no rows afterwards. */
 int32_t row_builder_finish(row_builder *rows, hv_column *out, hv_error *error);
 
 void row_builder_free(row_builder *rows);

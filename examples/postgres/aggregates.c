@@ -28,7 +28,7 @@ static row_builder *state(FunctionCallInfo fcinfo) {
     return PG_ARGISNULL(0) ? rows_in(context) : (row_builder *)PG_GETARG_POINTER(0);
 }
 
-/* What the aggregate is called, for a refusal; of a window function it is not told. */
+/* What the aggregate is called, for a refusal; for a window function it is not known. */
 static const char *aggregate_name(FunctionCallInfo fcinfo) {
     const Aggref *called = AggGetAggref(fcinfo);
     const char *name = called ? get_func_name(called->aggfnoid) : NULL;

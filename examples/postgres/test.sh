@@ -36,7 +36,7 @@ cp -r "$top/include" "$work/build/"
 cp "$top/lib/libhivevigil.a" "$work/build/lib/"
 build() { make -s -C "$work/build/examples/postgres" PG_CONFIG="$config" with_llvm=no "$@" >"$work/log" 2>&1; }
 build || fail "the extension does not compile: $(cat "$work/log")"
-# A server looks for extensions beside its program. So the programs are copied, and all else is linked beside them.
+# A server looks for extensions next to its program. So the programs are copied, and all else is linked next to them.
 mkdir -p "$work/root$bin" "$work/root$lib" "$work/root$share/extension"
 cp "$bin/postgres" "$bin/initdb" "$bin/pg_ctl" "$work/root$bin/"
 for folder in "$lib" "$share" "$share/extension"; do

@@ -64,7 +64,7 @@ bool column_of(const char *function, sqlite3_value *value, hv_column *out, char 
     return !answer;
 }
 
-/* Ends the call with this sentence, or for want of memory where there is none. */
+/* Ends the call with this sentence, or as out of memory where it is null. */
 static void fail(sqlite3_context *context, char *reason) {
     if (reason) sqlite3_result_error(context, reason, -1);
     else sqlite3_result_error_nomem(context);
@@ -117,7 +117,7 @@ static bool row_value_of(sqlite3_value *from, row_value *value) {
     return true;
 }
 
-/* hv_column and hv_concat: the rows so far stand in SQLite's memory for the aggregate, which begins as zeros. */
+/* hv_column and hv_concat: the rows so far are in SQLite's memory for the aggregate, which begins as zeros. */
 
 /* The kind of values that a type of SQL's typeof() names, in any letters; HV_NULL for every other word. */
 static uint8_t kind_by_name(sqlite3_value *name) {

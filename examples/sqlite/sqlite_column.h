@@ -3,7 +3,7 @@
 #define HIVEVIGIL_SQLITE_COLUMN_H
 #include <sqlite3ext.h>
 #ifndef SQLITE_CORE
-extern const sqlite3_api_routines *sqlite3_api; /* stands in functions.c */
+extern const sqlite3_api_routines *sqlite3_api; /* is in functions.c */
 #endif
 #include "../engines/column_bytes.h"
 #include "../engines/run_filter.h"
@@ -12,7 +12,7 @@ extern const sqlite3_api_routines *sqlite3_api; /* stands in functions.c */
 /* "an integer", "a text" .. of the type of an SQL value */
 const char *type_in_words(int type);
 
-/* A refusal as a sentence after the function's name, in memory of sqlite3_malloc; null for want of memory. */
+/* A refusal as a sentence after the function's name, in memory of sqlite3_malloc; null where memory is refused. */
 char *refusal(const char *function, int32_t answer, const hv_error *error);
 
 /* The column that a blob is; if it is none, false and the reason as with `refusal`, or null. */

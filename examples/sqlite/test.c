@@ -1,4 +1,4 @@
-/* The extension beside SQLite's own answers over rows: by hand, over random tables, over broken blobs. Linked with the
+/* The extension next to SQLite's own answers over rows: by hand, over random tables, over broken blobs. Linked with the
  * extension and with SQLite, and run under the sanitizers too; `test LIBRARY` runs it over the extension as it is
  * loaded. */
 #include "check.h"
@@ -295,7 +295,7 @@ static void check_many(void) {
               "error: hv_column: row 3000 is a text that is not UTF-8");
 }
 
-/* Columns that other programs wrote: null alone as texts, which goes with every type, a constant, and runs with the
+/* Columns that other programs wrote: only null as texts, which goes with every type, a constant, and runs with the
  * values 1 2 2 3 and lengths 3 1 2 1, of which four rows are shown from the third on: 1 2 2 2. */
 static void check_others(void) {
     ask("CREATE TABLE o AS SELECT x'0801100B180120022803620200006A00' AS nulls, "

@@ -161,7 +161,7 @@ class Column(_comparing.Comparisons):
 
     @classmethod
     def constant(cls, value: Scalar, rows: int, type: Any = None) -> Column:
-        """The value in each of so many rows, in memory for one. The type is that of the value where none is given."""
+        """The value in each of `rows` rows, in memory for one. The type is that of the value where none is given."""
         kind = _making.inferred(_making.listed([value])) if type is None else kind_of(type)
         kind.nullable = kind.nullable or is_missing(value)
         return cls._made(calls.hv_constant, kind, *passed(kind, value), size_of(rows, "the number of rows"))

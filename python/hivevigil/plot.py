@@ -35,7 +35,7 @@ def _draw(axes: Any, summary: Summary, kind: str, most: int) -> None:
 
 
 def check(path: str) -> None:
-    """Refuses a file that could not be saved: there is no such folder, or no such kind of figure."""
+    """Refuses a file that could not be saved: the folder does not exist, or the kind of figure is unknown."""
     folder, kinds = Path(path).parent, FigureCanvasBase.get_supported_filetypes()
     if not folder.is_dir():
         raise ValueError(f"{path}: there is no folder {folder}")

@@ -14,11 +14,11 @@ class Progress:
         self.done, self.begin, self.shown = 0, time.monotonic(), -1
 
     def restart(self, passes: int) -> None:
-        """The work begins now, in so many passes."""
+        """The work begins now, in this number of passes."""
         self.done, self.passes, self.begin, self.shown = 0, passes, time.monotonic(), -1
 
     def advance(self, count: int) -> None:
-        """So many more are done, in one of the passes."""
+        """This number more are done, in one of the passes."""
         self.done = min(self.done + count, self.total * self.passes)
         done, seconds = self.done // self.passes, time.monotonic() - self.begin
         on_terminal = sys.stderr.isatty()

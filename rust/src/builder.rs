@@ -91,7 +91,7 @@ impl Builder {
         unsafe { raw::hv_builder_rows(self.handle.get()) }
     }
 
-    /// Returns whether there are no rows.
+    /// Returns whether the builder has no rows.
     pub fn is_empty(&self) -> bool {
         self.len() == 0
     }

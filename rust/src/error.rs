@@ -103,7 +103,7 @@ macro_rules! errors {
             /// Every kind, in the order of the numbers.
             pub const ALL: &'static [ErrorKind] = &[$(ErrorKind::$name,)*];
 
-            /// Returns the sentence, in which `%1`, `%2` and `%3` stand for the fields.
+            /// Returns the sentence, in which the fields replace `%1`, `%2` and `%3`.
             pub fn sentence(self) -> &'static str {
                 match self {
                     $(ErrorKind::$name => $sentence,)*

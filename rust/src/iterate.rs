@@ -49,7 +49,7 @@ impl<'a> IntoIterator for &'a Column {
 pub struct Run {
     /// Counted from the column's first row.
     pub rows: Range<usize>,
-    /// Of each of these rows.
+    /// Holds the value of each of these rows.
     pub value: Value,
 }
 

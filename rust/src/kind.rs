@@ -16,9 +16,9 @@ pub struct Kind {
     pub number: u8,
     /// 1 where rows may be null, else 0.
     pub nullable: u8,
-    /// Of decimals: digits.
+    /// For decimals: digits.
     pub precision: u8,
-    /// Of decimals: digits after the point.
+    /// For decimals: digits after the point.
     pub scale: i8,
 }
 
@@ -131,7 +131,7 @@ impl fmt::Display for Kind {
     }
 }
 
-/// How a column lies.
+/// The form of a column.
 #[derive(Clone, Copy, Debug, PartialEq, Eq)]
 #[repr(u8)]
 pub enum Form {

@@ -10,7 +10,7 @@ impl Column {
         unsafe { raw::hv_length(self.handle.get()) }
     }
 
-    /// Returns whether there are no rows.
+    /// Returns whether the column has no rows.
     pub fn is_empty(&self) -> bool {
         self.len() == 0
     }

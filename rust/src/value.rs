@@ -8,9 +8,9 @@ use std::fmt;
 pub enum Value {
     /// No value.
     Null,
-    /// Of an unsigned type.
+    /// Holds a number of an unsigned type.
     Unsigned(u64),
-    /// Of a signed type.
+    /// Holds a number of a signed type.
     Signed(i64),
     /// A boolean.
     Truth(bool),
@@ -40,9 +40,9 @@ impl fmt::Display for Value {
 /// A sum, which is within the range of 64 bits; `empty`: no row is valid, and the sum is 0.
 #[derive(Clone, Copy, Debug, PartialEq, Eq)]
 pub struct Sum {
-    /// Of the rows that are not null.
+    /// Holds the sum of the rows that are not null.
     pub total: i128,
-    /// Is every row null, or none there?
+    /// Says whether every row is null, or the column has none.
     pub empty: bool,
 }
 

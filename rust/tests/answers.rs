@@ -151,7 +151,7 @@ fn columns_as_bytes() -> Result<(), Error> {
     Ok(())
 }
 
-/// The bytes of lists after so many clones and slices, each of which has the same elements.
+/// The bytes of lists after this number of clones and slices, each of which has the same elements.
 fn bytes_after_clones(own: Column) -> Result<Vec<u8>, Error> {
     for _ in 0..20_000 {
         let clone = own.try_clone()?;
