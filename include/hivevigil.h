@@ -59,7 +59,7 @@ extern "C" {
 
 /* The version of this header, and the number of its binary interface. hv_version returns the version of the library, as
  * major * 1000000 + minor * 1000 + patch, and hv_abi its interface: a program runs with a library of its own HV_ABI,
- * and finds there every call of a header that is no newer than the library. */
+ * and finds there every call of a header that is not newer than the library. */
 #define HV_VERSION_MAJOR 0
 #define HV_VERSION_MINOR 1
 #define HV_VERSION_PATCH 0

@@ -1,6 +1,6 @@
 #!/usr/bin/env python3
-"""Errors, types, operators, folds and forms are defined once, in include/hivevigil.h, and the version in VERSION: looks that
-each language has the same.
+"""Errors, types, operators, folds and forms are defined once, in include/hivevigil.h, and the version in VERSION: looks
+that each language has the same.
 
     python3 tools/lists.py      names what differs; ends in the count of what agrees
 

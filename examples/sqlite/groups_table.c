@@ -76,7 +76,7 @@ static int close_cursor(sqlite3_vtab_cursor *base) {
     return SQLITE_OK;
 }
 
-/* Why the columns are not grouped, in a sentence, or null for want of memory. */
+/* Returns why the columns are not grouped, in a sentence, or null where memory ran out. */
 static char *why(int32_t answer, const hv_error *error, const hv_column *values) {
     const uint8_t kind = hv_kind_of(values).number;
     if (answer == HV_CAST_OUT_OF_RANGE)
