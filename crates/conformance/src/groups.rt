@@ -304,8 +304,19 @@ fn are_answers<A: Allocator + Copy>(
         (4, None, answers[1]),
         (5, Some(1), answers[2]),
     ];
-    match fold_by(&keys, &values, fold, ctx) {
-        Ok(groups) => Ok(are_groups(&groups, &wanted)),
+    are_folded(&keys, &values, fold, &wanted, ctx)
+}
+
+// Do the groups of these columns have these ends, keys and answers?
+fn are_folded<A: Allocator + Copy>(
+    keys: &ArrayRef<A>,
+    values: &ArrayRef<A>,
+    fold: GroupFold,
+    wanted: &[Group],
+    ctx: &mut ExecutionCtx<A>,
+) -> VortexResult<bool> {
+    match fold_by(keys, values, fold, ctx) {
+        Ok(groups) => Ok(are_groups(&groups, wanted)),
         Err(GroupError::Refused(error)) => Err(error),
         Err(_) => Ok(false),
     }
