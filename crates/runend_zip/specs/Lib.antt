@@ -1,0 +1,5 @@
+pub mod Zipped
+pub mod Operations
+pub mod Runs
+pub mod Answers
+pub mod Faults
