@@ -150,7 +150,7 @@ python_with() {
     return 1
 }
 if has "$cxx" && { model=$(has protoc && python_with google.protobuf) || model=$(python_with csv); }; then
-    run "program/test.py" program_as program "" "--files 25 --messages 300"
+    run "program/test.py" program_as shipped "" "--files 25 --messages 300"
     [ "$arrow_how" ] && run "program/test.py$arrow_how" program_as watched "$watched" "--files 6 --messages 100"
 else
     skip "the program" "$cxx and Python"
