@@ -1,3 +1,7 @@
+pub mod KnownInput
+pub mod WordSplits
+pub mod ListedRows
+pub mod CountedReads
 pub mod Sessions
 pub mod Replies
 pub mod Outcomes

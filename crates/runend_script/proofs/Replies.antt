@@ -8,7 +8,7 @@ use Rattle.runend_commands.specs.declared.command.Answer.{Answer}
 use Rattle.runend_commands.specs.declared.command.Answer.TheVariants as answer
 use Rattle.runend_commands.specs.Step.{IsStep}
 use Rattle.runend_commands.proofs.KeptArrays.{kept_unless_done}
-use Rattle.script_answers.specs.AnswerLine.{HasLine}
+use Rattle.runend_script.specs.AnswerLine.{HasLine}
 use Rattle.runend_script.specs.Replies.{IsKeptOrStep, IsReplyTo, Tells}
 use Rattle.runend_script.specs.declared.scripts.Reply.{Reply}
 use Rattle.runend_script.specs.declared.scripts.Reply.TheVariants.{Line, Silent, Done, Bad}

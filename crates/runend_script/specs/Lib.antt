@@ -1,3 +1,8 @@
+pub mod AnswerLine
+pub mod Words
+pub mod Rows
+pub mod Scalars
+pub mod Reads
 pub mod Listed
 pub mod Session
 pub mod Replies

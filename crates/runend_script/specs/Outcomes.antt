@@ -2,7 +2,7 @@
 use Rattle.std.specs.Prelude.{IfOk, Result}
 use Rattle.column_base.specs.declared.error.VortexError.{VortexError}
 use Rattle.runend_array.specs.declared.array_ref.ArrayRef.{ArrayRef}
-use Rattle.script_text.specs.Words.{words_of}
+use Rattle.runend_script.specs.Words.{words_of}
 use Rattle.runend_script.specs.Lengthened.{IsAppended, IsRepeated}
 use Rattle.runend_script.specs.Replies.{IsKeptOrStep}
 use Rattle.runend_script.specs.declared.command.ScriptCommand.{ScriptCommand}

@@ -9,7 +9,7 @@ use Rattle.runend_commands.specs.declared.command.Command.{Command}
 use Rattle.runend_commands.specs.declared.command.Answer.{Answer}
 use Rattle.runend_commands.specs.declared.command.Answer.TheVariants as answer
 use Rattle.runend_commands.specs.Step.{IsStep}
-use Rattle.script_answers.specs.AnswerLine.{answer_text}
+use Rattle.runend_script.specs.AnswerLine.{answer_text}
 use Rattle.runend_script.specs.declared.scripts.Reply.{Reply}
 use Rattle.runend_script.specs.declared.scripts.Reply.TheVariants.{Line, Done}
 

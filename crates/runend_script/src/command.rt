@@ -1,7 +1,7 @@
 //! The commands of the script.
+use crate::words::Words;
 use column_base::{Nullability, PType};
 use column_words::{parse_count, parse_ptype, parse_type};
-use script_text::Words;
 
 /// The word between the ends and the values of a `runs` line.
 pub const SLASH: &str = "/";

@@ -1,14 +1,21 @@
 //! Scripts of commands on a column: their lines are read, done, and answered by a line each.
 #![tactic(auto)]
 
+mod answer;
 mod command;
+mod input;
 mod lengthened;
 mod message;
+mod output;
+mod reads;
 mod record;
 mod scripts;
 mod serving;
 mod session;
 mod shown;
+mod values;
+mod words;
 
+pub use answer::answer_line;
 pub use scripts::{ScriptAnswer, script};
 pub use serving::serve;

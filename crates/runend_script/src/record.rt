@@ -4,9 +4,9 @@ ghost use Rattle.std.specs.String.{string_bytes};
 ghost use Rattle.runend_metadata.specs.EndsType.{IsEndsTypeNumber};
 ghost use Rattle.runend_script.specs.Messages.{bytes_text};
 
+use crate::words::Words;
 use column_base::{VortexError, VortexResult};
 use column_words::{name_of, parse_bytes, push_bytes};
-use script_text::Words;
 use std::alloc::{AllocError, Allocator};
 use vortex_runend::{ArrayRef, ExecutionCtx, RunEndMetadata, serialize};
 

@@ -1,9 +1,11 @@
 //! Reads a whole script, and writes its answers or the reason why there are none.
 ghost use Rattle.std.specs.Prelude.{◌≡◌, ◌⊎◌};
-ghost use Rattle.script_text.specs.Reads.{IsReadWithin};
+ghost use Rattle.runend_script.specs.Reads.{IsReadWithin};
 
+use crate::input::{Failure, read_input};
+use crate::output::{Status, print, report};
+use crate::reads::LimitedReads;
 use crate::scripts::answer_script;
-use script_text::{Failure, LimitedReads, Status, print, read_input, report};
 use std::alloc::Allocator;
 use std::io::{Read, Write};
 use std::str;

@@ -2,9 +2,9 @@
 ghost use Rattle.std.specs.Prelude.{◌≡◌, ◌++◌, ◌∷◌, [], OnErr, OnOk};
 ghost use Rattle.std.specs.String.{string_bytes};
 
+use crate::answer::push_word;
 use column_base::{DType, VortexError, VortexResult};
 use column_words::{is_null_or_number, name_of, push_marked};
-use script_answers::push_word;
 use std::alloc::{AllocError, Allocator};
 use vortex_runend::{
     ArrayRef, ConstantArray, RunEndArray, RunEndArrayExt, RunEndArraySlotsExt, ScalarView,

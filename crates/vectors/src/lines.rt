@@ -1,17 +1,18 @@
 //! The lines of a file of vectors: what each asks is done, and its answer is counted.
 ghost use Rattle.std.specs.Prelude.{◌≡◌, IfOk, OnErr, IsOkUnless};
-ghost use Rattle.vector_calls.specs.Outcomes.{ChangesNothing};
+ghost use Rattle.vector_lines.specs.Outcomes.{ChangesNothing};
 
 use crate::refuse::{Found, refused_in_turn, refused_one};
 use crate::workspace::{Heap, Workspace};
 use column_base::VortexResult;
 use std::alloc::Allocator;
-use vector_answers::{push_dtype, push_form, push_refusal, push_rows, push_stored};
-use vector_calls::{CallResult, Reply, prepare, read_validity, set_kernels, set_thresholds};
-use vector_columns::{Columns, flat_column, invalid_column, raw_column, scalar_of};
+use vector_lines::request::{self, Look, Plain, Request};
+use vector_lines::{
+    CallResult, Columns, LineError, LineResult, Reply, flat_column, invalid_column, prepare,
+    push_dtype, push_form, push_refusal, push_rows, push_stored, raw_column, read_request,
+    read_validity, scalar_of, set_kernels, set_thresholds,
+};
 use vector_report::{Line, Report, read_line};
-use vector_words::request::{self, Look, Plain, Request};
-use vector_words::{LineError, LineResult, read_request};
 use vortex_runend::{
     ArrayRef, ConstantArray, ExecutionCtx, RunEndArraySlotsExt, VortexError, default_thresholds,
 };

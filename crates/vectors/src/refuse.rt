@@ -6,10 +6,10 @@ use crate::lines::reply_text;
 use crate::workspace::{Heap, Plan, Workspace};
 use column_base::VortexResult;
 use std::alloc::Allocator;
-use vector_answers::push_form;
-use vector_calls::{CallResult, ListReply, Reply, copy_session, prepare, prepare_list};
-use vector_columns::Columns;
-use vector_words::{LineError, LineResult, request};
+use vector_lines::{
+    CallResult, Columns, LineError, LineResult, ListReply, Reply, copy_session, prepare,
+    prepare_list, push_form, request,
+};
 use vortex_runend::{ArrayRef, ExecutionCtx, VortexError};
 
 /// What came of a call with requests for memory refused.

@@ -3,8 +3,7 @@ use bumpalo::Bump;
 use column_base::VortexResult;
 use refusing::Refusing;
 use std::alloc::Global;
-use vector_calls::crate_session;
-use vector_columns::Columns;
+use vector_lines::{Columns, crate_session};
 use vortex_runend::ExecutionCtx;
 
 /// The memory of columns, which may refuse requests.

@@ -2,7 +2,7 @@ use Rattle.std.proofs.Common.{◌≡◌, ◌∙◌, None, refl, sym, subst}
 use Rattle.std.proofs.lemmas.Iterator.Consumers.{YieldsList-from_first}
 use Rattle.column_base.specs.declared.dtype.DType.TheVariants as column
 use Rattle.runend_array.specs.Array.{dtype_of, rows}
-use Rattle.script_text.specs.Words.{words_of}
+use Rattle.runend_script.specs.Words.{words_of}
 use Rattle.runend_script.specs.Lengthened.{IsAppended, IsLengthened, ListsRows}
 use Rattle.runend_script.proofs.RowsBehind.{appended_done, appended_refused, passed_on}
 use Rattle.runend_script.proofs.scripts.append_reply.Goals as goal

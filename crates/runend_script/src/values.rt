@@ -1,0 +1,200 @@
+//! The values that a line of the script lists.
+ghost use Rattle.std.specs.Prelude.{◌≡◌, ◌↔◌, List, ℕ, length, map, option_map, IfOk, IfSome, IsOkUnless, IsSome};
+ghost use Rattle.std.specs.Iterator.{AlwaysYields, IsFinite};
+ghost use Rattle.column_base.specs.Numbers.{numbers, ptype_of};
+ghost use Rattle.column_base.specs.ValidityForm.{HasLength, nullability_in};
+ghost use Rattle.column_base.specs.Validity.{form_of};
+ghost use Rattle.column_base.specs.Mask.{mask_bits, IsNormalMask};
+ghost use Rattle.column_core.specs.Optionals.{optionals};
+ghost use Rattle.column_words.specs.Bits.{IsBitWord, bit_word};
+ghost use Rattle.runend_script.specs.Rows.{PushesRows, ReadsNumber, ReadsRows, ReadsValue, parsed_rows};
+ghost use Rattle.runend_script.specs.Scalars.{ReadsOwned, ReadsScalar};
+
+use crate::words::Words;
+use column_base::{
+    BitBufferMut, DType, Mask, NativePType, Nullability, PType, PrimitiveValues, Validity,
+    VortexError, VortexResult,
+};
+use column_core::{PrimitiveArray, Scalar, ScalarValue};
+use column_words::{parse_bits, parse_integer};
+use std::alloc::Allocator;
+
+/// Stored numbers, and which rows of them are there.
+#[derive(Drop)]
+pub struct ParsedRows<A: Allocator> {
+    pub numbers: PrimitiveValues<A>,
+    pub validity: Validity<A>,
+}
+
+/// The rows that the words stand for, in order, or `None` exactly where one of them stands for no row of the type.
+/// Under null the number 0 is stored. Refused as `OutOfMemory` alone.
+pub fn read_values<'a, I: Iterator<Item = &'a str> + Drop, A: Allocator + Copy>(
+    alloc: A,
+    ptype: PType,
+    nullability: Nullability,
+    words: I,
+) -> VortexResult<Option<ParsedRows<A>>>
+    requires can { I.can_next words }
+    requires finite { IsFinite (I.remaining words) }
+    ensures only { IsOkUnless result VortexError.OutOfMemory }
+    ensures typed { IfOk result (λ read. IfSome read (λ listed. ptype_of listed.numbers ≡ ptype)) }
+    ensures nullable { IfOk result (λ read. IfSome read
+        (λ listed. nullability_in (form_of listed.validity) ≡ nullability)) }
+    ensures counted { IfOk result (λ read. IfSome read (λ listed.
+        HasLength (form_of listed.validity) (length (numbers listed.numbers)))) }
+    ensures rows { (taken : List (List ℕ)) → AlwaysYields I.next_gives (λ word. word.now) words taken →
+        IfOk result (λ read. ReadsRows ptype nullability taken (option_map parsed_rows read)) }
+{
+    match ptype {
+        PType::U8 => read_natives::<u8, I, A>(alloc, nullability, words),
+        PType::U16 => read_natives::<u16, I, A>(alloc, nullability, words),
+        PType::U32 => read_natives::<u32, I, A>(alloc, nullability, words),
+        PType::U64 => read_natives::<u64, I, A>(alloc, nullability, words),
+        PType::I8 => read_natives::<i8, I, A>(alloc, nullability, words),
+        PType::I16 => read_natives::<i16, I, A>(alloc, nullability, words),
+        PType::I32 => read_natives::<i32, I, A>(alloc, nullability, words),
+        PType::I64 => read_natives::<i64, I, A>(alloc, nullability, words),
+    }
+}
+
+/// The scalar that the word stands for: null of the nullable type for `null`, whether rows may be null or
+/// not, and otherwise the number, in the type of the rows. `None` where the word is neither `null` nor a
+/// number of the type, or the rows are no integers.
+pub fn read_scalar<A: Allocator>(dtype: DType, word: &str) -> Option<Scalar<A>>
+    ensures { ReadsScalar dtype word.now result }
+{
+    let DType::Primitive(ptype, _) = dtype else {
+        return None;
+    };
+    if word == "null" {
+        return Scalar::try_new(DType::Primitive(ptype, Nullability::Nullable), None).ok();
+    }
+    let value = read_number(ptype, word)?;
+    Scalar::try_new(dtype, Some(value)).ok()
+}
+
+// The owned value of the word's number, where the widest type of that sign has it.
+fn read_number<A: Allocator>(ptype: PType, word: &str) -> Option<ScalarValue<A>>
+    ensures { ReadsOwned ptype word.now result }
+{
+    let number = parse_integer(word)?;
+    if ptype.is_unsigned_int() {
+        return Some(ScalarValue::Unsigned(u64::narrow(number)?));
+    }
+    Some(ScalarValue::Signed(i64::narrow(number)?))
+}
+
+/// The mask of the bits of the word, by `Mask::from_buffer`: a row for each `0` or `1`, selected where it
+/// is `1`. `None` where a byte is neither. Refused as `OutOfMemory` alone.
+pub fn read_mask<A: Allocator + Copy>(alloc: A, word: &str) -> VortexResult<Option<Mask<A>>>
+    ensures only { IsOkUnless result VortexError.OutOfMemory }
+    ensures bits { IfOk result (λ read. IfSome read (λ mask. (bit_word (mask_bits mask) ≡ word.now) ×
+        IsNormalMask mask)) }
+    ensures found { IfOk result (λ read. IsSome read ↔ IsBitWord word.now) }
+{
+    let Some(bits) = parse_bits(alloc, word)? else {
+        return Ok(None);
+    };
+    Ok(Some(Mask::from_buffer(bits)))
+}
+
+/// The indices that the words stand for, in `i64`, where `null` is a null index over a stored 0. They are
+/// nullable where a word is `null`. `None` where a word is neither `null` nor a number of `i64`. Refused as
+/// `OutOfMemory` alone.
+pub fn read_indices<A: Allocator + Copy>(
+    alloc: A,
+    words: Words<'_>,
+) -> VortexResult<Option<PrimitiveArray<A>>>
+    ensures only { IsOkUnless result VortexError.OutOfMemory }
+    ensures typed { IfOk result (λ read. IfSome read (λ indices. indices.ptype ≡ PType.I64)) }
+{
+    let mut nulls = words;
+    let nullability = match nulls.find(|word| *word == "null") {
+        Some(_) => Nullability::Nullable,
+        None => Nullability::NonNullable,
+    };
+    let Some(listed) = read_values(alloc, PType::I64, nullability, words)? else {
+        return Ok(None);
+    };
+    let indices = PrimitiveArray::new_unchecked(listed.numbers, listed.validity);
+    Ok(Some(indices))
+}
+
+fn read_natives<'a, T: NativePType, I: Iterator<Item = &'a str> + Drop, A: Allocator + Copy>(
+    alloc: A,
+    nullability: Nullability,
+    words: I,
+) -> VortexResult<Option<ParsedRows<A>>>
+    requires can { I.can_next words }
+    requires finite { IsFinite (I.remaining words) }
+    ensures only { IsOkUnless result VortexError.OutOfMemory }
+    ensures typed { IfOk result (λ read. IfSome read (λ listed. ptype_of listed.numbers ≡ T.PTYPE)) }
+    ensures nullable { IfOk result (λ read. IfSome read
+        (λ listed. nullability_in (form_of listed.validity) ≡ nullability)) }
+    ensures counted { IfOk result (λ read. IfSome read (λ listed.
+        HasLength (form_of listed.validity) (length (numbers listed.numbers)))) }
+    ensures rows { (taken : List (List ℕ)) → AlwaysYields I.next_gives (λ word. word.now) words taken →
+        IfOk result (λ read. ReadsRows T.PTYPE nullability taken (option_map parsed_rows read)) }
+{
+    let mut items = Vec::new(alloc);
+    let mut valid = BitBufferMut::with_capacity(alloc, 0)?;
+    let read = push_rows::<T, I, A>(&mut items, &mut valid, nullability, words);
+    if let Ok(true) = read {
+        let validity = match nullability {
+            Nullability::NonNullable => Validity::NonNullable,
+            Nullability::Nullable => Validity::from_bits(valid.freeze()),
+        };
+        let numbers = T::wrap(items);
+        return Ok(Some(ParsedRows { numbers, validity }));
+    }
+    drop(items);
+    drop(valid);
+    read?;
+    Ok(None)
+}
+
+// Puts the rows that the words stand for behind the items, and whether they are there behind the flags. False
+// where a word stands for no row of the type.
+fn push_rows<'a, T: NativePType, I: Iterator<Item = &'a str> + Drop, A: Allocator + Copy>(
+    items: &mut Vec<T, A>,
+    valid: &mut BitBufferMut<A>,
+    nullability: Nullability,
+    words: I,
+) -> VortexResult<bool>
+    requires can { I.can_next words }
+    requires finite { IsFinite (I.remaining words) }
+    requires counted { length items.old.items ≡ length valid.old }
+    ensures only { IsOkUnless result VortexError.OutOfMemory }
+    ensures counted { IfOk result (λ found. length items.new.items ≡ length valid.new) }
+    ensures rows { (taken : List (List ℕ)) → AlwaysYields I.next_gives (λ word. word.now) words taken →
+        IfOk result (λ found. PushesRows T.PTYPE nullability taken (optionals (map T.number items.old.items) valid.old)
+        found (optionals (map T.number items.new.items) valid.new)) }
+{
+    for word in words {
+        let Some(row) = parse_row::<T>(word, nullability) else {
+            return Ok(false);
+        };
+        valid.append(row.is_some())?;
+        items.push(row.unwrap_or_default())?;
+    }
+    Ok(true)
+}
+
+// The row that a word stands for: `Some(None)` for `null` where rows may be null, otherwise the
+// number as `parse_native` reads it. `None` where the word stands for no row of the type.
+fn parse_row<T: NativePType>(word: &str, nullability: Nullability) -> Option<Option<T>>
+    ensures { ReadsValue T.number T.PTYPE nullability word.now result }
+{
+    if nullability == Nullability::Nullable && word == "null" {
+        return Some(None);
+    }
+    Some(Some(parse_native(word)?))
+}
+
+// The value of the number that a word stands for, exactly where the word is an optional minus and
+// decimal digits, and the type has the number.
+fn parse_native<T: NativePType>(word: &str) -> Option<T>
+    ensures { ReadsNumber T.number T.PTYPE word.now result }
+{
+    T::narrow(parse_integer(word)?)
+}

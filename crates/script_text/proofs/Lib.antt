@@ -1,4 +1,0 @@
-pub mod KnownInput
-pub mod WordSplits
-pub mod ListedRows
-pub mod CountedReads

@@ -1,9 +1,0 @@
-use Rattle.std.proofs.Common.{◌≡◌, length}
-use Rattle.script_text.specs.Words.{words_of}
-use Rattle.script_text.proofs.words.WordsIterator.next.Given as goal
-
-abbrev pub invariant-loop-word : goal.invariant-loop-word
-invariant-loop-word l = words_of l.self.rest.now ≡ words_of l.initial.self.rest.now
-
-abbrev pub decreases-loop-word : goal.decreases-loop-word
-decreases-loop-word l = length l.self.rest.now

@@ -1,4 +1,0 @@
-pub mod Words
-pub mod Rows
-pub mod Scalars
-pub mod Reads

@@ -1,0 +1,29 @@
+//! The calls that lines of vectors ask for: what they are given, what comes of them, and the session they run in.
+#![tactic(auto)]
+
+mod arguments;
+mod calls;
+mod columns;
+mod commands;
+mod flats;
+mod line_error;
+mod lists;
+mod makers;
+mod names;
+mod printer;
+mod reader;
+pub mod request;
+mod session;
+mod session_words;
+mod stored;
+mod types;
+mod values;
+
+pub use arguments::{prepare, prepare_list, read_validity};
+pub use calls::{Call, CallResult, ListReply, Maker, Reply, Task};
+pub use columns::Columns;
+pub use flats::{flat_column, invalid_column, raw_column, scalar_of};
+pub use line_error::{LineError, LineResult};
+pub use printer::{push_dtype, push_form, push_refusal, push_rows, push_stored};
+pub use reader::read_request;
+pub use session::{copy_session, crate_session, set_kernels, set_thresholds};
