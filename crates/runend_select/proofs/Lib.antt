@@ -7,6 +7,10 @@ pub mod Grown
 pub mod Filtered
 pub mod TakenRuns
 pub mod KeptColumn
+pub mod LeastColumn
+pub mod LeastParts
+pub mod LeastSoFar
+pub mod MarkedRuns
 pub mod AllNull
 pub mod SelectLaws
 pub mod Forms

@@ -1,4 +1,7 @@
+pub mod WordRanks
 pub mod KeptRuns
+pub mod LeastSelected
+pub mod Shown
 pub mod RunsOf
 pub mod FilterForm
 pub mod TakeForm

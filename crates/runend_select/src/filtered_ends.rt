@@ -132,14 +132,15 @@ fn filtered_ends<E: UnsignedPType, A: Allocator + Copy>(
     Ok((kept_ends, kept))
 }
 
-// Puts an end behind the others where its run is kept. It is written in any case, and cut off again where it is not: no
-// branch depends on the mask, which nobody foresees.
+/// Appends an item of a run where that run is kept. It is written in any case, and cut off again where it is not: no
+/// branch depends on the mask, which nobody foresees.
 #[inline(always)]
-fn push_where<E: Copy + Drop, A: Allocator>(ends: &mut Vec<E, A>, end: E, is_kept: bool)
+pub(crate) fn push_where<E: Copy + Drop, A: Allocator>(ends: &mut Vec<E, A>, end: E, is_kept: bool)
     requires { vec_len ends.old < vec_capacity ends.old }
     ensures kept { is_kept ≡ true → ends.new.items ≡ ends.old.items ++ end ∷ [] }
     ensures dropped { is_kept ≡ false → ends.new.items ≡ ends.old.items }
     ensures few { vec_len ends.new ≤ vec_len ends.old + 1 }
+    ensures fewer { is_kept ≡ false → vec_len ends.new ≤ vec_len ends.old }
     ensures capacity { vec_capacity ends.old ≤ vec_capacity ends.new }
 {
     let count = ends.len() + usize::from(is_kept);
@@ -147,9 +148,9 @@ fn push_where<E: Copy + Drop, A: Allocator>(ends: &mut Vec<E, A>, end: E, is_kep
     ends.truncate(count);
 }
 
-// So many rows, as an end.
+/// Makes an end of a number of rows.
 #[inline(always)]
-fn end_of<E: NativePType>(rows: usize) -> E
+pub(crate) fn end_of<E: NativePType>(rows: usize) -> E
     requires { HasNumber E.PTYPE (pos rows) }
     ensures { E.number result ≡ pos rows }
 {

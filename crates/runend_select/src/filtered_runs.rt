@@ -17,6 +17,7 @@ ghost use Rattle.runend_visible.specs.MinimalForm.{AreMinimalRuns, IsMinimalForm
 ghost use Rattle.runend_visible.specs.VisibleForm.{visible_values as values_of_visible};
 
 use crate::filtered_ends::filter_ends;
+use crate::least_selected::least_selected;
 use array_rowwise::{select_values, selected_by};
 use column_core::{BitBuffer, Mask, PrimitiveArray, VortexError, VortexResult, is_number_type};
 use runend_array::{ArrayRef, RunEnd, RunEndArray, RunEndArrayExt, RunEndArraySlotsExt, array_of};
@@ -137,9 +138,60 @@ fn numbers_in<A: Allocator + Copy>(values: ArrayRef<A>) -> PrimitiveArray<A>
     }
 }
 
-// The runs with a selected row, of integers and in minimal form: runs that a dropped one divided may be
-// equal neighbours now.
+// The runs with a selected row, of integers and in minimal form.
 fn least_kept<A: Allocator + Copy>(
+    alloc: A,
+    array: &RunEndArray<A>,
+    bits: &BitBuffer<A>,
+) -> VortexResult<RunEndArray<A>>
+    requires masked { length bits.now ≡ array.now.count }
+    requires numbers { is_numbers (column_dtype array.now.values) ≡ true }
+    ensures only { IsOkUnless result VortexError.OutOfMemory }
+    ensures rows { IfOk result (λ kept. column_rows (column_of_runs kept) ≡
+        filter_rows bits.now (column_rows (column_of_runs array.now))) }
+    ensures dtype { IfOk result (λ kept. column_dtype kept.values ≡ column_dtype array.now.values) }
+    ensures form { IfOk result (λ kept. AreMinimalRuns array.now.ends_type kept) }
+{
+    match array.values() {
+        ArrayRef::Primitive(values) => kept_in_one_pass(alloc, array, values, bits),
+        _ => kept_and_joined(alloc, array, bits),
+    }
+}
+
+// The same, of runs whose values are stored one by one.
+fn kept_in_one_pass<A: Allocator + Copy>(
+    alloc: A,
+    array: &RunEndArray<A>,
+    values: &PrimitiveArray<A>,
+    bits: &BitBuffer<A>,
+) -> VortexResult<RunEndArray<A>>
+    requires masked { length bits.now ≡ array.now.count }
+    requires stored { array.now.values ≡ OfLeaf (OfNumbers values.now) }
+    ensures only { IsOkUnless result VortexError.OutOfMemory }
+    ensures rows { IfOk result (λ kept. column_rows (column_of_runs kept) ≡
+        filter_rows bits.now (column_rows (column_of_runs array.now))) }
+    ensures dtype { IfOk result (λ kept. column_dtype kept.values ≡ column_dtype array.now.values) }
+    ensures form { IfOk result (λ kept. AreMinimalRuns array.now.ends_type kept) }
+{
+    let ends = match array.ends() {
+        ArrayRef::Primitive(plain) => plain,
+        _ => unreachable!(),
+    };
+    let (least_ends, least_values) = least_selected(
+        alloc,
+        ends,
+        values,
+        array.offset(),
+        array.len(),
+        bits,
+    )?;
+    let kept_ends = ArrayRef::Primitive(least_ends);
+    let kept_values = ArrayRef::Primitive(least_values);
+    Ok(RunEnd::new_unchecked(kept_ends, kept_values, 0, bits.true_count()))
+}
+
+// The same in two steps, of values in any form: runs that a dropped one divided may be equal neighbours now.
+fn kept_and_joined<A: Allocator + Copy>(
     alloc: A,
     array: &RunEndArray<A>,
     bits: &BitBuffer<A>,

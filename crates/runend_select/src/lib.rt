@@ -5,6 +5,8 @@ mod filtered_ends;
 mod filtered_runs;
 mod filters;
 pub mod laws;
+mod least_selected;
+mod one_pass;
 mod positions;
 mod rank;
 mod taken_runs;

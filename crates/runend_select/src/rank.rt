@@ -1,8 +1,9 @@
 //! How many of the first bits are true, counted on from place to later place, so that whole words are
 //! counted once.
-ghost use Rattle.std.specs.Prelude.{◌≡◌, ◌-◌, ◌*◌, ◌/◌, ◌^◌, ◌<◌, ◌≤◌, count_by, length, take};
+ghost use Rattle.std.specs.Prelude.{◌≡◌, ◌-◌, ◌*◌, ◌/◌, ◌^◌, ◌<◌, ◌≤◌, IfOk, IsOkUnless, count_by, length, take};
+ghost use Rattle.runend_select.specs.WordRanks.{AreWordRanks};
 
-use column_core::BitBuffer;
+use column_core::{BitBuffer, VortexError, VortexResult};
 use std::alloc::Allocator;
 
 /// How many of the bits before the word of `place` are true, where `before` of those before word `index`
@@ -53,4 +54,35 @@ pub(crate) fn rank_within_word<A: Allocator>(
         return before;
     }
     before + (words[index] & low_mask(place % 64)).count_ones() as usize
+}
+
+/// Counts how many of the bits before each word of 64 are true, for the word of any place up to their end. Refused only
+/// as `OutOfMemory`.
+pub(crate) fn word_ranks<A: Allocator + Copy>(
+    alloc: A,
+    bits: &BitBuffer<A>,
+) -> VortexResult<Vec<usize, A>>
+    ensures only { IsOkUnless result VortexError.OutOfMemory }
+    ensures ranks { IfOk result (λ ranks. AreWordRanks bits.now ranks.items) }
+{
+    let words = bits.words();
+    let whole = bits.len() / 64;
+    let mut ranks = Vec::with_capacity(alloc, whole + 1)?;
+    let mut rank = 0;
+    ranks.push_reserved(0);
+    for word in 0..whole {
+        rank += words[word].count_ones() as usize;
+        ranks.push_reserved(rank);
+    }
+    Ok(ranks)
+}
+
+/// Returns how many of the bits before `place` are true, by the ranks of their words.
+#[inline(always)]
+pub(crate) fn rank_of<A: Allocator>(bits: &BitBuffer<A>, ranks: &[usize], place: usize) -> usize
+    requires within { place ≤ length bits.now }
+    requires ranks { AreWordRanks bits.now ranks.now }
+    ensures { result ≡ count_by (λ bit. bit) (take place bits.now) }
+{
+    rank_within_word(bits, ranks[place / 64], place)
 }

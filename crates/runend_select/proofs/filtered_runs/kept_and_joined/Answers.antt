@@ -16,7 +16,7 @@ use Rattle.runend_visible.specs.MinimalForm.{AreMinimalRuns}
 use Rattle.array_rowwise.proofs.ComputedRows.{ok_then}
 use Rattle.runend_select.proofs.MinimalForms.{flat_of_computed}
 use Rattle.array_rowwise.proofs.PassedOn.{no_value, only_error}
-use Rattle.runend_select.proofs.filtered_runs.least_kept.Goals as goal
+use Rattle.runend_select.proofs.filtered_runs.kept_and_joined.Goals as goal
 
 pub numbers_in-numbers-requires : goal.numbers_in-numbers-requires
 numbers_in-numbers-requires g c =
