@@ -29,13 +29,13 @@ use Rattle.runend_commands.specs.declared.command.Answer.TheVariants.{Done}
 use Rattle.runend_commands.specs.declared.command.Command.{Command}
 use Rattle.runend_commands.specs.declared.command.Command.TheVariants.{Slice, Filter, Take, TakeFrom, CompareScalar, CompareColumn, Cast, FillNull, Encode, Decode, At, Sum, MinMax, IsConstant, IsSorted}
 use Rattle.runend_commands.proofs.Kept.{decide_kept}
-use Rattle.runend_encode_rows.specs.Encoded.{IsConstantForm}
+use Rattle.runend_builder.specs.Encoded.{IsConstantForm}
 use Rattle.runend_map.specs.Codes.{keeps_runs}
 use Rattle.runend_map.specs.ComparisonForm.{IsComparisonForm}
 use Rattle.runend_map.specs.TakenForm.{TakeFromLeaves}
 use Rattle.runend_select.specs.FilterForm.{AreLeftRuns, IsFilterForm, IsSelectedForm, IsWholeForm, TakesDirectly}
 use Rattle.runend_select.specs.TakeForm.{TakeLeaves}
-use Rattle.runend_visible.specs.MinimalForm.{IsMinimalForm, IsRunForm}
+use Rattle.runend_column.specs.MinimalForm.{IsMinimalForm, IsRunForm}
 use Rattle.c_columns.specs.Calls.{LeavesShape}
 use Rattle.c_columns.specs.Forms.{AreLeastRuns, IsLeastIfRuns, LeavesLeast}
 

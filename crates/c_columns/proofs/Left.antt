@@ -27,7 +27,7 @@ use Rattle.runend_map.specs.ComparisonForm.{IsComparisonForm}
 use Rattle.runend_map.specs.TakenForm.{TakeFromLeaves}
 use Rattle.runend_select.specs.FilterForm.{IsFilterForm}
 use Rattle.runend_select.specs.TakeForm.{TakeLeaves}
-use Rattle.runend_visible.specs.MinimalForm.{IsRunForm}
+use Rattle.runend_column.specs.MinimalForm.{IsRunForm}
 use Rattle.runend_commands.specs.declared.command.Command.{Command}
 use Rattle.runend_commands.specs.declared.command.Command.TheVariants.{Slice, Filter, Take, TakeFrom, CompareScalar, CompareColumn, Cast, FillNull, Encode, Decode, At, Sum, MinMax, IsConstant, IsSorted}
 use Rattle.runend_commands.specs.declared.command.Answer.{Answer}
@@ -35,7 +35,7 @@ use Rattle.runend_commands.specs.declared.command.Answer.TheVariants.{Done, Refu
 use Rattle.runend_commands.specs.KernelForms.{ByKernel, HasKernel, LeavesByKernel, OnRuns}
 use Rattle.runend_commands.specs.Kept.{LeavesKept}
 use Rattle.runend_commands.proofs.Kept.{constant_if_kept}
-use Rattle.runend_encode_rows.specs.Encoded.{IsConstantForm}
+use Rattle.runend_builder.specs.Encoded.{IsConstantForm}
 use Rattle.runend_commands.specs.Meaning.{IsAnswer, LeavesForm, plain}
 use Rattle.runend_commands.specs.Step.{IsDone}
 use Rattle.c_columns.specs.Calls.{Leaves, LeavesShape}

@@ -29,7 +29,7 @@ use Rattle.runend_commands.specs.KernelForms.{ByKernel, HasKernel, OnRuns}
 use Rattle.runend_commands.specs.Kept.{AreConstants, LeavesKept}
 use Rattle.runend_commands.specs.declared.command.Answer.TheVariants.{Done}
 use Rattle.runend_commands.specs.declared.command.Command.TheVariants.{CompareColumn, Filter, Take, TakeFrom}
-use Rattle.runend_encode_rows.specs.Encoded.{IsConstantForm}
+use Rattle.runend_builder.specs.Encoded.{IsConstantForm}
 use Rattle.runend_map.specs.Codes.{keeps_runs}
 use Rattle.runend_map.specs.ComparisonForm.{IsComparisonForm}
 use Rattle.runend_map.specs.TakenForm.{TakeFromLeaves}

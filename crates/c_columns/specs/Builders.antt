@@ -15,7 +15,7 @@ use Rattle.column_core.specs.Value.{Single, Value}
 use Rattle.runend_array.specs.Array.{column_of, dtype_of, rows}
 use Rattle.runend_array.specs.Column.{Column, Runs, column_dtype, column_of_runs}
 use Rattle.runend_array.specs.declared.array_ref.ArrayRef.{ArrayRef}
-use Rattle.runend_encode_rows.specs.Encoded.{IsEncodedRows}
+use Rattle.runend_builder.specs.Encoded.{IsEncodedRows}
 use Rattle.runend_builder.specs.Builder.{Built, append_fault, built_with}
 use Rattle.runend_builder.specs.contracts.builder.RunBuilder as builder
 use Rattle.c_columns.specs.Ending.{EndsBy, EndsUnless}

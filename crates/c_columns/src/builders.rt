@@ -4,7 +4,7 @@ ghost use Rattle.column_core.specs.Kinds.{list_fault};
 ghost use Rattle.column_core.specs.Refusal.{IsRefusedBy};
 ghost use Rattle.runend_array.specs.Array.{column_of, rows};
 ghost use Rattle.runend_builder.specs.Builder.{built_with};
-ghost use Rattle.runend_encode_rows.specs.Encoded.{IsEncodedRows};
+ghost use Rattle.runend_builder.specs.Encoded.{IsEncodedRows};
 ghost use Rattle.std_alloc.specs.Arc.{arc_value};
 ghost use Rattle.c_columns.specs.Builders.{AreBuilt, AreEncoded, PassedAppendFault, column_append_fault, encoding_fault, passed_row, with_rows};
 ghost use Rattle.c_columns.specs.Ending.{IsShortOr};
@@ -15,8 +15,7 @@ use crate::runs::{boxed_runs, no_ends, no_runs};
 use crate::sessions::plain_context;
 use column_core::{DType, VortexError, VortexResult};
 use runend_array::{ArrayRef, RunEndArray};
-use runend_builder::RunBuilder;
-use runend_encode_rows::encode_rows;
+use runend_builder::{RunBuilder, encode_rows};
 use std::alloc::Global;
 use std::sync::Arc;
 

@@ -28,10 +28,10 @@ use Rattle.column_fields.proofs.LengthLaws.{lengths_cons}
 use Rattle.column_fields.proofs.ListFieldLaws.{list_fields_long}
 use Rattle.column_fields.proofs.RunFieldLaws.{run_fields_long}
 use Rattle.column_fields.proofs.SizeLaws.{bits_long, bytes_long, header_long, number_long}
-use Rattle.text_fields.specs.Texts.{shown_row, sizes_bytes, text_bytes, text_fields, text_sizes}
-use Rattle.text_fields.proofs.Packing.{count-sizes}
-use Rattle.text_fields.proofs.Sizes.{sizes_cons}
-use Rattle.text_fields.proofs.TextLaws.{text_fields_long}
+use Rattle.column_bytes.specs.Texts.{shown_row, sizes_bytes, text_bytes, text_fields, text_sizes}
+use Rattle.column_bytes.proofs.TextPacking.{count-sizes}
+use Rattle.column_bytes.proofs.TextSizes.{sizes_cons}
+use Rattle.column_bytes.proofs.TextLaws.{text_fields_long}
 use Rattle.array_parts.specs.BytesUsed as used
 use Rattle.runend_array.specs.Lists.{Index, PlainIndex, RunIndex, RowValidityForm, ByRows, ByRuns, Lists}
 use Rattle.runend_array.specs.Column.{Column, OfLeaf, OfConstant, OfLists, OfRuns, column_dtype}

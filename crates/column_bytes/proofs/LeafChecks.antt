@@ -15,7 +15,7 @@ use Rattle.column_fields.specs.FlatFields.{flat_fields}
 use Rattle.column_fields.specs.Held.{HeldNumbers, HeldDecimals, AreHeldBits}
 use Rattle.column_fields.specs.Types.{type_number}
 use Rattle.runend_array.specs.Column.{Column, OfLeaf}
-use Rattle.text_fields.specs.TextReading.{AreTextsOf}
+use Rattle.column_bytes.specs.TextReading.{AreTextsOf}
 use Rattle.column_bytes.specs.Bytes.{varbin_number}
 use Rattle.column_bytes.specs.Read.{IsBody, AreNumbersOf, AreTruthsOf, AreDecimalsOf}
 use Rattle.column_bytes.proofs.Leaves.{are_numbers, are_truths, are_decimals, numbers_body, truths_body, decimals_body, texts_body}

@@ -1,3 +1,10 @@
+pub mod TextPieces
+pub mod TextPacking
+pub mod TextSizes
+pub mod TextLaws
+pub mod TextNulls
+pub mod TextChecks
+pub mod TextWritten
 pub mod Leaves
 pub mod ConstantReads
 pub mod DecimalReads

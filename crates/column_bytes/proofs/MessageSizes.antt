@@ -34,7 +34,7 @@ use Rattle.column_fields.proofs.DecimalLaws.{length-decimals_bytes}
 use Rattle.column_fields.proofs.NumberSame.{length-numbers_bytes}
 use Rattle.column_fields.proofs.RunFieldLaws.{run_fields_long}
 use Rattle.column_fields.proofs.SizeLaws.{bytes_long}
-use Rattle.text_fields.specs.Texts.{text_bytes, text_fields, text_sizes}
+use Rattle.column_bytes.specs.Texts.{text_bytes, text_fields, text_sizes}
 use Rattle.runend_array.specs.Column.{Constant, OfLeaf, OfConstant, Runs, column_of_runs, column_dtype}
 use Rattle.column_bytes.specs.Bytes.{kind_number, column_bytes}
 use Rattle.column_bytes.specs.Values.{some_bytes, some_validity, type_fields, value_fields}

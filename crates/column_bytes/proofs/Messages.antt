@@ -34,8 +34,8 @@ use Rattle.column_bytes.specs.Values.{constant_fields}
 use Rattle.column_bytes.proofs.Scalars.{constant_at, constant_body, constant_one}
 use Rattle.column_bytes.proofs.Ends.{ends_rise}
 use Rattle.column_bytes.proofs.Leaves.{leaf_body, number_of_varbin, numbers_at, truths_at, decimals_at, texts_at, numbers_one, truths_one, decimals_one}
-use Rattle.text_fields.specs.TextReading.{AreTextsOf}
-use Rattle.text_fields.proofs.TextLaws.{texts_one}
+use Rattle.column_bytes.specs.TextReading.{AreTextsOf}
+use Rattle.column_bytes.proofs.TextLaws.{texts_one}
 
 -- ---- headers
 

@@ -14,8 +14,8 @@ use Rattle.column_fields.specs.RunFields.{run_fields}
 use Rattle.runend_windows.specs.Window.{run_rows}
 use Rattle.runend_array.specs.Lists.{Lists, lists_with, list_count, index_at, row_flag_at, row_nullability}
 use Rattle.runend_array.specs.Column.{Column, OfLeaf, OfConstant, OfLists, OfRuns, column_dtype, column_rows, depth, plain_of}
-use Rattle.text_fields.specs.Texts.{packed}
-use Rattle.text_fields.proofs.Packing.{AreTexts-packed, packed-packed, same-fields, same-count, varbin_rows-packed}
+use Rattle.column_bytes.specs.Texts.{packed}
+use Rattle.column_bytes.proofs.TextPacking.{AreTexts-packed, packed-packed, same-fields, same-count, varbin_rows-packed}
 use Rattle.column_bytes.specs.Bytes.{kind_number, form_number, column_count, column_header, column_body, column_bytes, leaf_fields, leaf_message, index_message, row_validity_field}
 use Rattle.column_bytes.specs.Packed.{IsPacked, IsPackedLeaf, packed_leaf, packed_column}
 use Rattle.column_bytes.specs.Read.{IsWritable, IsMessage}

@@ -20,7 +20,7 @@ use Rattle.column_core.specs.VarBinForm.{VarBinForm, kind_dtype, optional_bytes,
 use Rattle.column_core.specs.declared.varbinview.VarBinKind.{VarBinKind}
 use Rattle.column_core.specs.declared.varbinview.VarBinKind.TheVariants.{Utf8, Binary}
 use Rattle.column_fields.specs.Header.{header_bytes}
-use Rattle.text_fields.specs.Texts.{shown_row, text_fields}
+use Rattle.column_bytes.specs.Texts.{shown_row, text_fields}
 use Rattle.column_bytes.specs.Bytes.{kind_number, leaf_message}
 use Rattle.column_bytes.specs.Laws.{EqualRowsEqualBytes}
 use Rattle.column_bytes.specs.Stored.{IsStored, IsStoredLeaf}

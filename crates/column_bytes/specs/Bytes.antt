@@ -24,7 +24,7 @@ use Rattle.column_fields.specs.RunFields.{run_fields}
 use Rattle.column_fields.specs.Types.{type_number}
 use Rattle.runend_array.specs.Column.{Column, OfLeaf, OfConstant, OfLists, OfRuns, column_dtype}
 use Rattle.runend_array.specs.Lists.{Index, PlainIndex, RunIndex, RowValidityForm, ByRows, ByRuns, Lists, list_count}
-use Rattle.text_fields.specs.Texts.{text_bytes, text_fields, text_sizes}
+use Rattle.column_bytes.specs.Texts.{text_bytes, text_fields, text_sizes}
 use Rattle.column_bytes.specs.Values.{constant_fields}
 
 -- the number of a type: 1 to 8 the native types, then booleans, decimals, texts, bytes and lists

@@ -1,3 +1,5 @@
+pub mod Texts
+pub mod TextReading
 pub mod Values
 pub mod Packed
 pub mod Bytes

@@ -3,7 +3,7 @@ use Rattle.std.specs.Prelude.{◌≡◌}
 use Rattle.column_core.specs.Leaf.{Leaf, OfNumbers, OfTruths, OfDecimals, OfVarBins}
 use Rattle.runend_array.specs.Column.{Column, OfLeaf, OfConstant, OfLists, OfRuns}
 use Rattle.runend_array.specs.Lists.{lists_with}
-use Rattle.text_fields.specs.Texts.{packed}
+use Rattle.column_bytes.specs.Texts.{packed}
 
 abbrev pub packed_leaf : Leaf → Leaf
 packed_leaf (OfNumbers form) = OfNumbers form

@@ -12,7 +12,7 @@ use Rattle.column_fields.specs.DecimalFields.{IsDecimalType}
 use Rattle.column_fields.specs.Lengths.{AreEndsOf}
 use Rattle.column_bytes.specs.Bytes.{index_form}
 use Rattle.column_bytes.specs.Values.{IsStoredScalar}
-use Rattle.text_fields.specs.Texts.{AreTexts}
+use Rattle.column_bytes.specs.Texts.{AreTexts}
 use Rattle.runend_array.specs.Lists.{Index, PlainIndex, RunIndex, RowValidityForm, ByRows, ByRuns, Lists, AreLists}
 use Rattle.runend_array.specs.Column.{Column, Constant, OfLeaf, OfConstant, OfLists, OfRuns, AreRuns, runs_with}
 

@@ -7,12 +7,13 @@ ghost use Rattle.varints.specs.Varint.{varint};
 ghost use Rattle.column_fields.specs.Header.{header_bytes};
 ghost use Rattle.column_fields.specs.Sizes.{IsPast};
 ghost use Rattle.column_fields.specs.Validity.{validity_field};
-ghost use Rattle.text_fields.specs.Texts.{AreTexts};
+ghost use Rattle.column_bytes.specs.Texts.{AreTexts};
 ghost use Rattle.column_bytes.specs.Bytes.{column_bytes};
 ghost use Rattle.column_bytes.specs.Stored.{AreNumbers, AreTruths, AreDecimals};
 
 use crate::flat::{DECIMALS, TRUTHS};
 use crate::kinds::number_of_kind;
+use crate::text_writing::text_fields_size;
 use column_base::{Validity, VortexError, VortexResult};
 use column_core::{BoolArray, DecimalArray, PrimitiveArray, VarBinViewArray};
 use column_fields::{
@@ -20,7 +21,6 @@ use column_fields::{
     number_of_type, size_of_total, size_of_type, validity_size, values_fit,
 };
 use std::alloc::Allocator;
-use text_fields::text_fields_size;
 
 /// How many bytes the message of a flat column of integers has. Refused as `OutOfMemory` exactly where no count tells
 /// them.

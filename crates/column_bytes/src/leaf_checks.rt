@@ -8,13 +8,13 @@ ghost use Rattle.runend_array.specs.Column.{Column};
 ghost use Rattle.column_bytes.specs.Read.{IsBody, IsNoBody, AreNumbersOf, AreNoNumbersOf, AreTruthsOf, AreNoTruthsOf, AreDecimalsOf, AreNoDecimalsOf};
 
 use crate::flat::{BYTES, DECIMALS, TEXTS, TRUTHS};
+use crate::text_checks::are_text_fields;
 use column_base::PType;
 use column_core::VarBinKind;
 use column_fields::{
     Header, holds_bits, holds_decimals, holds_values, type_of_number, view_decimal_fields,
     view_flat_fields,
 };
-use text_fields::are_text_fields;
 
 /// Returns whether the bytes are what the message of a flat column says after this header.
 pub(crate) fn is_leaf(header: Header, bytes: &[u8]) -> bool

@@ -21,7 +21,11 @@ mod message_checks;
 mod run_checks;
 mod runs;
 mod sizes;
+mod text_checks;
+mod text_reading;
+mod text_writing;
 mod texts;
+mod views;
 
 pub use column::{MOST_LEVELS, put_message, read_column, write_column};
 pub use column_base::{VortexError, VortexResult};

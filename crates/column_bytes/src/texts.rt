@@ -6,18 +6,19 @@ ghost use Rattle.runend_array.specs.Column.{OfLeaf};
 ghost use Rattle.column_fields.specs.Kept.{StaysInFront};
 ghost use Rattle.column_fields.specs.Room.{UsesCountedRoom};
 ghost use Rattle.column_fields.specs.Refusal.{IsBadOrMemory};
-ghost use Rattle.text_fields.specs.Texts.{AreTexts};
+ghost use Rattle.column_bytes.specs.Texts.{AreTexts};
 ghost use Rattle.column_bytes.specs.Bytes.{column_bytes, varbin_number};
 ghost use Rattle.column_bytes.specs.Read.{IsBody, IsNoBody};
 
 use crate::kinds::number_of_kind;
+use crate::text_reading::read_text_fields;
+use crate::text_writing::put_text_fields;
 use bytes::BufMut;
 use column_base::{VortexError, VortexResult};
 use column_core::{VarBinKind, VarBinViewArray};
 use column_fields::{Header, put_header};
 use runend_array::ArrayRef;
 use std::alloc::Allocator;
-use text_fields::{put_text_fields, read_text_fields};
 
 /// Writes a flat column of texts or of bytes at the end. Refused as `OutOfMemory` alone.
 pub(crate) fn put_texts<A: Allocator, W: BufMut>(

@@ -20,7 +20,7 @@ use Rattle.runend_windows.specs.Ends.{IsEndsType, ends_of}
 use Rattle.runend_windows.specs.Window.{last_end}
 use Rattle.runend_array.specs.Column.{OfLeaf}
 use Rattle.runend_encode.specs.Encoding.{AreLeastEnds, IsRowEncoding}
-use Rattle.runend_encode_rows.proofs.Parts.{parts_of_rows}
+use Rattle.runend_builder.proofs.Parts.{parts_of_rows}
 use Rattle.runend_builder.specs.Builder.{Built, IsBuilt, built_with, part_rows, shown_rows}
 use Rattle.runend_builder.proofs.Builds.{rows_of_cover}
 

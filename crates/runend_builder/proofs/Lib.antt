@@ -1,3 +1,5 @@
+pub mod Parts
+pub mod Constants
 pub mod Pushed
 pub mod Seams
 pub mod Builds

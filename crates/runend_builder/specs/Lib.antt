@@ -1,1 +1,2 @@
+pub mod Encoded
 pub mod Builder

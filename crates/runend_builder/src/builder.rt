@@ -7,9 +7,10 @@ ghost use Rattle.column_core.specs.Refusal.{IsRefusedBy};
 ghost use Rattle.column_core.specs.Value.{IsLists};
 ghost use Rattle.runend_array.specs.Array.{dtype_of, rows};
 ghost use Rattle.runend_encode.specs.Encoding.{IsRowEncoding};
-ghost use Rattle.runend_encode_rows.specs.Encoded.{IsEncodedRows};
+ghost use Rattle.runend_builder.specs.Encoded.{IsEncodedRows};
 ghost use Rattle.runend_builder.specs.Builder.{HasRuns, append_fault, built_with, part_rows, scalar_row};
 
+use crate::encode::row_runs;
 use crate::seam::{extend_last, goes_on, is_same_value, last_of, push_run, push_runs, row_scalar};
 use column_core::{
     DType, FlatColumn, PrimitiveArray, Scalar, VortexError, VortexResult, fault_of_lists,
@@ -17,7 +18,6 @@ use column_core::{
 use flat_builder::FlatBuilder;
 use runend_array::{ArrayRef, ExecutionCtx, RunEnd, RunEndArray, array_of};
 use runend_encode::least_ends;
-use runend_encode_rows::row_runs;
 use std::alloc::Allocator;
 use std::marker::Model;
 use std::mem::replace;

@@ -1,3 +1,5 @@
+pub mod MinimalForm
+pub mod VisibleForm
 pub mod Data
 pub mod Fault
 pub mod Record

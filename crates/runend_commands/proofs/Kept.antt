@@ -17,13 +17,13 @@ use Rattle.runend_array.specs.declared.array_ref.ArrayRef.{ArrayRef}
 use Rattle.runend_array.specs.declared.array_ref.ArrayRef.TheVariants.{Constant}
 use Rattle.runend_array.specs.declared.session.Kernel.{Kernel}
 use Rattle.runend_array.specs.declared.session.Kernel.TheVariants as kernel
-use Rattle.runend_encode_rows.specs.Encoded.{IsConstantForm}
+use Rattle.runend_builder.specs.Encoded.{IsConstantForm}
 use Rattle.runend_map.specs.Codes.{keeps_runs}
 use Rattle.runend_map.specs.ComparisonForm.{IsComparisonForm}
 use Rattle.runend_map.specs.TakenForm.{TakeFromLeaves}
 use Rattle.runend_select.specs.FilterForm.{IsFilterForm}
 use Rattle.runend_select.specs.TakeForm.{TakeLeaves}
-use Rattle.runend_visible.specs.MinimalForm.{IsRunForm}
+use Rattle.runend_column.specs.MinimalForm.{IsRunForm}
 use Rattle.runend_commands.specs.declared.command.Command.{Command}
 use Rattle.runend_commands.specs.declared.command.Command.TheVariants.{Slice, Filter, Take, TakeFrom, CompareScalar, CompareColumn, Cast, FillNull, Encode, Decode, At, Sum, MinMax, IsConstant, IsSorted}
 use Rattle.runend_commands.specs.declared.command.Answer.{Answer}

@@ -5,7 +5,7 @@ use Rattle.runend_array.specs.Array.{column_of}
 use Rattle.runend_array.specs.Column.{Column, OfLeaf, OfConstant, OfLists, OfRuns}
 use Rattle.runend_array.specs.SessionForm.{SessionForm}
 use Rattle.runend_array.specs.declared.array_ref.ArrayRef.{ArrayRef}
-use Rattle.runend_encode_rows.specs.Encoded.{IsConstantForm}
+use Rattle.runend_builder.specs.Encoded.{IsConstantForm}
 use Rattle.runend_commands.specs.declared.command.Command.{Command}
 use Rattle.runend_commands.specs.declared.command.Command.TheVariants.{Filter, CompareScalar, CompareColumn, Cast, FillNull}
 use Rattle.runend_commands.specs.declared.command.Answer.{Answer}

@@ -1,3 +1,9 @@
+pub mod Fitting
+pub mod Joining
+pub mod JoinedParts
+pub mod RunReads
+pub mod Moved
+pub mod Marked
 pub mod RowTests
 pub mod Starts
 pub mod ChangedItems

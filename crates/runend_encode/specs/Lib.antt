@@ -1,3 +1,4 @@
+pub mod Joined
 pub mod Encoding
 pub mod Starts
 pub mod Windows

@@ -17,7 +17,7 @@ use Rattle.runend_windows.proofs.Decoded.{Covers-map}
 use Rattle.runend_windows.proofs.RunRows.{Covers_iff_run_rows}
 use Rattle.runend_array.specs.Column.{OfLeaf}
 use Rattle.runend_encode.specs.Encoding.{IsRowEncoding}
-use Rattle.runend_encode_rows.proofs.Parts.{parts_of_rows}
+use Rattle.runend_builder.proofs.Parts.{parts_of_rows}
 use Rattle.runend_groups.specs.Groups.{shown_numbers, AreValueRuns, AreWholeRuns}
 use Rattle.runend_groups.proofs.Walked.{begins}
 

@@ -22,7 +22,7 @@ use crate::group_fold::GroupFold;
 use crate::numbers::fold_numbers;
 use column_core::{FlatColumn, PrimitiveArray, VortexError};
 use runend_array::{ArrayRef, ExecutionCtx};
-use runend_encode_rows::row_runs;
+use runend_builder::row_runs;
 use std::alloc::Allocator;
 
 /// Holds the groups of rows with equal neighbouring keys, in the order of the rows: one for each run of such rows.

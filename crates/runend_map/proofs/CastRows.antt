@@ -11,9 +11,9 @@ use Rattle.column_ops.specs.Fault.{first_fault}
 use Rattle.column_order.proofs.RowRanges.{length-single_rows}
 use Rattle.runend_windows.specs.Window.{run_rows}
 use Rattle.runend_array.specs.Column.{AreRuns, Runs, column_dtype, column_of_runs, column_rows, plain_of}
-use Rattle.runend_visible.specs.VisibleForm.{visible_ends, visible_values, window_start}
+use Rattle.runend_column.specs.VisibleForm.{visible_ends, visible_values, window_start}
 use Rattle.runend_map.proofs.FirstFaults.{visible_fault}
-use Rattle.runend_visible.proofs.VisibleWindow.{visible_rows}
+use Rattle.runend_column.proofs.VisibleWindow.{visible_rows}
 
 module _ (r : Runs) (values : Leaf) (runs : AreRuns r) (shown : single_rows values ≡ visible_values r) where
   -- rows have the fault that visible values have

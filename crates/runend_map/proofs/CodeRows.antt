@@ -12,7 +12,7 @@ use Rattle.column_ops.specs.Take.{index_fault, take_fault, take_rows, taken_row}
 use Rattle.runend_windows.specs.Window.{run_rows}
 use Rattle.runend_array.specs.Column.{AreRuns, Runs, column_dtype, column_of_runs, column_rows, plain_of}
 use Rattle.column_ops.specs.Codes.{code_fault, code_number, code_rows}
-use Rattle.runend_visible.specs.VisibleForm.{visible_ends, visible_values, window_start}
+use Rattle.runend_column.specs.VisibleForm.{visible_ends, visible_values, window_start}
 use Rattle.runend_map.proofs.FirstFaults.{visible_fault}
 use Rattle.runend_map.proofs.KeptRows.{mapped_rows}
 

@@ -24,8 +24,8 @@ use Rattle.runend_windows.proofs.VisibleRuns.{first_le_last_visible, length-visi
 use Rattle.runend_windows.proofs.VisibleLaws.{all_rows}
 use Rattle.runend_array.specs.Column.{AreRuns, Column, Constant, OfConstant, OfLeaf, OfLists, OfRuns, Runs, column_dtype, column_of_runs, column_rows}
 use Rattle.runend_array.specs.Encoding.{IsDecodedForm}
-use Rattle.runend_visible.specs.VisibleForm.{visible_ends, visible_values, window_start}
-use Rattle.runend_visible.proofs.VisibleWindow.{visible_rows}
+use Rattle.runend_column.specs.VisibleForm.{visible_ends, visible_values, window_start}
+use Rattle.runend_column.proofs.VisibleWindow.{visible_rows}
 use Rattle.runend_map.proofs.OneKind.{only_memory}
 
 -- null compared is null

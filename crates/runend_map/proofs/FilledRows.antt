@@ -10,7 +10,7 @@ use Rattle.column_ops.specs.Fill.{fill_dtype, fill_fault, fill_rows}
 use Rattle.column_order.proofs.RowRanges.{length-single_rows}
 use Rattle.runend_windows.specs.Window.{run_rows}
 use Rattle.runend_array.specs.Column.{AreRuns, Runs, column_dtype, column_of_runs, column_rows}
-use Rattle.runend_visible.specs.VisibleForm.{visible_ends, visible_values, window_start}
+use Rattle.runend_column.specs.VisibleForm.{visible_ends, visible_values, window_start}
 use Rattle.array_rowwise.proofs.FilledRows.{filling, single-filled}
 use Rattle.runend_map.proofs.KeptRows.{mapped_rows}
 

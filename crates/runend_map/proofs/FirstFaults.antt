@@ -9,7 +9,7 @@ use Rattle.column_ops.specs.Fault.{first_fault}
 use Rattle.runend_windows.specs.Visible.{FailsFirst}
 use Rattle.runend_windows.proofs.VisibleLaws.{all_rows, fails_first}
 use Rattle.runend_array.specs.Column.{AreRuns, Runs, column_of_runs, column_rows}
-use Rattle.runend_visible.specs.VisibleForm.{visible_values}
+use Rattle.runend_column.specs.VisibleForm.{visible_values}
 
 module _ {B : Type 0} (fault : B → Option VortexError) where
   abbrev pub HasNone : B → Type 0

@@ -8,8 +8,8 @@ use Rattle.runend_windows.specs.Window.{run_at, run_rows, IsWindow}
 use Rattle.runend_windows.proofs.RunAt.{run_of_row_within}
 use Rattle.runend_windows.proofs.RunRows.{length-run_rows}
 use Rattle.runend_array.specs.Column.{AreRuns, Runs, column_of_runs, column_rows}
-use Rattle.runend_visible.specs.VisibleForm.{visible_ends, visible_values, window_start}
-use Rattle.runend_visible.proofs.VisibleWindow.{visible_paired, visible_rows, visible_window}
+use Rattle.runend_column.specs.VisibleForm.{visible_ends, visible_values, window_start}
+use Rattle.runend_column.proofs.VisibleWindow.{visible_paired, visible_rows, visible_window}
 
 -- what is made of each value shows what is made of each row
 pub run_rows-map : {B C : Type 0} (f : Option B → Option C) (ends : List ℕ) (values : List (Option B)) (offset count : ℕ) → IsWindow ends offset count → length values ≡ length ends

@@ -27,8 +27,8 @@ use Rattle.runend_array.specs.SessionForm.{SessionForm, is_registered_in}
 use Rattle.runend_array.specs.declared.session.Kernel.TheVariants.{ScalarFn}
 use Rattle.runend_map.specs.MapInputs.{HasValidRuns, IsAsked, answered_rows, asked_rows}
 use Rattle.runend_map.specs.MapResult.{IsMappedForm, IsMappedRuns, IsOwed, MayAsk, is_native, native_fault, number_row}
-use Rattle.runend_visible.specs.VisibleForm.{visible_ends, visible_values, window_start}
-use Rattle.runend_visible.proofs.VisibleWindow.{visible_paired, visible_rows, visible_window}
+use Rattle.runend_column.specs.VisibleForm.{visible_ends, visible_values, window_start}
+use Rattle.runend_column.proofs.VisibleWindow.{visible_paired, visible_rows, visible_window}
 
 -- one answer more
 pub zipped_next : {X Y : Type 0} (R : X → Y → Type 0) (xs : List X) (k : ℕ) (x : X) (y : Y) (ys zs : List Y) → slice_get xs k ≡ Some x → AllZip R (take k xs) ys → R x y → zs ≡ ys ++ y ∷ []

@@ -5,8 +5,8 @@ use Rattle.column_core.specs.Leaf.{OfNumbers}
 use Rattle.runend_windows.specs.Ends.{IsEndsType, ends_of}
 use Rattle.runend_windows.specs.Window.{IsWindow, run_rows}
 use Rattle.runend_array.specs.Column.{AreParts, Column, OfLeaf, Runs, column_dtype, column_of_runs, column_rows, runs_of}
-use Rattle.runend_visible.specs.VisibleForm.{visible_ends, visible_values, window_start}
-use Rattle.runend_visible.proofs.VisibleWindow.{read_rows, read_window}
+use Rattle.runend_column.specs.VisibleForm.{visible_ends, visible_values, window_start}
+use Rattle.runend_column.proofs.VisibleWindow.{read_rows, read_window}
 
 module _ (r : Runs) (ends : PrimitiveForm) (values : Column) (start total : ℕ) (ends_are : ends_of ends ≡ visible_ends r)
     (starts : start ≡ window_start r.count r.offset) (counts : total ≡ r.count) where

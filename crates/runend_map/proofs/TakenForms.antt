@@ -8,7 +8,7 @@ use Rattle.column_core.specs.Value.{IsLists}
 use Rattle.column_ops.specs.Nullable.{either_nullable, take_dtype}
 use Rattle.runend_array.specs.Column.{Column, Runs}
 use Rattle.runend_array.specs.Encoding.{IsComputedFlat}
-use Rattle.runend_visible.specs.MinimalForm.{IsRunForm}
+use Rattle.runend_column.specs.MinimalForm.{IsRunForm}
 use Rattle.runend_map.specs.Codes.{keeps_runs}
 use Rattle.runend_map.specs.TakenForm.{TakeFromLeaves}
 

@@ -4,7 +4,7 @@ use Rattle.std.specs.Prelude.{◌≡◌, List, Option}
 use Rattle.column_core.specs.Value.{Value}
 use Rattle.runend_windows.specs.Window.{run_rows}
 use Rattle.runend_array.specs.Column.{AreRuns, Column, OfLeaf, OfConstant, OfLists, OfRuns, column_rows, runs_with}
-use Rattle.runend_visible.specs.VisibleForm.{visible_ends, visible_values, window_start}
+use Rattle.runend_column.specs.VisibleForm.{visible_ends, visible_values, window_start}
 
 -- the rows asked for
 abbrev pub asked_rows : Column → List (Option Value)

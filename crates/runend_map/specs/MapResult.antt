@@ -11,7 +11,7 @@ use Rattle.runend_array.specs.Column.{Column, OfLeaf, OfConstant, OfLists, OfRun
 use Rattle.runend_array.specs.Encoding.{IsComputedFlat}
 use Rattle.runend_array.specs.SessionForm.{SessionForm, is_registered_in}
 use Rattle.runend_array.specs.declared.session.Kernel.TheVariants.{ScalarFn}
-use Rattle.runend_visible.specs.VisibleForm.{IsOverVisibleRuns}
+use Rattle.runend_column.specs.VisibleForm.{IsOverVisibleRuns}
 
 -- an optional native value, whose number is known, as a row
 abbrev pub number_row : {S : Type 0} → (S → ℤ) → Option S → Option Value

@@ -3,7 +3,7 @@ use Rattle.std.specs.Prelude.{Bool, true, false}
 use Rattle.column_base.specs.declared.dtype.DType.{DType}
 use Rattle.runend_array.specs.Column.{Column, Runs}
 use Rattle.runend_array.specs.Encoding.{IsComputedFlat}
-use Rattle.runend_visible.specs.MinimalForm.{IsRunForm}
+use Rattle.runend_column.specs.MinimalForm.{IsRunForm}
 
 -- of a dictionary of this type the runs of the codes are kept, with ends of the same type and by the dictionary's type
 -- in minimal form or not; or the rows are flat

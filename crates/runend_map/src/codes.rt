@@ -13,13 +13,13 @@ ghost use Rattle.runend_array.specs.Array.{column_of, dtype_of, rows};
 ghost use Rattle.runend_array.specs.Column.{AreRuns, column_dtype, column_of_runs, column_rows, plain_of};
 ghost use Rattle.runend_map.specs.Codes.{keeps_runs};
 ghost use Rattle.runend_map.specs.TakenForm.{TakeFromLeaves};
-ghost use Rattle.runend_visible.specs.VisibleForm.{visible_ends, visible_values as values_of_visible, window_start};
+ghost use Rattle.runend_column.specs.VisibleForm.{visible_ends, visible_values as values_of_visible, window_start};
 
 use crate::visible::shown_rows;
 use column_core::{DType, FlatColumn, PrimitiveArray, VortexError, VortexResult, is_number_type};
 use column_ops::ColumnOps;
 use runend_array::{ArrayRef, ExecutionCtx, RunEndArray, RunEndArrayExt, array_of};
-use runend_visible::{borrowed_values, over_runs, visible_values};
+use runend_column::{borrowed_values, over_runs, visible_values};
 use std::alloc::Allocator;
 
 /// The dictionary's row for each code, null for null, in a type with null where the dictionary's or the codes'

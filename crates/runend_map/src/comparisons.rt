@@ -25,7 +25,7 @@ use column_core::{
 };
 use column_order::{CompareOperator, FlatOrder, column_fault};
 use runend_array::{ArrayRef, ConstantArray, ExecutionCtx, RunEndArray, RunEndArrayExt};
-use runend_visible::visible_values;
+use runend_column::visible_values;
 use std::alloc::Allocator;
 
 /// Does the operator hold of each row and the row of `right` beside it? Null where either row is null. The

@@ -12,7 +12,7 @@ ghost use Rattle.runend_array.specs.Column.{AreRuns, OfConstant, column_dtype, c
 ghost use Rattle.runend_array.specs.Encoding.{IsComputedFlat};
 ghost use Rattle.runend_map.specs.Codes.{keeps_runs};
 ghost use Rattle.runend_map.specs.TakenForm.{TakeFromLeaves};
-ghost use Rattle.runend_visible.specs.VisibleForm.{visible_values as values_of_visible};
+ghost use Rattle.runend_column.specs.VisibleForm.{visible_values as values_of_visible};
 
 use crate::codes::{take_from_flat, visible_codes};
 use crate::visible::shown_values;
@@ -22,7 +22,7 @@ use column_core::{
     is_number_type,
 };
 use runend_array::{ArrayRef, ConstantArray, ExecutionCtx, RunEnd, RunEndArray, RunEndArrayExt};
-use runend_visible::borrowed_values;
+use runend_column::borrowed_values;
 use std::alloc::Allocator;
 
 /// The dictionary's row for each code, null for null, in a type with null where the dictionary's or the codes'

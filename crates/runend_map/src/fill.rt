@@ -7,13 +7,13 @@ ghost use Rattle.column_core.specs.Value.{Single};
 ghost use Rattle.column_ops.specs.Fill.{fill_dtype, fill_fault, fill_rows};
 ghost use Rattle.runend_array.specs.Array.{column_of, dtype_of, rows};
 ghost use Rattle.runend_array.specs.Column.{AreRuns, column_dtype, column_of_runs, column_rows};
-ghost use Rattle.runend_visible.specs.MinimalForm.{IsRunForm};
-ghost use Rattle.runend_visible.specs.VisibleForm.{visible_values as values_of_visible};
+ghost use Rattle.runend_column.specs.MinimalForm.{IsRunForm};
+ghost use Rattle.runend_column.specs.VisibleForm.{visible_values as values_of_visible};
 
 use column_core::{FlatColumn, PrimitiveArray, Scalar, VortexError, VortexResult, is_list_type};
 use column_ops::ColumnOps;
 use runend_array::{ArrayRef, ExecutionCtx, RunEndArray, RunEndArrayExt};
-use runend_visible::{borrowed_values, over_runs, visible_values};
+use runend_column::{borrowed_values, over_runs, visible_values};
 use std::alloc::Allocator;
 
 /// The rows with the scalar's value in place of each null, of the column's kind and without null: a run

@@ -17,7 +17,7 @@ use crate::visible::shown_rows;
 use array_rowwise::flat_rows;
 use column_core::{DType, FlatColumn, NativePType, VortexError, VortexResult};
 use runend_array::{ArrayRef, ExecutionCtx, Kernel, array_of};
-use runend_visible::{over_visible_runs, visible_values};
+use runend_column::{over_visible_runs, visible_values};
 use std::alloc::Allocator;
 
 /// What the function answers to each row, in a type with null: of a run column, where scalar functions are

@@ -15,7 +15,7 @@ use column_core::{
     FlatColumn, PrimitiveArray, PrimitiveValues, UnsignedPType, VortexError, VortexResult,
 };
 use runend_array::RunEndArray;
-use runend_visible::{ends_of_visible, visible_offset, visible_values};
+use runend_column::{ends_of_visible, visible_offset, visible_values};
 use std::alloc::Allocator;
 
 /// The visible runs of a run column: their ends, the position of the first row, and a value for each.

@@ -8,13 +8,13 @@ ghost use Rattle.runend_windows.specs.Window.{run_rows};
 ghost use Rattle.runend_array.specs.Array.{column_of, dtype_of, rows};
 ghost use Rattle.runend_array.specs.Column.{column_dtype, column_of_runs, column_rows};
 ghost use Rattle.runend_array.specs.Encoding.{IsComputedFlat, IsDecodedForm};
-ghost use Rattle.runend_visible.specs.VisibleForm.{visible_ends, visible_values as values_of_visible, window_start};
+ghost use Rattle.runend_column.specs.VisibleForm.{visible_ends, visible_values as values_of_visible, window_start};
 
 use column_core::{BoolArray, FlatColumn, VortexError, VortexResult};
 use runend_array::{ArrayRef, ExecutionCtx, RunEnd, RunEndArray, RunEndArrayExt};
 use runend_column::decompress_bool::runend_decode_bools;
+use runend_column::{ends_of_visible, visible_offset};
 use runend_decode::decode_flat;
-use runend_visible::{ends_of_visible, visible_offset};
 use std::alloc::Allocator;
 
 /// The rows that the visible runs show over these values, one for each, as a flat column. Of booleans, the

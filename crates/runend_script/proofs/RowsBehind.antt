@@ -19,7 +19,7 @@ use Rattle.runend_array.specs.Array.{column_of, dtype_of, rows}
 use Rattle.runend_array.specs.Column.{Runs, column_of_runs}
 use Rattle.runend_array.specs.declared.array_ref.ArrayRef.{ArrayRef}
 use Rattle.runend_builder.specs.Builder.{Built, append_fault, scalar_row}
-use Rattle.runend_encode_rows.specs.Encoded.{IsEncodedRows}
+use Rattle.runend_builder.specs.Encoded.{IsEncodedRows}
 use Rattle.runend_script.specs.Scalars.{ReadsScalar}
 use Rattle.runend_script.specs.Lengthened.{IsAppended, IsEncodingOf, IsLengthened, IsRepeated, ListsArray, ListsRows, lengthening_fault}
 use Rattle.runend_script.specs.declared.scripts.Reply.TheVariants.{Done}

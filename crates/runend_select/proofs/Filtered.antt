@@ -12,7 +12,7 @@ use Rattle.runend_windows.specs.Window.{IsWindow, run_at, run_rows}
 use Rattle.runend_windows.proofs.RunRows.{length-run_rows}
 use Rattle.runend_select.specs.KeptRuns.{AreKept, selected_before}
 use Rattle.runend_select.proofs.Grown.{Grown, Grown-none, Grown-push, IsWindow-grown, AllHaveRows-grown, run_rows-push}
-use Rattle.runend_coalesce.specs.Joined.{AllHaveRows}
+use Rattle.runend_encode.specs.Joined.{AllHaveRows}
 use Rattle.runend_select.proofs.KeptSoFar.{HasSelectedRow-counted, counted-HasSelectedRow}
 use Rattle.runend_select.proofs.Reached.{reached, reached-all, reached-le, run_at-reached}
 use Rattle.runend_select.proofs.Selected.{at_set, filter_rows-append, filter_rows-replicate, set_at, set_bits, set_bits-split, take-split}

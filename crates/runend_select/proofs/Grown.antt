@@ -5,8 +5,8 @@ use Rattle.std.proofs.lemmas.List.{ext_get_or, length-replicate, get_or_push, ge
 use Rattle.std.proofs.lemmas.List.FromFn.{length-map-range_with_len, get_or-map-range_with_len}
 use Rattle.std.specs.List.Sorted.{IsStrictlyIncreasing}
 use Rattle.runend_windows.specs.Window.{IsWindow, last_end, run_at, run_rows}
-use Rattle.runend_coalesce.specs.Joined.{AllHaveRows}
-use Rattle.runend_coalesce.proofs.Joining.{AllHaveRows-exact}
+use Rattle.runend_encode.specs.Joined.{AllHaveRows}
+use Rattle.runend_encode.proofs.Joining.{AllHaveRows-exact}
 use Rattle.runend_windows.proofs.RunAt.{run_at-here, run_at-past, run_at_is, run_at_within}
 
 -- runs that end at so many rows or before, the last of them there

@@ -12,7 +12,7 @@ use Rattle.column_ops.specs.Filter.{filter_rows}
 use Rattle.runend_array.specs.Column.{AreParts, AreRuns, Column, OfLeaf, Runs, column_rows}
 use Rattle.runend_windows.specs.Ends.{IsEndsType, ends_of}
 use Rattle.runend_windows.specs.Window.{run_rows}
-use Rattle.runend_coalesce.specs.Joined.{AllHaveRows}
+use Rattle.runend_encode.specs.Joined.{AllHaveRows}
 use Rattle.runend_select.specs.KeptRuns.{AreKept}
 use Rattle.runend_select.proofs.Filtered.{IsWindow-filtered, AllHaveRows-filtered, paired-filtered, run_rows-filtered}
 use Rattle.runend_select.proofs.Selected.{set_bits}

@@ -13,8 +13,8 @@ use Rattle.runend_windows.specs.Ends.{IsEndsType, ends_of}
 use Rattle.runend_windows.specs.Window.{run_rows}
 use Rattle.runend_windows.proofs.RunRows.{length-run_rows}
 use Rattle.runend_array.specs.Column.{AreParts, OfLeaf, Runs, column_dtype, column_of_runs, column_rows, runs_of}
-use Rattle.runend_visible.specs.MinimalForm.{AreMinimalRuns}
-use Rattle.runend_visible.proofs.MinimalRuns.{least_rows, least_window}
+use Rattle.runend_column.specs.MinimalForm.{AreMinimalRuns}
+use Rattle.runend_column.proofs.MinimalRuns.{least_rows, least_window}
 use Rattle.runend_select.specs.LeastSelected.{AreLeastSelected}
 use Rattle.runend_select.proofs.Selected.{length-filter_rows, set_bits}
 

@@ -22,7 +22,7 @@ filter_rows-map f (bit ∷ bits) [] = refl
 filter_rows-map f (true ∷ bits) (x ∷ rows) = ap (λ xs. f x ∷ xs) (filter_rows-map f bits rows)
 filter_rows-map f (false ∷ bits) (x ∷ rows) = filter_rows-map f bits rows
 
--- a function that tells all values apart tells optional ones apart
+-- a function that is different at different values is so at optional ones
 apart-optional : {X Y : Type 0} (f : X → Y) → ((x y : X) → f x ≡ f y → x ≡ y) → (a b : Option X) → option_map f a ≡ option_map f b → a ≡ b
 apart-optional f apart None None e = refl
 apart-optional f apart None (Some y) e = cc

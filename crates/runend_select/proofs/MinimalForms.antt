@@ -16,7 +16,7 @@ use Rattle.runend_array.specs.Column.{Column, OfLeaf, OfConstant, OfLists, OfRun
 use Rattle.runend_array.specs.Encoding.{IsComputedFlat}
 use Rattle.runend_windows.proofs.Grow.{IsTightCover-of_none}
 use Rattle.runend_select.specs.FilterForm.{HasNoRuns}
-use Rattle.runend_visible.specs.MinimalForm.{IsMinimalForm}
+use Rattle.runend_column.specs.MinimalForm.{IsMinimalForm}
 
 -- a flat form as a call computes it is a flat form
 pub flat_of_computed : (column : Column) → IsComputedFlat column → IsFlat column

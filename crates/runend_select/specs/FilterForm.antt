@@ -8,7 +8,7 @@ use Rattle.runend_array.specs.declared.session.Thresholds.{Thresholds}
 use Rattle.runend_array.specs.Column.{Column, OfLeaf, OfConstant, OfLists, OfRuns, Runs, runs_with, column_dtype, column_of_runs, column_rows}
 use Rattle.runend_array.specs.Encoding.{IsComputedFlat}
 use Rattle.runend_select.specs.KeptRuns.{AreKept}
-use Rattle.runend_visible.specs.MinimalForm.{AreMinimalRuns, IsMinimalForm}
+use Rattle.runend_column.specs.MinimalForm.{AreMinimalRuns, IsMinimalForm}
 
 -- rows are taken one by one where few of them are selected, or few for each run
 abbrev pub TakesDirectly : ℕ → ℕ → Thresholds → Type 0

@@ -57,8 +57,8 @@ pub(crate) fn valid_runs<E: UnsignedPType, T: NativePType, A: Allocator + Copy>(
     Ok((least_ends, least_items))
 }
 
-// Does a run up to whose end so many rows are selected close the open run, which ends at so many? It does where it has
-// selected rows and shows another value, and a run is open.
+// Returns whether a run, up to whose end `passed` rows are selected, closes the open one, which ends at `selected`: a
+// run is open, and this one has selected rows and shows another value.
 #[inline(always)]
 fn closes_open(selected: usize, passed: usize, differs: bool) -> bool
     ensures some { result ≡ true → 0 < selected }
@@ -175,7 +175,7 @@ fn number_or_zero<T: NativePType>(number: T, valid: bool) -> T
     if valid { number } else { T::default() }
 }
 
-// Does a run show another value than the open one, where 0 stands for the number of a null?
+// Returns whether a run shows another value than the open one, where 0 is the number of a null.
 #[inline(always)]
 fn differ<T: NativePType>(held: T, held_valid: bool, item: T, valid: bool) -> bool
     requires held { held_valid ≡ false → T.number held ≡ pos 0 }

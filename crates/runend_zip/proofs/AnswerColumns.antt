@@ -15,9 +15,9 @@ use Rattle.column_core.specs.Value.{FlatValue, Number, Single, Truth, Value}
 use Rattle.column_order.proofs.RowRanges.{length-single_rows}
 use Rattle.runend_array.specs.Column.{Column, Constant, OfConstant, OfLeaf, OfLists, OfRuns, column_dtype, column_of_runs, column_rows, runs_of}
 use Rattle.runend_encode.specs.Encoding.{AreLeastEnds, IsRowEncoding}
-use Rattle.runend_encode_rows.specs.Encoded.{IsConstantForm}
-use Rattle.runend_encode_rows.proofs.Constants.{row_of_constant}
-use Rattle.runend_encode_rows.proofs.Parts.{encoded_of_rows, parts_of_rows}
+use Rattle.runend_builder.specs.Encoded.{IsConstantForm}
+use Rattle.runend_builder.proofs.Constants.{row_of_constant}
+use Rattle.runend_builder.proofs.Parts.{encoded_of_rows, parts_of_rows}
 use Rattle.runend_windows.specs.Cover.{Covers, IsTightCover}
 use Rattle.runend_windows.specs.Ends.{ends_of}
 use Rattle.runend_windows.specs.Window.{IsWindow, last_end, run_at, run_rows}

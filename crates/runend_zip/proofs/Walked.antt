@@ -3,7 +3,7 @@ use Rattle.std.proofs.Common.{◌≡◌, ℕ, ◌+◌, ◌-◌, ◌<◌, ◌≤�
 use Rattle.std.specs.Prelude.{slice_get}
 use Rattle.std.proofs.lemmas.Bool.{cases_lt}
 use Rattle.std.specs.List.Sorted.{IsStrictlyIncreasing}
-use Rattle.runend_coalesce.specs.Joined.{AllHaveRows}
+use Rattle.runend_encode.specs.Joined.{AllHaveRows}
 use Rattle.runend_windows.specs.Window.{IsWindow, run_at, run_rows}
 use Rattle.runend_windows.proofs.RunAt.{ended_before, ends_past, run_at-le, run_at-le-run_at, run_at_is, run_of_row_within}
 use Rattle.runend_windows.proofs.RunRows.{slice_get-run_rows_of_window}

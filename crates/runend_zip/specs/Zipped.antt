@@ -3,7 +3,7 @@ use Rattle.std.specs.Prelude.{◌≡◌, ◌<◌, ◌&&◌, ℕ, List, [], ◌�
 use Rattle.column_base.specs.declared.dtype.DType.{DType}
 use Rattle.column_core.specs.Value.{Value}
 use Rattle.runend_array.specs.Column.{Column, OfLeaf, OfConstant, OfLists, OfRuns, runs_with, column_dtype, column_rows}
-use Rattle.runend_encode_rows.specs.Encoded.{IsConstantForm, IsEncodedRows}
+use Rattle.runend_builder.specs.Encoded.{IsConstantForm, IsEncodedRows}
 
 -- the answers of the rows of two lists, pair by pair
 abbrev pub zip_rows : {X : Type 0} → (X → X → X) → List X → List X → List X

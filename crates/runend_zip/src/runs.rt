@@ -16,8 +16,8 @@ use column_core::{
     FlatColumn, PrimitiveArray, PrimitiveValues, UnsignedPType, VortexError, VortexResult,
 };
 use runend_array::{ArrayRef, RunEndArray};
-use runend_encode_rows::row_runs;
-use runend_visible::{ends_of_visible, visible_offset, visible_values};
+use runend_builder::row_runs;
+use runend_column::{ends_of_visible, visible_offset, visible_values};
 use std::alloc::Allocator;
 
 /// Shows the rows of a column by runs: where each ends, the position of the first row, and a value for each run.

@@ -8,9 +8,8 @@ use crate::request::NEXT;
 use bytes::Bytes;
 use column_base::VortexResult;
 use column_bytes::{read_column, write_column};
-use runend_builder::RunBuilder;
+use runend_builder::{RunBuilder, encode_rows};
 use runend_commands::{Answer, Command, execute};
-use runend_encode_rows::encode_rows;
 use std::alloc::Allocator;
 use std::rc::Rc;
 use vortex_runend::{

@@ -9,7 +9,7 @@ ghost use Rattle.runend_array.specs.Array.{column_of, dtype_of, rows};
 ghost use Rattle.runend_array.specs.Column.{IsFlat, OfConstant, column_rows};
 ghost use Rattle.runend_array.specs.declared.session.Kernel.TheVariants.{Compare as compare_kernel};
 ghost use Rattle.runend_map.specs.ComparisonForm.{IsComparisonForm};
-ghost use Rattle.runend_encode_rows.specs.Encoded.{IsConstantForm};
+ghost use Rattle.runend_builder.specs.Encoded.{IsConstantForm};
 ghost use Rattle.runend_commands.specs.Kept.{AreConstants, IsConstantWithRows};
 ghost use Rattle.runend_commands.specs.KernelForms.{HasKernel};
 

@@ -3,7 +3,7 @@ ghost use Rattle.std.specs.Prelude.{◌≡◌, ◌<◌, ◌↔◌, length, repli
 ghost use Rattle.column_core.specs.Value.{IsLists, Value};
 ghost use Rattle.runend_array.specs.Array.{column_of, dtype_of, rows};
 ghost use Rattle.runend_array.specs.Column.{OfConstant, repeated};
-ghost use Rattle.runend_encode_rows.specs.Encoded.{IsConstantForm};
+ghost use Rattle.runend_builder.specs.Encoded.{IsConstantForm};
 ghost use Rattle.runend_commands.specs.Kept.{IsConstantWithRows};
 
 use column_core::{Scalar, VortexError, VortexResult};

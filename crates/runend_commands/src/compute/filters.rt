@@ -7,7 +7,7 @@ ghost use Rattle.runend_array.specs.Array.{column_of, dtype_of, rows};
 ghost use Rattle.runend_array.specs.Column.{IsFlat, OfConstant, column_rows};
 ghost use Rattle.runend_array.specs.declared.session.Kernel.TheVariants.{Filter as filter_kernel};
 ghost use Rattle.runend_select.specs.FilterForm.{IsFilterForm};
-ghost use Rattle.runend_encode_rows.specs.Encoded.{IsConstantForm};
+ghost use Rattle.runend_builder.specs.Encoded.{IsConstantForm};
 ghost use Rattle.runend_commands.specs.KernelForms.{HasKernel, OnRuns};
 
 use crate::compute::kernel_runs::runs_for;

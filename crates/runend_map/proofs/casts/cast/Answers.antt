@@ -8,7 +8,7 @@ use Rattle.column_core.specs.FlatColumn.{leaf_of}
 use Rattle.column_core.specs.Value.{IsLists}
 use Rattle.runend_array.specs.Array.{column_of, rows}
 use Rattle.std.specs.Prelude.{IfOk}
-use Rattle.runend_visible.specs.MinimalForm.{IsRunForm}
+use Rattle.runend_column.specs.MinimalForm.{IsRunForm}
 use Rattle.runend_array.specs.Column.{column_dtype, column_of_runs, column_rows, plain_of}
 use Rattle.runend_map.proofs.CastRows.{cast_count, cast_rows, same_fault}
 use Rattle.array_rowwise.proofs.CastRows.{lists_fault}

@@ -7,7 +7,7 @@ use Rattle.column_ops.proofs.IndexPositions.{refused-passed_on}
 use Rattle.column_core.specs.Leaf.{OfNumbers}
 use Rattle.runend_array.specs.Array.{column_of, rows}
 use Rattle.std.specs.Prelude.{IfOk}
-use Rattle.runend_visible.specs.MinimalForm.{IsRunForm}
+use Rattle.runend_column.specs.MinimalForm.{IsRunForm}
 use Rattle.runend_array.specs.Column.{column_of_runs, plain_of}
 use Rattle.runend_map.proofs.CastRows.{cast_count, cast_rows, same_fault}
 use Rattle.runend_map.proofs.KeptRows.{if_ok}

@@ -8,7 +8,7 @@ use Rattle.column_order.specs.Comparing.{compare_with, compared}
 use Rattle.runend_array.specs.Array.{column_of, rows}
 use Rattle.runend_array.specs.Column.{Column, column_rows}
 use Rattle.runend_array.specs.Encoding.{IsDecodedForm}
-use Rattle.runend_visible.specs.VisibleForm.{visible_values}
+use Rattle.runend_column.specs.VisibleForm.{visible_values}
 use Rattle.runend_map.proofs.ComparedRows.{compared_count, made_form, null_rows, nulls_alone-copies}
 use Rattle.runend_map.proofs.KeptRows.{if_ok, if_ok_both, mapped_rows}
 use Rattle.runend_map.proofs.OneKind.{filled}

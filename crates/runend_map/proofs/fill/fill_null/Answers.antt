@@ -2,7 +2,7 @@ use Rattle.std.proofs.Common.{◌∙◌, Option, ap, inl, inr, subst, sym}
 use Rattle.column_core.specs.FlatColumn.{leaf_of}
 use Rattle.runend_array.specs.Array.{column_of, rows}
 use Rattle.std.specs.Prelude.{IfOk}
-use Rattle.runend_visible.specs.MinimalForm.{IsRunForm}
+use Rattle.runend_column.specs.MinimalForm.{IsRunForm}
 use Rattle.runend_map.proofs.FilledRows.{filled_count, filled_dtype, filled_rows}
 use Rattle.array_rowwise.proofs.FilledRows.{flat_computed, lists_refused}
 use Rattle.runend_map.proofs.KeptRows.{if_ok}

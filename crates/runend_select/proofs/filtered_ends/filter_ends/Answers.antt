@@ -7,7 +7,7 @@ use Rattle.column_base.specs.Numbers.{numbers, ptype_of}
 use Rattle.runend_windows.specs.Ends.{ends_of}
 use Rattle.runend_windows.specs.Window.{last_end}
 use Rattle.runend_select.specs.KeptRuns.{AreKept}
-use Rattle.runend_coalesce.proofs.Fitting.{all_stored-8, all_stored-16, all_stored-32, all_stored-64}
+use Rattle.runend_encode.proofs.Fitting.{all_stored-8, all_stored-16, all_stored-32, all_stored-64}
 use Rattle.runend_select.proofs.filtered_ends.filter_ends.Goals as goal
 
 pub filter_stored-requires-clause-fits : goal.filter_stored-requires-clause-fits

@@ -1,7 +1,7 @@
 use Rattle.std.proofs.Common.{◌≡◌, map, ap, subst, ◌∙◌}
 use Rattle.std.specs.Prelude.{IfOk, unsigned_abs}
 use Rattle.column_base.specs.declared.dtype.PType.{PType}
-use Rattle.runend_coalesce.proofs.Fitting.{naturals-of}
+use Rattle.runend_encode.proofs.Fitting.{naturals-of}
 use Rattle.runend_select.proofs.filtered_ends.filter_run_end_primitive.Goals as goal
 
 pub filter_ends-parts-requires-clause-increasing : goal.filter_ends-parts-requires-clause-increasing

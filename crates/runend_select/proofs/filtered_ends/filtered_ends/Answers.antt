@@ -1,7 +1,7 @@
 use Rattle.std.proofs.Common.{◌≡◌, ◌+◌, ◌-◌, ◌/◌, ◌<◌, ◌≤◌, ℕ, List, add-one, map, length, min, arith, ap, refl, ◌∙◌}
 use Rattle.std.specs.Prelude.{unsigned_abs, nat_lt, slice_index, slice_range}
 use Rattle.runend_windows.proofs.StoredNumbers.{length-naturals}
-use Rattle.runend_coalesce.proofs.Fitting.{fits_below, naturals-push}
+use Rattle.runend_encode.proofs.Fitting.{fits_below, naturals-push}
 use Rattle.runend_select.proofs.KeptSoFar.{AreKept-all, KeptSoFar-next, KeptSoFar-none, selected_within}
 use Rattle.runend_select.proofs.FirstBits.{set_bits-between, set_bits-onward}
 use Rattle.runend_select.proofs.Reached.{reached, reached-le}

@@ -11,8 +11,8 @@ use Rattle.runend_array.specs.Encoding.{IsComputedFlat}
 use Rattle.runend_windows.specs.Ends.{ends_of}
 use Rattle.runend_windows.specs.Window.{run_rows, IsWindow}
 use Rattle.runend_windows.proofs.Ends.{length_ends_of}
-use Rattle.runend_coalesce.specs.Joined.{AllHaveRows}
-use Rattle.runend_visible.specs.MinimalForm.{AreMinimalRuns}
+use Rattle.runend_encode.specs.Joined.{AllHaveRows}
+use Rattle.runend_column.specs.MinimalForm.{AreMinimalRuns}
 use Rattle.array_rowwise.proofs.ComputedRows.{ok_then}
 use Rattle.runend_select.proofs.MinimalForms.{flat_of_computed}
 use Rattle.array_rowwise.proofs.PassedOn.{no_value, only_error}

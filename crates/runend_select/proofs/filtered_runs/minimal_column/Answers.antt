@@ -4,8 +4,8 @@ use Rattle.std.proofs.lemmas.List.{length-map}
 use Rattle.column_core.specs.PrimitiveForm.{primitive_rows}
 use Rattle.column_core.specs.Value.{FlatValue, Single, Value}
 use Rattle.runend_windows.specs.Window.{run_rows}
-use Rattle.runend_visible.specs.VisibleForm.{visible_ends, window_start}
-use Rattle.runend_visible.proofs.VisibleWindow.{visible_rows}
+use Rattle.runend_column.specs.VisibleForm.{visible_ends, window_start}
+use Rattle.runend_column.proofs.VisibleWindow.{visible_rows}
 use Rattle.array_rowwise.proofs.ComputedRows.{ok_then}
 use Rattle.array_rowwise.proofs.PassedOn.{no_value, only_error}
 use Rattle.runend_select.proofs.filtered_runs.minimal_column.Goals as goal

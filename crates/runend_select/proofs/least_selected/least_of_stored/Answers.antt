@@ -5,9 +5,9 @@ use Rattle.column_base.specs.ValidityForm.{NeverNull, HasLength, flags}
 use Rattle.column_base.specs.Validity.{form_of}
 use Rattle.column_core.specs.PrimitiveForm.{optionals, primitive_with}
 use Rattle.runend_windows.proofs.StoredNumbers.{length-naturals}
-use Rattle.runend_coalesce.proofs.JoinedParts.{length-shown}
+use Rattle.runend_encode.proofs.JoinedParts.{length-shown}
 use Rattle.runend_select.proofs.LeastParts.{AreLeastSelected-made}
-use Rattle.runend_coalesce.proofs.RunReads.{never-from_required}
+use Rattle.runend_encode.proofs.RunReads.{never-from_required}
 use Rattle.runend_select.proofs.least_selected.least_of_stored.Goals as goal
 
 pub returns-clause-least : goal.returns-clause-least

@@ -7,8 +7,8 @@ use Rattle.column_core.specs.PrimitiveForm.{PrimitiveForm}
 use Rattle.runend_windows.specs.Window.{IsWindow}
 use Rattle.runend_windows.proofs.Arms.{length-arm, same-primitive}
 use Rattle.runend_select.specs.LeastSelected.{AreLeastSelected}
-use Rattle.runend_coalesce.proofs.Fitting.{all_stored-8, all_stored-16, all_stored-32, all_stored-64}
-use Rattle.runend_coalesce.proofs.RunReads.{never-of_ends}
+use Rattle.runend_encode.proofs.Fitting.{all_stored-8, all_stored-16, all_stored-32, all_stored-64}
+use Rattle.runend_encode.proofs.RunReads.{never-of_ends}
 use Rattle.runend_select.proofs.least_selected.least_selected.Goals as goal
 
 pub least_of_values-requires-clause-fits : goal.least_of_values-requires-clause-fits

@@ -1,7 +1,7 @@
 use Rattle.std.proofs.Common.{◌≡◌, ◌≢◌, Bool, true, false, refl, sym}
 use mathlib.Core.Bool.{beq, not}
 use Rattle.runend_windows.proofs.ValidRuns.{differ-from_ne_of, same-from_ne_of}
-use Rattle.runend_coalesce.proofs.RunReads.{equal-optionals, flags-equal, numbers-equal}
+use Rattle.runend_encode.proofs.RunReads.{equal-optionals, flags-equal, numbers-equal}
 use Rattle.runend_select.proofs.one_pass.differ.Goals as goal
 
 apart : (v w : Bool) → not (beq w v) ≡ true → v ≢ w

@@ -4,8 +4,8 @@ use Rattle.std.proofs.lemmas.Option.{get_or_from_slice_get}
 use Rattle.column_core.specs.PrimitiveForm.{optionals}
 use Rattle.runend_windows.specs.Window.{run_rows}
 use Rattle.runend_windows.proofs.StoredNumbers.{length-naturals}
-use Rattle.runend_coalesce.proofs.Fitting.{fits_below, naturals-push}
-use Rattle.runend_coalesce.proofs.Marked.{marked-read}
+use Rattle.runend_encode.proofs.Fitting.{fits_below, naturals-push}
+use Rattle.runend_encode.proofs.Marked.{marked-read}
 use Rattle.runend_select.specs.Shown.{shown_of}
 use Rattle.runend_select.proofs.FirstBits.{set_bits-onward}
 use Rattle.runend_select.proofs.LeastSoFar.{LeastSoFar-closed, LeastSoFar-empty, LeastSoFar-next, LeastSoFar-none, fewer, is-kept, is-skipped, selected-last, selected-low, some-passed}

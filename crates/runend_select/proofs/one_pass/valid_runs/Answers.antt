@@ -5,8 +5,8 @@ use Rattle.std.proofs.lemmas.Option.{get_or_from_slice_get}
 use Rattle.runend_windows.specs.Window.{run_rows}
 use Rattle.runend_windows.proofs.StoredNumbers.{length-naturals}
 use Rattle.runend_windows.proofs.ValidRuns.{differ-from_ne_of, same-from_ne_of}
-use Rattle.runend_coalesce.proofs.Fitting.{fits_below, naturals-push}
-use Rattle.runend_coalesce.proofs.RunReads.{valid-read}
+use Rattle.runend_encode.proofs.Fitting.{fits_below, naturals-push}
+use Rattle.runend_encode.proofs.RunReads.{valid-read}
 use Rattle.runend_select.proofs.FirstBits.{set_bits-onward}
 use Rattle.runend_select.proofs.LeastSoFar.{LeastSoFar-closed, LeastSoFar-empty, LeastSoFar-next, LeastSoFar-none, fewer, is-kept, is-skipped, selected-last, selected-low, some-passed}
 use Rattle.runend_select.proofs.Reached.{reached, reached-le}

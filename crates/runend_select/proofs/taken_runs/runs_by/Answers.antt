@@ -7,7 +7,7 @@ use Rattle.runend_indices.specs.Indices.{optional_indices, runs_of}
 use Rattle.runend_indices.specs.Pick.{answer_of, run_of_null}
 use Rattle.runend_select.specs.RunsOf.{AreRunsOf}
 use Rattle.array_rowwise.proofs.ComputedRows.{ok_then}
-use Rattle.runend_coalesce.proofs.Fitting.{naturals-of}
+use Rattle.runend_encode.proofs.Fitting.{naturals-of}
 use Rattle.runend_select.proofs.taken_runs.runs_by.Goals as goal
 
 pub physical_indices-requires-clause-window : goal.physical_indices-requires-clause-window

@@ -8,7 +8,7 @@ use Rattle.runend_array.specs.Array.{column_of}
 use Rattle.runend_array.specs.Column.{Constant, OfConstant, column_of_runs}
 use Rattle.runend_windows.specs.Ends.{ends_of}
 use Rattle.runend_windows.proofs.RunRows.{length-run_rows}
-use Rattle.runend_encode_rows.proofs.Parts.{parts_of_rows}
+use Rattle.runend_builder.proofs.Parts.{parts_of_rows}
 use Rattle.runend_zip.specs.Runs.{rows_in}
 use Rattle.runend_zip.specs.Zipped.{IsAnswerColumn}
 use Rattle.runend_zip.proofs.AnswerColumns.{constant_answers, run_answers, value_is}

@@ -6,7 +6,7 @@ use Rattle.column_core.specs.FlatColumn.{leaf_of}
 use Rattle.column_core.specs.Value.{MayBeNull}
 use Rattle.runend_array.specs.Array.{column_of, dtype_of, rows}
 use Rattle.runend_array.specs.Column.{OfConstant, Runs, column_dtype, column_of_runs, runs_with}
-use Rattle.runend_encode_rows.proofs.Parts.{parts_of_rows}
+use Rattle.runend_builder.proofs.Parts.{parts_of_rows}
 use Rattle.runend_map.proofs.KeptRows.{if_ok}
 use Rattle.runend_windows.proofs.NullRows.{may_be_null-of_nulls}
 use Rattle.runend_commands.specs.Meaning.{IsTightColumn}

@@ -3,7 +3,7 @@ use Rattle.column_core.specs.FlatColumn.{leaf_of}
 use Rattle.column_core.specs.Leaf.{leaf_rows, single_rows}
 use Rattle.column_order.proofs.RowRanges.{length-single_rows}
 use Rattle.runend_windows.specs.Ends.{ends_of}
-use Rattle.runend_visible.proofs.VisibleWindow.{read_rows, read_shown, read_window}
+use Rattle.runend_column.proofs.VisibleWindow.{read_rows, read_shown, read_window}
 use Rattle.runend_map.proofs.ComparedRows.{own_rows}
 use Rattle.runend_map.proofs.PairedRuns.{first_run}
 use Rattle.runend_map.proofs.shown_runs.ShownRuns.of.Goals as goal

@@ -4,8 +4,8 @@ use Rattle.column_core.specs.Leaf.{leaf_rows, single_rows}
 use Rattle.column_order.proofs.RowRanges.{length-single_rows}
 use Rattle.runend_windows.specs.Ends.{ends_of}
 use Rattle.runend_windows.specs.Window.{run_rows}
-use Rattle.runend_visible.specs.VisibleForm.{visible_ends, window_start}
-use Rattle.runend_visible.proofs.VisibleWindow.{read_rows, read_shown, read_window, visible_rows}
+use Rattle.runend_column.specs.VisibleForm.{visible_ends, window_start}
+use Rattle.runend_column.proofs.VisibleWindow.{read_rows, read_shown, read_window, visible_rows}
 use Rattle.runend_array.specs.Column.{column_rows}
 use Rattle.runend_windows.proofs.RunRows.{length-run_rows}
 use Rattle.runend_zip.specs.Runs.{rows_in, AreColumnRuns}

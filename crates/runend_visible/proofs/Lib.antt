@@ -1,4 +1,0 @@
-pub mod MinimalRuns
-pub mod OverVisible
-pub mod PassedOn
-pub mod VisibleWindow

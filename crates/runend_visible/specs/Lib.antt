@@ -1,2 +1,0 @@
-pub mod MinimalForm
-pub mod VisibleForm
