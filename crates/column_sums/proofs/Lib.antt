@@ -3,3 +3,4 @@ pub mod Within
 pub mod RunSums
 pub mod SingleRows
 pub mod Reaches
+pub mod EightBits

@@ -1,15 +1,17 @@
 -- A bound of the numbers bounds each partial sum.
-use Rattle.std.proofs.Common.{◌^◌, ◌≡◌, ◌∙◌, ℕ, zero, suc, ◌+◌, ◌*◌, ◌≤◌, ℤ, pos, negsuc, neg_ℤ, ◌+ℤ◌, ◌*ℤ◌, ◌≤ℤ◌, true, FitsSigned, Option, Some, List, [], ◌∷◌, length, drop, ap, arith, length-append}
-use Rattle.std.specs.Prelude.{replicate, slice_get}
-use mir.Syntax.{w32}
+use Rattle.std.proofs.Common.{◌≡◌, ◌∙◌, ℕ, zero, suc, ◌+◌, ◌*◌, ◌<◌, ◌≤◌, ℤ, pos, negsuc, neg_ℤ, ◌+ℤ◌, ◌*ℤ◌, ◌≤ℤ◌, ◌&&◌, Bool, true, false, not, Option, Some, None, List, [], ◌∷◌, length, drop, refl, sym, ap, arith, length-append}
+use Rattle.std.specs.Prelude.{IfSome, is_none, is_some, option_map, replicate, slice_get}
+use Rattle.column_base.specs.Words.{one_if}
 use Rattle.std.proofs.lemmas.Int.{ints}
 use Rattle.std.proofs.lemmas.List.{length-replicate}
 use Rattle.std.proofs.Math.IntN.{pos-*ℤ-pos, negsuc-*ℤ-pos}
 use Rattle.std.proofs.Math.Nat.{mul-le-mul_right, mul-le-mul_left, mul-add}
-use Rattle.column_sums.specs.SumRange.{SumRange, SignedRange, is_within}
+use Rattle.column_sums.specs.SumRange.{SumRange, SignedRange, UnsignedRange, is_within}
 use Rattle.column_sums.specs.RunSum.{rows_of_runs}
-use Rattle.column_sums.specs.Reach.{StaysWithin}
-use Rattle.column_sums.proofs.RunSums.{drop-at}
+use Rattle.column_sums.specs.Reach.{IsSized, IsStored, StaysWithin, has_number, lowest}
+use Rattle.column_sums.specs.SumState.{IsAddable, SumState, with_run}
+use Rattle.column_sums.specs.Summed.{IsSummedOn, run_value}
+use Rattle.column_sums.proofs.RunSums.{all_or, drop-at, none_after, null_run, valid_run}
 use Rattle.column_sums.proofs.Within.{is_within-between}
 
 -- a product of a number from -low to high and a count
@@ -24,28 +26,45 @@ product_between (negsuc m) low high count l h =
     let le : suc m * count ≤ low * count = mul-le-mul_right count k in
     rw (negsuc-*ℤ-pos m count) (omega (arith, ints), omega (arith, ints))
 
+-- the product of a number of a size and a count
+sized_product : (range : SumRange) (size : ℕ) (n : ℤ) (count : ℕ) → IsSized range size n
+    → (neg_ℤ (pos (lowest range size * count)) ≤ℤ (n *ℤ pos count)) × ((n *ℤ pos count) ≤ℤ pos ((size + 1) * count))
+sized_product range size n count sized =
+    let high = sized.high in product_between n (lowest range size) (size + 1) count sized.low (omega (arith, ints))
+
 -- after some of the rows the others leave the sum in the range
-pub stays-next : (range : SumRange) (low high : ℕ) (sum n : ℤ) (count rest : ℕ) → neg_ℤ (pos low) ≤ℤ n → n ≤ℤ pos high
-    → StaysWithin range low high sum (count + rest) → StaysWithin range low high (sum +ℤ n *ℤ pos count) rest
-stays-next range low high sum n count rest l h stays =
-    let b = product_between n low high count l h in let p = b.0 in let q = b.1 in
+pub stays-next : (range : SumRange) (size : ℕ) (sum n : ℤ) (count rest : ℕ) → IsSized range size n
+    → StaysWithin range size sum (count + rest) → StaysWithin range size (sum +ℤ n *ℤ pos count) rest
+stays-next range size sum n count rest sized stays =
+    let b = sized_product range size n count sized in let p = b.0 in let q = b.1 in
     let down = stays.down in let up = stays.up in
-    let lows : low * (count + rest) ≡ low * count + low * rest = mul-add low count rest in
-    let highs : high * (count + rest) ≡ high * count + high * rest = mul-add high count rest in
+    let lows : lowest range size * (count + rest) ≡ lowest range size * count + lowest range size * rest = mul-add (lowest range size) count rest in
+    let highs : (size + 1) * (count + rest) ≡ (size + 1) * count + (size + 1) * rest = mul-add (size + 1) count rest in
     record { down = omega (arith, ints); up = omega (arith, ints) }
 
 -- and it is in the range
-pub stays-is_within : (range : SumRange) (low high : ℕ) (sum : ℤ) (rows : ℕ) → StaysWithin range low high sum rows → is_within range sum ≡ true
-stays-is_within range low high sum rows stays =
+pub stays-is_within : (range : SumRange) (size : ℕ) (sum : ℤ) (rows : ℕ) → StaysWithin range size sum rows → is_within range sum ≡ true
+stays-is_within range size sum rows stays =
     let down = stays.down in let up = stays.up in is_within-between range sum (omega (arith, ints)) (omega (arith, ints))
 
 -- fewer rows leave it there too
-pub stays-fewer : (range : SumRange) (low high : ℕ) (sum : ℤ) (rows fewer : ℕ) → fewer ≤ rows → StaysWithin range low high sum rows → StaysWithin range low high sum fewer
-stays-fewer range low high sum rows fewer le stays =
+pub stays-fewer : (range : SumRange) (size : ℕ) (sum : ℤ) (rows fewer : ℕ) → fewer ≤ rows → StaysWithin range size sum rows → StaysWithin range size sum fewer
+stays-fewer range size sum rows fewer le stays =
     let down = stays.down in let up = stays.up in
-    let lows : low * fewer ≤ low * rows = mul-le-mul_left low le in
-    let highs : high * fewer ≤ high * rows = mul-le-mul_left high le in
+    let lows : lowest range size * fewer ≤ lowest range size * rows = mul-le-mul_left (lowest range size) le in
+    let highs : (size + 1) * fewer ≤ (size + 1) * rows = mul-le-mul_left (size + 1) le in
     record { down = omega (arith, ints); up = omega (arith, ints) }
+
+-- and what some of the rows add is in the range
+pub stays-product : (range : SumRange) (size : ℕ) (sum n : ℤ) (count : ℕ) → IsSized range size n → StaysWithin range size sum count → is_within range (n *ℤ pos count) ≡ true
+stays-product SignedRange size sum n count sized stays =
+    let b = sized_product SignedRange size n count sized in let p = b.0 in let q = b.1 in
+    let down = stays.down in let up = stays.up in
+    is_within-between SignedRange (n *ℤ pos count) (omega (arith, ints)) (omega (arith, ints))
+stays-product UnsignedRange size sum n count sized stays =
+    let b = sized_product UnsignedRange size n count sized in let p = b.0 in let q = b.1 in
+    let down = stays.down in let up = stays.up in
+    is_within-between UnsignedRange (n *ℤ pos count) (omega (arith, ints)) (omega (arith, ints))
 
 -- the rows from a run on are its own and those after it
 pub rows_left-at : (runs : List (Option ℤ × ℕ)) (run : ℕ) (value : Option ℤ) (count : ℕ) → slice_get runs run ≡ Some (value, count)
@@ -73,29 +92,69 @@ rows_left-le ((value, count) ∷ runs) (suc run) = omega (arith, rows_left-le ru
 pub few_rows : (runs : List (Option ℤ × ℕ)) (run : ℕ) (value : Option ℤ) (count : ℕ) → slice_get runs run ≡ Some (value, count) → count ≤ length (rows_of_runs runs)
 few_rows runs run value count at = omega (arith, rows_left-at runs run value count at, rows_left-le runs run)
 
--- after a run the rows of the others leave the sum in the range
-pub run-stays : (range : SumRange) (low high : ℕ) (sum n : ℤ) (runs : List (Option ℤ × ℕ)) (run count : ℕ) → slice_get runs run ≡ Some (Some n, count)
-    → neg_ℤ (pos low) ≤ℤ n → n ≤ℤ pos high → StaysWithin range low high sum (length (rows_of_runs (drop run runs)))
-    → StaysWithin range low high (sum +ℤ n *ℤ pos count) (length (rows_of_runs (drop (run + 1) runs)))
-run-stays range low high sum n runs run count at l h stays =
+-- a run of any value adds to the sum what is in reach
+pub run-addable : (range : SumRange) (size : ℕ) (sum : ℤ) (runs : List (Option ℤ × ℕ)) (run : ℕ) (value : Option ℤ) (count : ℕ) → slice_get runs run ≡ Some (value, count)
+    → ((n : ℤ) → value ≡ Some n → IsSized range size n) → StaysWithin range size sum (length (rows_of_runs (drop run runs))) → IsAddable range sum value count
+run-addable range size sum runs run None count at sized stays = tt
+run-addable range size sum runs run (Some n) count at sized stays =
     let rest = length (rows_of_runs (drop (run + 1) runs)) in
     let left = rows_left-at runs run (Some n) count at in
-    stays-next range low high sum n count rest l h (stays-fewer range low high sum (length (rows_of_runs (drop run runs))) (count + rest) (omega (arith, left)) stays)
+    let own = stays-fewer range size sum (length (rows_of_runs (drop run runs))) (count + rest) (omega (arith, left)) stays in (
+      stays-is_within range size (sum +ℤ n *ℤ pos count) rest (stays-next range size sum n count rest (sized n refl) own),
+      stays-product range size sum n count (sized n refl) (stays-fewer range size sum (count + rest) count (omega arith) own),
+    )
 
--- and what the run adds is in the range, where it goes as far in both directions
-pub product-is_within : (furthest : ℕ) (sum n : ℤ) (runs : List (Option ℤ × ℕ)) (run count : ℕ) → slice_get runs run ≡ Some (Some n, count)
-    → neg_ℤ (pos furthest) ≤ℤ n → n ≤ℤ pos furthest → StaysWithin SignedRange furthest furthest sum (length (rows_of_runs (drop run runs))) → is_within SignedRange (n *ℤ pos count) ≡ true
-product-is_within furthest sum n runs run count at l h stays =
-    let rows = length (rows_of_runs (drop run runs)) in
+-- and after it the rows of the others leave the sum in the range
+pub run-stays : (range : SumRange) (size : ℕ) (sum : SumState) (runs : List (Option ℤ × ℕ)) (run : ℕ) (value : Option ℤ) (count : ℕ) → slice_get runs run ≡ Some (value, count)
+    → ((n : ℤ) → value ≡ Some n → IsSized range size n) → StaysWithin range size sum.value (length (rows_of_runs (drop run runs)))
+    → StaysWithin range size (with_run sum value count).value (length (rows_of_runs (drop (run + 1) runs)))
+run-stays range size sum runs run None count at sized stays =
+    stays-fewer range size sum.value (length (rows_of_runs (drop run runs))) (length (rows_of_runs (drop (run + 1) runs))) (rows_left-next runs run) stays
+run-stays range size sum runs run (Some n) count at sized stays =
+    let rest = length (rows_of_runs (drop (run + 1) runs)) in
     let left = rows_left-at runs run (Some n) count at in
-    let le : furthest * count ≤ furthest * rows = mul-le-mul_left furthest (omega (arith, left)) in
-    let b = product_between n furthest furthest count l h in let p = b.0 in let q = b.1 in
-    let down = stays.down in let up = stays.up in
-    is_within-between SignedRange (n *ℤ pos count) (omega (arith, ints)) (omega (arith, ints))
+    stays-next range size sum.value n count rest (sized n refl) (stays-fewer range size sum.value (length (rows_of_runs (drop run runs))) (count + rest) (omega (arith, left)) stays)
 
--- a number of 32 bits is no further from 0
-pub short-low : (n : ℤ) → FitsSigned w32 n → neg_ℤ (pos (2 ^ 31)) ≤ℤ n
-short-low n fits = omega (arith, ints)
+-- a run whose value and rows were read, and were added untested
+pub known_run : (range : SumRange) (runs : List (Option ℤ × ℕ)) (run : ℕ) (value : Option ℤ) (count : ℕ) (sum : SumState) (is_empty : Bool)
+    → slice_get runs run ≡ Some (value, count) → 0 < count → IsAddable range sum.value value count
+    → IsSummedOn range runs run sum is_empty (run + 1) (with_run sum value count) (is_empty && is_none value)
+known_run range runs run None count sum is_empty at shown addable =
+    λ before summed. rw (all_or is_empty) (null_run range before runs run count sum is_empty at summed)
+known_run range runs run (Some n) count sum is_empty at shown addable =
+    λ before summed. rw (none_after is_empty) (valid_run range before runs run n count sum (with_run sum (Some n) count) is_empty at shown (sym addable.0) refl refl summed)
 
-pub short-high : (n : ℤ) → FitsSigned w32 n → n ≤ℤ pos (2 ^ 31)
-short-high n fits = omega (arith, ints)
+-- a number of a size is of each larger one
+pub sized-wider : (range : SumRange) (size wider : ℕ) (n : ℤ) → size ≤ wider → IsSized range size n → IsSized range wider n
+sized-wider SignedRange size wider n le sized = let low = sized.low in let high = sized.high in record { low = omega (arith, ints); high = omega (arith, ints) }
+sized-wider UnsignedRange size wider n le sized = let low = sized.low in let high = sized.high in record { low = low; high = omega (arith, ints) }
+
+-- a value that is of a size where it is a number
+pub sized_some : (range : SumRange) (size : ℕ) (value : Option ℤ) → ((n : ℤ) → value ≡ Some n → IsSized range size n) → IfSome value (IsSized range size)
+sized_some range size None sized = tt
+sized_some range size (Some n) sized = sized n refl
+
+-- a value that was read is null where its number is
+pub null-mapped : {X : Type 0} (number : X → ℤ) (value : Option X) (null : Bool) → is_some value ≡ not null → null ≡ is_none (option_map number value)
+null-mapped number None true same = refl
+null-mapped number None false same = let e : false ≡ true = same in cc
+null-mapped number (Some v) true same = let e : true ≡ false = same in cc
+null-mapped number (Some v) false same = refl
+
+-- where the flag is 1 the number is the stored one
+pub flag-number : (shown : Option (Option ℤ)) (stored : ℤ) → one_if (has_number shown) ≡ 1 → IsStored shown stored → shown ≡ Some (Some stored)
+flag-number None stored flag same = absurd (omega (arith, flag))
+flag-number (Some None) stored flag same = absurd (omega (arith, flag))
+flag-number (Some (Some n)) stored flag same = ap (λ (m : ℤ). Some (Some m)) (sym (same n refl))
+
+-- and where it is 0 the run is null
+pub flag-null : (runs : List (Option ℤ × ℕ)) (run : ℕ) → run < length runs → one_if (has_number (run_value runs run)) ≡ 0 → run_value runs run ≡ Some None
+flag-null [] run within flag = absurd (omega (arith, within))
+flag-null ((None, count) ∷ runs) zero within flag = refl
+flag-null ((Some n, count) ∷ runs) zero within flag = absurd (omega (arith, flag))
+flag-null (first ∷ runs) (suc run) within flag = flag-null runs run (omega (arith, within)) flag
+
+-- what follows of a value, where there is one
+pub if_some : {X : Type 0} (P Q : X → Type 0) (value : Option X) → ((x : X) → P x → Q x) → IfSome value P → IfSome value Q
+if_some P Q None step held = tt
+if_some P Q (Some x) step held = step x held

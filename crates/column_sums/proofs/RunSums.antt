@@ -83,11 +83,11 @@ drop-past [] (suc k) h = refl
 drop-past (y ∷ xs) zero h = absurd (omega arith)
 drop-past (y ∷ xs) (suc k) h = drop-past xs k (omega arith)
 
-all_or : (b : Bool) → (b && true) ≡ b
+pub all_or : (b : Bool) → (b && true) ≡ b
 all_or true = refl
 all_or false = refl
 
-none_after : (b : Bool) → (b && false) ≡ false
+pub none_after : (b : Bool) → (b && false) ≡ false
 none_after true = refl
 none_after false = refl
 

@@ -131,3 +131,8 @@ pub sum-computed : (sum n : ℤ) (count : ℕ) → FitsSigned w64 sum → FitsSi
     → to_z w64 (of_z w64 sum) +ℤ to_z w64 (of_z w64 (to_z w64 (of_z w64 n) *ℤ to_z w64 count)) ≡ sum +ℤ n *ℤ pos count
 sum-computed sum n count s f h p =
     rw (product-computed n count f h, to_z-of_z w64 (n *ℤ pos count) p, to_z-of_z w64 sum s) refl
+
+-- a sum as it is computed in 64 bits
+pub sum-of : (sum product : ℤ) → FitsSigned w64 sum → FitsSigned w64 product → FitsSigned w64 (sum +ℤ product)
+    → to_z w64 (of_z w64 (to_z w64 (of_z w64 sum) +ℤ to_z w64 (of_z w64 product))) ≡ sum +ℤ product
+sum-of sum product s p both_fit = rw (to_z-of_z w64 sum s, to_z-of_z w64 product p) (to_z-of_z w64 (sum +ℤ product) both_fit)

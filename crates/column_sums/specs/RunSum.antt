@@ -1,7 +1,6 @@
 -- Runs of optional integers, and the calls of `add_run` that sum them.
 --
--- Code that has runs implements `SignedRuns` or `UnsignedRuns` and calls `sum_signed_in_runs` or
--- `sum_unsigned_in_runs`. A loop of one's own goes
+-- Code that has runs implements `Runs` and calls `sum_in_runs`. A loop of one's own goes
 --
 --   let mut is_empty = true;
 --   for run in 0..run_count {

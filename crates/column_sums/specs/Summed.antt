@@ -1,5 +1,5 @@
 -- A loop that sums runs, and where it stands.
-use Rattle.std.specs.Prelude.{◌≡◌, ℕ, ℤ, Bool, true, drop, ◌&&◌, Option, List, ◌++◌}
+use Rattle.std.specs.Prelude.{◌≡◌, ℕ, ℤ, Bool, true, false, drop, ◌&&◌, Option, None, List, ◌++◌, option_map, slice_get}
 use Rattle.column_sums.specs.SumRange.{SumRange, is_within}
 use Rattle.column_sums.specs.RowSum.{sum_from, sum_of_rows, are_null}
 use Rattle.column_sums.specs.RunSum.{rows_of_runs, valid_runs, through_first_leaving, calls_of}
@@ -19,3 +19,21 @@ pub record IsSumOfRuns (range : SumRange) (before : List (ℤ × ℕ)) (runs : L
   pub value : sum ≡ sum_of_rows range (rows_of_runs runs)
   pub made : calls ≡ before ++ calls_of range runs
   pub empty : is_empty ≡ are_null (rows_of_runs runs)
+
+-- wherever the runs before `from` were summed, those before `to` are too
+abbrev pub IsSummedOn : SumRange → List (Option ℤ × ℕ) → ℕ → SumState → Bool → ℕ → SumState → Bool → Type 0
+IsSummedOn range runs from old was_empty to new is_empty =
+    (before : List (ℤ × ℕ)) → IsSummed range before runs from old was_empty → IsSummed range before runs to new is_empty
+
+-- wherever the runs before `from` were summed, some sum of those after them left the range
+abbrev pub IsLeftAfter : SumRange → List (Option ℤ × ℕ) → ℕ → SumState → Bool → SumState → Type 0
+IsLeftAfter range runs from old was_empty new =
+    (before : List (ℤ × ℕ)) → IsSummed range before runs from old was_empty → IsSumOfRuns range before runs None new.calls false
+
+-- the value of the run at a place, where there is one
+abbrev pub run_value : List (Option ℤ × ℕ) → ℕ → Option (Option ℤ)
+run_value runs run = option_map (λ shown. shown.0) (slice_get runs run)
+
+-- how many rows show it
+abbrev pub run_rows : List (Option ℤ × ℕ) → ℕ → Option ℕ
+run_rows runs run = option_map (λ shown. shown.1) (slice_get runs run)

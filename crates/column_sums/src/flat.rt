@@ -11,10 +11,9 @@ ghost use Rattle.column_sums.specs.SumAnswer.{answer_of, sum_fault, IsSumAnswer}
 
 use crate::answer::SumAnswer;
 use crate::numbers::{signed_at, unsigned_at};
+use crate::runs::{Runs, sum_in_runs};
 use crate::signed::SignedSum;
-use crate::signed_runs::{SignedRuns, sum_signed_in_runs};
 use crate::unsigned::UnsignedSum;
-use crate::unsigned_runs::{UnsignedRuns, sum_unsigned_in_runs};
 use column_core::{FlatView, PrimitiveArray, VortexError, VortexResult};
 use std::alloc::Allocator;
 
@@ -36,9 +35,9 @@ fn sum_numbers<A: Allocator>(array: &PrimitiveArray<A>) -> SumAnswer
     ensures { result ≡ answer_of (sum_range array.now.ptype) (optional_numbers array.now) }
 {
     if array.ptype().is_unsigned_int() {
-        sum_unsigned_in_runs(&UnsignedRows { array }, &mut UnsignedSum::new())
+        sum_in_runs(&UnsignedRows { array }, &mut UnsignedSum::new())
     } else {
-        sum_signed_in_runs(&SignedRows { array }, &mut SignedSum::new())
+        sum_in_runs(&SignedRows { array }, &mut SignedSum::new())
     }
 }
 
@@ -49,7 +48,7 @@ struct SignedRows<'a, A: Allocator> {
     ghost signed: { ¬ IsUnsigned array.now.ptype },
 }
 
-impl<'a, A: Allocator> SignedRuns for SignedRows<'a, A> {
+impl<'a, A: Allocator> Runs<i64> for SignedRows<'a, A> {
     ghost runs = { λ rows. runs_of_rows (optional_numbers rows.array.now) };
 
     fn run_count(&self) -> usize {
@@ -72,7 +71,7 @@ struct UnsignedRows<'a, A: Allocator> {
     ghost unsigned: { IsUnsigned array.now.ptype } by { IsUnsigned-prop array.now.ptype },
 }
 
-impl<'a, A: Allocator> UnsignedRuns for UnsignedRows<'a, A> {
+impl<'a, A: Allocator> Runs<u64> for UnsignedRows<'a, A> {
     ghost runs = { λ rows. runs_of_rows (optional_numbers rows.array.now) };
 
     fn run_count(&self) -> usize {

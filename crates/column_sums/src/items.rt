@@ -1,164 +1,107 @@
-//! Optional numbers as a flat column stores them: items, and a flag for each. The types of items and of
-//! flags are those of the reader, so that a loop over it asks for neither.
-ghost use Rattle.std.specs.Prelude.{◌≡◌, ◌<◌, ℤ, Bool, List, Option, Some, true, false, length, map, option_map, pos, replicate, slice_get};
+//! Optional numbers as a flat column stores them: items, and a flag for each.
+ghost use Rattle.std.specs.Prelude.{◌≡◌, ◌<◌, ◌≤◌, ◌+◌, ℤ, List, Option, Some, length, map, option_map, slice_get, IfSome};
 ghost use Rattle.column_core.specs.Optionals.{optionals};
+ghost use Rattle.column_sums.specs.Reach.{AreFlagsOfEight, AreSized, IsStored};
+ghost use Rattle.column_sums.specs.SumRange.{sum_range};
 
-use column_core::{BitBuffer, NativePType, UnsignedPType};
-use std::alloc::Allocator;
+use crate::item_flags::ItemFlags;
+use crate::summed_in::SummedIn;
+use column_core::NativePType;
 
-/// One of the four signed types.
-pub trait SignedPType: NativePType {
-    /// The value as an `i64`, which has the numbers of all four types.
-    fn to_i64(self) -> i64
-        ensures { result ≡ Self.number self };
-}
-
-impl SignedPType for i8 {
-    #[inline]
-    fn to_i64(self) -> i64 {
-        i64::from(self)
-    }
-}
-
-impl SignedPType for i16 {
-    #[inline]
-    fn to_i64(self) -> i64 {
-        i64::from(self)
-    }
-}
-
-impl SignedPType for i32 {
-    #[inline]
-    fn to_i64(self) -> i64 {
-        i64::from(self)
-    }
-}
-
-impl SignedPType for i64 {
-    #[inline]
-    fn to_i64(self) -> i64 {
-        self
-    }
-}
-
-/// Whether each of some items is valid.
-pub trait ItemFlags {
-    // A flag for each item.
-    ghost flags: { Self → List Bool };
-
-    /// Is the item at `index` valid?
-    fn is_valid(&self, index: usize) -> bool
-        requires { index < length (flags self.now) }
-        ensures { slice_get (flags self.now) index ≡ Some result };
-}
-
-/// So many items, each of them valid.
-#[derive(Drop)]
-pub struct AllValid {
-    pub count: usize,
-}
-
-impl ItemFlags for AllValid {
-    ghost flags = { λ items. replicate items.count true };
-
-    #[inline]
-    fn is_valid(&self, _index: usize) -> bool {
-        true
-    }
-}
-
-/// So many items, each of them null.
-#[derive(Drop)]
-pub struct AllNull {
-    pub count: usize,
-}
-
-impl ItemFlags for AllNull {
-    ghost flags = { λ items. replicate items.count false };
-
-    #[inline]
-    fn is_valid(&self, _index: usize) -> bool {
-        false
-    }
-}
-
-/// Items of which a bit each says whether it is valid.
-#[derive(Drop)]
-pub struct ByBits<'a, A: Allocator> {
-    pub bits: &'a BitBuffer<A>,
-}
-
-impl<'a, A: Allocator> ItemFlags for ByBits<'a, A> {
-    ghost flags = { λ items. items.bits.now };
-
-    #[inline]
-    fn is_valid(&self, index: usize) -> bool {
-        self.bits.value(index)
-    }
-}
-
-/// Signed numbers of which some may be null, read by index.
-pub trait SignedNumbers {
+/// Numbers of which some may be null, read by index.
+pub trait Numbers<V: NativePType> {
     // The numbers, in order.
     ghost numbers: { Self → List (Option ℤ) };
 
-    /// The number at `index`, or `None` for null.
-    fn number(&self, index: usize) -> Option<i64>
+    /// Returns the number at `index`, or `None` for null.
+    fn number(&self, index: usize) -> Option<V>
         requires { index < length (numbers self.now) }
-        ensures { slice_get (numbers self.now) index ≡ Some result };
-}
+        ensures { slice_get (numbers self.now) index ≡ Some (option_map V.number result) };
 
-/// Unsigned numbers of which some may be null, read by index.
-pub trait UnsignedNumbers {
-    // The numbers, in order.
-    ghost numbers: { Self → List (Option ℤ) };
+    /// Returns a size that no number from `from` to `to - 1` exceeds, where numbers can be read at little cost.
+    #[inline(always)]
+    fn size_between(&self, from: usize, to: usize) -> Option<u64>
+        requires some { from < to }
+        requires within { to ≤ length (numbers self.now) }
+        ensures { IfSome result (λ size. AreSized (sum_range V.PTYPE) size (slice_get (numbers self.now)) from to) }
+    {
+        None
+    }
 
-    /// The number at `index`, or `None` for null.
-    fn number(&self, index: usize) -> Option<u64>
+    /// Returns in its lowest eight bits which of eight numbers are not null, where that can be read at little cost.
+    #[inline(always)]
+    fn flags_of_eight(&self, from: usize) -> Option<u64>
+        requires { from + 8 ≤ length (numbers self.now) }
+        ensures { IfSome result (λ flags. AreFlagsOfEight flags (slice_get (numbers self.now)) from) }
+    {
+        None
+    }
+
+    /// Returns the number at `index`, and any number for null.
+    #[inline(always)]
+    fn stored(&self, index: usize) -> V
         requires { index < length (numbers self.now) }
-        ensures { slice_get (numbers self.now) index ≡ Some (option_map pos result) };
-}
-
-/// Items of a signed type, and their flags. Where a flag is false, the item is stored and not shown.
-#[derive(Drop)]
-pub struct SignedItems<'a, T: SignedPType, F: ItemFlags> {
-    pub items: &'a [T],
-    pub flags: &'a F,
-}
-
-impl<'a, T: SignedPType, F: ItemFlags> SignedNumbers for SignedItems<'a, T, F> {
-    ghost numbers = { λ own. optionals (map T.number own.items.now) (F.flags own.flags.now) };
-
-    #[inline]
-    fn number(&self, index: usize) -> Option<i64> {
-        let items = self.items;
-        prove!(index < items.len());
-        if self.flags.is_valid(index) {
-            Some(items[index].to_i64())
-        } else {
-            None
+        ensures { IsStored (slice_get (numbers self.now) index) (V.number result) }
+    {
+        match self.number(index) {
+            Some(number) => number,
+            None => V::default(),
         }
     }
 }
 
-/// Items of an unsigned type, and their flags. Where a flag is false, the item is stored and not shown.
+/// Items, and their flags. Where a flag is false, the item is stored and not shown.
 #[derive(Drop)]
-pub struct UnsignedItems<'a, T: UnsignedPType, F: ItemFlags> {
+pub struct Items<'a, T: NativePType, F: ItemFlags> {
     pub items: &'a [T],
     pub flags: &'a F,
 }
 
-impl<'a, T: UnsignedPType, F: ItemFlags> UnsignedNumbers for UnsignedItems<'a, T, F> {
+impl<'a, V: NativePType, T: SummedIn<V>, F: ItemFlags> Numbers<V> for Items<'a, T, F> {
     ghost numbers = { λ own. optionals (map T.number own.items.now) (F.flags own.flags.now) };
 
     #[inline]
-    fn number(&self, index: usize) -> Option<u64> {
+    fn number(&self, index: usize) -> Option<V> {
         let items = self.items;
         prove!(index < items.len());
         if self.flags.is_valid(index) {
-            Some(items[index].to_u64())
+            Some(items[index].to_summed())
         } else {
             None
         }
     }
+
+    #[inline(always)]
+    fn size_between(&self, from: usize, to: usize) -> Option<u64> {
+        prove!(to <= self.items.len());
+        Some(size_of_items::<V, T>(self.items, from, to))
+    }
+
+    #[inline(always)]
+    fn flags_of_eight(&self, from: usize) -> Option<u64> {
+        Some(self.flags.flags_of_eight(from))
+    }
+
+    #[inline(always)]
+    fn stored(&self, index: usize) -> V {
+        let items = self.items;
+        prove!(index < items.len());
+        items[index].to_summed()
+    }
+}
+
+// A size that none of the items exceeds: each bit of it is one of an item's size, so that a type with one size for all
+// its items has none read.
+#[inline(always)]
+fn size_of_items<V: NativePType, T: SummedIn<V>>(items: &[T], from: usize, to: usize) -> u64
+    requires some { from < to }
+    requires within { to ≤ length items.now }
+    ensures { AreSized (sum_range V.PTYPE) result (λ k. option_map (λ item. Some (T.number item))
+        (slice_get items.now k)) from to }
+{
+    let mut size = items[from].size();
+    for index in from..to {
+        size |= items[index].size();
+    }
+    size
 }

@@ -4,22 +4,25 @@
 mod answer;
 mod calls;
 mod flat;
+mod item_flags;
 mod items;
+mod known_runs;
 mod numbers;
-mod part;
+mod run_sum;
+mod runs;
 mod signed;
-mod signed_runs;
+mod signed_ptype;
+mod summed_in;
 mod unsigned;
-mod unsigned_runs;
 
 pub use answer::{SumAnswer, SumValue};
 pub use flat::sum_view;
-pub use items::{
-    AllNull, AllValid, ByBits, ItemFlags, SignedItems, SignedNumbers, SignedPType, UnsignedItems,
-    UnsignedNumbers,
-};
+pub use item_flags::{AllNull, AllValid, ByBits, ItemFlags};
+pub use items::{Items, Numbers};
 pub use numbers::{signed_at, unsigned_at};
+pub use run_sum::RunSum;
+pub use runs::{Runs, sum_in_runs};
 pub use signed::SignedSum;
-pub use signed_runs::{SignedRuns, sum_signed_in_runs};
+pub use signed_ptype::SignedPType;
+pub use summed_in::SummedIn;
 pub use unsigned::UnsignedSum;
-pub use unsigned_runs::{UnsignedRuns, sum_unsigned_in_runs};

@@ -1,11 +1,16 @@
 //! A sum of signed numbers.
-ghost use Rattle.std.specs.Prelude.{◌≡◌, ◌-◌, ◌≤◌, ◌<◌, ◌^◌, ◌+ℤ◌, ◌*ℤ◌, pos, [], ◌∷◌, ◌++◌, true, false, FitsSigned, MatchOption};
+ghost use Rattle.std.specs.Prelude.{◌≡◌, ◌-◌, ◌≤◌, ◌<◌, ◌^◌, ◌+ℤ◌, ◌*ℤ◌, pos, [], ◌∷◌, ◌++◌, true, false, FitsSigned, IfSome, MatchOption, option_map};
 ghost use Rattle.std.specs.Int.{w32};
 ghost use Rattle.column_sums.specs.Room.{HasRoom};
+ghost use Rattle.column_sums.specs.Reach.{IsSized};
 ghost use Rattle.column_sums.specs.SumRange.{SignedRange, is_within};
+ghost use Rattle.column_sums.specs.SumState.{IsAddable, with_run};
 
+use crate::answer::SumValue;
 use crate::calls::Calls;
+use crate::run_sum::{RunSum, reach_of};
 use std::marker::Model;
+use std::mem;
 
 // No value of 32 bits is further from 0.
 const FURTHEST: usize = 1 << 31;
@@ -76,39 +81,83 @@ impl SignedSum {
             None => false,
         }
     }
+}
 
-    // Adds `value` as often as the run has rows, where the result is known to be in the range.
+impl RunSum<i64> for SignedSum {
+    ghost state = { λ sum. sum };
+
     #[inline(always)]
-    pub(crate) fn add_within(&mut self, value: i64, len: usize)
+    fn empty() -> SignedSum {
+        SignedSum::new()
+    }
+
+    #[inline(always)]
+    fn total(&self) -> SumValue {
+        SumValue::Signed(self.value)
+    }
+
+    #[inline(always)]
+    fn add(&mut self, value: i64, len: usize) -> bool {
+        self.add_run(value, len)
+    }
+
+    #[inline(always)]
+    fn add_known(&mut self, value: Option<i64>, len: usize, is_short: bool)
         requires few { len < 2 ^ 31 }
-        requires fits { is_within SignedRange (self.old.value +ℤ value *ℤ pos len) ≡ true }
-        requires product { is_within SignedRange (value *ℤ pos len) ≡ true }
-        ensures added { self.new.value ≡ self.old.value +ℤ value *ℤ pos len }
-        ensures calls { self.new.calls ≡ self.old.calls ++ (value, len) ∷ [] }
+        requires short { is_short ≡ true → IfSome (option_map (λ n. n) value) (IsSized SignedRange (2 ^ 31 - 1)) }
+        requires addable { IsAddable SignedRange self.old.value (option_map (λ n. n) value) len }
+        ensures { self.new ≡ with_run self.old (option_map (λ n. n) value) len }
     {
-        *self = SignedSum {
-            value: sum_within(self.value, value, len),
-            room: 0,
-            calls: self.calls.and_signed(&value, &len),
+        let number = value.unwrap_or(0);
+        let calls = match value {
+            Some(number) => self.calls.and_signed(&number, &len),
+            None => mem::replace(&mut self.calls, Calls::new()),
         };
+        *self = SignedSum {
+            value: known_sum(self.value, number, len, is_short),
+            room: 0,
+            calls,
+        };
+    }
+
+    #[inline(always)]
+    fn stays_within(&self, size: u64, rows: u32) -> bool {
+        let furthest = reach_of(size, rows) + u128::from(self.value.unsigned_abs());
+        rows < 1 << 31 && furthest <= (1 << 63) - 1
     }
 }
 
 // The sum and `len` times the value, in 64 bits.
 #[inline(always)]
-fn sum_within(sum: i64, value: i64, len: usize) -> i64
+fn known_sum(sum: i64, value: i64, len: usize, is_short: bool) -> i64
     requires few { len < 2 ^ 31 }
+    requires short { is_short ≡ true → FitsSigned w32 value }
     requires fits { is_within SignedRange (sum +ℤ value *ℤ pos len) ≡ true }
     requires product { is_within SignedRange (value *ℤ pos len) ≡ true }
     ensures sum { result ≡ sum +ℤ value *ℤ pos len }
     ensures room { HasRoom result 0 }
 {
-    sum + value * len as i64
+    sum + known_product(value, len, is_short)
 }
 
-/// Does the value have 32 bits? The compiler knows it of a type that has no more.
+// A number of rows times the value, in 64 bits. The casts let several rows be multiplied at once.
 #[inline(always)]
-pub(crate) fn has_32_bits(value: i64) -> bool
+fn known_product(value: i64, len: usize, is_short: bool) -> i64
+    requires few { len < 2 ^ 31 }
+    requires short { is_short ≡ true → FitsSigned w32 value }
+    requires product { is_within SignedRange (value *ℤ pos len) ≡ true }
+    ensures { result ≡ value *ℤ pos len }
+{
+    if is_short {
+        i64::from(value as i32) * i64::from(len as i32)
+    } else {
+        value * i64::from(len as u32)
+    }
+}
+
+// Does the value have 32 bits? The compiler knows it of a type that has no more.
+#[inline(always)]
+fn has_32_bits(value: i64) -> bool
     ensures { result ≡ true → FitsSigned w32 value }
 {
     i32::try_from(value).is_ok()

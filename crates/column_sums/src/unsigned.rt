@@ -1,8 +1,14 @@
 //! A sum of unsigned numbers.
-ghost use Rattle.std.specs.Prelude.{◌≡◌, ◌+◌, ◌*◌, ◌+ℤ◌, ◌*ℤ◌, ◌<◌, ◌^◌, pos, [], ◌∷◌, ◌++◌, true, false};
+ghost use Rattle.std.specs.Prelude.{◌≡◌, ◌+◌, ◌*◌, ◌+ℤ◌, ◌*ℤ◌, ◌<◌, ◌^◌, pos, [], ◌∷◌, ◌++◌, true, false, IfSome, option_map, ◌-◌};
+ghost use Rattle.column_sums.specs.Reach.{IsSized};
+ghost use Rattle.column_sums.specs.SumRange.{UnsignedRange, is_within};
+ghost use Rattle.column_sums.specs.SumState.{IsAddable, with_run};
 
+use crate::answer::SumValue;
 use crate::calls::Calls;
+use crate::run_sum::{RunSum, reach_of};
 use std::marker::Model;
+use std::mem;
 
 /// A sum in the range of `u64`, which is given runs one at a time.
 ///
@@ -24,8 +30,6 @@ impl Model for UnsignedSum {
 }
 
 impl UnsignedSum {
-    ghost use Rattle.column_sums.specs.SumRange.{UnsignedRange, is_within};
-
     /// The sum of nothing, which is 0.
     pub fn new() -> UnsignedSum
         ensures { result ≡ record { value = pos 0; calls = [] } }
@@ -61,30 +65,64 @@ impl UnsignedSum {
             Err(_) => false,
         }
     }
+}
 
-    // Adds `value` as often as the run has rows, where the result is known to be in the range.
+impl RunSum<u64> for UnsignedSum {
+    ghost state = { λ sum. sum };
+
     #[inline(always)]
-    pub(crate) fn add_within(&mut self, value: u64, len: usize)
-        requires few { len < 2 ^ 32 }
-        requires fits { is_within UnsignedRange (self.old.value +ℤ pos value *ℤ pos len) ≡ true }
-        ensures added { self.new.value ≡ self.old.value +ℤ pos value *ℤ pos len }
-        ensures calls { self.new.calls ≡ self.old.calls ++ (pos value, len) ∷ [] }
+    fn empty() -> UnsignedSum {
+        UnsignedSum::new()
+    }
+
+    #[inline(always)]
+    fn total(&self) -> SumValue {
+        SumValue::Unsigned(self.value)
+    }
+
+    #[inline(always)]
+    fn add(&mut self, value: u64, len: usize) -> bool {
+        self.add_run(value, len)
+    }
+
+    #[inline(always)]
+    fn add_known(&mut self, value: Option<u64>, len: usize, is_short: bool)
+        requires few { len < 2 ^ 31 }
+        requires short { is_short ≡ true → IfSome (option_map pos value) (IsSized UnsignedRange (2 ^ 31 - 1)) }
+        requires addable { IsAddable UnsignedRange self.old.value (option_map pos value) len }
+        ensures { self.new ≡ with_run self.old (option_map pos value) len }
     {
-        *self = UnsignedSum {
-            value: sum_within(self.value, value, len),
-            calls: self.calls.and_unsigned(&value, &len),
+        let number = value.unwrap_or(0);
+        let calls = match value {
+            Some(number) => self.calls.and_unsigned(&number, &len),
+            None => mem::replace(&mut self.calls, Calls::new()),
         };
+        *self = UnsignedSum {
+            value: known_sum(self.value, number, len, is_short),
+            calls,
+        };
+    }
+
+    #[inline(always)]
+    fn stays_within(&self, size: u64, rows: u32) -> bool {
+        let furthest = reach_of(size, rows) + u128::from(self.value);
+        rows < 1 << 31 && furthest <= u128::from(u64::MAX)
     }
 }
 
-// The sum and `len` times the value, in 64 bits. The cast lets four rows be multiplied at once.
+// The sum and `len` times the value, in 64 bits. The casts let several rows be multiplied at once.
 #[inline(always)]
-fn sum_within(sum: u64, value: u64, len: usize) -> u64
-    requires few { len < 2 ^ 32 }
+fn known_sum(sum: u64, value: u64, len: usize, is_short: bool) -> u64
+    requires few { len < 2 ^ 31 }
+    requires short { is_short ≡ true → value < 2 ^ 32 }
     requires fits { sum + value * len < 2 ^ 64 }
     ensures { result ≡ sum + value * len }
 {
-    sum + value * u64::from(len as u32)
+    if is_short {
+        sum + u64::from(value as u32) * u64::from(len as u32)
+    } else {
+        sum + value * u64::from(len as u32)
+    }
 }
 
 // The sum and `len` times the value. The greatest is 2^128 - 2^64, which fits.

@@ -6,6 +6,7 @@ use Rattle.std.proofs.lemmas.Option.{get_or_from_slice_get, slice_get-get_or}
 use Rattle.column_core.specs.Value.{Value}
 use Rattle.column_sums.specs.RunSum.{rows_of_runs}
 use Rattle.column_sums.specs.SumAnswer.{number_in}
+use Rattle.column_sums.specs.Summed.{run_value}
 use Rattle.runend_windows.specs.Cover.{Covers}
 use Rattle.runend_windows.specs.Window.{run_at, run_rows, IsWindow}
 use Rattle.runend_windows.proofs.Decoded.{Decoded, Decoded-next, reached, Covers-map}
@@ -168,3 +169,12 @@ shown-visible_runs r runs k default within =
     let got = get-runs_from r.ends (map number_in (column_rows r.values)) r.offset r.count first (stop - first) k (omega arith) in
     let some = showing_some r.ends r.offset r.count (first + k) runs.window (omega arith) (omega arith) in
     subst (λ (shown : Option (Option ℤ × ℕ)). 0 < count_in shown) (sym got ∙ slice_get-get_or (visible_runs r) k default within) some
+
+-- the number that a run shows
+pub shown-number : (ends : List ℕ) (numbers : List (Option ℤ)) (offset count first n run : ℕ) → run < n → first + n ≤ length numbers
+    → run_value (runs_from ends numbers offset count first n) run ≡ slice_get numbers (first + run)
+shown-number ends numbers offset count first zero run h within = absurd (omega arith)
+shown-number ends numbers offset count first (suc n) zero h within =
+    let at : first + zero ≡ first = omega arith in rw at (sym (slice_get-get_or numbers first None (omega arith)))
+shown-number ends numbers offset count first (suc n) (suc run) h within =
+    let at : first + suc run ≡ first + 1 + run = omega arith in rw at (shown-number ends numbers offset count (first + 1) n run (omega arith) (omega arith))

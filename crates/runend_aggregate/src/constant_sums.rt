@@ -1,19 +1,17 @@
 //! Sums of constant columns: all rows are one run.
-ghost use Rattle.std.specs.Prelude.{◌≡◌, ◌≢◌, ◌++◌, ◌<◌, Err, IfOk, Some, length, option_map, pos, slice_get};
+ghost use Rattle.std.specs.Prelude.{◌≡◌, ◌≢◌, ◌++◌, ◌<◌, Err, IfOk, Some, length, option_map, pos};
 ghost use Rattle.column_core.specs.Refusal.{IsRefusedBy};
 ghost use Rattle.column_core.specs.Value.{Single};
 ghost use Rattle.column_sums.specs.RunSum.{calls_of};
 ghost use Rattle.column_sums.specs.SumAnswer.{IsSumAnswer, number_in, sum_fault};
 ghost use Rattle.column_sums.specs.SumRange.{SignedRange, UnsignedRange};
+ghost use Rattle.column_sums.specs.Summed.{run_rows};
 ghost use Rattle.runend_array.specs.Column.{OfConstant, column_rows};
 ghost use Rattle.runend_aggregate.specs.ShownRuns.{constant_runs, one_run};
 ghost use Rattle.runend_aggregate.specs.SignOf.{IsSignedType, IsUnsignedType};
 
-use column_core::{DType, ScalarView, VortexError, VortexResult};
-use column_sums::{
-    SignedRuns, SignedSum, SumAnswer, UnsignedRuns, UnsignedSum, sum_signed_in_runs,
-    sum_unsigned_in_runs,
-};
+use column_core::{DType, NativePType, ScalarView, VortexError, VortexResult};
+use column_sums::{Runs, SignedSum, SumAnswer, UnsignedSum, sum_in_runs};
 use runend_array::ConstantArray;
 use std::alloc::Allocator;
 
@@ -41,11 +39,11 @@ fn sum_signed_constant<A: Allocator>(array: &ConstantArray<A>, sum: &mut SignedS
     ensures answer { IsSumAnswer array.now.dtype (column_rows (OfConstant array.now)) result }
     ensures calls { sum.new.calls ≡ sum.old.calls ++ calls_of SignedRange (constant_runs array.now) }
 {
-    let run = SignedRun {
+    let signed = OneRun {
         value: signed_number(array),
         row_count: array.len(),
     };
-    sum_signed_in_runs(&run, sum)
+    sum_in_runs(&signed, sum)
 }
 
 // The number of a constant that has no unsigned numbers.
@@ -66,11 +64,11 @@ fn sum_unsigned_constant<A: Allocator>(array: &ConstantArray<A>, sum: &mut Unsig
     ensures answer { IsSumAnswer array.now.dtype (column_rows (OfConstant array.now)) result }
     ensures calls { sum.new.calls ≡ sum.old.calls ++ calls_of UnsignedRange (constant_runs array.now) }
 {
-    let run = UnsignedRun {
+    let unsigned = OneRun {
         value: unsigned_number(array),
         row_count: array.len(),
     };
-    sum_unsigned_in_runs(&run, sum)
+    sum_in_runs(&unsigned, sum)
 }
 
 // The number of a constant that has no signed numbers.
@@ -84,21 +82,21 @@ fn unsigned_number<A: Allocator>(array: &ConstantArray<A>) -> Option<u64>
     }
 }
 
-// The run of all rows of a constant of signed numbers. There is none where there is no row.
+// The run of all rows of a constant. There is none where there is no row.
 #[derive(Drop)]
-struct SignedRun {
-    value: Option<i64>,
+struct OneRun<V: NativePType> {
+    value: Option<V>,
     row_count: usize,
 }
 
-impl SignedRuns for SignedRun {
-    ghost runs = { λ run. one_run run.value run.row_count };
+impl<V: NativePType> Runs<V> for OneRun<V> {
+    ghost runs = { λ run. one_run (option_map V.number run.value) run.row_count };
 
     fn run_count(&self) -> usize {
         usize::from(self.row_count > 0)
     }
 
-    fn value(&self, _run: usize) -> Option<i64> {
+    fn value(&self, _run: usize) -> Option<V> {
         self.value
     }
 
@@ -108,42 +106,8 @@ impl SignedRuns for SignedRun {
 
     // There is no run between two others: any run may be asked for.
     fn inner_row_count(&self, run: usize) -> usize
-        requires { run < length (one_run self.now.value self.now.row_count) }
-        ensures counted { option_map (λ shown. shown.1) (slice_get (one_run self.now.value self.now.row_count) run) ≡
-            Some result }
-        ensures shown { 0 < result }
-    {
-        self.row_count(run)
-    }
-}
-
-// The run of all rows of a constant of unsigned numbers. There is none where there is no row.
-#[derive(Drop)]
-struct UnsignedRun {
-    value: Option<u64>,
-    row_count: usize,
-}
-
-impl UnsignedRuns for UnsignedRun {
-    ghost runs = { λ run. one_run (option_map pos run.value) run.row_count };
-
-    fn run_count(&self) -> usize {
-        usize::from(self.row_count > 0)
-    }
-
-    fn value(&self, _run: usize) -> Option<u64> {
-        self.value
-    }
-
-    fn row_count(&self, _run: usize) -> usize {
-        self.row_count
-    }
-
-    // There is no run between two others: any run may be asked for.
-    fn inner_row_count(&self, run: usize) -> usize
-        requires { run < length (one_run (option_map pos self.now.value) self.now.row_count) }
-        ensures counted { option_map (λ shown. shown.1)
-            (slice_get (one_run (option_map pos self.now.value) self.now.row_count) run) ≡ Some result }
+        requires { run < length (one_run (option_map V.number self.now.value) self.now.row_count) }
+        ensures counted { run_rows (one_run (option_map V.number self.now.value) self.now.row_count) run ≡ Some result }
         ensures shown { 0 < result }
     {
         self.row_count(run)

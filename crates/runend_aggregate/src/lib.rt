@@ -13,6 +13,7 @@ mod signed_sums;
 mod sums;
 mod unsigned_sums;
 mod visible;
+mod visible_sums;
 
 pub use column_sums::{SignedSum, SumAnswer, SumValue, UnsignedSum};
 pub use constant_sums::sum_of_constant;

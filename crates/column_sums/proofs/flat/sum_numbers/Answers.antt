@@ -10,12 +10,12 @@ pub returns-then-is_unsigned_int : goal.returns-then-is_unsigned_int
 returns-then-is_unsigned_int g c =
     let form = c.args.array.now in
     let unsigned : IsUnsigned form.ptype = search rules in
-    c.sum_unsigned_in_runs.ensures.answer ∙ ap (answer_of UnsignedRange) (rows_of_runs-runs_of_rows (optional_numbers form))
+    c.sum_in_runs.ensures.answer ∙ ap (answer_of UnsignedRange) (rows_of_runs-runs_of_rows (optional_numbers form))
     ∙ ap (λ range. answer_of range (optional_numbers form)) (sum_range-unsigned form.ptype unsigned)
 
 pub returns-else-is_unsigned_int : goal.returns-else-is_unsigned_int
 returns-else-is_unsigned_int g c =
     let form = c.args.array.now in
     let signed : IsUnsigned form.ptype → ⊥ = search rules in
-    c.sum_signed_in_runs.ensures.answer ∙ ap (answer_of SignedRange) (rows_of_runs-runs_of_rows (optional_numbers form))
+    c.sum_in_runs-else-is_unsigned_int.ensures.answer ∙ ap (answer_of SignedRange) (rows_of_runs-runs_of_rows (optional_numbers form))
     ∙ ap (λ range. answer_of range (optional_numbers form)) (sum_range-signed form.ptype signed)

@@ -12,5 +12,5 @@ returns-clause-answer g c =
     let constant = c.args.array.now in
     let row : Option Value = option_map (λ (v : FlatValue). Single v) constant.value in
     let number = option_map pos c.unsigned_number.result in
-    unsigned_answer constant.dtype (replicate constant.count row) _ c.sum_unsigned_in_runs.result c.requires.unsigned c.sum_unsigned_in_runs.ensures.answer
+    unsigned_answer constant.dtype (replicate constant.count row) _ c.sum_in_runs.result c.requires.unsigned c.sum_in_runs.ensures.answer
     (ap (λ (n : ℕ). rows_of_runs (one_run number n)) c.len.ensures ∙ rows_of_constant row number constant.count c.unsigned_number.ensures)

@@ -1,0 +1,54 @@
+//! What a loop over runs asks of a sum, whichever sign its numbers have.
+ghost use Rattle.std.specs.Prelude.{◌≡◌, ◌+◌, ◌-◌, ◌*◌, ◌<◌, ◌^◌, ◌+ℤ◌, ◌*ℤ◌, pos, [], ◌∷◌, ◌++◌, true, option_map, IfSome};
+ghost use Rattle.column_sums.specs.Reach.{IsSized, StaysWithin};
+ghost use Rattle.column_sums.specs.SumAnswer.{value_in};
+ghost use Rattle.column_sums.specs.SumRange.{is_within, sum_range};
+ghost use Rattle.column_sums.specs.SumState.{IsAddable, SumState, with_run};
+
+use crate::answer::SumValue;
+use column_core::NativePType;
+
+/// A sum of numbers of type `V`, in the range of that type, which is given runs one at a time.
+pub trait RunSum<V: NativePType>: Drop {
+    // What contracts see of it.
+    ghost state: { Self → SumState };
+
+    /// Makes the sum of nothing, which is 0.
+    fn empty() -> Self
+        ensures { state result ≡ record { value = pos 0; calls = [] } };
+
+    /// Returns the sum so far.
+    fn total(&self) -> SumValue
+        ensures { result ≡ value_in (sum_range V.PTYPE) (state self.now).value };
+
+    /// Adds `value` as often as the run has rows, all at once. False means that the result left the range, and the sum
+    /// is unchanged.
+    fn add(&mut self, value: V, len: usize) -> bool
+        ensures fits { result ≡ is_within (sum_range V.PTYPE)
+            ((state self.old).value +ℤ V.number value *ℤ pos len) }
+        ensures added { result ≡ true → (state self.new).value ≡
+            (state self.old).value +ℤ V.number value *ℤ pos len }
+        ensures calls { (state self.new).calls ≡ (state self.old).calls ++ (V.number value, len) ∷ [] };
+
+    /// Adds a run whose value and result are known to be in the range, and nothing for a null run: without a test, and
+    /// without a branch. `is_short` says that the value has 32 bits.
+    fn add_known(&mut self, value: Option<V>, len: usize, is_short: bool)
+        requires few { len < 2 ^ 31 }
+        requires short { is_short ≡ true →
+            IfSome (option_map V.number value) (IsSized (sum_range V.PTYPE) (2 ^ 31 - 1)) }
+        requires addable { IsAddable (sum_range V.PTYPE) (state self.old).value (option_map V.number value) len }
+        ensures { state self.new ≡ with_run (state self.old) (option_map V.number value) len };
+
+    /// Do this many rows of any numbers of this size leave the sum in the range, and are they fewer than 2^31?
+    fn stays_within(&self, size: u64, rows: u32) -> bool
+        ensures few { result ≡ true → rows < 2 ^ 31 }
+        ensures stays { result ≡ true → StaysWithin (sum_range V.PTYPE) size (state self.now).value rows };
+}
+
+// How far this many rows of numbers of a size reach from 0 at most.
+#[inline(always)]
+pub(crate) fn reach_of(size: u64, rows: u32) -> u128
+    ensures { result ≡ (size + 1) * rows }
+{
+    (u128::from(size) + 1) * u128::from(rows)
+}

@@ -1,0 +1,39 @@
+//! What the four signed types have in common.
+ghost use Rattle.std.specs.Prelude.{◌≡◌};
+
+use column_core::NativePType;
+
+/// One of the four signed types.
+pub trait SignedPType: NativePType {
+    /// The value as an `i64`, which has the numbers of all four types.
+    fn to_i64(self) -> i64
+        ensures { result ≡ Self.number self };
+}
+
+impl SignedPType for i8 {
+    #[inline]
+    fn to_i64(self) -> i64 {
+        i64::from(self)
+    }
+}
+
+impl SignedPType for i16 {
+    #[inline]
+    fn to_i64(self) -> i64 {
+        i64::from(self)
+    }
+}
+
+impl SignedPType for i32 {
+    #[inline]
+    fn to_i64(self) -> i64 {
+        i64::from(self)
+    }
+}
+
+impl SignedPType for i64 {
+    #[inline]
+    fn to_i64(self) -> i64 {
+        self
+    }
+}
