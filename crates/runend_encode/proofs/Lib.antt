@@ -9,7 +9,7 @@ pub mod Starts
 pub mod ChangedItems
 pub mod ChangedRows
 pub mod LeastEnds
-pub mod Joined
+pub mod JoinedRuns
 pub mod Windows
 pub mod Encodings
 pub mod DifferingRows

@@ -7,7 +7,7 @@ use Rattle.runend_windows.specs.Window.{IsWindow, last_end, run_at, run_rows}
 use Rattle.runend_windows.proofs.RunAt.{ended_before, ends_past, run_of_row_within}
 use Rattle.runend_windows.proofs.RunRows.{length-run_rows, slice_get-run_rows_of_window}
 use Rattle.runend_encode.specs.Windows.{start_in}
-use Rattle.runend_encode.proofs.Joined.{AreFilled, IsTightCover-of_runs}
+use Rattle.runend_encode.proofs.JoinedRuns.{AreFilled, IsTightCover-of_runs}
 
 start_in-next : (ends : List ℕ) (offset count run : ℕ) → start_in ends offset count (run + 1) ≡ min (slice_index ends run - offset) count
 start_in-next ends offset count run = rw add-one refl

@@ -1,4 +1,4 @@
-use Rattle.std.proofs.Common.{◌≡◌, ◌+◌, ◌-◌, ◌<◌, ◌≤◌, ◌∙◌, ℕ, ℤ, List, true, false, None, add-one, length, map, min, take, ap, refl, arith}
+use Rattle.std.proofs.Common.{◌≡◌, ◌+◌, ◌-◌, ◌<◌, ◌≤◌, ◌∙◌, List, true, false, None, add-one, length, map, min, take, ap, refl, arith}
 use Rattle.std.specs.Prelude.{nat_lt, slice_index, unsigned_abs}
 use Rattle.std.proofs.lemmas.Option.{get_or_from_slice_get}
 use Rattle.column_core.specs.PrimitiveForm.{optionals}
