@@ -1,11 +1,12 @@
 //! Sums of constant columns: all rows are one run.
-ghost use Rattle.std.specs.Prelude.{◌≡◌, ◌≢◌, ◌++◌, ◌<◌, Err, IfOk, Some, length, option_map, pos};
+ghost use Rattle.std.specs.Prelude.{◌≡◌, ◌≢◌, ◌++◌, ◌<◌, Err, IfOk, IfSome, Some, length, option_map, pos};
 ghost use Rattle.column_core.specs.Refusal.{IsRefusedBy};
 ghost use Rattle.column_core.specs.Value.{Single};
 ghost use Rattle.column_sums.specs.RunSum.{calls_of};
 ghost use Rattle.column_sums.specs.SumAnswer.{IsSumAnswer, number_in, sum_fault};
 ghost use Rattle.column_sums.specs.SumRange.{SignedRange, UnsignedRange};
-ghost use Rattle.column_sums.specs.Summed.{run_rows};
+ghost use Rattle.column_sums.specs.Reach.{AreFlagsOfEight};
+ghost use Rattle.column_sums.specs.Summed.{run_rows, run_value};
 ghost use Rattle.runend_array.specs.Column.{OfConstant, column_rows};
 ghost use Rattle.runend_aggregate.specs.ShownRuns.{constant_runs, one_run};
 ghost use Rattle.runend_aggregate.specs.SignOf.{IsSignedType, IsUnsignedType};
@@ -111,5 +112,14 @@ impl<V: NativePType> Runs<V> for OneRun<V> {
         ensures shown { 0 < result }
     {
         self.row_count(run)
+    }
+
+    // There are no eight runs: flags may be asked for from any run on, and none are known.
+    fn flags_of_eight(&self, _from: usize) -> Option<u64>
+        ensures { IfSome result
+            (λ flags. AreFlagsOfEight flags
+            (run_value (one_run (option_map V.number self.now.value) self.now.row_count)) _from) }
+    {
+        None
     }
 }
