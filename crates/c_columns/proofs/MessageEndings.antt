@@ -1,18 +1,20 @@
 -- How calls end that say how many bytes a message has, write it or read it.
-use Rattle.std.proofs.Common.{◌≡◌, ◌⊎◌, ℕ, ℤ, ◌-◌, ◌^◌, ◌<◌, ◌≤◌, pos, List, length, ap, sym, subst, arith, inl, inr}
+use Rattle.std.proofs.Common.{◌≡◌, ◌⊎◌, ℕ, ℤ, ◌-◌, ◌^◌, ◌<◌, ◌≤◌, pos, Bool, true, false, List, length, ap, sym, subst, arith, inl, inr}
 use Rattle.std.specs.Prelude.{Option, Some, None, min}
+use Rattle.std.specs.Bool.{OnTrue, OnFalse}
 use Rattle.std.specs.Global.{Global}
 use Rattle.std.proofs.lemmas.Bool.{cases_lt}
 use Rattle.column_base.specs.Error.{number_of}
 use Rattle.column_base.specs.declared.error.VortexError.{VortexError}
 use Rattle.column_base.specs.declared.error.VortexError.TheVariants.{BadMetadata, ColumnLength, OutOfMemory, Unsupported}
 use Rattle.column_bytes.specs.Bytes.{column_bytes}
-use Rattle.column_bytes.specs.Read.{IsNoMessage, IsUnsupportedOrMemory, IsWritable, MayBeMessage}
+use Rattle.column_bytes.specs.Read.{IsNoMessage, IsUnsupportedOrMemory, IsWritable}
 use Rattle.runend_array.specs.Array.{column_of}
 use Rattle.runend_array.specs.Column.{depth}
 use Rattle.runend_array.specs.declared.array_ref.ArrayRef.{ArrayRef}
 use Rattle.c_columns.specs.Ending.{HasFields}
-use Rattle.c_columns.specs.Messages.{EndsOnReading, EndsOnWrite, HasMessage, HasNoMessageRoom, IsColumnOfMessage, IsUnreadable, MessageFault, ReadFault, SizeFault}
+use Rattle.c_columns.specs.Flags.{Tells, byte_of}
+use Rattle.c_columns.specs.Messages.{AreMessage, EndsOnReading, EndsOnWrite, HasMessage, HasNoMessageRoom, IsColumnOfMessage, IsUnreadable, MessageFault, ReadFault, SizeFault}
 use Rattle.c_columns.specs.declared.error_fields.ErrorFields.{ErrorFields}
 
 abbrev Held : Type 0
@@ -60,13 +62,18 @@ write_refused room c a error code fields some why is told = subst (λ (h : Held)
 
 -- ---- read
 
-pub read_fault : (bytes : List ℕ) (error : VortexError) → (error ≡ BadMetadata) ⊎ (error ≡ OutOfMemory) → (error ≡ BadMetadata → IsNoMessage 16 bytes) → (error ≡ OutOfMemory → MayBeMessage 16 bytes) → ReadFault bytes error
+pub read_fault : (bytes : List ℕ) (error : VortexError) → (error ≡ BadMetadata) ⊎ (error ≡ OutOfMemory) → (error ≡ BadMetadata → IsNoMessage 16 bytes) → (error ≡ OutOfMemory → AreMessage bytes) → ReadFault bytes error
 read_fault bytes error (inl bad) none message = inl (record { told = bad; none = none bad })
 read_fault bytes error (inr short) none message = inr (record { told = short; message = message short })
 
 -- memory was refused for the box of a column that was read
 pub read_short : (bytes : List ℕ) (a : ArrayRef Global) (error : VortexError) → IsColumnOfMessage bytes a → error ≡ OutOfMemory → ReadFault bytes error
-read_short bytes a error made short = inr (record { told = short; message = inl (column_of a, made) })
+read_short bytes a error made short = inr (record { told = short; message = (column_of a, made) })
+
+-- the byte says whether they are a message
+pub message_told : (truth : Bool) (bytes : List ℕ) → OnTrue truth (AreMessage bytes) → OnFalse truth (IsNoMessage 16 bytes) → Tells (byte_of truth) (AreMessage bytes)
+message_told true bytes yes no = yes
+message_told false bytes yes no = λ found. no.none found.0 found.1
 
 pub read_served : (bytes : List ℕ) (a : ArrayRef Global) → IsColumnOfMessage bytes a → (error : VortexError) → ¬ IsUnreadable bytes error
 read_served bytes a made error fault = fault.none.none (column_of a) made

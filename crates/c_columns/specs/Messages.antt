@@ -4,7 +4,7 @@ use Rattle.std.specs.Global.{Global}
 use Rattle.column_base.specs.declared.error.VortexError.{VortexError}
 use Rattle.column_base.specs.declared.error.VortexError.TheVariants.{BadMetadata, ColumnLength, OutOfMemory, Unsupported}
 use Rattle.column_bytes.specs.Bytes.{column_bytes}
-use Rattle.column_bytes.specs.Read.{IsMessage, IsNoMessage, IsWritable, MayBeMessage}
+use Rattle.column_bytes.specs.Read.{IsMessage, IsNoMessage, IsWritable}
 use Rattle.runend_array.specs.Array.{column_of}
 use Rattle.runend_array.specs.Column.{Column, depth}
 use Rattle.runend_array.specs.declared.array_ref.ArrayRef.{ArrayRef}
@@ -63,15 +63,19 @@ abbrev pub EndsOnWrite : ℕ → Option (ArrayRef Global) → ℤ → ErrorField
 EndsOnWrite room None code fields = code ≡ pos 22
 EndsOnWrite room (Some c) code fields = EndsExactly (MessageFault room c) code fields
 
+-- the bytes are the message of some column
+abbrev pub AreMessage : List ℕ → Type 0
+AreMessage bytes = (c : Column) × IsMessage 16 bytes c
+
 -- the bytes are the message of no column
 pub record IsUnreadable (bytes : List ℕ) (error : VortexError) : Type 0 where
   pub told : error ≡ BadMetadata
   pub none : IsNoMessage 16 bytes
 
--- memory was refused: the bytes are a message, or begin as one of lists does
+-- memory was refused: the bytes are a message
 pub record IsShortOfRead (bytes : List ℕ) (error : VortexError) : Type 0 where
   pub told : error ≡ OutOfMemory
-  pub message : MayBeMessage 16 bytes
+  pub message : AreMessage bytes
 
 abbrev pub ReadFault : List ℕ → VortexError → Type 0
 ReadFault bytes error = IsUnreadable bytes error ⊎ IsShortOfRead bytes error

@@ -39,11 +39,11 @@ raised m n bytes c le h = record { writable = record { stored = h.writable.store
 
 -- ---- flat columns
 
-record LeafAt (c : Column) : Type 0 where
+pub record LeafAt (c : Column) : Type 0 where
   pub leaf : Leaf
   pub is : c ≡ OfLeaf leaf
 
-leaf_at : (c : Column) (levels kind rows : ℕ) (bytes : List ℕ) → IsBody levels kind 1 rows bytes c → LeafAt c
+pub leaf_at : (c : Column) (levels kind rows : ℕ) (bytes : List ℕ) → IsBody levels kind 1 rows bytes c → LeafAt c
 leaf_at (OfLeaf leaf) levels kind rows bytes h = record { leaf = leaf; is = refl }
 leaf_at (OfConstant constant) levels kind rows bytes h = absurd (omega (arith, h.form_is))
 leaf_at (OfLists lists) levels kind rows bytes h = absurd (omega (arith, h.form_is))
@@ -225,7 +225,7 @@ flags_found r s rows message bytes rest same h counted b =
     })
 
 -- a validity behind the field that says that runs tell it
-record FlagsAt (rows : ℕ) (bytes rest : List ℕ) : Type 0 where
+pub record FlagsAt (rows : ℕ) (bytes rest : List ℕ) : Type 0 where
   pub ends_type : PType
   pub ends : List ℕ
   pub bits : List Bool
@@ -260,7 +260,7 @@ flags_message t ends bits offset count s = record {
   };
 }
 
-flags_at : (form : RowValidityForm) (rows : ℕ) (bytes rest : List ℕ) → length bytes < 2 ^ 64 → BeginsWithValidity rows (number_field 5 5 ++ bytes) form rest → FlagsAt rows bytes rest
+pub flags_at : (form : RowValidityForm) (rows : ℕ) (bytes rest : List ℕ) → length bytes < 2 ^ 64 → BeginsWithValidity rows (number_field 5 5 ++ bytes) form rest → FlagsAt rows bytes rest
 flags_at (ByRows v) rows bytes rest lt h =
     absurd ((other_kind rows 5 (number_field 5 5 ++ bytes) bytes (omega arith) refl (λ x. omega (arith, x)) (λ x. omega (arith, x)) (λ x. omega (arith, x)) (λ x. omega (arith, x))).none v rest h.counted h.spelt)
 flags_at (ByRuns t ends bits offset count) rows bytes rest lt h =

@@ -27,3 +27,9 @@ pub mod LeafChecks
 pub mod ConstantChecks
 pub mod RunChecks
 pub mod MessageChecks
+pub mod RunViews
+pub mod RunCursors
+pub mod ListViews
+pub mod ListWalks
+pub mod PartWalks
+pub mod ListChecks

@@ -50,7 +50,7 @@ magnitude : (z : ℤ) → HasNumber U64 z → pos (unsigned_abs z) ≡ z
 magnitude (pos n) h = refl
 magnitude (negsuc n) h = absurd (omega (arith, ints, h.0))
 
-magnitudes : (zs : List ℤ) → AllByRecursion (λ z. HasNumber U64 z) zs → map (λ (n : ℕ). pos n) (map unsigned_abs zs) ≡ zs
+pub magnitudes : (zs : List ℤ) → AllByRecursion (λ z. HasNumber U64 z) zs → map (λ (n : ℕ). pos n) (map unsigned_abs zs) ≡ zs
 magnitudes [] h = refl
 magnitudes (z ∷ zs) h = ap (λ (x : ℤ). x ∷ map (λ (n : ℕ). pos n) (map unsigned_abs zs)) (magnitude z h.0) ∙ ap (λ (xs : List ℤ). z ∷ xs) (magnitudes zs h.1)
 

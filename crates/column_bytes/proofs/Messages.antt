@@ -136,7 +136,7 @@ runs_at (OfRuns ends_type ends values offset count) levels kind rows bytes h = r
 runs_at (OfConstant constant) levels kind rows bytes h = absurd (omega (arith, h.form_is))
 runs_at (OfLists lists) levels kind rows bytes h = absurd (omega (arith, h.form_is))
 
-lengths_long : (offset : ℕ) (t : PType) (lengths values : List ℕ) → length lengths ≤ length (run_fields offset t lengths values)
+pub lengths_long : (offset : ℕ) (t : PType) (lengths values : List ℕ) → length lengths ≤ length (run_fields offset t lengths values)
 unfolding run_fields bytes_field
 lengths_long offset t lengths values = omega (
   arith,
@@ -147,7 +147,7 @@ lengths_long offset t lengths values = omega (
   length-append (varint (length lengths)) lengths,
 )
 
-values_long : (offset : ℕ) (t : PType) (lengths values : List ℕ) → length values ≤ length (run_fields offset t lengths values)
+pub values_long : (offset : ℕ) (t : PType) (lengths values : List ℕ) → length values ≤ length (run_fields offset t lengths values)
 unfolding run_fields bytes_field
 values_long offset t lengths values = omega (
   arith,

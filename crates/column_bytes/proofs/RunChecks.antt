@@ -21,13 +21,13 @@ use Rattle.column_bytes.proofs.Messages.{body_of, no_header, no_ends}
 
 -- ---- a message has as many rows as its header says
 
-leaf_counted : (leaf : Leaf) → IsStoredLeaf leaf → length (leaf_rows leaf) ≡ leaf_count leaf
+pub leaf_counted : (leaf : Leaf) → IsStoredLeaf leaf → length (leaf_rows leaf) ≡ leaf_count leaf
 leaf_counted (OfNumbers form) s = length-primitive_rows form s.counted
 leaf_counted (OfTruths form) s = length-bool_rows form s.counted
 leaf_counted (OfDecimals form) s = length-decimal_rows form s.counted
 leaf_counted (OfVarBins form) s = length-varbin_rows form s.are.counted
 
-rows_counted : (c : Column) → IsStored c → length (column_rows c) ≡ column_count c
+pub rows_counted : (c : Column) → IsStored c → length (column_rows c) ≡ column_count c
 rows_counted (OfLeaf leaf) s = length-map (leaf_rows leaf) (option_map (λ (v : FlatValue). Single v)) ∙ leaf_counted leaf s
 rows_counted (OfConstant constant) s = length-replicate constant.count (option_map (λ (v : FlatValue). Single v) constant.value)
 rows_counted (OfLists lists) s = length-list_rows lists

@@ -50,7 +50,7 @@ sizes_within sizes content = omega (
   length-append (varint (length sizes)) sizes,
 )
 
--- ---- behind the validity
+-- ---- after the validity
 
 field_parts : (v : ValidityForm) (sizes content : List ℕ) → text_fields v sizes content ≡ validity_field v ++ text_items (sizes_bytes sizes) content
 unfolding text_fields

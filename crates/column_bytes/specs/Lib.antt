@@ -6,4 +6,6 @@ pub mod Bytes
 pub mod Stored
 pub mod Read
 pub mod ListRead
+pub mod ListViews
+pub mod ListWalks
 pub mod Laws

@@ -1,5 +1,5 @@
 -- What bytes are as messages, with at most so many levels of runs.
-use Rattle.std.specs.Prelude.{◌≡◌, ◌⊎◌, ℕ, zero, suc, ℤ, ◌≤◌, true, Some, None, List, [], ◌++◌, length, FitsSigned}
+use Rattle.std.specs.Prelude.{◌≡◌, ◌⊎◌, ℕ, ℤ, ◌≤◌, true, Some, None, List, [], length, FitsSigned}
 use Rattle.std.specs.Int.{w128}
 use Rattle.column_base.specs.declared.dtype.Nullability.{Nullability}
 use Rattle.column_base.specs.declared.dtype.Nullability.TheVariants.{Nullable}
@@ -20,9 +20,7 @@ use Rattle.column_core.specs.DecimalForm.{DecimalForm}
 use Rattle.column_fields.specs.NumberBytes.{number_bytes}
 use Rattle.column_fields.specs.DecimalBytes.{decimal_bytes}
 use Rattle.column_fields.specs.ElementFields.{IsElementType}
-use Rattle.column_fields.specs.Header.{header_bytes}
 use Rattle.column_fields.specs.Lengths.{lengths_bytes, Rises, AreEndsOf}
-use Rattle.column_fields.specs.RunFields.{run_fields}
 use Rattle.runend_windows.specs.Ends.{IsEndsType, ends_of}
 use Rattle.runend_array.specs.Column.{Column, OfRuns, AreRuns, runs_with, column_dtype, depth}
 use Rattle.column_bytes.specs.Packed.{IsPacked}
@@ -43,33 +41,6 @@ pub record IsMessage (levels : ℕ) (bytes : List ℕ) (c : Column) : Type 0 whe
 
 pub record IsNoMessage (levels : ℕ) (bytes : List ℕ) : Type 0 where
   pub none : (c : Column) → IsMessage levels bytes c → ⊥
-
--- ---- what bytes are where a reader is refused memory: a message, or lists under runs that are checked
-
--- the bytes begin with the header of lists
-pub record BeginsWithLists (bytes : List ℕ) : Type 0 where
-  pub kind : ℕ
-  pub rows : ℕ
-  pub rest : List ℕ
-  pub spelt : bytes ≡ header_bytes kind 4 rows ++ rest
-
--- the bytes are a header of runs and their fields, in which these bytes are those of the values
-pub record AreFieldsOver (bytes values : List ℕ) : Type 0 where
-  pub kind : ℕ
-  pub rows : ℕ
-  pub offset : ℕ
-  pub ends_type : PType
-  pub lengths : List ℕ
-  pub spelt : bytes ≡ header_bytes kind 2 rows ++ run_fields offset ends_type lengths values
-
--- the bytes begin so, or they are the fields of runs over values that do, with at most this number of levels of runs
-abbrev pub IsOverLists : ℕ → List ℕ → Type 0
-IsOverLists zero bytes = BeginsWithLists bytes
-IsOverLists (suc levels) bytes = BeginsWithLists bytes ⊎ ((values : List ℕ) × AreFieldsOver bytes values × IsOverLists levels values)
-
--- the bytes are the message of some column, or begin as one of lists does
-abbrev pub MayBeMessage : ℕ → List ℕ → Type 0
-MayBeMessage levels bytes = ((c : Column) × IsMessage levels bytes c) ⊎ IsOverLists levels bytes
 
 -- ---- what follows a header
 

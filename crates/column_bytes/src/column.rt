@@ -1,9 +1,9 @@
 //! A column of any form, written and read.
 ghost use Rattle.std.specs.Prelude.{◌≡◌, ◌<◌, ◌++◌, length, IfOk, IfErr, IsErrOf, OnOk};
 ghost use Rattle.runend_array.specs.Array.{column_of};
-ghost use Rattle.runend_array.specs.Column.{depth};
+ghost use Rattle.runend_array.specs.Column.{Column, depth};
 ghost use Rattle.column_bytes.specs.Bytes.{column_bytes};
-ghost use Rattle.column_bytes.specs.Read.{MayBeMessage, IsMessage, IsNoMessage, IsWritable, IsUnsupportedOrMemory};
+ghost use Rattle.column_bytes.specs.Read.{IsMessage, IsNoMessage, IsWritable, IsUnsupportedOrMemory};
 ghost use Rattle.column_fields.specs.Kept.{StaysInFront};
 ghost use Rattle.column_fields.specs.Room.{UsesCountedRoom};
 ghost use Rattle.column_fields.specs.Refusal.{IsBadOrMemory};
@@ -12,7 +12,7 @@ use crate::constants::{put_constant, read_constant};
 use crate::flat::{put_decimal_rows, put_numbers, put_truths, read_leaf};
 use crate::list_reading::read_lists;
 use crate::lists::put_lists;
-use crate::message_checks::may_be_message;
+use crate::message_checks::is_message;
 use crate::runs::{put_runs, read_runs};
 use crate::sizes::{message_size, size_within};
 use crate::texts::put_texts;
@@ -66,20 +66,19 @@ pub fn put_message<A: Allocator + Copy, W: BufMut>(
     put_column(out, array, MOST_LEVELS)
 }
 
-/// Returns the column of which the bytes are the message. Refused as `BadMetadata` only where they are the message of
-/// no column with at most 16 levels of runs. Fails else only with `OutOfMemory`, and only for bytes that are a message:
-/// after a refusal for memory they are looked at once more, without memory. Only the header of lists is looked at then,
-/// under runs too.
+/// Returns the column of which the bytes are the message. Refused as `BadMetadata` exactly where they are the message
+/// of no column with at most 16 levels of runs, else only with `OutOfMemory`: after a refusal for memory `is_message`
+/// looks at the bytes once more, without memory.
 pub fn read_column<A: Allocator + Copy>(alloc: A, bytes: &[u8]) -> VortexResult<ArrayRef<A>>
     ensures found { IfOk result (λ array. IsMessage 16 bytes.now (column_of array)) }
     ensures bad { IsErrOf result VortexError.BadMetadata → IsNoMessage 16 bytes.now }
-    ensures short { IsErrOf result VortexError.OutOfMemory → MayBeMessage 16 bytes.now }
+    ensures short { IsErrOf result VortexError.OutOfMemory → (c : Column) × IsMessage 16 bytes.now c }
     ensures only { IfErr result IsBadOrMemory }
 {
     match read_message(alloc, bytes, MOST_LEVELS) {
         Ok(array) => Ok(array),
         Err(VortexError::OutOfMemory) => {
-            if may_be_message(bytes, MOST_LEVELS) {
+            if is_message(bytes) {
                 Err(VortexError::OutOfMemory)
             } else {
                 Err(VortexError::BadMetadata)

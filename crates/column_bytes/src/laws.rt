@@ -23,7 +23,7 @@ pub fn written_is_a_message()
 {}
 
 /// Two encodings of the same rows and type, which is none of lists, have the same message, byte for byte, whichever
-/// columns they were made of and wherever their texts lie. An encoding is what `encode_rows` of `runend_encode_rows`
+/// columns they were made of and wherever their texts lie. An encoding is what `encode_rows` of `runend_builder`
 /// answers: the tight exact cover, from the first row on, with ends of the least type and flat values as a call
 /// computes them. `RunEnd::encode` answers it too, but of a column whose validity says by its form that all rows are
 /// null.

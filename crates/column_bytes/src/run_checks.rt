@@ -27,8 +27,8 @@ pub(crate) fn joins_runs(header: Header, fields: RunFields<'_>) -> bool
     shows_window(span, values.rows, fields.offset, header.rows)
 }
 
-// Do runs with ends of this span, and that number of values, show that number of rows from an offset on?
-fn shows_window(span: EndsSpan, values: u64, offset: u64, rows: u64) -> bool
+/// Returns whether runs with ends of this span, and that number of values, show that number of rows from an offset on.
+pub(crate) fn shows_window(span: EndsSpan, values: u64, offset: u64, rows: u64) -> bool
     ensures { (ends : List ℕ) → Rises true 0 ends → length ends ≡ span.count → get_or ends 0 0 ≡ span.first →
         get_or ends (span.count - 1) 0 ≡ span.last →
         (IsTrue result ↔ (IsWindow ends offset rows × (values ≡ length ends))) }

@@ -1,6 +1,6 @@
 //! The library as a program calls it. The README and `docs/CALLING.md` show these lines.
 use crate::columns::{are_rows, both};
-use column_bytes::{message_size, read_column, write_column};
+use column_bytes::{is_message, message_size, read_column, write_column};
 use std::alloc::Global;
 use std::test::Fail;
 use vortex_runend::compute::{CompareOperator, fill_null, slice, sum};
@@ -260,9 +260,10 @@ fn a_column_is_kept_as_bytes(rt: HostRuntime) -> Result<(), Fail> {
     // 17 bytes of fields before the values, 2 of their key and length, 13 of their fields before items of 26.
     let bytes = bytes?;
     let are_so_many = size == Ok(58) && bytes.len() == 58;
+    let is_kept = is_message(&bytes);
     let kept = read_column(rt.alloc(), &bytes)?;
     let are_kept = are_rows(&kept, &[Some(4), Some(4), None, None, Some(9)]);
     drop(kept);
-    assert!(rt; are_so_many && are_kept);
+    assert!(rt; are_so_many && is_kept && are_kept);
     Ok(())
 }
