@@ -9,6 +9,7 @@
 
 The shared object is next to this file, in lib/ of a checkout, or where HIVEVIGIL_SO says. NumPy, pandas and Matplotlib
 are used where they are there. `python -m hivevigil FILE.csv` shows what the columns of a CSV file take in runs.
+A Table is columns by name, which are filtered, cut and kept in a file together.
 `hivevigil.chunks` joins what is known of parts of a column; `hivevigil.pandas` has a column as an array of pandas, and
 `hivevigil.dask` one in chunks.
 """
@@ -21,10 +22,11 @@ from .builder import Builder
 from .column import Column
 from .errors import CLASSES, HivevigilError
 from .functions import columns_from_arrow, concat, version
+from .table import Table
 
 __all__ = [
     "ArrowArray", "ArrowArrayStream", "ArrowSchema", "Builder", "CLASSES", "Column", "FORMS", "HivevigilError",
-    "OPERATORS", "Run", "TYPES", "columns_from_arrow", "concat",
+    "OPERATORS", "Run", "TYPES", "Table", "columns_from_arrow", "concat",
 ]
 
 

@@ -7,9 +7,9 @@ from __future__ import annotations
 
 import ctypes
 import re
-from collections.abc import Iterator
+from collections.abc import Iterator, Mapping
 from ctypes import byref, c_char_p, c_void_p, py_object
-from typing import TYPE_CHECKING, Any, Optional
+from typing import TYPE_CHECKING, Any, NamedTuple, Optional
 
 from ._arrow_structs import ArrowArray, ArrowArrayStream, ArrowSchema
 from ._library import ArrowOptions, Fields, Handle, ask, calls, calls_without_lock, session
@@ -111,13 +111,16 @@ def export(column: Column, name: str, format: Optional[str], dictionary: Optiona
 def _options(requested: Any) -> Iterator[Any]:
     """What is tried in turn: the form and format that a consumer asks for, only the form, the column as it is."""
     if requested is not None:
-        schema = _held(requested, ArrowSchema)
-        is_runs = schema.format == _RUNS and schema.n_children == 2
-        values = schema.children[1].contents if is_runs else schema
-        form = _AS_RUNS if is_runs else _AS_FLAT
-        yield ArrowOptions(form=form, format=values.format)
-        yield ArrowOptions(form=form)
+        yield from _asked_options(_held(requested, ArrowSchema))
     yield ArrowOptions()
+
+
+def _asked_options(schema: Any) -> list[ArrowOptions]:
+    """The form and format of a schema that is asked for, then only the form."""
+    is_runs = schema.format == _RUNS and schema.n_children == 2
+    values = schema.children[1].contents if is_runs else schema
+    form = _AS_RUNS if is_runs else _AS_FLAT
+    return [ArrowOptions(form=form, format=values.format), ArrowOptions(form=form)]
 
 
 def array_capsules(column: Column, requested: Any) -> tuple[Any, Any]:
@@ -148,11 +151,88 @@ def stream_capsule(column: Column, requested: Any) -> Any:
     raise TypeMismatch()
 
 
+# ---- Tables out ----
+
+
+def struct_schema_capsule(columns: Mapping[str, Column], formats: Mapping[str, str]) -> Any:
+    """The schema of a batch that has these columns."""
+    capsule, schema = _new(ArrowSchema)
+    none_of_each = {name: column.slice(0, 0) for name, column in columns.items()}
+    stream_capsule = struct_stream_capsule(none_of_each, formats, None)
+    stream = _held(stream_capsule, ArrowArrayStream)
+    failed = stream.get_schema(byref(stream), byref(schema))
+    if failed:
+        raise MemoryError
+    return capsule
+
+
+def struct_stream_capsule(columns: Mapping[str, Column], formats: Mapping[str, str], requested: Any) -> Any:
+    """A stream of one batch of columns by name, each in its format where it has one."""
+    if not columns:
+        raise Unsupported().saying("a table without columns does not go out to Arrow")
+    asked = _children_of(requested, len(columns))
+    count = len(columns)
+    handles, names, options = (Handle * count)(), (c_char_p * count)(), (ArrowOptions * count)()
+    for place, (name, column) in enumerate(columns.items()):
+        handles[place], names[place] = column._there()._handle, _name(name)
+        options[place] = _settled(name, column, formats.get(name), asked[place])
+    capsule, stream = _new(ArrowArrayStream)
+    ask(calls.hv_export_stream, session, handles, names, count, 0, options, stream)
+    return capsule
+
+
+def _name(name: str) -> bytes:
+    if "\0" in name:
+        raise ValueError(f"a name of Arrow has no zero byte, and {in_words(name)} has")
+    return checked_text(name)
+
+
+def _children_of(requested: Any, count: int) -> list[Any]:
+    """The schemas that a consumer asks the columns to have, None of each where it asks for another number of them."""
+    if requested is None:
+        return [None] * count
+    schema = _held(requested, ArrowSchema)
+    is_batch = schema.format == _BATCH and schema.n_children == count
+    return [schema.children[place].contents if is_batch else None for place in range(count)]
+
+
+def _settled(name: str, column: Column, format: Optional[str], asked: Any) -> ArrowOptions:
+    """How a column goes out: as it is asked for where that can be, else in its logical type."""
+    own = ArrowOptions(format=None if format is None else _text(format, "a format"))
+    none = column.slice(0, 0)
+    for options in [*([] if asked is None else _asked_options(asked)), own]:
+        with Exported() as (schema, items):
+            try:
+                ask(calls.hv_export_with, session, none, b"", options, schema, items)
+                return options
+            except TypeMismatch:
+                continue
+    raise TypeMismatch().saying(f"column {in_words(name)}: {column.type} has no format {format!r}")
+
+
 # ---- In ----
+
+
+class Imported(NamedTuple):
+    """Columns that came in: with names and formats of a batch, or one without of an array."""
+
+    names: Optional[list[str]]
+    columns: list[Column]
+    formats: list[str]
+
+    def logical_types(self) -> dict[str, str]:
+        """The formats by name that say what integers are: dates, times and so on."""
+        return {name: format for name, format in zip(self.names or [], self.formats) if format.startswith("t")}
 
 
 def import_columns(source: Any, kind: type[Column]) -> dict[str, Column]:
     """The columns of an object that hands out capsules: of a batch or a table by name, of an array one without name."""
+    found = imported(source, kind)
+    return dict(zip([""] if found.names is None else found.names, found.columns))
+
+
+def imported(source: Any, kind: type[Column]) -> Imported:
+    """What an object that hands out capsules has."""
     if isinstance(source, type):
         raise TypeError(f"from_arrow takes an array, a batch or a table of an Arrow library, not {in_words(source)}")
     if hasattr(source, "__arrow_c_array__"):
@@ -172,16 +252,35 @@ def _names_of(schema: Any) -> Optional[list[str]]:
     return names
 
 
-def _of_array(capsules: Any, kind: type[Column]) -> dict[str, Column]:
+def _formats_of(schema: Any) -> list[str]:
+    """The formats of a batch's children, below runs and dictionaries."""
+    if schema.format != _BATCH:
+        return []
+    return [_format_below(schema.children[child].contents) for child in range(schema.n_children)]
+
+
+def _format_below(schema: Any) -> str:
+    while True:
+        if schema.dictionary:
+            schema = schema.dictionary.contents
+        elif schema.format == _RUNS and schema.n_children == 2:
+            schema = schema.children[1].contents
+        else:
+            return (schema.format or b"").decode(errors="replace")
+
+
+def _of_array(capsules: Any, kind: type[Column]) -> Imported:
     schema, items = _held(capsules[0], ArrowSchema), _held(capsules[1], ArrowArray)
     names = _names_of(schema)
+    formats = _formats_of(schema)
     try:
         if names is None:
-            return {"": kind._made(calls.hv_import_array, session, byref(schema), byref(items))}
-        return {
-            name: kind._made(calls.hv_import_child, session, byref(schema), byref(items), child)
-            for child, name in enumerate(names)
-        }
+            return Imported(None, [kind._made(calls.hv_import_array, session, byref(schema), byref(items))], formats)
+        columns = [
+            kind._made(calls.hv_import_child, session, byref(schema), byref(items), child)
+            for child in range(len(names))
+        ]
+        return Imported(names, columns, formats)
     except (TypeMismatch, Unsupported) as refused:
         raise _in_words(refused, _not_served(schema, names)) from None
 
@@ -218,11 +317,11 @@ def _formats(schema: Any, is_within_list: bool = False) -> Iterator[str]:
         yield from _formats(schema.dictionary.contents)
 
 
-def _of_stream(capsule: Any, kind: type[Column]) -> dict[str, Column]:
+def _of_stream(capsule: Any, kind: type[Column]) -> Imported:
     """A column for each, of all chunks. The interpreter's lock is released meanwhile: a stream may wait for a thread
     that needs it, and no existing column is touched."""
     stream = _held(capsule, ArrowArrayStream)
-    names, not_served = _described(stream)
+    names, formats, not_served = _described(stream)
     count = 1 if names is None else len(names)
     handles, words, fields = (Handle * max(1, count))(), ctypes.create_string_buffer(_WORDS), Fields()
     number = calls_without_lock.hv_import_stream(session, byref(stream), handles, count, None, words, _WORDS, fields)
@@ -230,16 +329,15 @@ def _of_stream(capsule: Any, kind: type[Column]) -> dict[str, Column]:
         raise ArrowStreamFailed(fields.first, words=words.value.decode(errors="replace"))
     if number:
         raise _in_words(refusal(number, fields.first, fields.second, fields.third), not_served)
-    columns = [kind._owning(Handle(handle.at)) for handle in handles[:count]]
-    return dict(zip(names if names is not None else [""], columns))
+    return Imported(names, [kind._owning(Handle(handle.at)) for handle in handles[:count]], formats)
 
 
-def _described(stream: Any) -> tuple[Optional[list[str]], str]:
-    """The names of a stream's columns, and which format is not served, where one is not."""
+def _described(stream: Any) -> tuple[Optional[list[str]], list[str], str]:
+    """The names and formats of a stream's columns, and which format is not served, where one is not."""
     with Exported() as (schema, _):
         failed = stream.get_schema(byref(stream), byref(schema))
         if failed:
             words = stream.get_last_error(byref(stream)) or b""
             raise ArrowStreamFailed(failed, words=words.decode(errors="replace"))
         names = _names_of(schema)
-        return names, _not_served(schema, names)
+        return names, _formats_of(schema), _not_served(schema, names)

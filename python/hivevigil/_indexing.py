@@ -2,6 +2,7 @@
 from __future__ import annotations
 
 import array
+from collections.abc import Callable
 from typing import TYPE_CHECKING, Any, Optional
 
 from ._making import is_array, listed
@@ -15,28 +16,46 @@ if TYPE_CHECKING:
 
 def selected(column: Column, key: Any) -> Any:
     """The row at an integer; else the column of a slice, of a mask's rows, or of the rows at indices."""
+    if _is_row(key):
+        return column._at(row_of(key, column._length))
+    return chosen_by(column, key)(column)
+
+
+def _is_row(key: Any) -> bool:
+    return hasattr(key, "__index__") and not is_truth(key) and getattr(key, "ndim", 0) == 0
+
+
+def chosen_by(column: Column, key: Any) -> Callable[[Column], Column]:
+    """What a slice, a mask or indices over a column choose of each column that has as many rows. They are read and
+    tested once."""
     if isinstance(key, slice):
-        return _sliced(column, key)
+        return _cut(column, key)
     if is_truth(key):
         raise TypeError("a mask has a flag for each row; rows are compared by column.eq(..), column.lt(..) and so on")
-    if hasattr(key, "__index__") and getattr(key, "ndim", 0) == 0:
-        return column._at(row_of(key, column._length))
     if key is None or key is Ellipsis or isinstance(key, (str, bytes, tuple, float)):
         raise TypeError(f"a column is indexed by an integer, a slice, a mask or a list of rows, not {key!r}")
     chosen = _column_of(column, key)
     if chosen is not None:
-        return column.filter(chosen) if chosen.type.rstrip("?") == "bool" else column.take(chosen)
+        return _filter(chosen) if chosen.type.rstrip("?") == "bool" else _take(indices_of(column, chosen))
     rows = listed(key, "rows")
     if rows and all(row is None for row in rows):
         raise TypeError("None alone is neither a mask nor a list of rows: write column.filter(..) or column.take(..)")
-    return column.filter(rows) if any(map(is_truth, rows)) else column.take(rows)
+    return _filter(mask_of(column, rows)) if any(map(is_truth, rows)) else _take(indices_of(column, rows))
 
 
-def _sliced(column: Column, key: slice) -> Column:
+def _filter(mask: Column) -> Callable[[Column], Column]:
+    return lambda column: column.filter(mask)
+
+
+def _take(indices: Column) -> Callable[[Column], Column]:
+    return lambda column: column.take(indices)
+
+
+def _cut(column: Column, key: slice) -> Callable[[Column], Column]:
     start, stop, step = key.indices(column._length)
     if step == 1:
-        return column.slice(start, max(start, stop))
-    return column.take(column.of(array.array("Q", range(start, stop, step))))
+        return lambda each: each.slice(start, max(start, stop))
+    return _take(column.of(array.array("Q", range(start, stop, step))))
 
 
 def mask_of(column: Column, mask: Any) -> Column:

@@ -5,6 +5,7 @@ a column that was freed a ValueError, a refused request for memory a MemoryError
 """
 from __future__ import annotations
 
+from collections.abc import Iterable
 from typing import Any, ClassVar
 
 from ._sentences import SENTENCES
@@ -223,3 +224,23 @@ def refusal(number: int, *fields: int) -> HivevigilError:
     """The exception for a number and the fields that the library wrote."""
     kind = CLASSES.get(number)
     return kind(*fields) if kind else UnknownRefusal(number, *fields[:2])
+
+
+class NoName(KeyError):
+    """No column of a table has a name."""
+
+    def __init__(self, name: str, names: Iterable[str]) -> None:
+        super().__init__(name)
+        self.names = list(names)
+
+    def __str__(self) -> str:
+        return f"no column has the name {in_words(self.args[0])}: {self._there()}"
+
+    def _there(self) -> str:
+        if not self.names:
+            return "the table has none"
+        more = f" and {len(self.names) - 8} more" if len(self.names) > 8 else ""
+        return f"the names are {', '.join(map(in_words, self.names[:8]))}{more}"
+
+    def __reduce__(self) -> Any:
+        return type(self), (self.args[0], self.names)

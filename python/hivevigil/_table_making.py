@@ -1,0 +1,156 @@
+"""What tables are made of: columns by name, of mappings, frames of pandas and CSV files."""
+from __future__ import annotations
+
+import contextlib
+import os
+from collections.abc import Iterable, Iterator, Mapping
+from typing import TYPE_CHECKING, Any
+
+from ._values import checked_text, size_of
+from .builder import Builder
+from .column import Column
+from .csv_files import CsvFile
+from .errors import HivevigilError, TypeMismatch, in_words
+
+if TYPE_CHECKING:
+    from .table import Table
+
+DATE = "tdD"  # Arrow's format of days since 1970
+
+
+@contextlib.contextmanager
+def about(name: str) -> Iterator[None]:
+    """A refusal within says of which column it is."""
+    where = f"column {in_words(name)}: "
+    try:
+        yield
+    except HivevigilError as refused:
+        raise refused.saying(f"{where}{refused}") from None
+    except (TypeError, ValueError, OverflowError) as error:
+        if type(error) not in (TypeError, ValueError, OverflowError):
+            raise
+        raise type(error)(f"{where}{error}") from None
+
+
+def checked_name(name: Any) -> str:
+    """A name of a column: a text."""
+    if not isinstance(name, str):
+        raise TypeError(f"a column of a table is named by a text, not by {in_words(name)}")
+    checked_text(name, "the name of a column: ")
+    return name
+
+
+def refuse_twice(names: Iterable[Any]) -> None:
+    """Refuses names of which one is there twice."""
+    seen = set()
+    for name in names:
+        if name in seen:
+            raise ValueError(f"two columns have the name {in_words(name)}")
+        seen.add(name)
+
+
+def columns_of(columns: Any) -> dict[str, Column]:
+    """Columns of a mapping, or of pairs; each is a copy, so that what the caller does with his is nothing to it."""
+    made: dict[str, Column] = {}
+    for name, rows in _pairs_of(columns):
+        if checked_name(name) in made:
+            raise ValueError(f"two columns have the name {in_words(name)}")
+        with about(name):
+            made[name] = rows.copy() if isinstance(rows, Column) else Column.of(rows)
+    return made
+
+
+def _pairs_of(columns: Any) -> Iterable[tuple[Any, Any]]:
+    if isinstance(columns, Mapping):
+        return columns.items()
+    if hasattr(columns, "iloc"):
+        raise TypeError("Table.from_pandas takes a frame of pandas")
+    if hasattr(columns, "__arrow_c_stream__") or hasattr(columns, "__arrow_c_array__"):
+        raise TypeError("Table.from_arrow takes batches and tables of an Arrow library")
+    expected = "columns by name are a mapping, or pairs of a name and a column"
+    try:
+        pairs = [(name, rows) for name, rows in columns]
+    except (TypeError, ValueError):
+        raise TypeError(f"{expected}, not {in_words(columns)}") from None
+    return pairs
+
+
+def logical_types_of(given: Any, columns: Mapping[str, Column]) -> dict[str, str]:
+    """Logical types by name, each of a column that there is, in the order of the columns."""
+    if not isinstance(given, Mapping):
+        raise TypeError(f"logical types are a mapping from names, not {in_words(given)}")
+    for name, format in given.items():
+        if name not in columns:
+            raise ValueError(f"a logical type for {in_words(name)}, and no column has this name")
+        if not isinstance(format, str) or not format:
+            raise TypeError(f"a logical type is a format of Arrow, as 'tsu:UTC', not {in_words(format)}")
+        checked_text(format, f"the logical type of column {in_words(name)}: ")
+    return {name: given[name] for name in columns if name in given}
+
+
+def check_alike(table: Table, other: Any) -> None:
+    """Refuses a table that cannot be appended: it has other names, or other logical types."""
+    if type(other) is not type(table):
+        raise TypeError(f"a table is appended to a table, not {in_words(other)}")
+    if set(table) != set(other):
+        only = [f"{'only the first' if name in table else 'only the other'} has {in_words(name)}"
+                for name in [*table, *other] if (name in table) != (name in other)]
+        raise ValueError(f"append: the tables have columns of different names: {only[0]}")
+    for name in table:
+        left, right = (each.logical_types.get(name, "none") for each in (table, other))
+        if left != right:
+            said = f"append: the logical types of column {in_words(name)} are {left} and {right}"
+            raise TypeMismatch().saying(said)
+
+
+# ---- Frames of pandas ----
+
+
+def series_of(frame: Any) -> list[tuple[Any, Any]]:
+    """The columns of a DataFrame, with their labels; arrays of hivevigil.pandas as the columns that they have."""
+    if not hasattr(frame, "iloc") or getattr(frame, "ndim", 0) != 2:
+        raise TypeError(f"Table.from_pandas takes a DataFrame, not {in_words(frame)}")
+    series = (frame.iloc[:, place] for place in range(frame.shape[1]))
+    return [(label, _column_of(one)) for label, one in zip(frame.columns, series)]
+
+
+def _column_of(series: Any) -> Any:
+    column = getattr(series.array, "column", None)
+    if isinstance(column, Column):
+        return column
+    # the rows say no type where all are null, and this dtype does
+    return Column.of(series.tolist(), "utf8") if series.dtype.name == "string" else series
+
+
+def frame_of(columns: Mapping[str, Column], rows: int, in_runs: bool) -> Any:
+    import pandas
+
+    if in_runs:
+        from .pandas import RunEndArray
+
+        made = {name: pandas.Series(RunEndArray(column)) for name, column in columns.items()}
+    else:
+        made = {name: column.to_pandas() for name, column in columns.items()}
+    return pandas.DataFrame(made, index=pandas.RangeIndex(rows))
+
+
+# ---- CSV files ----
+
+
+def read_csv(path: Any, batch_rows: int) -> tuple[dict[str, Column], dict[str, str]]:
+    """The columns of a CSV file in runs, and the logical types of those that are dates."""
+    if not isinstance(path, (str, os.PathLike)):
+        raise TypeError(f"a file is named by a text or a path, not by {in_words(path)}")
+    if size_of(batch_rows, "the number of rows of a batch") == 0:
+        raise ValueError("a batch has at least one row")
+    file = CsvFile(os.fspath(path), batch_rows)
+    builders: dict[str, Builder] = {}
+    for batch in file.batches(lambda _: None):
+        for name, column in batch.items():
+            if name not in builders:
+                builders[name] = Builder(column.type)
+            builders[name].append(column)
+    logical = {name: DATE for name, kind in file.types.items() if kind == "date?"}
+    for name, kind in file.types.items():
+        builders.setdefault(name, Builder("i32?" if name in logical else kind))
+    return {name: builder.finish() for name, builder in builders.items()}, logical

@@ -1,0 +1,291 @@
+"""A table: columns of one number of rows, each with a name. What filters or cuts rows does so in each column."""
+from __future__ import annotations
+
+from collections.abc import Callable, Iterator, Mapping
+from typing import TYPE_CHECKING, Any, Optional
+
+from . import _arrow, _indexing, _table_making, _table_showing
+from ._table_making import about, checked_name, refuse_twice
+from ._values import Scalar, is_whole, row_of, size_of
+from .column import Column
+from .errors import ColumnLength, NoName, in_words
+from .functions import concat
+
+if TYPE_CHECKING:
+    from .table_groups import TableGroups
+
+
+class Table(Mapping[str, Column]):
+    """Columns by name, all of one number of rows. A table is a value: each method makes another one, and where it is
+    refused the table is as it was. It owns its columns: what is put in or taken out is a copy that shares buffers.
+
+    A table is a mapping in the order of its names, so `len(table)` counts columns; `table.rows` counts rows. `==` says
+    whether two are one object; `equals` compares rows.
+    """
+
+    __slots__ = ("_columns", "_rows", "_logical", "__weakref__")
+    _columns: dict[str, Column]
+    _rows: int
+    _logical: dict[str, str]
+
+    def __init__(
+        self, columns: Any = (), logical_types: Optional[Mapping[str, str]] = None, rows: Optional[int] = None
+    ) -> None:
+        """The columns of a mapping, or of pairs of a name and a column; what is not a Column is what `Column.of` takes.
+        `logical_types` says by name what the numbers of a column are, as a format of Arrow: 'tsu:UTC', 'tdD'. `rows`
+        is needed only where there is no column."""
+        made = _table_making.columns_of(columns)
+        lengths = {name: column._length for name, column in made.items()}
+        count = next(iter(lengths.values()), 0) if rows is None else size_of(rows, "the number of rows")
+        for name, length in lengths.items():
+            if length != count:
+                other = "the table" if rows is not None else f"column {in_words(next(iter(lengths)))}"
+                said = f"column {in_words(name)} has {length} rows, and {other} {count}"
+                raise ColumnLength(count, length).saying(said)
+        self._columns, self._rows = made, count
+        self._logical = _table_making.logical_types_of({} if logical_types is None else logical_types, made)
+
+    @classmethod
+    def _of(cls, columns: dict[str, Column], rows: int, logical: Mapping[str, str]) -> Table:
+        """A table of columns that nobody else has, of which those are known to fit."""
+        table = cls.__new__(cls)
+        table._columns, table._rows = columns, rows
+        table._logical = {name: logical[name] for name in columns if name in logical}
+        return table
+
+    # ---- Making ----
+
+    @classmethod
+    def from_pandas(cls, frame: Any) -> Table:
+        """The columns of a DataFrame, as Column.of reads each; those of hivevigil.pandas stay in runs. The index is
+        left out."""
+        return cls(_table_making.series_of(frame), rows=len(frame))
+
+    @classmethod
+    def from_csv(cls, path: Any, batch_rows: int = 65536) -> Table:
+        """The columns of a CSV file in runs, as few as there can be: each of the type that all of its fields have,
+        null where a field is empty. Dates are 'i32?' of logical type 'tdD'. BadFile for a file that is not a CSV."""
+        columns, logical = _table_making.read_csv(path, batch_rows)
+        return cls(columns, logical)
+
+    @classmethod
+    def from_arrow(cls, source: Any) -> Table:
+        """A copy of the batch, table or stream of batches of any Arrow library, by its capsules. Dates, times and so on
+        are integers with their format as logical type."""
+        imported = _arrow.imported(source, Column)
+        if not imported.names:
+            what = "an array" if imported.names is None else "no columns"
+            raise TypeError(f"Table.from_arrow takes a batch or a table, and this is {what}")
+        columns = dict(zip(imported.names, imported.columns))
+        return cls._of(columns, imported.columns[0]._length, imported.logical_types())
+
+    # ---- Names, types and rows ----
+
+    @property
+    def rows(self) -> int:
+        """How many rows each column has."""
+        return self._rows
+
+    @property
+    def names(self) -> list[str]:
+        """The names of the columns, in their order."""
+        return list(self._columns)
+
+    @property
+    def shape(self) -> tuple[int, int]:
+        """How many rows and how many columns there are."""
+        return self._rows, len(self._columns)
+
+    @property
+    def types(self) -> dict[str, str]:
+        """The type of each column as text, as Column.type."""
+        return {name: column.type for name, column in self._columns.items()}
+
+    @property
+    def logical_types(self) -> dict[str, str]:
+        """The logical types, formats of Arrow, of the columns that have one."""
+        return dict(self._logical)
+
+    @property
+    def nbytes(self) -> int:
+        """How many bytes the columns take for what they show, each as Column.nbytes."""
+        return sum(column.nbytes for column in self._columns.values())
+
+    def __len__(self) -> int:
+        """How many columns there are."""
+        return len(self._columns)
+
+    def __iter__(self) -> Iterator[str]:
+        """The names."""
+        return iter(self._columns)
+
+    def __contains__(self, name: object) -> bool:
+        """Whether a column has this name."""
+        return name in self._columns
+
+    def __getitem__(self, key: Any) -> Any:
+        """The column of a name. Else, of a list of names, a slice, a mask or indices, a table, and of a number the row
+        as a dict."""
+        if isinstance(key, str):
+            return self._column(key).copy()
+        if isinstance(key, (list, tuple)) and key and all(isinstance(name, str) for name in key):
+            return self.select(*key)
+        if is_whole(key):
+            return self.row(key)
+        return self._each(_indexing.chosen_by(self._any(), key))
+
+    def row(self, number: int) -> dict[str, Any]:
+        """A row by name, from the end where its number is negative."""
+        at = row_of(number, self._rows)
+        return {name: column._at(at) for name, column in self._columns.items()}
+
+    def _column(self, name: Any) -> Column:
+        """The column itself. Refused where there is none."""
+        if not isinstance(name, str):
+            raise TypeError(f"a column of a table is named by a text, not by {in_words(name)}")
+        if name not in self._columns:
+            raise NoName(name, self._columns)
+        return self._columns[name]
+
+    def _any(self) -> Column:
+        """A column of as many rows as the table has."""
+        return next(iter(self._columns.values())) if self._columns else Column.constant(0, self._rows, "u8")
+
+    # ---- Rows ----
+
+    def _each(self, work: Callable[[Column], Column]) -> Table:
+        """What a function makes of each column, columns of one length."""
+        made = {name: work(column) for name, column in self._columns.items()}
+        rows = (next(iter(made.values())) if made else work(self._any()))._length
+        return self._of(made, rows, self._logical)
+
+    def filter(self, mask: Any) -> Table:
+        """The rows at which the mask, a column in any form, a list or an array, is true; null selects nothing."""
+        chosen = _indexing.mask_of(self._any(), mask)
+        return self._each(lambda column: column.filter(chosen))
+
+    def filter_by(self, name: str, operator: str, value: Any) -> Table:
+        """The rows at which `row operator value` is true of the column of a name, as Column.compare has it."""
+        column = self._column(name)
+        with about(name):
+            mask = column.compare(operator, value)
+        return self.filter(mask)
+
+    def take(self, indices: Any) -> Table:
+        """The rows at the indices: a column, a list, or an array; null at a null index. In lists and arrays negative
+        indices count from the end."""
+        chosen = _indexing.indices_of(self._any(), indices)
+        return self._each(lambda column: column.take(chosen))
+
+    def slice(self, start: int, stop: int) -> Table:
+        """The rows from `start` to `stop` - 1, all of which have to exist; `table[start:stop]` cuts as Python does."""
+        return self._each(lambda column: column.slice(start, stop))
+
+    def append(self, *tables: Table) -> Table:
+        """The rows of this table, then those of others, which have columns of the same names, types and logical types;
+        a type has null where it has in one of them."""
+        for table in tables:
+            _table_making.check_alike(self, table)
+        joined = {}
+        for name in self._columns:
+            with about(name):
+                joined[name] = concat([table._columns[name] for table in (self, *tables)])
+        return self._of(joined, sum(table._rows for table in (self, *tables)), self._logical)
+
+    def to_runs(self) -> Table:
+        """Each column in as few runs as possible; lists as they are."""
+        return self._each(lambda column: column.copy() if column.type.startswith("list") else column.to_runs())
+
+    def group_by(self, name: str) -> TableGroups:
+        """The rows by runs of equal neighbouring rows of the column of a name, as Column.group_by: rows that are sorted
+        by it come in one group for each of its values. `.agg(..)` says what is asked of each group."""
+        from .table_groups import TableGroups
+
+        self._column(name)
+        return TableGroups(self, name)
+
+    # ---- Columns ----
+
+    def with_column(self, name: str, column: Any, logical_type: Optional[str] = None) -> Table:
+        """The same columns and one more, or another in place of that of this name; a Column, or what `Column.of`
+        takes, of as many rows as the table has. Its logical type is the one that is given."""
+        kept = {key: other for key, other in self._logical.items() if key != name}
+        added = {} if logical_type is None else {name: logical_type}
+        columns = {**self._columns, checked_name(name): column}
+        return type(self)(columns, {**kept, **added}, self._rows if self._columns or self._rows else None)
+
+    def select(self, *names: str) -> Table:
+        """The columns of these names, in this order, each once."""
+        refuse_twice(names)
+        return self._of({name: self._column(name).copy() for name in names}, self._rows, self._logical)
+
+    def drop(self, *names: str) -> Table:
+        """All columns but those of these names."""
+        for name in names:
+            self._column(name)
+        return self.select(*(name for name in self._columns if name not in names))
+
+    def rename(self, names: Mapping[str, str]) -> Table:
+        """The same columns, of which those that the mapping has as keys have its values as names."""
+        for name in names:
+            self._column(name)
+        changed = [checked_name(names.get(name, name)) for name in self._columns]
+        refuse_twice(changed)
+        columns = {name: column.copy() for name, column in zip(changed, self._columns.values())}
+        logical = {new: self._logical[old] for new, old in zip(changed, self._columns) if old in self._logical}
+        return self._of(columns, self._rows, logical)
+
+    # ---- Comparing ----
+
+    def equals(self, other: Table) -> bool:
+        """Whether both have the same names in the same order, types, logical types and rows, whatever the forms."""
+        if not isinstance(other, Table):
+            raise TypeError(f"a table is compared with a Table, not with {in_words(other)}")
+        if (self.names, self.types, self._rows) != (other.names, other.types, other._rows) or (
+            self._logical != other._logical
+        ):
+            return False
+        return all(_have_equal_rows(column, other._columns[name]) for name, column in self._columns.items())
+
+    def __eq__(self, other: object) -> bool:
+        """Whether both are one object; `equals` compares rows."""
+        return self is other
+
+    __hash__ = object.__hash__
+
+    # ---- Other forms ----
+
+    def to_dict(self) -> dict[str, list[Scalar]]:
+        """The rows of each column as a list of Python's values, by name."""
+        return {name: column.to_list() for name, column in self._columns.items()}
+
+    def to_pandas(self, in_runs: bool = False) -> Any:
+        """A DataFrame of Column.to_pandas() of each column; with `in_runs` of arrays of hivevigil.pandas, in runs."""
+        return _table_making.frame_of(self._columns, self._rows, in_runs)
+
+    def __arrow_c_schema__(self) -> Any:
+        return _arrow.struct_schema_capsule(self._columns, self._logical)
+
+    def __arrow_c_stream__(self, requested_schema: Any = None) -> Any:
+        """A stream of one batch, as Arrow libraries ask for it: `pyarrow.table(table)`."""
+        return _arrow.struct_stream_capsule(self._columns, self._logical, requested_schema)
+
+    def __reduce__(self) -> Any:
+        return _unpickled, (type(self), self._columns, self._rows, self._logical)
+
+    def __repr__(self) -> str:
+        return _table_showing.text(self._columns, self._rows, self._logical)
+
+    def _repr_html_(self) -> str:
+        return _table_showing.html(self._columns, self._rows, self._logical)
+
+
+def _unpickled(kind: type[Table], columns: dict[str, Column], rows: int, logical: dict[str, str]) -> Table:
+    return kind._of(columns, rows, logical)
+
+
+def _have_equal_rows(left: Column, right: Column) -> bool:
+    """Whether two columns of one type have equal rows: then their encodings have the same bytes."""
+    if left.type.startswith("list"):
+        return left.to_list() == right.to_list()
+    return left.to_runs().to_bytes() == right.to_runs().to_bytes()

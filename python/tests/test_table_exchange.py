@@ -1,0 +1,185 @@
+"""Tables from and to CSV files, frames of pandas, and Arrow, of which arrow_model.py is the other side."""
+import ctypes
+from pathlib import Path
+
+import arrow_model
+import numpy
+import pandas
+import pytest
+from arrow_model import MadeStream, batch
+from hivevigil import ArrowArray, ArrowArrayStream, ArrowSchema, Column, Table, errors
+from hivevigil.csv_files import BadFile
+from hivevigil.pandas import RunEndArray
+from hypothesis import given
+from tables import tables
+
+
+class Received:
+    """What a consumer of Arrow's C stream interface reads: the names, formats and rows of each column, batch by
+    batch."""
+
+    def __init__(self, capsule):
+        self.stream = ArrowArrayStream.from_address(arrow_model._pointer(capsule, b"arrow_array_stream"))
+        self.schema = ArrowSchema()
+        assert self.stream.get_schema(ctypes.byref(self.stream), ctypes.byref(self.schema)) == 0
+        assert self.schema.format == b"+s"
+        children = [self.schema.children[at].contents for at in range(self.schema.n_children)]
+        self.names = [child.name.decode() for child in children]
+        self.rows = {name: [] for name in self.names}
+        self.formats, self.batches, self.count = [below(child) for child in children], 0, 0
+        while self._read(children):
+            self.batches += 1
+        self.stream.release(ctypes.byref(self.stream))
+        self.schema.release(ctypes.byref(self.schema))
+
+    def _read(self, children):
+        items = ArrowArray()
+        assert self.stream.get_next(ctypes.byref(self.stream), ctypes.byref(items)) == 0
+        if not items.release:
+            return False
+        self.count += items.length
+        for at, (name, child) in enumerate(zip(self.names, children)):
+            self.rows[name] += arrow_model.rows_of(child, items.children[at].contents)
+        items.release(ctypes.byref(items))
+        return True
+
+
+def below(schema):
+    """The format of the values below runs."""
+    while schema.format == b"+r":
+        schema = schema.children[1].contents
+    return schema.format.decode()
+
+
+@given(tables(least_columns=1))
+def test_out_to_arrow(sample):
+    capsule = sample.table.__arrow_c_stream__()
+    found = Received(capsule)
+    assert (found.names, found.rows, found.count) == (sample.names, sample.rows, sample.count)
+    assert found.batches <= 1
+
+
+@given(tables(least_columns=1))
+def test_in_from_arrow(sample):
+    again = Table.from_arrow(sample.table)
+    assert again.to_dict() == sample.rows and again.names == sample.names
+    assert {name: kind.rstrip("?") for name, kind in again.types.items()} == {
+        name: kind.rstrip("?") for name, kind in sample.table.types.items()
+    }
+
+
+def test_logical_types_go_out_and_come_in():
+    table = Table(
+        {"time": Column.of([5, 5, None]).to_runs(), "day": Column.of([1, 2, 3], "i32"), "level": [7, 7, 8]},
+        {"time": "tsu:UTC", "day": "tdD"},
+    )
+    assert Received(table.__arrow_c_stream__()).formats == ["tsu:UTC", "tdD", "l"]
+    again = Table.from_arrow(table)
+    assert again.equals(table) and again.logical_types == {"time": "tsu:UTC", "day": "tdD"}
+    capsule = table.__arrow_c_schema__()
+    schema = ArrowSchema.from_address(arrow_model._pointer(capsule, b"arrow_schema"))
+    assert [below(schema.children[at].contents) for at in range(3)] == ["tsu:UTC", "tdD", "l"]
+    with pytest.raises(errors.TypeMismatch, match="^column 'level': i64 has no format 'tdD'$"):
+        Table(table, {"level": "tdD"}).__arrow_c_stream__()
+
+
+def test_a_schema_that_is_asked_for():
+    table = Table({"time": Column.of([5, 5, 5, None]).to_runs(), "level": [7, 7, 8, 8]})
+    asked = batch({"a": [1], "b": [2]}, 1)  # flat, of i64
+    capsule = arrow_model._new(ctypes.addressof(asked.schema), b"arrow_schema", None)
+    found = Received(table.__arrow_c_stream__(capsule))
+    assert found.rows == table.to_dict() and found.formats == ["l", "l"]
+
+
+def test_batches_of_another_library():
+    made = batch({"a": [1, None, 3], "b": [4, 4, 5]}, 3)
+    assert Table.from_arrow(made).to_dict() == {"a": [1, None, 3], "b": [4, 4, 5]}
+    stream = MadeStream([batch({"a": [1], "b": [2]}, 1), batch({"a": [None, 7], "b": [3, 3]}, 2)])
+    table = Table.from_arrow(stream)
+    assert table.to_dict() == {"a": [1, None, 7], "b": [2, 3, 3]} and stream.released == 1
+    with pytest.raises(errors.ArrowStreamFailed, match="with 5: no more"):
+        Table.from_arrow(MadeStream([batch({"a": [1]}, 1)], b"no more"))
+
+
+def test_what_is_not_a_table_of_arrow():
+    for source, said in (
+        (Column.of([1]), "Table.from_arrow takes a batch or a table, and this is an array"),
+        (batch({}, 3), "Table.from_arrow takes a batch or a table, and this is no columns"),
+        (3, "from_arrow takes an array, a batch or a table of an Arrow library, not 3"),
+    ):
+        with pytest.raises(TypeError, match=f"^{said}$"):
+            Table.from_arrow(source)
+    with pytest.raises(errors.Unsupported, match="^a table without columns does not go out to Arrow$"):
+        Table(rows=3).__arrow_c_stream__()
+    with pytest.raises(ValueError, match="^a name of Arrow has no zero byte, and 'a.x00' has$"):
+        Table({"a\0": [1]}).__arrow_c_stream__()
+
+
+# ---- pandas
+
+
+@given(tables())
+def test_frames(sample):
+    for frame in (sample.table.to_pandas(), sample.table.to_pandas(in_runs=True)):
+        assert list(frame.columns) == sample.names and len(frame) == sample.count
+        for name in sample.names:
+            assert [None if row is pandas.NA else row for row in frame[name].tolist()] == sample.rows[name]
+    again = Table.from_pandas(sample.table.to_pandas(in_runs=True))
+    assert again.to_dict() == sample.rows and again.rows == sample.count
+    assert {name: kind.rstrip("?") for name, kind in again.types.items()} == sample.types
+
+
+def test_a_frame():
+    frame = pandas.DataFrame({
+        "a": [1, 2], "b": pandas.array([True, None], dtype="boolean"), "c": pandas.array(["x", None], dtype="string"),
+        "d": numpy.array([7, 8], dtype="u1"), "e": RunEndArray([2**53 + 1, None]),
+        "f": pandas.array([None, None], dtype="string"),
+    }, index=["one", "two"])  # fmt: skip
+    table = Table.from_pandas(frame)
+    assert table.types == {"a": "i64", "b": "bool?", "c": "utf8?", "d": "u8", "e": "i64?", "f": "utf8?"}
+    assert table["e"].form == "runs" and table[1] == {"a": 2, "b": None, "c": None, "d": 8, "e": None, "f": None}
+    twice = pandas.DataFrame([[1, 2]], columns=["a", "a"])
+    for call, kind, said in (
+        (lambda: Table.from_pandas(twice), ValueError, "two columns have the name 'a'"),
+        (lambda: Table.from_pandas(pandas.DataFrame({3: [1]})), TypeError,
+         "a column of a table is named by a text, not by 3"),
+        (lambda: Table.from_pandas(frame["a"]), TypeError, "Table.from_pandas takes a DataFrame, not one    1"),
+        (lambda: Table.from_pandas(3), TypeError, "Table.from_pandas takes a DataFrame, not 3"),
+        (lambda: Table(frame), TypeError, "Table.from_pandas takes a frame of pandas"),
+        (lambda: Table.from_pandas(pandas.DataFrame({"x": [1.5]})), TypeError,
+         "column 'x': no column has items of dtype float64"),
+    ):  # fmt: skip
+        with pytest.raises(kind) as refused:
+            call()
+        assert str(refused.value).startswith(said)
+
+
+# ---- CSV files
+
+
+def test_a_csv_file(tmp_path):
+    file = tmp_path / "readings.csv"
+    file.write_text("place,day,count,price\nOslo,2024-01-01,7,1.50\nOslo,2024-01-01,7,\nBergen,2024-01-02,,-20\n")
+    for batch_rows in (1, 2, 100):
+        table = Table.from_csv(file, batch_rows)
+        assert table.types == {"place": "utf8?", "day": "i32?", "count": "i32?", "price": "decimal(4, 2)?"}
+        assert table.logical_types == {"day": "tdD"} and {column.form for column in table.values()} == {"runs"}
+        assert table["day"].to_list() == [19723, 19723, 19724] and table["place"].run_count() == 2
+        assert [str(row) for row in table["price"]] == ["1.50", "None", "-20.00"]
+
+
+def test_csv_files_of_few_rows_and_bad_ones(tmp_path):
+    file = tmp_path / "few.csv"
+    file.write_text("a,b\n")
+    empty = Table.from_csv(str(file))
+    assert empty.types == {"a": "utf8?", "b": "utf8?"} and empty.rows == 0
+    file.write_text("a,b\n1\n")
+    with pytest.raises(BadFile, match="line 2 has 1 fields, the first 2"):
+        Table.from_csv(file)
+    for call, kind, said in (
+        (lambda: Table.from_csv(3), TypeError, "a file is named by a text or a path, not by 3"),
+        (lambda: Table.from_csv(Path("none.csv")), FileNotFoundError, "No such file"),
+        (lambda: Table.from_csv(file, 0), ValueError, "a batch has at least one row"),
+    ):
+        with pytest.raises(kind, match=said):
+            call()
