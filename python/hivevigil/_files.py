@@ -5,6 +5,7 @@ import contextlib
 import os
 import shutil
 import uuid
+from collections.abc import Iterable
 from typing import TYPE_CHECKING, Any
 
 from .errors import BadMetadata, in_words
@@ -14,23 +15,27 @@ if TYPE_CHECKING:
 
 
 def load(kind: type[Column], path: Any) -> Column:
-    name = _name_of(path)
+    name = name_of(path)
     with open(name, "rb") as file:
         message = file.read()
     try:
         return kind.from_bytes(message)
     except BadMetadata as refused:
-        raise refused.saying(f"load: {name}, of {len(message):,} bytes, is not a file that save wrote") from None
+        hint = ": Table.load reads the file of a table" if message.startswith(b"\x0a\x09hivevigil") else ""
+        raise refused.saying(f"load: {name}, of {len(message):,} bytes, is not a file that save wrote{hint}") from None
 
 
 def save(column: Column, path: Any) -> None:
-    """Writes a file next to the one that is meant, of which it then takes the place."""
-    name = _name_of(path)
-    message = column.to_bytes()
+    write(path, [column.to_bytes()])
+
+
+def write(path: Any, parts: Iterable[bytes]) -> None:
+    """Writes the parts to a file next to the one that is meant, of which it then takes the place."""
+    name = name_of(path)
     target = os.path.realpath(name)
     part = os.path.join(os.path.dirname(target), f".{os.path.basename(target)[:200]}.{uuid.uuid4().hex}")
     try:
-        _written(part, message, target)
+        _written(part, parts, target)
     except OSError as error:
         raise OSError(error.errno, error.strerror, name) from None
     finally:
@@ -38,9 +43,10 @@ def save(column: Column, path: Any) -> None:
             os.unlink(part)
 
 
-def _written(part: str, message: bytes, target: str) -> None:
+def _written(part: str, parts: Iterable[bytes], target: str) -> None:
     with open(part, "xb") as file:
-        file.write(message)
+        for data in parts:
+            file.write(data)
         file.flush()
         os.fsync(file.fileno())
     if os.path.exists(target):
@@ -48,7 +54,7 @@ def _written(part: str, message: bytes, target: str) -> None:
     os.replace(part, target)
 
 
-def _name_of(path: Any) -> str:
+def name_of(path: Any) -> str:
     """The name of a file, of a text or a path."""
     if not isinstance(path, (str, bytes, os.PathLike)):
         raise TypeError(f"a file is named by a text or a path, not by {in_words(path)}")

@@ -1,10 +1,11 @@
 """A table: columns of one number of rows, each with a name. What filters or cuts rows does so in each column."""
 from __future__ import annotations
 
-from collections.abc import Callable, Iterator, Mapping
+from collections.abc import Callable, Iterable, Iterator, Mapping
 from typing import TYPE_CHECKING, Any, Optional
 
-from . import _arrow, _indexing, _table_making, _table_showing
+from . import _arrow, _files, _indexing, _table_files, _table_making, _table_showing
+from ._table_files import TableFooter
 from ._table_making import about, checked_name, refuse_twice
 from ._values import Scalar, is_whole, row_of, size_of
 from .column import Column
@@ -33,7 +34,7 @@ class Table(Mapping[str, Column]):
     ) -> None:
         """The columns of a mapping, or of pairs of a name and a column; what is not a Column is what `Column.of` takes.
         `logical_types` says by name what the numbers of a column are, as a format of Arrow: 'tsu:UTC', 'tdD'. `rows`
-        is needed only where there is no column."""
+        is needed only for a table without columns."""
         made = _table_making.columns_of(columns)
         lengths = {name: column._length for name, column in made.items()}
         count = next(iter(lengths.values()), 0) if rows is None else size_of(rows, "the number of rows")
@@ -78,6 +79,23 @@ class Table(Mapping[str, Column]):
             raise TypeError(f"Table.from_arrow takes a batch or a table, and this is {what}")
         columns = dict(zip(imported.names, imported.columns))
         return cls._of(columns, imported.columns[0]._length, imported.logical_types())
+
+    @classmethod
+    def from_bytes(cls, data: bytes) -> Table:
+        """The table that `to_bytes` wrote, each column in the form that it had. `BadMetadata` for other bytes."""
+        return cls._of(*_table_files.read_bytes(data))
+
+    @classmethod
+    def load(cls, path: Any, columns: Optional[Iterable[str]] = None) -> Table:
+        """The table that `save` wrote to a file, or its columns of these names, which are read without the others.
+        `BadMetadata` for a file of other bytes, OSError for none."""
+        return cls._of(*_table_files.load(path, columns))
+
+    @staticmethod
+    def footer(path: Any) -> TableFooter:
+        """What the end of a file says, where no column is read: the rows, and of each column its type, nulls, runs, the
+        least and the greatest row. `footer.may_have(name, '>', 3)` says whether the file can be skipped."""
+        return _table_files.read_footer(path)
 
     # ---- Names, types and rows ----
 
@@ -254,6 +272,16 @@ class Table(Mapping[str, Column]):
     __hash__ = object.__hash__
 
     # ---- Other forms ----
+
+    def to_bytes(self) -> bytes:
+        """The table as bytes: a message of the Protocol Buffers encoding by docs/table.proto. A column of more than 16
+        levels of runs is refused, as `Unsupported`."""
+        return b"".join(_table_files.parts(self._columns, self._rows, self._logical))
+
+    def save(self, path: Any) -> None:
+        """Writes the bytes of `to_bytes` to a file, a column at a time, which `load` reads. A file of this name is
+        replaced at once when all is written, and stays as it was where that fails."""
+        _files.write(path, _table_files.parts(self._columns, self._rows, self._logical))
 
     def to_dict(self) -> dict[str, list[Scalar]]:
         """The rows of each column as a list of Python's values, by name."""

@@ -6,7 +6,7 @@ from pathlib import Path
 
 import pytest
 
-from hivevigil import Column
+from hivevigil import Column, Table
 
 PAGE = Path(__file__).resolve().parents[2] / "docs" / "BYTES.md"
 # the type and the rows of each example, in the page's order; of 2**60 rows the first, and how many
@@ -30,9 +30,9 @@ def line_bytes(line: str, width: int) -> bytes:
     return bytes.fromhex(first) + between + bytes.fromhex(last)
 
 
-def messages() -> list[bytes]:
+def messages(start: str = "## An example, byte by byte", stop: str = "## What is refused") -> list[bytes]:
     page = PAGE.read_text(encoding="utf-8")
-    part = page[page.index("## An example, byte by byte") : page.index("## What is refused")]
+    part = page[page.index(start) : page.index(stop)]
     blocks = [block for block in part.split("\n\n") if block.startswith("    ")]
     return [b"".join(line_bytes(line, 16 if "decimal" in block else 8) for line in block.splitlines())
             for block in blocks]
@@ -51,3 +51,11 @@ def test_an_example_is_read_and_written(at):
         assert column.to_list() == rows
     else:
         assert (len(column), column[0], column[-1]) == (rows[1], rows[0], rows[0])
+
+
+def test_the_example_of_a_table():
+    (message,) = messages("## Tables", "## Versions")
+    table = Table.from_bytes(message)
+    assert table.to_dict() == {"day": [7, 7, None], "place": ["ab", "ab", "ab"]} and len(message) == 164
+    assert table.types == {"day": "i32?", "place": "utf8"} and table.logical_types == {"day": "tdD"}
+    assert table.to_bytes() == message

@@ -1,8 +1,12 @@
 """Tables from and to CSV files, frames of pandas, and Arrow, of which arrow_model.py is the other side."""
 import ctypes
+import os
+import subprocess
+import sys
 from pathlib import Path
 
 import arrow_model
+import hivevigil
 import numpy
 import pandas
 import pytest
@@ -183,3 +187,23 @@ def test_csv_files_of_few_rows_and_bad_ones(tmp_path):
     ):
         with pytest.raises(kind, match=said):
             call()
+
+
+def test_the_command(tmp_path):
+    def run(*words):
+        found = {**os.environ, "PYTHONPATH": str(Path(hivevigil.__file__).parents[1])}
+        command = [sys.executable, "-m", "hivevigil", *map(str, words)]
+        ended = subprocess.run(command, capture_output=True, text=True, cwd=tmp_path, env=found)
+        return ended.returncode, ended.stdout, ended.stderr.splitlines()[-1:]
+
+    (tmp_path / "readings.csv").write_text("place,day\nOslo,2024-01-01\nOslo,2024-01-01\n,\n")
+    assert run("readings.csv", "--to", "readings.hv", "--batch", 1) == (0, "", [])
+    table = Table.load(tmp_path / "readings.hv")
+    assert table.to_dict() == {"place": ["Oslo", "Oslo", None], "day": [19723, 19723, None]}
+    assert table.logical_types == {"day": "tdD"} and table.equals(Table.from_csv(tmp_path / "readings.csv"))
+    assert run("readings.csv", "--to", "none/x.hv")[:2] == (1, "")
+    assert run("readings.csv", "--to", "x.hv", "--plot", "x.svg")[:2] == (2, "")
+    (tmp_path / "readings.csv").write_text("place,day\nOslo\n")
+    said = "readings.csv: line 2 has 1 fields, the first 2"
+    assert run("readings.csv", "--to", "readings.hv") == (1, "", [said])
+    assert Table.load(tmp_path / "readings.hv").equals(table)

@@ -1,0 +1,269 @@
+"""Tables as files: a message for each column, then a footer that says where each lies and what its rows are within.
+docs/table.proto is the schema."""
+from __future__ import annotations
+
+import io
+import os
+from collections.abc import Iterator, Mapping
+from dataclasses import dataclass, field
+from decimal import Decimal
+from typing import Any, BinaryIO, Optional
+
+from . import _files
+from ._making import decimals_of, flat_of, validity_of, view_of
+from ._protobuf import Damaged, Fields, number_field, sized_field, sized_head
+from ._table_making import about, refuse_twice
+from ._types import TYPES
+from ._values import Scalar
+from .column import Column
+from .errors import BadMetadata, NoName, in_words
+
+HEAD = sized_field(1, b"hivevigil") + number_field(2, 1)
+_COLUMN, _FOOTER, _FOOTER_SIZE = 3, 4, bytes([5 * 8 + 1])
+_TAIL = len(_FOOTER_SIZE) + 8  # bytes at the end, which say how many the footer has
+
+
+@dataclass(frozen=True)
+class ColumnFooter:
+    """What the footer of a file says of a column: `nbytes` is the size of its message. Lists have neither
+    nulls, nor runs, nor bounds in it."""
+
+    name: str
+    logical_type: Optional[str]
+    nbytes: int
+    null_count: Optional[int] = None
+    runs: Optional[int] = None
+    # the least and the greatest row that are not null; no row where all are null
+    bounds: Optional[Column] = field(default=None, repr=False)
+
+    @property
+    def type(self) -> Optional[str]:
+        """The type of the column, None where it has lists."""
+        return None if self.bounds is None else self.bounds.type
+
+    @property
+    def least(self) -> Scalar:
+        """The least row that is not null, None where there is none."""
+        return self.bounds[0] if self.bounds else None
+
+    @property
+    def greatest(self) -> Scalar:
+        """The greatest row that is not null, None where there is none."""
+        return self.bounds[1] if self.bounds else None
+
+    def may_have(self, operator: str, value: Any) -> bool:
+        """Whether `row operator value` may be true of a row, as Column.compare has it: where not, the column need not
+        be read."""
+        if self.bounds is None:
+            return True
+        if operator == "==" and self.bounds:
+            return bool(self.bounds.le(value)[0] and self.bounds.ge(value)[1])
+        return True in self.bounds.compare(operator, value)
+
+
+@dataclass(frozen=True)
+class TableFooter:
+    """What the footer of a file says: how many rows the table has, and of each column where its rows are within."""
+
+    rows: int
+    columns: dict[str, ColumnFooter]
+
+    def may_have(self, name: str, operator: str, value: Any) -> bool:
+        """Whether `row operator value` may be true of a row of the column of a name: else the file can be skipped."""
+        if name not in self.columns:
+            raise NoName(name, self.columns)
+        with about(name):
+            return self.columns[name].may_have(operator, value)
+
+
+# ---- What is written
+
+
+def parts(columns: Mapping[str, Column], rows: int, logical: Mapping[str, str]) -> Iterator[bytes]:
+    """The bytes of a table, a column at a time."""
+    yield HEAD
+    footer = number_field(1, rows)
+    for name, column in columns.items():
+        with about(name):
+            message = column.to_bytes()
+            footer += sized_field(2, _column_footer(name, column, logical.get(name, ""), len(message)))
+        yield sized_field(_COLUMN, message)
+    yield sized_field(_FOOTER, footer) + _FOOTER_SIZE + len(footer).to_bytes(8, "little")
+
+
+def _column_footer(name: str, column: Column, logical_type: str, size: int) -> bytes:
+    footer = sized_field(1, name.encode()) + sized_field(2, logical_type.encode()) + number_field(3, size)
+    if column.type.startswith("list"):
+        return footer
+    runs = column.to_runs()
+    least, greatest = runs.min_max()
+    bounds = _bounds(column, [] if least is None else [least, greatest])
+    return footer + number_field(4, runs.null_count) + number_field(5, runs.run_count()) + (
+        sized_field(6, bounds.to_bytes())
+    )
+
+
+def _bounds(column: Column, rows: list[Any]) -> Column:
+    """The flat column of these rows, of a column's type."""
+    kind = column._kind
+    if TYPES[kind.number] != "decimal":
+        return Column._made(*flat_of(rows, kind))
+    numbers = b"".join(_stored(row).to_bytes(16, "little", signed=True) for row in rows)
+    return Column._made(*decimals_of(numbers, kind, validity_of(None, len(rows), bool(kind.nullable))))
+
+
+def _stored(row: Decimal) -> int:
+    """A decimal that was read from a column, in units of its least place, which its precision need not fit."""
+    sign, digits, _ = row.as_tuple()
+    return int("".join(map(str, digits))) * (-1 if sign else 1)
+
+
+# ---- What is read
+
+
+@dataclass(frozen=True)
+class _Entry:
+    """A column of a file: what its footer says, the bytes of this, and where its field begins."""
+
+    footer: ColumnFooter
+    data: bytes
+    start: int
+
+    @property
+    def head(self) -> bytes:
+        return sized_head(_COLUMN, self.footer.nbytes)
+
+
+class TableFile:
+    """An open file of a table, of which only the footer is read at first. Damaged where it is not one."""
+
+    def __init__(self, file: BinaryIO) -> None:
+        self._file, self.size = file, file.seek(0, os.SEEK_END)
+        if self.size < len(HEAD) + _TAIL or self._read(0, len(HEAD)) != HEAD:
+            raise Damaged
+        footer, end = self._footer()
+        fields = Fields(footer)
+        self.rows = fields.number(1)
+        self.entries: dict[str, _Entry] = {}
+        start = len(HEAD)
+        while not fields.is_at_end:
+            entry = _entry(fields.content(2), start)
+            if entry.footer.name in self.entries:
+                raise Damaged
+            self.entries[entry.footer.name] = entry
+            start += len(entry.head) + entry.footer.nbytes
+        if start != end:
+            raise Damaged
+
+    def _read(self, start: int, count: int) -> bytes:
+        self._file.seek(start)
+        data = self._file.read(count)
+        if len(data) != count:
+            raise Damaged
+        return data
+
+    def _footer(self) -> tuple[bytes, int]:
+        """The bytes of the footer, and where its field begins."""
+        tail = self._read(self.size - _TAIL, _TAIL)
+        size = int.from_bytes(tail[len(_FOOTER_SIZE) :], "little")
+        head = sized_head(_FOOTER, size)
+        start = self.size - _TAIL - size - len(head)
+        if not tail.startswith(_FOOTER_SIZE) or start < len(HEAD) or self._read(start, len(head)) != head:
+            raise Damaged
+        return self._read(start + len(head), size), start
+
+    @property
+    def footer(self) -> TableFooter:
+        return TableFooter(self.rows, {name: entry.footer for name, entry in self.entries.items()})
+
+    def column(self, name: str) -> Column:
+        """A column, which is held against what the footer says of it."""
+        entry = self.entries[name]
+        data = self._read(entry.start, len(entry.head) + entry.footer.nbytes)
+        if not data.startswith(entry.head):
+            raise Damaged
+        column = _column_of(data[len(entry.head) :])
+        known = _column_footer(name, column, entry.footer.logical_type or "", entry.footer.nbytes)
+        if column._length != self.rows or known != entry.data:
+            raise Damaged
+        return column
+
+
+def _entry(data: bytes, start: int) -> _Entry:
+    fields = Fields(data)
+    name, logical_type, size = fields.text(1), fields.text(2), fields.number(3)
+    if fields.is_at_end:
+        return _Entry(ColumnFooter(name, logical_type or None, size), data, start)
+    nulls, runs, bounds = fields.number(4), fields.number(5), _column_of(fields.content(6))
+    if not fields.is_at_end or bounds.form != "flat" or bounds._length not in (0, 2) or bounds.null_count:
+        raise Damaged
+    return _Entry(ColumnFooter(name, logical_type or None, size, nulls, runs, bounds), data, start)
+
+
+def _column_of(message: bytes) -> Column:
+    try:
+        return Column.from_bytes(message)
+    except BadMetadata:
+        raise Damaged from None
+
+
+# ---- Files and bytes
+
+
+Contents = tuple[dict[str, Column], int, dict[str, str]]  # the columns, the rows, the logical types
+
+
+def _chosen(file: TableFile, names: Optional[Any]) -> Contents:
+    """The columns of these names, or all."""
+    chosen = list(file.entries) if names is None else list(names)
+    for name in chosen:
+        if name not in file.entries:
+            raise NoName(name, file.entries)
+    refuse_twice(chosen)
+    formats = {name: entry.footer.logical_type for name, entry in file.entries.items()}
+    logical = {name: format for name, format in formats.items() if format is not None}
+    return {name: file.column(name) for name in chosen}, file.rows, logical
+
+
+def read_bytes(data: Any) -> Contents:
+    try:
+        return _chosen(TableFile(io.BytesIO(view_of(data))), None)
+    except Damaged:
+        raise BadMetadata().saying("Table.from_bytes: the bytes are not what Table.to_bytes writes") from None
+
+
+def load(path: Any, names: Optional[Any]) -> Contents:
+    if isinstance(names, str):
+        raise TypeError(f"columns are named by a list, not by {in_words(names)}")
+    name = _files.name_of(path)
+    with open(name, "rb") as file:
+        with _refused(name, file) as source:
+            return _chosen(TableFile(source), names)
+
+
+def read_footer(path: Any) -> TableFooter:
+    name = _files.name_of(path)
+    with open(name, "rb") as file:
+        with _refused(name, file) as source:
+            return TableFile(source).footer
+
+
+class _refused:
+    """A file that is read within; one that is damaged is refused by its name. What cannot be read from any place, as a
+    pipe, is read at once."""
+
+    def __init__(self, name: str, file: BinaryIO) -> None:
+        self._name = name
+        self._file = file if file.seekable() else io.BytesIO(file.read())
+
+    def __enter__(self) -> BinaryIO:
+        return self._file
+
+    def __exit__(self, kind: Any, error: Any, _: Any) -> None:
+        if kind is Damaged:
+            size = self._file.seek(0, os.SEEK_END)
+            self._file.seek(0)
+            is_column = self._file.read(2) == b"\x08\x01"
+            hint = ": Column.load reads the file of a column" if is_column else ""
+            said = f"load: {self._name}, of {size:,} bytes, is not a file that Table.save wrote{hint}"
+            raise BadMetadata().saying(said) from None
