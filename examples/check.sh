@@ -140,7 +140,8 @@ fi
 
 # the program, as it ships and under sanitizers, held against Python's csv module, plain lists, and messages' model
 program_as() {
-    FLAGS=$2 sh program/build.sh "$work/$1" && timeout 900 "$model" -B program/test.py "$work/$1/hivevigil" $3
+    FLAGS=$2 sh program/build.sh "$work/$1" && timeout 900 "$model" -B program/test.py "$work/$1/hivevigil" $3 &&
+        timeout 900 "$model" -B program/test_tables.py "$work/$1/hivevigil" $3
 }
 # Debian's packages belong to /usr/bin/python3, which is not always the python3 on PATH
 python_with() {
@@ -150,8 +151,9 @@ python_with() {
     return 1
 }
 if has "$cxx" && { model=$(has protoc && python_with google.protobuf) || model=$(python_with csv); }; then
-    run "program/test.py" program_as shipped "" "--files 25 --messages 300"
-    [ "$arrow_how" ] && run "program/test.py$arrow_how" program_as watched "$watched" "--files 6 --messages 100"
+    run "program/test.py, test_tables.py" program_as shipped "" "--files 25 --messages 300"
+    [ "$arrow_how" ] && run "program/test.py, test_tables.py$arrow_how" \
+        program_as watched "$watched" "--files 6 --messages 100"
 else
     skip "the program" "$cxx and Python"
 fi

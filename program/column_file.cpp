@@ -1,17 +1,22 @@
 #include "column_file.hpp"
 #include "failure.hpp"
 #include "values.hpp"
-#include <cstdio>
+#include <algorithm>
 #include <cstdlib>
-#include <memory>
 #include <sys/stat.h>
 #include <unistd.h>
 
 using File = std::unique_ptr<std::FILE, int (*)(std::FILE *)>;
 
-static hv::Bytes bytes_of_file(const std::string &path) {
-    const File file(std::fopen(path.c_str(), "rb"), std::fclose);
-    if (!file) throw refused_file(path);
+StoredFile::StoredFile(const std::string &path) : name(path), file(std::fopen(path.c_str(), "rb"), std::fclose) {
+    struct stat found {};
+    if (!file || fstat(fileno(file.get()), &found)) throw refused_file(path);
+    is_regular = S_ISREG(found.st_mode);
+    if (!is_regular) all = read_all();
+    count = is_regular ? static_cast<size_t>(found.st_size) : all.size();
+}
+
+hv::Bytes StoredFile::read_all() const {
     hv::Bytes bytes;
     for (size_t read = 1 << 16; read > 0;) {
         const size_t before = bytes.size();
@@ -19,17 +24,27 @@ static hv::Bytes bytes_of_file(const std::string &path) {
         read = std::fread(bytes.data() + before, 1, bytes.size() - before, file.get());
         bytes.resize(before + read);
     }
-    if (std::ferror(file.get())) throw refused_file(path);
+    if (std::ferror(file.get())) throw refused_file(name);
     return bytes;
 }
 
-LoadedColumn load_column(const std::string &path) {
-    const hv::Bytes bytes = bytes_of_file(path);
+hv::Bytes StoredFile::read(size_t start, size_t length) const {
+    start = std::min(start, count), length = std::min(length, count - start);
+    const auto from = static_cast<std::ptrdiff_t>(start);
+    if (!is_regular) return hv::Bytes(all.begin() + from, all.begin() + from + static_cast<std::ptrdiff_t>(length));
+    hv::Bytes bytes(length);
+    if (fseeko(file.get(), static_cast<off_t>(start), SEEK_SET)) throw refused_file(name);
+    bytes.resize(std::fread(bytes.data(), 1, length, file.get()));
+    if (std::ferror(file.get())) throw refused_file(name);
+    return bytes;
+}
+
+hv::Column load_column(const StoredFile &file) {
     try {
-        return {hv::Column::from_bytes(bytes), bytes.size()};
+        return hv::Column::from_bytes(file.read(0, file.size()));
     } catch (const hv::Error &error) {
         if (error.number != HV_BAD_METADATA) throw;
-        throw Failure(path + ", of " + with_commas(bytes.size()) + " bytes, is not the file of a column");
+        throw Failure(file.path() + ", of " + with_commas(file.size()) + " bytes, is not the file of a column");
     }
 }
 
@@ -72,8 +87,9 @@ static mode_t mode_of_new_files() {
     return 0666 & ~mask;
 }
 
-void save_column(const hv::Column &column, const std::string &path) {
-    const hv::Bytes bytes = column.to_bytes();
+void save_column(const hv::Column &column, const std::string &path) { save_bytes(column.to_bytes(), path); }
+
+void save_bytes(const hv::Bytes &bytes, const std::string &path) {
     struct stat there {};
     const bool is_there = stat(path.c_str(), &there) == 0;
     if (is_there && !S_ISREG(there.st_mode)) {

@@ -1,19 +1,37 @@
 // Columns in files, each a message of its own as docs/BYTES.md says it.
 #ifndef HIVEVIGIL_PROGRAM_COLUMN_FILE_HPP
 #define HIVEVIGIL_PROGRAM_COLUMN_FILE_HPP
+#include <cstdio>
 #include <hivevigil.hpp>
+#include <memory>
 #include <string>
 
-struct LoadedColumn {
-    hv::Column column;
-    size_t file_bytes;
+// The bytes of a file, read from any place; of one that is not a regular file (a pipe) all at once.
+class StoredFile {
+public:
+    // Throws a Failure where the file cannot be read.
+    explicit StoredFile(const std::string &path);
+    const std::string &path() const { return name; }
+    size_t size() const { return count; }
+    // `length` bytes from `start` on, or fewer where the file ends. Throws a Failure where they cannot be read.
+    hv::Bytes read(size_t start, size_t length) const;
+
+private:
+    std::string name;
+    std::unique_ptr<std::FILE, int (*)(std::FILE *)> file;
+    bool is_regular;
+    size_t count;
+    hv::Bytes all; // of one that is not regular
+
+    hv::Bytes read_all() const;
 };
 
 // The column of a file. Throws a Failure where it cannot be read, or is not a column's.
-LoadedColumn load_column(const std::string &path);
+hv::Column load_column(const StoredFile &file);
 
-// Writes the column as a file, which is replaced whole or not at all; one that is not a regular file (/dev/stdout) is
+// Writes the bytes as a file, which is replaced whole or not at all; one that is not a regular file (/dev/stdout) is
 // written to. Throws a Failure.
+void save_bytes(const hv::Bytes &bytes, const std::string &path);
 void save_column(const hv::Column &column, const std::string &path);
 
 #endif

@@ -5,6 +5,7 @@
 inline constexpr char help[] = R"(Columns in runs: of CSV files, kept in files, shown and asked.
 
   hivevigil report FILE.csv                 what each column takes flat and in runs
+  hivevigil convert FILE.csv --to FILE.hv   keeps all columns in runs, as a table
   hivevigil convert FILE.csv --column NAME --to FILE.hv
                                             keeps one column in runs
   hivevigil show FILE.hv                    its type, rows, runs, nulls and bytes
@@ -17,8 +18,13 @@ A CSV file has the names in its first line, and an empty field is null. Columns
 are booleans, integers, decimals or texts, by all of their fields. A row is
 printed as a field of a CSV file: null as an empty line.
 
+Of a table, show and query take --column NAME, to show or ask that column, and
+a CONDITION has the name of a column in front: 'level > 4'. Rows of a table are
+printed as a CSV file with the names in its first line.
+
 Options:
-  --column NAME      the column that is kept
+  --column NAME      the column that is kept; of a table the one that is shown
+                     or asked
   --to FILE.hv       where: the file is replaced whole, or not at all
   --type TYPE        its type, in place of the one that its fields have: u8 to
                      u64, i8 to i64, bool, utf8, binary (hexadecimal digits),

@@ -5,6 +5,8 @@
 #include "failure.hpp"
 #include "help.hpp"
 #include "questions.hpp"
+#include "table_file.hpp"
+#include "table_questions.hpp"
 #include "values.hpp"
 #include <algorithm>
 #include <cstdio>
@@ -144,29 +146,89 @@ static void report(const Arguments &arguments) {
 
 static void convert(const Arguments &arguments) {
     take(arguments, 2, {"column", "to", "type", "separator"});
-    const std::string to = arguments.needed("to"), name = arguments.needed("column");
-    const std::vector<CsvColumn> found = read_csv(csv_options(arguments));
-    save_column(found[0].runs, to);
+    const std::string to = arguments.needed("to");
+    if (arguments.has("type") && !arguments.has("column")) throw BadUsage("--type takes --column too");
+    std::vector<CsvColumn> found = read_csv(csv_options(arguments));
+    if (arguments.has("column")) return save_column(found[0].runs, to);
+    Table table{found.empty() ? 0 : found[0].runs.size(), {}};
+    for (CsvColumn &column : found) table.columns.push_back({column.name, "", std::move(column.runs)});
+    save_table(table, to);
+}
+
+// The column that is asked for: that of the file, or of --column of a table.
+static NamedColumn asked_column(const Arguments &arguments, const StoredFile &file) {
+    const std::optional<std::string> name = arguments.value("column");
+    if (name && !is_table(file)) throw Failure(file.path() + " is not the file of a table, and its column has no name");
+    if (!name) return {"", "", load_column(file), file.size()};
+    return std::move(load_table(file, std::vector<std::string>{*name}).columns[0]);
+}
+
+// How many of the rows that are there --rows and --from ask for: the first, and the row after the last.
+static std::pair<size_t, size_t> asked_rows(const Arguments &arguments, size_t rows) {
+    const size_t start = std::min(rows, count_of(arguments.value("from").value_or("0"), "from"));
+    return {start, start + std::min(count_of(arguments.needed("rows"), "rows"), rows - start)};
+}
+
+static void show_table(const Arguments &arguments, const StoredFile &file) {
+    if (arguments.has("runs")) throw BadUsage("--runs of a table takes --column too");
+    const Table table = load_table(file);
+    if (arguments.has("rows")) {
+        const auto [start, stop] = asked_rows(arguments, table.rows);
+        return print_table_rows(table, start, stop);
+    }
+    size_t in_memory = 0;
+    for (const NamedColumn &named : table.columns) in_memory += named.column.bytes_used();
+    print_table(lines_of_table(table));
+    std::printf("%s rows, %s columns; %s bytes in the file, %s in memory\n", with_commas(table.rows).c_str(),
+                with_commas(table.columns.size()).c_str(), with_commas(file.size()).c_str(),
+                with_commas(in_memory).c_str());
 }
 
 static void show(const Arguments &arguments) {
-    take(arguments, 2, {"rows", "from", "runs"});
+    take(arguments, 2, {"column", "rows", "from", "runs"});
     const bool rows = arguments.has("rows"), runs = arguments.has("runs");
     if (rows && runs) throw BadUsage("show takes --rows or --runs, not both");
     if (arguments.has("from") && !rows) throw BadUsage("--from takes --rows too");
-    const size_t start = rows ? count_of(arguments.value("from").value_or("0"), "from") : 0;
-    const size_t count = rows ? count_of(arguments.needed("rows"), "rows") : 0;
-    const LoadedColumn loaded = load_column(arguments.words[1]);
-    const size_t size = loaded.column.size();
-    if (runs) return print_runs(loaded.column);
-    if (rows) return print_rows(loaded.column, start, start + std::min(count, start < size ? size - start : 0));
-    std::printf("%s, %s null; %s bytes in the file, %s in memory\n", summary_of(loaded.column).c_str(),
-                with_commas(size - count_valid(loaded.column)).c_str(), with_commas(loaded.file_bytes).c_str(),
-                with_commas(loaded.column.bytes_used()).c_str());
+    if (rows) asked_rows(arguments, 0);
+    const StoredFile file(arguments.words[1]);
+    if (is_table(file) && !arguments.has("column")) return show_table(arguments, file);
+    const NamedColumn named = asked_column(arguments, file);
+    const Column &column = named.column;
+    if (runs) return print_runs(column);
+    if (rows) {
+        const auto [start, stop] = asked_rows(arguments, column.size());
+        return print_rows(column, start, stop);
+    }
+    std::printf("%s, %s null; %s bytes in the file, %s in memory\n", summary_of(column).c_str(),
+                with_commas(column.size() - count_valid(column)).c_str(), with_commas(named.message_bytes).c_str(),
+                with_commas(column.bytes_used()).c_str());
 }
 
 static void print_number(const hv::Sum &sum) {
     std::visit([](auto total) { std::printf("%s\n", std::to_string(total).c_str()); }, sum.total);
+}
+
+static void answer(const Arguments &arguments, const Column &rows) {
+    const std::string question = arguments.words[2];
+    if (question == "filter" && arguments.has("to")) save_column(rows, *arguments.value("to"));
+    else if (question == "filter") print_rows(rows, 0, rows.size());
+    else if (question == "sum") print_number(rows.sum());
+    else if (question == "count") std::printf("%zu\n", count_valid(rows));
+    else std::printf("%s\n", csv_field(question == "min" ? rows.least() : rows.greatest()).c_str());
+}
+
+// Reads only the columns that are asked for.
+static void query_table(const Arguments &arguments, const StoredFile &file, const std::vector<std::string> &texts) {
+    const bool filters = arguments.words[2] == "filter", is_one = arguments.has("column");
+    const std::vector<std::string> names = names_of_table(file);
+    std::vector<NamedCondition> conditions;
+    for (const std::string &text : texts) conditions.push_back(named_condition(text, names));
+    std::vector<std::string> wanted = is_one || !filters ? std::vector{arguments.needed("column")} : names;
+    for (const NamedCondition &asked : conditions) wanted.push_back(asked.name);
+    const Table rows = table_where(load_table(file, wanted), conditions);
+    if (is_one) answer(arguments, column_of_table(rows, wanted[0]).column);
+    else if (arguments.has("to")) save_table(rows, *arguments.value("to"));
+    else print_table_rows(rows, 0, rows.rows);
 }
 
 static void query(const Arguments &arguments) {
@@ -174,19 +236,19 @@ static void query(const Arguments &arguments) {
     const bool filters = question == "filter";
     if (question != "sum" && question != "min" && question != "max" && question != "count" && !filters)
         throw BadUsage("query takes a file and one of sum, min, max, count, filter");
-    std::vector<std::string> options = {"where"};
+    std::vector<std::string> options = {"column", "where"}, texts;
     if (filters) options.push_back("to");
     take(arguments, filters ? 4 : 3, options);
-    std::vector<Condition> conditions;
-    if (filters) conditions.push_back(condition_of_text(arguments.words[3]));
+    if (filters) texts.push_back(arguments.words[3]);
     if (arguments.has("where"))
-        for (const std::string &text : arguments.options.at("where")) conditions.push_back(condition_of_text(text));
-    const Column rows = rows_where(load_column(arguments.words[1]).column, conditions);
-    if (filters && arguments.has("to")) save_column(rows, *arguments.value("to"));
-    else if (filters) print_rows(rows, 0, rows.size());
-    else if (question == "sum") print_number(rows.sum());
-    else if (question == "count") std::printf("%zu\n", count_valid(rows));
-    else std::printf("%s\n", csv_field(question == "min" ? rows.least() : rows.greatest()).c_str());
+        texts.insert(texts.end(), arguments.options.at("where").begin(), arguments.options.at("where").end());
+    for (const std::string &text : texts)
+        if (!has_operator(text)) condition_of_text(text);
+    const StoredFile file(arguments.words[1]);
+    if (is_table(file)) return query_table(arguments, file, texts);
+    std::vector<Condition> conditions;
+    for (const std::string &text : texts) conditions.push_back(condition_of_text(text));
+    answer(arguments, rows_where(asked_column(arguments, file).column, conditions));
 }
 
 static void run(const Arguments &arguments) {

@@ -1,6 +1,7 @@
 #include "questions.hpp"
 #include "failure.hpp"
 #include "values.hpp"
+#include <algorithm>
 #include <cstdio>
 
 using hv::Column;
@@ -63,13 +64,18 @@ std::string summary_of(const Column &column) {
     return rows + " in " + with_commas(runs) + " runs";
 }
 
+static const std::pair<std::string, hv::Operator> operators[] = { // before each other, where one begins another
+    {">=", hv::Operator::greater_or_equal},  {"<=", hv::Operator::less_or_equal}, {"!=", hv::Operator::not_equal},
+    {">", hv::Operator::greater},            {"<", hv::Operator::less},           {"=", hv::Operator::equal},
+    {"ge ", hv::Operator::greater_or_equal}, {"le ", hv::Operator::less_or_equal}, {"ne ", hv::Operator::not_equal},
+    {"gt ", hv::Operator::greater},          {"lt ", hv::Operator::less},         {"eq ", hv::Operator::equal}};
+
+bool has_operator(const std::string &text) {
+    return std::any_of(std::begin(operators), std::end(operators),
+                       [&](const auto &known) { return text.find(known.first) != text.npos; });
+}
+
 Condition condition_of_text(const std::string &text) {
-    using hv::Operator;
-    static const std::pair<std::string, Operator> operators[] = { // before each other, where one begins another
-        {">=", Operator::greater_or_equal}, {"<=", Operator::less_or_equal},    {"!=", Operator::not_equal},
-        {">", Operator::greater},           {"<", Operator::less},              {"=", Operator::equal},
-        {"ge ", Operator::greater_or_equal}, {"le ", Operator::less_or_equal},  {"ne ", Operator::not_equal},
-        {"gt ", Operator::greater},         {"lt ", Operator::less},            {"eq ", Operator::equal}};
     for (const auto &[name, by] : operators) {
         if (text.compare(0, name.size(), name) != 0) continue;
         const bool is_spaced = name.back() != ' ' && text.size() > name.size() && text[name.size()] == ' ';
@@ -117,22 +123,28 @@ static std::string json_of_list(const Column &elements, size_t start, size_t siz
     return json + "]";
 }
 
-// Lists in any form, some of them written out at a time.
-static void print_lists(const Column &column, size_t start, size_t stop) {
-    for (const size_t step = 4096; start < stop; start += step) {
-        const Column lists = column.slice(start, std::min(stop, start + step)).decode();
-        const Column elements = lists.list_elements();
-        const std::vector<uint64_t> offsets = lists.list_offsets().numbers<uint64_t>();
-        const std::vector<uint64_t> sizes = lists.list_sizes().numbers<uint64_t>();
-        const std::vector<bool> valid = lists.list_validity().truths();
-        for (size_t row = 0; row < lists.size(); row++)
-            print_line(valid[row] ? csv_field(json_of_list(elements, offsets[row], sizes[row])) : "");
-    }
+static std::vector<std::string> fields_of_lists(const Column &column, size_t start, size_t stop) {
+    const Column lists = column.slice(start, stop).decode();
+    const Column elements = lists.list_elements();
+    const std::vector<uint64_t> offsets = lists.list_offsets().numbers<uint64_t>();
+    const std::vector<uint64_t> sizes = lists.list_sizes().numbers<uint64_t>();
+    const std::vector<bool> valid = lists.list_validity().truths();
+    std::vector<std::string> fields;
+    for (size_t row = 0; row < lists.size(); row++)
+        fields.push_back(valid[row] ? csv_field(json_of_list(elements, offsets[row], sizes[row])) : "");
+    return fields;
+}
+
+std::vector<std::string> fields_of_rows(const Column &column, size_t start, size_t stop) {
+    if (column.kind().number == HV_LIST) return fields_of_lists(column, start, stop);
+    std::vector<std::string> fields;
+    for (size_t row = start; row < stop; row++) fields.push_back(csv_field(column.at(row)));
+    return fields;
 }
 
 void print_rows(const Column &column, size_t start, size_t stop) {
-    if (column.kind().number == HV_LIST) return print_lists(column, start, stop);
-    for (size_t row = start; row < stop; row++) print_line(csv_field(column.at(row)));
+    for (const size_t step = 4096; start < stop; start += step)
+        for (const std::string &field : fields_of_rows(column, start, std::min(stop, start + step))) print_line(field);
 }
 
 void print_runs(const Column &column) {

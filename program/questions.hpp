@@ -18,11 +18,16 @@ struct Condition {
 };
 // "> 4", ">4", "gt 4". Throws BadUsage where it begins with none of these operators.
 Condition condition_of_text(const std::string &text);
+// Is one of these operators somewhere in the text?
+bool has_operator(const std::string &text);
 
 // The rows that meet all conditions; a null meets none. Throws a Failure for a value that the type cannot have.
 hv::Column rows_where(const hv::Column &column, const std::vector<Condition> &conditions);
 
-// Writes rows `start` to `stop` - 1, a line each, as fields of a CSV file; lists as JSON.
+// Rows `start` to `stop` - 1 (some of them, since all are held at once) as fields of a CSV file; lists as JSON.
+std::vector<std::string> fields_of_rows(const hv::Column &column, size_t start, size_t stop);
+
+// Writes rows `start` to `stop` - 1, a line each, as such fields.
 void print_rows(const hv::Column &column, size_t start, size_t stop);
 
 // Writes a line for each run: its first row, the row after its last, and its value. Flat rows are put into runs first.

@@ -244,22 +244,24 @@ def check_column(chance: random.Random, program: Program, name: str, fields: lis
         check_condition(chance, program, rows, kind)
 
 
-def check_questions(program: Program, rows: list, kind: str, where: list[str]) -> None:
-    """The answers over these rows, which are what the options leave of those of the file."""
+def check_questions(program: Program, rows: list, kind: str, where: list[str], column: str | None = None) -> None:
+    """The answers over these rows, which are what the options leave of those of the file, or of a column of a table."""
     valid = [row for row in rows if row is not None]
-    assert program.answers("query", "column.hv", "count", *where) == f"{len(valid)}\n"
+    file = "column.hv" if column is None else "table.hv"
+    where = where if column is None else [f"--column={column}", *where]
+    assert program.answers("query", file, "count", *where) == f"{len(valid)}\n"
     for question, best in ("min", min), ("max", max):
-        found = program.answers("query", "column.hv", question, *where)
+        found = program.answers("query", file, question, *where)
         assert found == lines_of([best(valid, default=None)], kind), (question, where, found)
     sums = list(itertools.accumulate(valid, initial=0)) if kind[0] == "i" else []
     overflow = next((True for total in sums if not -(2**63) <= total < 2**63), False)
     if kind[0] != "i":
-        program.refuses(1, rf"column\.hv: {re.escape(kind)} has no sum", "query", "column.hv", "sum", *where)
+        program.refuses(1, rf"{re.escape(file)}: {re.escape(kind)} has no sum", "query", file, "sum", *where)
     elif overflow:
-        sentence = r"column\.hv: integer overflow: with row \d+ the sum leaves the range of i64"
-        program.refuses(1, sentence, "query", "column.hv", "sum", *where)
+        sentence = rf"{re.escape(file)}: integer overflow: with row \d+ the sum leaves the range of i64"
+        program.refuses(1, sentence, "query", file, "sum", *where)
     else:
-        assert program.answers("query", "column.hv", "sum", *where) == f"{sum(valid)}\n"
+        assert program.answers("query", file, "sum", *where) == f"{sum(valid)}\n"
 
 
 def value_of(text: str, kind: str):
@@ -324,8 +326,8 @@ def check_usage(program: Program) -> None:
         [], ["read"], ["report"], ["report", "a", "b"], ["show"], ["show", "a", "--rows"], ["show", "a", "--rows", "x"],
         ["show", "a", "--rows", ""], ["show", "a", "--rows", "-1"], ["show", "a", "--rows", str(2**64)],
         ["show", "a", "--rows", "1", "--runs"], ["show", "a", "--from", "1"], ["show", "a", "--rows=1", "--rows=2"],
-        ["show", "a", "--to", "b"], ["show", "a", "-x"], ["show", "a", "--column", "b"], ["convert", "a"],
-        ["convert", "a", "--column", "b"], ["convert", "a", "--to", "b"], ["query", "a"], ["query", "a", "median"],
+        ["show", "a", "--to", "b"], ["show", "a", "-x"], ["show", "a", "--where", "> 4"], ["convert", "a"],
+        ["convert", "a", "--column", "b"], ["convert", "a", "--to"], ["query", "a"], ["query", "a", "median"],
         ["query", "a", "filter"], ["query", "a", "filter", "4"], ["query", "a", "sum", "--where", "4"],
         ["query", "a", "sum", "--to", "b"], ["query", "a", "sum", "> 4"], ["report", "a", "--separator", ""],
         ["report", "a", "--separator", "ab"], ["report", "a", "--separator", '"'], ["report", "a", "--runs=1"],

@@ -1,0 +1,94 @@
+#include "table_questions.hpp"
+#include "failure.hpp"
+#include "values.hpp"
+#include <algorithm>
+#include <cstdio>
+
+using hv::Column;
+using hv::Form;
+
+// The condition that text after a name is; none where it is not one. An operator in words comes after a space.
+static std::optional<Condition> condition_after_name(const std::string &text) {
+    const size_t start = text.find_first_not_of(' ');
+    if (start == text.npos) return std::nullopt;
+    const bool is_word = text[start] >= 'a' && text[start] <= 'z';
+    if (is_word && start == 0) return std::nullopt;
+    try {
+        return condition_of_text(text.substr(start));
+    } catch (const BadUsage &) {
+        return std::nullopt;
+    }
+}
+
+NamedCondition named_condition(const std::string &text, const std::vector<std::string> &names) {
+    std::vector<std::string> longest_first = names;
+    std::stable_sort(longest_first.begin(), longest_first.end(),
+                     [](const std::string &left, const std::string &right) { return left.size() > right.size(); });
+    for (const std::string &name : longest_first) {
+        if (text.compare(0, name.size(), name) != 0) continue;
+        const std::optional<Condition> condition = condition_after_name(text.substr(name.size()));
+        if (condition) return {name, *condition};
+    }
+    throw BadUsage("'" + text + "' is not the name of a column, an operator (= != < <= > >=, or eq ne lt le gt ge) "
+                                "and a value");
+}
+
+// Row by row whether it meets the condition: of runs each value is compared once.
+static Column mask_of(const Column &column, const Condition &condition) {
+    const hv::Value value = value_of_text(condition.value, column.kind());
+    if (column.form() != Form::runs) return column.compare(condition.by, value);
+    return Column::runs(column.ends(), column.values().compare(condition.by, value), column.offset(), column.size());
+}
+
+Table table_where(Table table, const std::vector<NamedCondition> &conditions) {
+    for (const NamedCondition &asked : conditions) {
+        const Column mask = mask_of(column_of_table(table, asked.name).column, asked.condition);
+        for (NamedColumn &named : table.columns) named.column = named.column.filter(mask);
+        table.rows = table.columns[0].column.size();
+    }
+    return table;
+}
+
+const NamedColumn &column_of_table(const Table &table, const std::string &name) {
+    const auto found = std::find_if(table.columns.begin(), table.columns.end(),
+                                    [&](const NamedColumn &named) { return named.name == name; });
+    if (found == table.columns.end()) throw Failure("no column has the name '" + name + "'");
+    return *found;
+}
+
+std::vector<std::vector<std::string>> lines_of_table(const Table &table) {
+    std::vector<std::vector<std::string>> lines = {
+        {"column", "type", "nulls", "runs", "bytes in file", "bytes in memory"}};
+    for (const NamedColumn &named : table.columns) {
+        const Column &column = named.column;
+        const bool is_list = column.kind().number == HV_LIST;
+        const std::string logical = named.logical_type.empty() ? "" : " " + csv_field(named.logical_type);
+        lines.push_back({csv_field(named.name), hv::to_string(column.kind()) + logical,
+                         with_commas(column.size() - count_valid(column)),
+                         is_list ? "" : with_commas(column.encode_rows().runs().size()),
+                         with_commas(named.message_bytes), with_commas(column.bytes_used())});
+    }
+    return lines;
+}
+
+static void print_line(const std::vector<std::string> &fields) {
+    std::string line;
+    for (size_t at = 0; at < fields.size(); at++) line += (at ? "," : "") + fields[at];
+    std::fwrite((line + "\n").data(), 1, line.size() + 1, stdout);
+}
+
+void print_table_rows(const Table &table, size_t start, size_t stop) {
+    std::vector<std::string> names;
+    for (const NamedColumn &named : table.columns) names.push_back(csv_field(named.name));
+    print_line(names);
+    for (const size_t step = 4096; start < stop; start += step) {
+        const size_t end = std::min(stop, start + step);
+        std::vector<std::vector<std::string>> columns;
+        for (const NamedColumn &named : table.columns) columns.push_back(fields_of_rows(named.column, start, end));
+        for (size_t row = 0; row < end - start; row++) {
+            std::vector<std::string> fields;
+            for (const std::vector<std::string> &column : columns) fields.push_back(column[row]);
+            print_line(fields);
+        }
+    }
+}

@@ -1,0 +1,29 @@
+// What is asked of a table.
+#ifndef HIVEVIGIL_PROGRAM_TABLE_QUESTIONS_HPP
+#define HIVEVIGIL_PROGRAM_TABLE_QUESTIONS_HPP
+#include "questions.hpp"
+#include "table_file.hpp"
+
+// A comparison of a column with one value, as it is written.
+struct NamedCondition {
+    std::string name;
+    Condition condition;
+};
+// "level > 4", "level>4", "level gt 4": the name of a column and a condition. Throws BadUsage where it begins with none
+// of these names, or goes on with no operator; of several names that fit it has the longest.
+NamedCondition named_condition(const std::string &text, const std::vector<std::string> &names);
+
+// The rows that meet all conditions; a null meets none. Throws a Failure for a value that the type cannot have.
+Table table_where(Table table, const std::vector<NamedCondition> &conditions);
+
+// The column of a name, which the table has.
+const NamedColumn &column_of_table(const Table &table, const std::string &name);
+
+// A line for each column: its name, its type with its logical type, rows that are null, runs, bytes in the file and in
+// memory.
+std::vector<std::vector<std::string>> lines_of_table(const Table &table);
+
+// Writes the names, then rows `start` to `stop` - 1, as a CSV file.
+void print_table_rows(const Table &table, size_t start, size_t stop);
+
+#endif

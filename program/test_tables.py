@@ -1,0 +1,220 @@
+#!/usr/bin/env python3
+"""Tests of the program hivevigil on tables, each answer held against plain lists, and files against the model of
+examples/bytes, where Protocol Buffers are there.
+
+    python3 program/test_tables.py PROGRAM [--files N] [--seed N] [--messages N]
+
+Random CSV files are converted whole, shown and asked, column by column and row by row. Messages by docs/table.proto, two
+of three of them damaged, are shown or refused as the model has them.
+"""
+
+import argparse
+import csv
+import io
+import random
+import re
+import sys
+import tempfile
+import warnings
+from pathlib import Path
+
+from test import (
+    IN_WORDS, OPERATORS, TOP, Program, check_questions, field_of, flat_of, found_mark, lines_of, random_csv,
+    random_value, read_by_csv, rows_of, run_bytes, runs_of, shown, type_of, value_of,
+)
+
+# ---- The model: what is printed of a table
+
+
+def field(text: str) -> str:
+    """A text as a field of a CSV file: in quotes where it is empty or needs them."""
+    return text if text and not set(text) & set(',"\r\n') else '"' + text.replace('"', '""') + '"'
+
+
+def expected_rows(rows: dict[str, list], kinds: dict[str, str], lines: list[int]) -> str:
+    found = [",".join(map(field, rows))]
+    found += [",".join(shown(rows[name][line], kinds[name]) for name in rows) for line in lines]
+    return "".join(f"{line}\n" for line in found)
+
+
+def expected_table(rows: dict[str, list], kinds: dict[str, str], sizes: dict[str, int], file_bytes: int) -> str:
+    lines, count = [["column", "type", "nulls", "runs", "bytes in file", "bytes in memory"]], 0
+    for name, kind in kinds.items():
+        count = len(rows[name])
+        numbers = rows[name].count(None), len(runs_of(rows[name])), sizes[name], run_bytes(rows[name], kind)
+        lines.append([field(name), kind, *map("{:,}".format, numbers)])
+    widths = [max(len(line[place]) for line in lines) for place in range(6)]
+    sides = [str.ljust] * 2 + [str.rjust] * 4
+    table = ["  ".join(side(*cell) for side, *cell in zip(sides, line, widths)) for line in lines]
+    in_memory = sum(run_bytes(rows[name], kind) for name, kind in kinds.items())
+    sums = f"{count:,} rows, {len(rows):,} columns; {file_bytes:,} bytes in the file, {in_memory:,} in memory"
+    return "".join(f"{line}\n" for line in [*table, sums])
+
+
+# ---- What the program answers
+
+
+def check_random_file(chance: random.Random, program: Program, model) -> None:
+    columns, data, options = random_csv(chance)
+    (program.folder / "random.csv").write_bytes(data)
+    mark = options[1] if options else found_mark(data)
+    assert read_by_csv(data, mark) == columns, "the file is not what it should be"
+    assert program.answers("convert", "random.csv", "--to", "table.hv", *options) == ""
+    kinds = {name: type_of(fields) for name, fields in columns.items()}
+    rows = {name: rows_of(fields, kinds[name]) for name, fields in columns.items()}
+    sizes = {}
+    for name in columns:
+        program.answers("convert", "random.csv", "--column", name, "--to", "column.hv", *options)
+        sizes[name] = (program.folder / "column.hv").stat().st_size
+        assert program.answers("show", "table.hv", "--column", name) == program.answers("show", "column.hv")
+    kept = (program.folder / "table.hv").read_bytes()
+    if model is not None:
+        assert model.table(kept) is not None, kept.hex()
+    assert program.answers("show", "table.hv") == expected_table(rows, kinds, sizes, len(kept))
+    check_rows(chance, program, rows, kinds)
+    for _ in range(3):
+        check_conditions(chance, program, rows, kinds)
+
+
+def check_rows(chance: random.Random, program: Program, rows: dict[str, list], kinds: dict[str, str]) -> None:
+    total = len(rows["row"])
+    count, start = chance.choice([0, 1, 7, total, 2**64 - 1]), chance.choice([0, 0, 5, total, 2**64 - 1])
+    due = expected_rows(rows, kinds, list(range(total))[start : start + count])
+    assert program.answers("show", "table.hv", "--rows", str(count), "--from", str(start)) == due
+    # what is printed is a CSV file again, of the same fields
+    whole = program.answers("show", "table.hv", "--rows", str(total))
+    again = list(csv.reader(io.StringIO(whole, newline=""), strict=True))
+    assert again[0] == [*rows] and len(again) == total + 1
+    name = chance.choice([*rows])
+    runs = "".join(f"{start},{stop},{shown(value, kinds[name])}\n" for start, stop, value in runs_of(rows[name]))
+    assert program.answers("show", "table.hv", "--runs", "--column", name) == f"start,stop,value\n{runs}"
+
+
+def check_conditions(chance: random.Random, program: Program, rows: dict[str, list], kinds: dict[str, str]) -> None:
+    """A filter by conditions on several columns, what is kept of it, and answers about a column of the rows left."""
+    left, conditions = list(range(len(rows["row"]))), []
+    for _ in range(chance.choice([1, 1, 2])):
+        name, operator = chance.choice([*rows]), chance.choice([*OPERATORS])
+        value = random_value(chance, rows[name], kinds[name])
+        space = " " if value.startswith((" ", "=")) or chance.random() < 0.5 else ""
+        # a name that ends in a space is followed by one more, or by none
+        front = chance.choice(["", " ", "  "])
+        in_words = chance.random() < 0.3
+        conditions.append(f"{name} {IN_WORDS[operator]}{value}" if in_words else f"{name}{front}{operator}{space}{value}")
+        right = value_of(value, kinds[name])
+        valid = [line for line in left if rows[name][line] is not None]
+        left = [line for line in valid if OPERATORS[operator](rows[name][line], right)]
+    more = [word for condition in conditions[1:] for word in ("--where", condition)]
+    asked = ["query", "table.hv", "filter", conditions[0], *more]
+    assert program.answers(*asked) == expected_rows(rows, kinds, left), conditions
+    program.answers(*asked, "--to", "left.hv")
+    assert program.answers("show", "left.hv", "--rows", str(2**63)) == expected_rows(rows, kinds, left)
+    name = chance.choice([*rows])
+    some = [rows[name][line] for line in left]
+    assert program.answers(*asked, "--column", name) == lines_of(some, kinds[name])
+    program.answers(*asked, "--column", name, "--to", "column.hv")
+    assert program.answers("show", "column.hv", "--rows", str(2**63)) == lines_of(some, kinds[name])
+    check_questions(program, some, kinds[name], [f"--where={condition}" for condition in conditions], name)
+
+
+def check_refusals(program: Program) -> None:
+    folder = program.folder
+    (folder / "a.csv").write_text("level,level > 1,\n1,2,3\n7,8,\n")
+    program.answers("convert", "a.csv", "--to", "table.hv")
+    program.answers("convert", "a.csv", "--column", "level", "--to", "column.hv")
+    # of names that begin one another the longest that fits, also where it has an operator
+    assert program.answers("query", "table.hv", "filter", "level > 1", "--column", "level") == "7\n"
+    assert program.answers("query", "table.hv", "filter", "level > 1 > 2", "--column", "level") == "7\n"
+    assert program.answers("query", "table.hv", "filter", "> 2") == 'level,level > 1,""\n1,2,3\n'
+    sentence = r".* is not the name of a column, an operator \(.*\) and a value \(hivevigil --help\)"
+    for text in ("place > 1", "levelgt 1", "level ~ > 1"):
+        program.refuses(2, sentence, "query", "table.hv", "filter", text)
+    program.refuses(2, r"query needs --column \(hivevigil --help\)", "query", "table.hv", "sum")
+    program.refuses(2, r"--runs of a table takes --column too \(hivevigil --help\)", "show", "table.hv", "--runs")
+    program.refuses(2, r"--type takes --column too \(hivevigil --help\)", "convert", "a.csv", "--to=b", "--type=i8")
+    none = r"table\.hv: no column has the name 'place'"
+    program.refuses(1, none, "show", "table.hv", "--column", "place")
+    program.refuses(1, none, "query", "table.hv", "max", "--column", "place")
+    program.refuses(1, "'x' is not a number", "query", "table.hv", "filter", "level = x")
+    sentence = r"column\.hv is not the file of a table, and its column has no name"
+    for words in (["show", "column.hv"], ["query", "column.hv", "sum"], ["query", "column.hv", "filter", "> 1"]):
+        program.refuses(1, sentence, *words, "--column", "level")
+    (folder / "kept.hv").write_bytes(b"as it was")
+    (folder / "bad.csv").write_text("a,b\n1\n")
+    program.refuses(1, r"bad\.csv: line 2 has 1 fields, the first 2", "convert", "bad.csv", "--to", "kept.hv")
+    assert (folder / "kept.hv").read_bytes() == b"as it was"
+    (folder / "a.csv").write_text("a,b\n")
+    program.answers("convert", "a.csv", "--to", "table.hv")
+    assert program.answers("show", "table.hv", "--rows", "1") == "a,b\n"
+
+
+# ---- Messages, and damaged ones
+
+
+def check_message(program: Program, model, data: bytes) -> bool:
+    """Whether the bytes are a table, which the program has to find, and then its rows."""
+    (program.folder / "message.hv").write_bytes(data)
+    message = model.table(data)
+    if message is None:
+        kind = "table" if data[:1] == b"\n" else "column"
+        sentence = rf"message\.hv, of [\d,]+ bytes, is not the file of a {kind}"
+        program.refuses(1, sentence, "show", "message.hv")
+        return False
+    footers, columns = message.footer.columns, message.columns
+    lines = [",".join(field(footer.name) for footer in footers)]
+    for at in range(message.footer.rows):
+        rows = [(column, model.model.row(column, at)) for column in columns]
+        lines.append(",".join(field_of(model.model, flat_of(column), row) for column, row in rows))
+    found = program.answers("show", "message.hv", "--rows", "9999")
+    assert found == "".join(f"{line}\n" for line in lines), f"{data.hex()}: {found}"
+    title, *shown_columns, summary = program.answers("show", "message.hv").splitlines()
+    assert title.startswith("column") and len(shown_columns) == len(columns)
+    assert summary.startswith(f"{message.footer.rows:,} rows, {len(columns)} columns; {len(data):,} bytes in the file")
+    return True
+
+
+def check_each_truncation(program: Program, model) -> None:
+    data = next(data for data in model.tables(300, 1)[::3] if 150 < len(data) < 250 and model.table(data).columns)
+    for size in range(len(data)):
+        assert not check_message(program, model, data[:size])
+    assert check_message(program, model, data)
+
+
+def the_model():
+    """The model of tables; None where Protocol Buffers are not there."""
+    sys.path.insert(0, str(TOP / "examples/bytes"))
+    warnings.simplefilter("ignore")
+    try:
+        import table_model
+
+        return table_model
+    except (ImportError, FileNotFoundError):
+        return None
+
+
+def main() -> None:
+    parser = argparse.ArgumentParser(description=__doc__, formatter_class=argparse.RawDescriptionHelpFormatter)
+    parser.add_argument("program")
+    parser.add_argument("--files", type=int, default=60)
+    parser.add_argument("--messages", type=int, default=300)
+    parser.add_argument("--seed", type=int, default=1)
+    chosen = parser.parse_args()
+    model = the_model()
+    with tempfile.TemporaryDirectory() as folder:
+        program = Program(chosen.program, Path(folder))
+        check_refusals(program)
+        for number in range(chosen.files):
+            check_random_file(random.Random(f"{chosen.seed} {number}"), program, model)
+        said = f"{chosen.files} random files"
+        if model:
+            check_each_truncation(program, model)
+            made = model.tables(chosen.messages, chosen.seed)
+            refused = sum(not check_message(program, model, data) for data in made)
+            said += f" and {chosen.messages} tables, {refused} of them refused"
+        else:
+            said += ", and no message (protoc and protobuf for Python are not there)"
+        print(f"{said}: {program.runs} runs of the program are as they should be")
+
+
+if __name__ == "__main__":
+    main()
