@@ -98,7 +98,7 @@ sed -nE 's/^(HV_EXPORT )?[a-z0-9_]+ (hv_[a-z0-9_]+)\(.*/\2/p' "$top/include/hive
     "$top/include/hivevigil_exports.h" | sort -u >"$work/calls"
 while read -r call; do link hivevigil.3 "share/man/man3/$call.3"; done <"$work/calls"
 place 644 "$top/LICENSE" share/doc/hivevigil/LICENSE
-for page in ABI.md BYTES.md ERRORS.md PROMISE.md column.proto; do
+for page in ABI.md BYTES.md ERRORS.md PROMISE.md column.proto table.proto; do
     place 644 "$top/docs/$page" "share/doc/hivevigil/$page"
 done
 place 644 "$top/examples/corpus/messages.txt" share/doc/hivevigil/messages.txt

@@ -41,6 +41,7 @@ refused: rows 2 to 12 are not among 9 rows'
     # the schema by which others read columns as bytes, and messages to try them on
     pages=$(pkg-config --variable=prefix hivevigil)/share/doc/hivevigil
     grep -q '^message Column' "$pages/column.proto" || fail "no schema of messages is installed"
+    grep -q "^message Table" "$pages/table.proto" || fail "no schema of tables is installed"
     # shellcheck disable=SC2046
     "$cc" -std=c11 "$top/examples/c/corpus.c" "-I$top/examples/c" $(pkg-config --cflags hivevigil) \
         "$(pkg-config --variable=libdir hivevigil)/libhivevigil.a" -o corpus

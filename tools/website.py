@@ -30,12 +30,14 @@ MESSAGES = "examples/corpus/messages.txt"
 GROUPS = {
     "Use it": {
         "README.md": "Overview", "docs/PROGRAM.md": "On the command line", "python/README.md": "Python",
+        "docs/TABLES.md": "Tables",
         "examples/README.md": "C, C++, Rust, Arrow", "examples/sqlite/README.md": "SQLite",
         "examples/postgres/README.md": "PostgreSQL", "docs/CALLING.md": "Rattle", "CHANGELOG.md": "Changes",
     },
     "Reference": {
         HEADER: "Calls of C", PACKAGE: "Python package", RUST: "Rust crate", "docs/ERRORS.md": "Errors",
         "docs/BYTES.md": "A column as bytes", "docs/column.proto": "Schema of messages",
+        "docs/table.proto": "Schema of tables",
         "docs/ABI.md": "Binary interface", "docs/PROMISE.md": "What stays within 1.x", "docs/SCRIPT.md": "Script",
         "docs/VECTORS.md": "Vectors",
     },
