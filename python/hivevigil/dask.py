@@ -4,6 +4,7 @@ asked for.
     from hivevigil.dask import ChunkedColumn
 
     levels = ChunkedColumn.from_files(paths)                        # one chunk for each file of Column.save
+    levels = ChunkedColumn.from_tables(paths, "level")              # or of Table.save
     high = levels.filter(levels.gt(900))
     dask.compute(levels.sum(), high.aggregate(), high.max())        # on the client that there is, else on threads
 
@@ -27,6 +28,7 @@ from .chunks import Partial
 from .column import Column
 from .errors import HivevigilError, in_words
 from .functions import concat
+from .table import Table
 
 __all__ = ["Answer", "ChunkedColumn"]
 
@@ -120,6 +122,22 @@ class ChunkedColumn(_Lazy):
             raise TypeError(f"from_files takes the names of several files, not {in_words(paths)}")
         names = [os.path.abspath(os.fsdecode(path)) for path in paths]
         return cls._made("files", [(Column.load, name) for name in names], *map(_stamp, names))
+
+    @classmethod
+    def from_tables(
+        cls, paths: Iterable[Any], column: str, where: Optional[tuple[str, str, Any]] = None
+    ) -> ChunkedColumn:
+        """A column of the tables that Table.save wrote, one chunk for each file, which a task reads. With `where`, the
+        name of a column, an operator and a value, only the rows at which it is true: files whose footers say that they
+        have none are left out. Footers are read at once."""
+        if isinstance(paths, (str, bytes, os.PathLike)):
+            raise TypeError(f"from_tables takes the names of several files, not {in_words(paths)}")
+        if where is not None and (not isinstance(where, tuple) or len(where) != 3):
+            raise TypeError(f"where is a name, an operator and a value, not {in_words(where)}")
+        names = [os.path.abspath(os.fsdecode(path)) for path in paths]
+        kept = [name for name in names if where is None or Table.footer(name).may_have(*where)]
+        tasks = [(_column_of_table, name, column, (_same, where)) for name in kept or names[:1]]
+        return cls._made("tables", tasks, column, where, *map(_stamp, kept or names[:1]))
 
     @classmethod
     def from_delayed(cls, parts: Iterable[Any], type: Any = None) -> ChunkedColumn:
@@ -358,6 +376,15 @@ def _column_of(rows: Any, type: Optional[str]) -> Column:
     if isinstance(rows, Column):
         return rows if type is None else rows._as(kind_of(type))
     return Column.of(rows, type).to_runs()
+
+
+def _column_of_table(path: str, name: str, where: Optional[tuple[str, str, Any]]) -> Column:
+    """A column of the table of a file, of which no other is read but that of the condition."""
+    if where is None:
+        column: Column = Table.load(path, [name])[name]
+        return column
+    chosen: Column = Table.load(path, {name: None, where[0]: None}).filter_by(*where)[name]
+    return chosen
 
 
 def _on_chunk(number: int, count: int, function: Callable[..., Any], chunk: Column, others: list[Any]) -> Any:

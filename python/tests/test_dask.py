@@ -20,7 +20,7 @@ import dask.array  # noqa: E402
 from dask.base import tokenize  # noqa: E402
 from dask.sizeof import sizeof  # noqa: E402
 
-from hivevigil import Column, errors  # noqa: E402
+from hivevigil import Column, Table, errors  # noqa: E402
 from hivevigil.chunks import Partial  # noqa: E402
 from hivevigil.dask import Answer, ChunkedColumn  # noqa: E402
 
@@ -107,6 +107,33 @@ def test_files(tmp_path):
         ChunkedColumn.from_files([tmp_path / "none"])
     with pytest.raises(TypeError, match="from_files takes the names of several files, not "):
         ChunkedColumn.from_files(str(paths[0]))
+
+
+def test_tables(tmp_path):
+    paths = [tmp_path / f"{number}" for number in range(6)]
+    for number, path in enumerate(paths):
+        Table({"day": [number] * 4, "level": [number, None, 10 * number, 7], "other": ["x"] * 4}).save(path)
+    levels = ChunkedColumn.from_tables(paths, "level")
+    assert levels.chunk_count == 6 and levels.sum().compute() == 15 + 150 + 42
+    some = ChunkedColumn.from_tables(paths, "level", where=("day", ">=", 4))
+    assert some.chunk_count == 2 and some.compute().to_list() == [4, None, 40, 7, 5, None, 50, 7]
+    # files 0 and 1 have no level above 10; where the footer does not say so, the rows do
+    high = ChunkedColumn.from_tables(paths, "day", where=("level", ">", 10))
+    assert high.chunk_count == 4 and high.compute().to_list() == [2, 3, 4, 5]
+    none = ChunkedColumn.from_tables(paths, "day", where=("level", ">", 50))
+    assert none.chunk_count == 1 and none.compute().to_list() == []
+    assert ChunkedColumn.from_tables(paths, "level", ("level", "==", 7)).rows().compute() == 6
+    paths[5].write_bytes(b"no table")
+    with pytest.raises(errors.BadMetadata, match="of 8 bytes, is not a file that Table.save wrote"):
+        ChunkedColumn.from_tables(paths, "level").sum().compute()
+    for call, kind, said in (
+        (lambda: ChunkedColumn.from_tables(str(paths[0]), "day"), TypeError, "from_tables takes the names of several "),
+        (lambda: ChunkedColumn.from_tables(paths, "day", "level"), TypeError, "where is a name, an operator and a v"),
+        (lambda: ChunkedColumn.from_tables(paths[:2], "day", ("x", "==", 1)), KeyError, "no column has the name 'x'"),
+        (lambda: ChunkedColumn.from_tables(paths[:2], "x").compute(), KeyError, "no column has the name 'x'"),
+    ):
+        with pytest.raises(kind, match=said):
+            call()
 
 
 def test_arrays_and_delayed():
