@@ -2,7 +2,7 @@
 from decimal import Decimal
 from typing import Any, Optional, Union
 
-from hivevigil import Builder, Column, Run, concat
+from hivevigil import Builder, Column, Run, Table, concat
 from hivevigil.chunks import Partial, Stretch, Sums, join, joined
 from hivevigil.dask import Answer, ChunkedColumn
 from hivevigil.pandas import RunEndArray, RunEndDtype
@@ -22,6 +22,14 @@ kept: Column = Column.load("file")
 whole: Column = concat([column, kept])
 builder: Builder = Builder("i64")
 builder.append_value(3, count=2)
+
+table: Table = Table({"level": column, "place": ["a"] * 2}, {"level": "tdm"})
+some: Table = table.filter_by("level", ">", 3).append(table.take([0])).select("place")
+groups: Table = table.group_by("place").agg(most=("level", "max"))
+lists: dict[str, list[Row]] = table.to_dict()
+table.save("file")
+skipped: bool = not Table.footer("file").may_have("level", ">", 3)
+read: Table = Table.load("file", columns=["place"])
 
 part: Partial = joined(map(Partial.of, windows))
 more: Partial = join(part, part.join(Partial.empty("i64")))
