@@ -274,8 +274,9 @@ if has protoc && found=$(python_with google.protobuf); then
     run "bytes/messages.py" messages_agree "$found"
     run "bytes/vectors.py" vectors_agree "$found"
     run "corpus/make.py --check" timeout 100 "$found" -B examples/corpus/make.py --check
+    run "corpus/make_tables.py --check" timeout 100 "$found" -B examples/corpus/make_tables.py --check
 else
-    skip "bytes/messages.py, bytes/vectors.py, corpus/make.py" \
+    skip "bytes/messages.py, bytes/vectors.py, corpus/make.py, make_tables.py" \
         "protoc and protobuf for Python (protobuf-compiler, python3-protobuf)"
 fi
 

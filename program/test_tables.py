@@ -173,6 +173,16 @@ def check_message(program: Program, model, data: bytes) -> bool:
     return True
 
 
+def check_stored_tables(program: Program) -> None:
+    """The tables of the corpus have the columns that their lines name."""
+    for line in (TOP / "examples/corpus/tables.txt").read_text(encoding="utf-8").splitlines():
+        rows, names, digits = line.split("\t")
+        (program.folder / "message.hv").write_bytes(bytes.fromhex(digits))
+        title, *columns, summary = program.answers("show", "message.hv").splitlines()
+        assert [column.split()[0] for column in columns] == (names.split(",") if names else [])
+        assert summary.startswith(f"{rows} rows, {len(columns)} columns; {len(digits) // 2:,} bytes in the file")
+
+
 def check_each_truncation(program: Program, model) -> None:
     data = next(data for data in model.tables(300, 1)[::3] if 150 < len(data) < 250 and model.table(data).columns)
     for size in range(len(data)):
@@ -203,6 +213,7 @@ def main() -> None:
     with tempfile.TemporaryDirectory() as folder:
         program = Program(chosen.program, Path(folder))
         check_refusals(program)
+        check_stored_tables(program)
         for number in range(chosen.files):
             check_random_file(random.Random(f"{chosen.seed} {number}"), program, model)
         said = f"{chosen.files} random files"

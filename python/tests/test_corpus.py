@@ -6,7 +6,7 @@ from pathlib import Path
 
 import pytest
 
-from hivevigil import Column
+from hivevigil import Column, Table
 
 LINES = (Path(__file__).resolve().parents[2] / "examples/corpus/messages.txt").read_text(encoding="utf-8").splitlines()
 LETTERS = {"s": " ", "t": "\t", "n": "\n"}
@@ -120,3 +120,19 @@ def test_a_message_is_read_and_written(line):
 def test_most_messages_are_made_of_their_rows():
     made = [Maker(line.split("\t")[1]).column() for line in LINES]
     assert len(LINES) >= 60 and sum(column is not None for column in made) >= 45
+
+
+TABLES = (Path(__file__).resolve().parents[2] / "examples/corpus/tables.txt").read_text(encoding="utf-8").splitlines()
+
+
+@pytest.mark.parametrize("line", TABLES, ids=[line.partition("\t")[0] for line in TABLES])
+def test_a_stored_table(line):
+    """It has the columns of the stored messages, and is written as its bytes again."""
+    rows, names, digits = line.split("\t")
+    messages = {line.split("\t")[0]: bytes.fromhex(line.split("\t")[3]) for line in LINES}
+    table = Table.from_bytes(bytes.fromhex(digits))
+    assert (table.rows, table.names) == (int(rows), names.split(",") if names else [])
+    assert all(table[name].to_bytes() == messages[name] for name in table)
+    assert table.to_bytes().hex() == digits
+    logical_types = {"flat-i32": "tdD", "flat-i64": "tsu:UTC"}
+    assert table.logical_types == {name: logical_types[name] for name in table if name in logical_types}
