@@ -23,7 +23,7 @@ _COLUMN, _FOOTER, _FOOTER_SIZE = 3, 4, bytes([5 * 8 + 1])
 _TAIL = len(_FOOTER_SIZE) + 8  # bytes at the end, which say how many the footer has
 
 
-@dataclass(frozen=True)
+@dataclass(frozen=True, eq=False)
 class ColumnFooter:
     """What the footer of a file says of a column: `nbytes` is the size of its message. Lists have neither
     nulls, nor runs, nor bounds in it."""
@@ -61,7 +61,7 @@ class ColumnFooter:
         return True in self.bounds.compare(operator, value)
 
 
-@dataclass(frozen=True)
+@dataclass(frozen=True, eq=False)
 class TableFooter:
     """What the footer of a file says: how many rows the table has, and of each column where its rows are within."""
 
@@ -121,7 +121,7 @@ def _stored(row: Decimal) -> int:
 # ---- What is read
 
 
-@dataclass(frozen=True)
+@dataclass(frozen=True, eq=False)
 class _Entry:
     """A column of a file: what its footer says, the bytes of this, and where its field begins."""
 
