@@ -274,6 +274,17 @@ HV_ANSWER hv_compare_scalar(const hv_session *session, const hv_column *column, 
 HV_ANSWER hv_fill(const hv_session *session, const hv_column *column, const hv_value *value, const uint8_t *text,
                   size_t text_len, hv_column *out, hv_error *error);
 
+/* What is answered of the two rows at each place: whether a comparison holds (HV_EQ to HV_LE), the sum, difference or
+ * product of two integers of one type, in that type, and two booleans connected. Null where either row is null, but
+ * `false and null` is false, and `true or null` is true. */
+enum { HV_ADD = 6, HV_SUBTRACT, HV_MULTIPLY, HV_AND, HV_OR };
+/* The rows of two columns worked place by place, at the cost of the runs of both and not of the rows: a constant where
+ * both are constants that have a row, else runs, as few as possible. 13 for lists, for HV_ADD to HV_MULTIPLY unless both
+ * are of integers, for HV_AND and HV_OR unless both are of booleans; then 12 for two types that differ in more than
+ * null, then 11 (left, right) for another number of rows, then 14 (row) for the first row whose answer the type does
+ * not have; 23 for no operator. The session of hv_compare has no part in it: only the form of its answer differs. */
+HV_ANSWER hv_combine(const hv_column *left, uint8_t operator_, const hv_column *right, hv_column *out, hv_error *error);
+
 /* what is answered of the values in each group: their sum, in i64 or u64; the number of rows, or of values that are not
  * null, in u64; the least, greatest, first or last value that is not null, of the values' type */
 enum { HV_FOLD_SUM, HV_FOLD_ROWS, HV_FOLD_COUNT, HV_FOLD_LEAST, HV_FOLD_GREATEST, HV_FOLD_FIRST, HV_FOLD_LAST };

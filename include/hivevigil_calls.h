@@ -209,6 +209,11 @@ HV_ANSWER hv_fill(const hv_session *session, const hv_column *column, const hv_v
     HV_ITEMS(const uint8_t, text, text_len);
     return (hv_fill)(hv_settings_of(session), hv_lent(column), value, text, text_len, out, HV_FIELDS);
 }
+HV_ANSWER hv_combine(const hv_column *left, uint8_t operator_, const hv_column *right, hv_column *out,
+                     hv_error *error) {
+    hv_error ignored;
+    return (hv_combine)(hv_lent(left), operator_, hv_lent(right), out, HV_FIELDS);
+}
 HV_ANSWER hv_fold_by(const hv_column *keys, const hv_column *values, uint8_t fold, hv_column *out_keys,
                      hv_column *out_answers, hv_error *error) {
     hv_error ignored;

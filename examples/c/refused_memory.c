@@ -331,6 +331,12 @@ static int32_t summed(const hv_column *keys) {
 static int32_t sum_by_runs(void) { return summed(&runs); }
 static int32_t sum_by_texts(void) { return summed(&texts); }
 
+/* Two columns worked place by place. */
+static int32_t add_runs(void) { return hv_combine(&runs, HV_ADD, &flat, &out, &error); }
+static int32_t add_constants(void) { return hv_combine(&many, HV_ADD, &as_many, &out, &error); }
+static int32_t connect_runs(void) { return hv_combine(&truths, HV_OR, &truth_runs, &out, &error); }
+static int32_t less_by_runs(void) { return hv_combine(&flat, HV_LT, &runs, &out, &error); }
+
 /* what is exported and imported again, as one step */
 static int32_t export_and_import(void) {
     int32_t answer = hv_arrow_export(&session, &part, "runs", &schema, &array, &error);
@@ -354,7 +360,8 @@ static const step steps[] = {
     NAMED(compact_runs), NAMED(compact_texts),
     NAMED(slice_runs), NAMED(slice_texts), NAMED(cast), NAMED(take), NAMED(take_texts), NAMED(filter),
     NAMED(filter_texts), NAMED(filter_by_runs), NAMED(take_by_runs), NAMED(take_from), NAMED(compare), NAMED(compare_scalar), NAMED(compare_text), NAMED(fill),
-    NAMED(fill_text), NAMED(sum_by_runs), NAMED(sum_by_texts), NAMED(cast_constant), NAMED(compare_constants),
+    NAMED(fill_text), NAMED(sum_by_runs), NAMED(sum_by_texts), NAMED(add_runs), NAMED(add_constants),
+    NAMED(connect_runs), NAMED(less_by_runs), NAMED(cast_constant), NAMED(compare_constants),
     NAMED(compare_constant), NAMED(fill_constant), NAMED(filter_constant), NAMED(sum), NAMED(is_constant),
     NAMED(is_sorted), NAMED(extreme), NAMED(extreme_text),
     NAMED(min_max_numbers),

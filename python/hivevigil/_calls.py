@@ -77,6 +77,7 @@ CALLS: dict[str, tuple[list[Any], Any]] = {
     "hv_fill": ([
         POINTER(Session), POINTER(Handle), POINTER(Value), c_char_p, c_size_t, POINTER(Handle), POINTER(Fields),
     ], c_int32),
+    "hv_combine": ([POINTER(Handle), c_uint8, POINTER(Handle), POINTER(Handle), POINTER(Fields)], c_int32),
     "hv_fold_by": ([
         POINTER(Handle), POINTER(Handle), c_uint8, POINTER(Handle), POINTER(Handle), POINTER(Fields),
     ], c_int32),

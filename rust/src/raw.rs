@@ -280,6 +280,13 @@ extern "C" {
         out: *mut Handle,
         error: *mut Fields,
     ) -> i32;
+    pub fn hv_combine(
+        left: *mut Handle,
+        operator: u8,
+        right: *mut Handle,
+        out: *mut Handle,
+        error: *mut Fields,
+    ) -> i32;
     pub fn hv_fold_by(
         keys: *mut Handle,
         values: *mut Handle,

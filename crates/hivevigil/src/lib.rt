@@ -11,6 +11,7 @@ mod groups;
 mod lists;
 mod messages;
 mod numbers;
+mod pairs;
 mod questions;
 mod reads;
 mod run_reads;

@@ -1,0 +1,37 @@
+//! Operators on the two rows at each place, by number as C passes them.
+ghost use Rattle.std.specs.Prelude.{◌≡◌};
+ghost use Rattle.c_zip.specs.Combined.{operator_numbered};
+
+use column_order::CompareOperator;
+use runend_zip::{BooleanOperator, NumericOperator};
+
+/// Says what is answered of the two rows at each place.
+#[derive(Debug, Clone, Copy, PartialEq, Eq)]
+pub enum PairOperator {
+    /// Compares the rows of two columns of one kind: booleans.
+    Compare(CompareOperator),
+    /// Calculates with integers of one native type: integers of that type.
+    Calculate(NumericOperator),
+    /// Connects booleans, where null is unknown.
+    Connect(BooleanOperator),
+}
+
+/// Returns the operator of a number: 0 to 5 compare, 6 to 8 add, subtract and multiply, 9 and 10 are `And` and `Or`.
+pub fn pair_operator_by(number: u8) -> Option<PairOperator>
+    ensures { result ≡ operator_numbered number }
+{
+    match number {
+        0 => Some(PairOperator::Compare(CompareOperator::Eq)),
+        1 => Some(PairOperator::Compare(CompareOperator::NotEq)),
+        2 => Some(PairOperator::Compare(CompareOperator::Gt)),
+        3 => Some(PairOperator::Compare(CompareOperator::Gte)),
+        4 => Some(PairOperator::Compare(CompareOperator::Lt)),
+        5 => Some(PairOperator::Compare(CompareOperator::Lte)),
+        6 => Some(PairOperator::Calculate(NumericOperator::Add)),
+        7 => Some(PairOperator::Calculate(NumericOperator::Subtract)),
+        8 => Some(PairOperator::Calculate(NumericOperator::Multiply)),
+        9 => Some(PairOperator::Connect(BooleanOperator::And)),
+        10 => Some(PairOperator::Connect(BooleanOperator::Or)),
+        _ => None,
+    }
+}
