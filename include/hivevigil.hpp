@@ -232,6 +232,17 @@ public:
     }
     // The sum of the values in each group, null where all of them are null.
     std::pair<Column, Column> sum_by(const Column &values) const { return fold_by(values, Fold::sum); }
+    // What the two rows at each place give; so do + - * & | and ~ (hivevigil_pairs.hpp).
+    Column combine(Pairing by, const Column &right) const;
+    // Whether the rows compare so with those of a column, in runs, or with one value; null where either is null.
+    template <class Right> Column equal_to(const Right &right) const { return compared(Operator::equal, right); }
+    template <class Right> Column not_equal_to(const Right &right) const { return compared(Operator::not_equal, right); }
+    template <class Right> Column less_than(const Right &right) const { return compared(Operator::less, right); }
+    template <class Right> Column at_most(const Right &right) const { return compared(Operator::less_or_equal, right); }
+    template <class Right> Column greater_than(const Right &right) const { return compared(Operator::greater, right); }
+    template <class Right> Column at_least(const Right &right) const {
+        return compared(Operator::greater_or_equal, right);
+    }
 
     // ---- Questions ----
 
@@ -442,6 +453,8 @@ private:
             },
             detail::words_of_texts(rows, valid));
     }
+    Column compared(Operator by, const Column &right) const;
+    template <class Right> Column compared(Operator by, const Right &right) const { return compare(by, right); }
     std::string words_of_cast(int32_t answer, hv_kind kind) const;
     Error overflow() const;
     // A row, asked for again with more room where its text has none.
@@ -474,4 +487,5 @@ private:
 } // namespace hv
 #include "hivevigil_runs.hpp"
 #include "hivevigil_builder.hpp"
+#include "hivevigil_pairs.hpp"
 #endif

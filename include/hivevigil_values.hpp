@@ -81,6 +81,15 @@ enum class Operator : uint8_t {
     less_or_equal = HV_LE
 };
 
+// What the two rows at a place give, as hivevigil.h has it; `both` and `either` are those of booleans.
+enum class Pairing : uint8_t {
+    add = HV_ADD,
+    subtract = HV_SUBTRACT,
+    multiply = HV_MULTIPLY,
+    both = HV_AND,
+    either = HV_OR
+};
+
 // What is answered of the values in a group, as hivevigil.h has it.
 enum class Fold : uint8_t {
     sum = HV_FOLD_SUM,

@@ -279,6 +279,50 @@ static void check_groups() {
     CHECK(rows_of(of_two.fold_by(large, hv::Fold::greatest).second)[1] == Value(INT64_MAX));
 }
 
+// ---- Two columns, place by place ----
+
+using Rows = std::vector<std::optional<int16_t>>;
+using Truths = std::vector<std::optional<bool>>;
+
+static void check_pairs() {
+    const auto none = std::nullopt;
+    const Column left = Column::of(Rows{4, 4, none, 7, 7}), right = Column::of(Rows{1, 1, 1, none, -9}).encode();
+    const auto are = [](const Column &found, const auto &due) {
+        return rows_of(found) == rows_of(Column::of(due)) && found.form() == hv::Form::runs;
+    };
+    CHECK(are(left + right, Rows{5, 5, none, none, -2}) && are(left - right, Rows{3, 3, none, none, 16}));
+    CHECK(are(left * right, Rows{4, 4, none, none, -63}) && (left * right).kind().number == HV_I16);
+    CHECK(are(left + 1, Rows{5, 5, none, 8, 8}) && are(1 - left, Rows{-3, -3, none, -6, -6}));
+    CHECK(are(left * left, Rows{16, 16, none, 49, 49}) && are(2 * left - left, Rows{4, 4, none, 7, 7}));
+    CHECK(are(left.equal_to(right), Truths{false, false, none, none, false}));
+    CHECK(are(left.not_equal_to(right), Truths{true, true, none, none, true}));
+    CHECK(are(left.less_than(right), Truths{false, false, none, none, false}));
+    CHECK(are(left.at_most(right), Truths{false, false, none, none, false}));
+    CHECK(are(left.greater_than(right), Truths{true, true, none, none, true}));
+    CHECK(are(left.at_least(right), Truths{true, true, none, none, true}));
+    CHECK(rows_of(left.at_least(7)) == rows_of(Column::of(Truths{false, false, none, true, true})));
+
+    const Column a = Column::of(Truths{false, false, false, true, true, true, none, none, none});
+    const Column b = Column::of(Truths{false, true, none, false, true, none, false, true, none});
+    CHECK(are(a & b, Truths{false, false, false, false, true, none, false, none, none}));
+    CHECK(are(a | b, Truths{false, true, none, true, true, true, none, true, none}));
+    CHECK(rows_of(~a) == rows_of(Column::of(Truths{true, true, true, false, false, false, none, none, none})));
+    const Column many = Column::constant(hv::kinds::u8, 7, size_t{1} << 60);
+    CHECK((many + many).form() == hv::Form::constant && (many + many).at(9) == Value(uint64_t{14}));
+
+    const Column bytes = Column::of(std::vector<uint8_t>{1, 200}), others = Column::of(std::vector<uint8_t>{1, 100});
+    check_refused(HV_CAST_OUT_OF_RANGE, "integer overflow: row 1 is 200 + 100, which does not fit u8",
+                  [&] { (void)(bytes + others); });
+    check_refused(HV_CAST_OUT_OF_RANGE, "integer overflow: row 0 is 0 - 1, which does not fit u8",
+                  [&] { (void)(0 - bytes); });
+    check_refused(HV_TYPE_MISMATCH, "i16 and u8 are not added", [&] { (void)(left + bytes); });
+    check_refused(HV_UNSUPPORTED, "i16 and bool are not multiplied", [&] { (void)(left * a); });
+    check_refused(HV_UNSUPPORTED, "i16 and bool are not connected", [&] { (void)(left & a); });
+    check_refused(HV_COLUMN_LENGTH, "a length of 5 next to one of 2", [&] { (void)(left + left.slice(0, 2)); });
+    check_refused(HV_CAST_OUT_OF_RANGE, "300 does not fit u8", [&] { (void)(bytes + 300); });
+    check_refused(HV_TYPE_MISMATCH, "i16? is not compared with u8", [&] { (void)left.equal_to(bytes); });
+}
+
 int main() {
     check_same();
     check_types();
@@ -286,6 +330,7 @@ int main() {
     check_comparisons();
     check_sums();
     check_groups();
+    check_pairs();
     check_rows_in_words();
     check_values_in_words();
     std::cout << "numbers of every type are read, shown, compared and refused by their values\n";

@@ -1,0 +1,102 @@
+// The rows of two columns worked place by place: a part of hivevigil.hpp, which includes it. Null where either row is
+// null, but `false & null` is false and `true | null` is true. The answers are in runs, as few as possible, or in a
+// constant where both columns are constants; time goes by the runs of both.
+//
+//     hv::Column total = price * amount + fee;
+//     hv::Column due = paid.less_than(total) & ~closed;
+//
+// Integers are of one type, in which the answer is too. Refused as HV_UNSUPPORTED for columns that an operator does not
+// serve, as HV_TYPE_MISMATCH for two types, as HV_COLUMN_LENGTH, and as HV_CAST_OUT_OF_RANGE where the type does not
+// have the answer of a row, which is the first field.
+#ifndef HIVEVIGIL_PAIRS_HPP
+#define HIVEVIGIL_PAIRS_HPP
+#include "hivevigil.hpp"
+
+namespace hv {
+
+namespace detail {
+
+// What is done, as a sentence has it: "u8 and i8 are not added".
+inline const char *done_by(Pairing by) {
+    switch (by) {
+    case Pairing::add: return "added";
+    case Pairing::subtract: return "subtracted";
+    case Pairing::multiply: return "multiplied";
+    default: return "connected";
+    }
+}
+
+// "integer overflow: row 3 is 200 + 100, which does not fit u8"
+inline std::string words_of_overflow(const Column &left, Pairing by, const Column &right, const hv_error &fields) {
+    const char *const sign = by == Pairing::add ? " + " : by == Pairing::subtract ? " - " : " * ";
+    const size_t row = static_cast<size_t>(fields.first);
+    return "integer overflow: row " + std::to_string(row) + " is " + to_string(left.at(row)) + sign +
+           to_string(right.at(row)) + ", which does not fit " + to_string(not_nullable(left.kind()));
+}
+
+inline std::string words_of_pairing(const Column &left, Pairing by, const Column &right, int32_t answer,
+                                    const hv_error &fields) {
+    if (answer == HV_CAST_OUT_OF_RANGE) return words_of_overflow(left, by, right, fields);
+    const std::string types = to_string(not_nullable(left.kind())) + " and " + to_string(not_nullable(right.kind()));
+    if (answer == HV_UNSUPPORTED || answer == HV_TYPE_MISMATCH) return types + " are not " + done_by(by);
+    return "";
+}
+
+// The number in each row of a column next to this one, of its type.
+template <class T> Column beside(const Column &column, const T &number) {
+    return Column::constant(not_nullable(column.kind()), number, column.size());
+}
+
+template <class T> using IfNumber = std::enable_if_t<is_number<T>>;
+
+} // namespace detail
+
+inline Column Column::combine(Pairing by, const Column &right) const {
+    if (&right == this) return clone().combine(by, right);
+    Column out;
+    hv_error fields{};
+    const int32_t answer = hv_combine(&handle, static_cast<uint8_t>(by), &right.handle, &out.handle, &fields);
+    if (!answer) return out;
+    const std::string words = detail::words_of_pairing(*this, by, right, answer, fields);
+    throw words.empty() ? Error(answer, fields) : Error(answer, fields, words);
+}
+
+inline Column Column::compared(Operator by, const Column &right) const {
+    return beside(
+        right,
+        [&](auto *other, auto *out, auto *error) {
+            return hv_combine(&handle, static_cast<uint8_t>(by), other, out, error);
+        },
+        detail::words_of_two(kind(), " is not compared with ", right.kind()));
+}
+
+inline Column operator+(const Column &left, const Column &right) { return left.combine(Pairing::add, right); }
+inline Column operator-(const Column &left, const Column &right) { return left.combine(Pairing::subtract, right); }
+inline Column operator*(const Column &left, const Column &right) { return left.combine(Pairing::multiply, right); }
+inline Column operator&(const Column &left, const Column &right) { return left.combine(Pairing::both, right); }
+inline Column operator|(const Column &left, const Column &right) { return left.combine(Pairing::either, right); }
+// The other boolean of each, null for null.
+inline Column operator~(const Column &column) { return column.compare(Operator::equal, Value(false)); }
+
+// The same with a number, which the column's type has.
+template <class T, class = detail::IfNumber<T>> Column operator+(const Column &left, const T &right) {
+    return left + detail::beside(left, right);
+}
+template <class T, class = detail::IfNumber<T>> Column operator-(const Column &left, const T &right) {
+    return left - detail::beside(left, right);
+}
+template <class T, class = detail::IfNumber<T>> Column operator*(const Column &left, const T &right) {
+    return left * detail::beside(left, right);
+}
+template <class T, class = detail::IfNumber<T>> Column operator+(const T &left, const Column &right) {
+    return detail::beside(right, left) + right;
+}
+template <class T, class = detail::IfNumber<T>> Column operator-(const T &left, const Column &right) {
+    return detail::beside(right, left) - right;
+}
+template <class T, class = detail::IfNumber<T>> Column operator*(const T &left, const Column &right) {
+    return detail::beside(right, left) * right;
+}
+
+} // namespace hv
+#endif
