@@ -64,6 +64,10 @@ enum Detail {
     Overflow(usize, Kind),
     /// Says that the sum of this group does not fit its type.
     GroupOverflow(u64, Kind),
+    /// Has words about two types.
+    Pair(Kind, Kind, &'static str),
+    /// Says that what two integers give does not fit their type.
+    PairOverflow(i128, &'static str, i128, Kind),
 }
 
 #[derive(Clone, Copy)]
@@ -223,6 +227,28 @@ impl Error {
         self
     }
 
+    /// Puts a refusal of two types in words about both.
+    pub(crate) fn of_pair(self, left: Kind, right: Kind, words: &'static str) -> Error {
+        match self.kind() {
+            Some(ErrorKind::TypeMismatch | ErrorKind::Unsupported) => {
+                let (left, right) = (left.not_nullable(), right.not_nullable());
+                self.with(Detail::Pair(left, right, words))
+            }
+            _ => self,
+        }
+    }
+
+    /// Names the two integers of the row, which is the first field, that give none of their type.
+    pub(crate) fn of_pair_overflow(
+        self,
+        left: i128,
+        sign: &'static str,
+        right: i128,
+        kind: Kind,
+    ) -> Error {
+        self.with(Detail::PairOverflow(left, sign, right, kind.not_nullable()))
+    }
+
     /// Names the row of the value.
     pub(crate) fn at_row(self, at: usize) -> Error {
         let row = Some(at);
@@ -327,6 +353,12 @@ impl fmt::Display for Error {
             Detail::GroupOverflow(group, kind) => write!(
                 formatter,
                 "integer overflow: the sum of group {group} does not fit {kind}"
+            ),
+            Detail::Pair(left, right, words) => write!(formatter, "{left} and {right} {words}"),
+            Detail::PairOverflow(left, sign, right, kind) => write!(
+                formatter,
+                "integer overflow: row {} is {left} {sign} {right}, which does not fit {kind}",
+                self.fields.first
             ),
         }
     }

@@ -28,6 +28,7 @@ mod groups;
 mod iterate;
 mod kind;
 mod native;
+mod pairs;
 mod questions;
 mod raw;
 mod same;

@@ -1,0 +1,183 @@
+//! The rows of two columns worked place by place.
+use crate::{raw, Column, Error, ErrorKind, Operator, Value};
+
+/// Says what the two rows at a place give, by the numbers of `hivevigil.h`.
+#[derive(Clone, Copy, PartialEq, Eq)]
+enum Pairing {
+    Add = 6,
+    Subtract = 7,
+    Multiply = 8,
+    And = 9,
+    Or = 10,
+}
+
+impl Pairing {
+    /// Says what is not done, in a sentence.
+    fn words(self) -> &'static str {
+        match self {
+            Pairing::Add => "are not added",
+            Pairing::Subtract => "are not subtracted",
+            Pairing::Multiply => "are not multiplied",
+            Pairing::And | Pairing::Or => "are not connected",
+        }
+    }
+
+    fn sign(self) -> &'static str {
+        match self {
+            Pairing::Subtract => "-",
+            Pairing::Multiply => "*",
+            _ => "+",
+        }
+    }
+}
+
+/// Works two columns place by place, at the cost of the runs of both. The answers are in runs, as few as possible, or
+/// in a constant where both columns are constants that have a row. Refused as `ColumnLength` where they differ in rows.
+impl Column {
+    /// Adds the two integers at each place, in their type, null where either is null. Refused as `Unsupported` unless
+    /// both columns are of integers, as `TypeMismatch` for two types, and as `CastOutOfRange` where the type does not
+    /// have a sum: the first field is the first such row.
+    ///
+    /// ```
+    /// use hivevigil::{Column, Kind};
+    /// let prices = Column::new(&[200u8, 200, 9])?.encode()?;
+    /// let sums = prices.checked_add(&Column::constant(Kind::U8, 50, 3)?)?;
+    /// assert_eq!(sums.numbers::<u8>()?, [250, 250, 59]);
+    /// let refused = prices.checked_add(&Column::new(&[50u8, 100, 1])?).unwrap_err();
+    /// let said = "integer overflow: row 1 is 200 + 100, which does not fit u8";
+    /// assert_eq!((refused.to_string().as_str(), refused.fields.first), (said, 1));
+    /// # Ok::<(), hivevigil::Error>(())
+    /// ```
+    pub fn checked_add(&self, right: &Column) -> Result<Column, Error> {
+        self.paired(Pairing::Add, right)
+    }
+
+    /// Subtracts the right integer at each place from the left one, as [`Column::checked_add`] adds them.
+    pub fn checked_sub(&self, right: &Column) -> Result<Column, Error> {
+        self.paired(Pairing::Subtract, right)
+    }
+
+    /// Multiplies the two integers at each place, as [`Column::checked_add`] adds them.
+    pub fn checked_mul(&self, right: &Column) -> Result<Column, Error> {
+        self.paired(Pairing::Multiply, right)
+    }
+
+    /// Says whether both booleans at each place are true, where null is unknown: `false and null` is false. Refused as
+    /// `Unsupported` unless both columns are of booleans.
+    ///
+    /// ```
+    /// use hivevigil::{Column, Value};
+    /// let known = Column::try_from([Some(true), Some(false), None])?;
+    /// let unknown = Column::try_from([None::<bool>, None, None])?;
+    /// let both: Vec<Value> = known.and(&unknown)?.rows().collect::<Result<_, _>>()?;
+    /// assert_eq!(both, [Value::Null, Value::Truth(false), Value::Null]);
+    /// # Ok::<(), hivevigil::Error>(())
+    /// ```
+    pub fn and(&self, right: &Column) -> Result<Column, Error> {
+        self.paired(Pairing::And, right)
+    }
+
+    /// Says whether either boolean at each place is true, where null is unknown: `true or null` is true.
+    pub fn or(&self, right: &Column) -> Result<Column, Error> {
+        self.paired(Pairing::Or, right)
+    }
+
+    /// Returns the other boolean of each row, null for null. Refused as `TypeMismatch` unless the rows are booleans.
+    ///
+    /// ```
+    /// use hivevigil::{Column, Value};
+    /// let others = Column::try_from([Some(true), None])?.not()?;
+    /// assert_eq!((others.at(0)?, others.at(1)?), (Value::Truth(false), Value::Null));
+    /// # Ok::<(), hivevigil::Error>(())
+    /// ```
+    pub fn not(&self) -> Result<Column, Error> {
+        self.compare_value(Operator::Equal, false)
+    }
+
+    /// Says whether the two rows at each place are equal, null where either is null. Refused as `Unsupported` for lists
+    /// and as `TypeMismatch` for two types.
+    ///
+    /// ```
+    /// use hivevigil::{Column, Value};
+    /// let left = Column::try_from([Some(4i64), Some(4), None])?;
+    /// let equal = left.eq_rows(&Column::new(&[4i64, 7, 7])?)?;
+    /// let rows: Vec<Value> = equal.rows().collect::<Result<_, _>>()?;
+    /// assert_eq!(rows, [Value::Truth(true), Value::Truth(false), Value::Null]);
+    /// # Ok::<(), hivevigil::Error>(())
+    /// ```
+    pub fn eq_rows(&self, right: &Column) -> Result<Column, Error> {
+        self.compared(Operator::Equal, right)
+    }
+
+    /// Says whether they differ, as [`Column::eq_rows`] says whether they are equal.
+    pub fn ne_rows(&self, right: &Column) -> Result<Column, Error> {
+        self.compared(Operator::NotEqual, right)
+    }
+
+    /// Says whether the left one is less.
+    pub fn lt_rows(&self, right: &Column) -> Result<Column, Error> {
+        self.compared(Operator::Less, right)
+    }
+
+    /// Says whether the left one is less or equal.
+    pub fn le_rows(&self, right: &Column) -> Result<Column, Error> {
+        self.compared(Operator::LessOrEqual, right)
+    }
+
+    /// Says whether the left one is greater.
+    pub fn gt_rows(&self, right: &Column) -> Result<Column, Error> {
+        self.compared(Operator::Greater, right)
+    }
+
+    /// Says whether the left one is greater or equal.
+    pub fn ge_rows(&self, right: &Column) -> Result<Column, Error> {
+        self.compared(Operator::GreaterOrEqual, right)
+    }
+
+    fn combined(&self, operator: u8, right: &Column) -> Result<Column, Error> {
+        let left = self.handle.get();
+        self.beside(right, |right, out, fields| unsafe {
+            raw::hv_combine(left, operator, right, out, fields)
+        })
+    }
+
+    fn compared(&self, operator: Operator, right: &Column) -> Result<Column, Error> {
+        self.combined(operator as u8, right).map_err(|error| {
+            let words = "is not compared with";
+            error.about(
+                ErrorKind::TypeMismatch,
+                self.kind(),
+                words,
+                Some(right.kind()),
+            )
+        })
+    }
+
+    fn paired(&self, by: Pairing, right: &Column) -> Result<Column, Error> {
+        self.combined(by as u8, right).map_err(|error| {
+            if error.kind() == Some(ErrorKind::CastOutOfRange) {
+                return self.past_type(by, right, error);
+            }
+            error.of_pair(self.kind(), right.kind(), by.words())
+        })
+    }
+
+    /// Names the two integers whose answer the type does not have.
+    fn past_type(&self, by: Pairing, right: &Column, error: Error) -> Error {
+        let row = error.fields.first as usize;
+        match (self.integer(row), right.integer(row)) {
+            (Some(left), Some(right)) => {
+                error.of_pair_overflow(left, by.sign(), right, self.kind())
+            }
+            _ => error,
+        }
+    }
+
+    fn integer(&self, row: usize) -> Option<i128> {
+        match self.at(row) {
+            Ok(Value::Unsigned(item)) => Some(item.into()),
+            Ok(Value::Signed(item)) => Some(item.into()),
+            _ => None,
+        }
+    }
+}
