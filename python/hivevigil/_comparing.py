@@ -1,4 +1,4 @@
-"""Comparisons with one value, and why `==` and `<` are not among them.
+"""Comparisons with one value or a column, by name and by Python's operators, which make masks.
 
 A number that the column's type does not have still has a place among its rows: 300 is above every i8, and 0.505 lies
 between two decimals of scale 2. Such a comparison is one with a number that the type has, which answers the same.
@@ -9,7 +9,7 @@ import operator
 from decimal import Decimal
 from fractions import Fraction
 from numbers import Real
-from typing import TYPE_CHECKING, Any, NoReturn
+from typing import TYPE_CHECKING, Any
 
 from ._library import calls, session
 from ._making import is_array
@@ -20,13 +20,12 @@ from .errors import TypeMismatch, in_words
 if TYPE_CHECKING:
     from .column import Column
 
-METHODS = {"==": "eq", "!=": "ne", ">": "gt", ">=": "ge", "<": "lt", "<=": "le"}
 _WIDE = range(-(2**127), 2**127)  # what a decimal is stored as, in units of its least place
 _DIGITS = 60  # more than any type has
 
 
 class Comparisons:
-    """What a column answers to comparisons of its rows, and to the operators of Python."""
+    """What a column answers to comparisons of its rows."""
 
     __slots__ = ()
 
@@ -54,26 +53,26 @@ class Comparisons:
     def le(self, right: Any) -> Column:
         return self.compare("<=", right)
 
-    def __eq__(self, other: object) -> bool:
-        """Whether both are the same object; rows are compared by eq."""
-        return self is other if isinstance(other, Comparisons) else refused(self, "==", other)
+    def __eq__(self, other: object) -> Column:  # type: ignore[override]
+        """A mask, as `eq` makes it; `Column.equals` says whether two columns have the same rows."""
+        return self.compare("==", other)
 
-    def __ne__(self, other: object) -> bool:
-        return self is not other if isinstance(other, Comparisons) else refused(self, "!=", other)
+    def __ne__(self, other: object) -> Column:  # type: ignore[override]
+        return self.compare("!=", other)
 
     __hash__ = object.__hash__
 
-    def __lt__(self, other: Any) -> NoReturn:
-        refused(self, "<", other)
+    def __lt__(self, other: Any) -> Column:
+        return self.compare("<", other)
 
-    def __le__(self, other: Any) -> NoReturn:
-        refused(self, "<=", other)
+    def __le__(self, other: Any) -> Column:
+        return self.compare("<=", other)
 
-    def __gt__(self, other: Any) -> NoReturn:
-        refused(self, ">", other)
+    def __gt__(self, other: Any) -> Column:
+        return self.compare(">", other)
 
-    def __ge__(self, other: Any) -> NoReturn:
-        refused(self, ">=", other)
+    def __ge__(self, other: Any) -> Column:
+        return self.compare(">=", other)
 
 
 def with_value(column: Column, sign: str, value: Any) -> Column:
@@ -125,19 +124,14 @@ def _decided(sign: str, floor: int, exact: bool, fits: range) -> tuple[str, int]
     return ("<=" if below else ">"), min(floor, greatest)
 
 
-def refused(column: Any, sign: str, other: Any) -> NoReturn:
-    """Says how rows are compared, where an operator of Python was written."""
-    column._there()
-    is_one = isinstance(other, (str, bytes)) or not hasattr(other, "__len__")
-    value = "other" if isinstance(other, Comparisons) else in_words(other) if is_one else "Column.of(rows)"
-    why = "columns have no order, and == between two says whether they are one object"
-    raise TypeError(f"rows are compared by column.{METHODS[sign]}({value}), which makes a mask; {why}")
-
-
 def with_column(column: Column, sign: str, right: Column) -> Column:
-    """Row by row whether `row sign other`, for the rows of a column of the same type."""
+    """Row by row whether `row sign other`, for the rows of a column of the same type: by the runs of both, unless both
+    are flat."""
+    number, beside = operator_of(sign), column._beside(right)
     try:
-        return column._made(calls.hv_compare, session, column, operator_of(sign), column._beside(right))
+        if column.form == right.form == "flat":
+            return column._made(calls.hv_compare, session, column, number, beside)
+        return column._made(calls.hv_combine, column, number, beside)
     except TypeMismatch as refused:
         left, other = (each.type.rstrip("?") for each in (column, right))
         raise refused.saying(f"compare: {left} and {other} are two types; rows of one type are compared") from None

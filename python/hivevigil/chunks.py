@@ -89,7 +89,7 @@ class Partial:
             raise TypeError(f"Partial.of takes a Column, not {in_words(column)}")
         if column.type.startswith("list"):
             raise Unsupported().about("Partial.of", column)
-        if not column:
+        if not column._length:
             return cls.empty(column.type)
         runs = column.to_runs()
         count = runs.run_count()

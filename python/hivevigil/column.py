@@ -8,7 +8,8 @@ from collections.abc import Iterator
 from typing import Any, Optional
 
 from . import (
-    _arrow, _casting, _comparing, _copying, _files, _indexing, _lists, _making, _questions, _reading, _runs, _showing,
+    _arrow, _casting, _comparing, _copying, _files, _indexing, _lists, _making, _pairs, _questions, _reading, _rows,
+    _runs, _showing,
 )
 from ._library import Handle, Kind, ask, calls, session
 from ._runs import Run
@@ -18,7 +19,7 @@ from .errors import NoColumn, Unsupported, in_words
 from .groups import Groups
 
 
-class Column(_comparing.Comparisons):
+class Column(_comparing.Comparisons, _pairs.Pairs):
     """Rows of one type, each a value or null. What a command makes is a new column; the old one stays as it was.
 
     A column is freed by `with`, by `free()`, or when nothing refers to it; each call on one that was freed is refused
@@ -253,6 +254,37 @@ class Column(_comparing.Comparisons):
         """A value in place of each null, after which the type has no null."""
         return self._made(calls.hv_fill, session, self, *passed(self._kind, value))
 
+    def is_null(self) -> Column:
+        """Whether each row is null: a mask without null."""
+        return ~self.is_valid()
+
+    def is_valid(self) -> Column:
+        """Whether each row is not null: a mask without null."""
+        return _rows.is_valid(self)
+
+    def drop_null(self) -> Column:
+        """The rows that are not null."""
+        return self.filter(self.is_valid())
+
+    def where(self, mask: Any, other: Any) -> Column:
+        """The row where the mask is true, and else that of `other`, a column of the same type or one value; a null in
+        the mask chooses the other."""
+        return _rows.chosen(self, mask, other)
+
+    def isin(self, values: Any) -> Column:
+        """Whether each row is one of some values: a mask without null. A null row is where None is among them."""
+        return _rows.is_among(self, values)
+
+    def shift(self, rows: int = 1) -> Column:
+        """Each row as the one that is this number of rows before it (after it, where the number is negative), and null
+        where there is none."""
+        return _rows.shifted(self, rows)
+
+    def diff(self, rows: int = 1) -> Column:
+        """Each row minus the one that is this number of rows before it, null where there is none or either is null.
+        OverflowError names the first row whose difference the type does not have."""
+        return self - self.shift(rows)
+
     # ---- Questions ----
 
     def __len__(self) -> int:
@@ -262,7 +294,9 @@ class Column(_comparing.Comparisons):
         return self._length
 
     def __bool__(self) -> bool:
-        """Whether there is a row."""
+        """Whether there is a row. A mask is refused, since `if a == b` asks for its rows: any(), all() or equals()."""
+        if TYPES[self._kind.number] == "bool":
+            raise ValueError("a mask is not true or false: ask mask.any(), mask.all() or len(mask), and a.equals(b)")
         return self._length > 0
 
     def __contains__(self, value: Any) -> bool:
@@ -326,6 +360,26 @@ class Column(_comparing.Comparisons):
         """The rows of this column by runs of equal neighbouring rows of another, a column or what `Column.of` takes:
         `values.group_by(keys).sum()` is the keys of the groups and their sums."""
         return Groups(keys if isinstance(keys, Column) else self.of(keys), self._there())
+
+    def equals(self, other: Column) -> bool:
+        """Whether both have the same type and the same rows, whatever their forms, null equal to null."""
+        return _rows.is_same(self, _column(other))
+
+    def any(self) -> bool:
+        """Whether a row of booleans is true."""
+        return _rows.truths_of(self, "any").max() is True
+
+    def all(self) -> bool:
+        """Whether no row of booleans is false: null is not."""
+        return _rows.truths_of(self, "all").min() is not False
+
+    def value_counts(self) -> tuple[Column, Column]:
+        """Each value that a row has, null too, in the order of their first rows, and how many rows have it, 'u64'."""
+        return _rows.counted(self)
+
+    def unique(self) -> Column:
+        """Each value that a row has, null too, in the order of their first rows."""
+        return _rows.counted(self)[0]
 
     def is_constant(self) -> bool:
         """Whether all rows are equal, null equal to null."""

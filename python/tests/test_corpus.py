@@ -70,7 +70,8 @@ class Maker:
         ends_type, offset, rows = (self.words.pop() for _ in range(3))
         ends = self.rows(ends_type)
         values = self.part()
-        return values and Column.from_runs(Column.of(ends, ends_type), values, int(offset), int(rows))
+        runs = (Column.of(ends, ends_type), values, int(offset), int(rows))
+        return None if values is None else Column.from_runs(*runs)
 
     def lists(self):
         elements, offsets, sizes = (self.part() for _ in range(3))

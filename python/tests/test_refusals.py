@@ -167,31 +167,15 @@ def test_refusals_name_the_call_and_its_columns():
     assert str(errors.TypeMismatch()) == "the types do not match"
 
 
-ORDER = "which makes a mask; columns have no order, and == between two says whether they are one object"
-
-
-@pytest.mark.parametrize(
-    "compared, written",
-    [
-        (lambda one: one == 50, "eq(50)"), (lambda one: 50 == one, "eq(50)"), (lambda one: one != "a", "ne('a')"),
-        (lambda one: one < 50, "lt(50)"), (lambda one: one <= None, "le(None)"), (lambda one: one > 1, "gt(1)"),
-        (lambda one: 1 < one, "gt(1)"), (lambda one: one >= 1, "ge(1)"), (lambda one: None == one, "eq(None)"),
-        (lambda one: one == [1, 2], "eq(Column.of(rows))"), (lambda one: one < runs(), "lt(other)"),
-        (lambda one: sorted([one, runs()]), "lt(other)"), (lambda one: one in [1, one], "eq(1)"),
-    ],
-)
-def test_operators_of_python_say_how_rows_are_compared(compared, written):
-    with pytest.raises(TypeError) as refused:
-        compared(runs())
-    assert str(refused.value) == f"rows are compared by column.{written}, {ORDER}"
-
-
-def test_one_object_is_itself():
+def test_a_mask_is_no_truth():
     one, other = runs(), runs()
-    assert one == one and not one != one and one != other and not one == other
-    assert len({one, other, one}) == 2 and {one: 1}[one] == 1 and [other, one].index(one) == 1
+    for call in (lambda: bool(one == other), lambda: one != other and 1, lambda: sorted([one, other]),
+                 lambda: one in [other]):
+        with pytest.raises(ValueError, match="^a mask is not true or false: ask mask.any"):
+            call()
+    assert one in [one] and len({one, other, one}) == 2 and {one: 1}[one] == 1
     one.free()
-    assert one == one and one != other and hash(one) != hash(other)
+    assert hash(one) != hash(other)
 
 
 def test_no_columns_have_no_type():
@@ -253,7 +237,9 @@ def test_columns_are_made_by_their_makers():
 ARGUMENTS = {
     "slice": (0, 1), "cast": ("i8",), "take": ([0],), "filter": ([True] * 4,), "take_from": ([1, 2, 3],),
     "compare": ("==", 1), "fill": (1,), "at": (0,), "__getitem__": (0,), "__deepcopy__": ({},),
-    "save": ("none",), "split": (2,), "group_by": ([1],),
+    "save": ("none",), "split": (2,), "group_by": ([1],), "where": ([True] * 4, 1), "isin": ([1],),
+    "equals": (Column.of([1]),),
+    **{f"__{name}__": (1,) for name in ("add", "radd", "sub", "rsub", "mul", "rmul", "and", "rand", "or", "ror")},
     **{name: (1,) for name in ("eq", "ne", "gt", "ge", "lt", "le", "__lt__", "__le__", "__gt__", "__ge__")},
     **{name: (1,) for name in ("__eq__", "__ne__", "__contains__")},
 }

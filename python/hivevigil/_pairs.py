@@ -1,0 +1,97 @@
+"""The rows of two columns worked place by place: + - * & | ~, at the cost of the runs of both.
+
+The library takes two columns. A single value is a constant column, which is one run.
+"""
+from __future__ import annotations
+
+from typing import TYPE_CHECKING, Any
+
+from ._library import calls
+from ._making import is_array
+from ._rows import constant_of
+from .errors import CastOutOfRange, TypeMismatch, Unsupported, in_words
+
+if TYPE_CHECKING:
+    from .column import Column
+
+# each with its number in hivevigil.h, and what a sentence says was not done
+SIGNS = {"+": (6, "added"), "-": (7, "subtracted"), "*": (8, "multiplied"), "&": (9, "connected"), "|": (10, "connected")}
+
+
+class Pairs:
+    """What a column answers to Python's operators that give a value for two rows.
+
+    Integers of one type give integers of that type, null where either row is null; OverflowError names the first row
+    whose answer the type does not have. Booleans are connected as SQL's AND and OR have it, where null is unknown:
+    `False & None` is False, `True | None` is True.
+    """
+
+    __slots__ = ()
+
+    def __add__(self, other: Any) -> Column:
+        return worked(self, "+", other)
+
+    def __radd__(self, other: Any) -> Column:
+        return worked(self, "+", other, is_left=False)
+
+    def __sub__(self, other: Any) -> Column:
+        return worked(self, "-", other)
+
+    def __rsub__(self, other: Any) -> Column:
+        return worked(self, "-", other, is_left=False)
+
+    def __mul__(self, other: Any) -> Column:
+        return worked(self, "*", other)
+
+    def __rmul__(self, other: Any) -> Column:
+        return worked(self, "*", other, is_left=False)
+
+    def __and__(self, other: Any) -> Column:
+        return worked(self, "&", other)
+
+    def __rand__(self, other: Any) -> Column:
+        return worked(self, "&", other, is_left=False)
+
+    def __or__(self, other: Any) -> Column:
+        return worked(self, "|", other)
+
+    def __ror__(self, other: Any) -> Column:
+        return worked(self, "|", other, is_left=False)
+
+    def __neg__(self) -> Column:
+        """0 minus each row, which an unsigned type has only of 0."""
+        return worked(self, "-", 0, is_left=False)
+
+    def __invert__(self) -> Column:
+        """The other boolean of each row, null for null."""
+        column: Any = self
+        if not column.type.startswith("bool"):
+            raise Unsupported().saying(f"~ is of booleans, not of {column.type}")
+        return column.eq(False)  # type: ignore[no-any-return]
+
+
+def worked(column: Any, sign: str, other: Any, is_left: bool = True) -> Column:
+    """What the sign gives of each row and the row of another column at its place, or one value."""
+    beside = other if isinstance(other, Pairs) else _constant(column, other)
+    left, right = (column, beside) if is_left else (beside, column)
+    number, done = SIGNS[sign]
+    try:
+        return column._made(calls.hv_combine, left, number, left._beside(right))  # type: ignore[no-any-return]
+    except CastOutOfRange as past:
+        row = past.fields[0]
+        said = f"row {row} is {left.at(row)} {sign} {right.at(row)}, which does not fit {_type_of(left)}"
+        raise past.saying(said) from None
+    except (TypeMismatch, Unsupported) as refused:
+        raise refused.saying(f"{_type_of(left)} and {_type_of(right)} are not {done}") from None
+
+
+def _type_of(column: Any) -> str:
+    return str(column.type.rstrip("?"))
+
+
+def _constant(column: Any, value: Any) -> Column:
+    """A value in each row of a column, of its type."""
+    if isinstance(value, (list, tuple, range)) or is_array(value) and getattr(value, "ndim", 1) > 0:
+        made = f"Column.of(..) makes one of {in_words(value)}"
+        raise TypeError(f"a column is worked with a column or one value: {made}")
+    return constant_of(column, value)

@@ -1,0 +1,106 @@
+"""What is made of the rows of a column by its runs: which are null, which are among some values, how often each comes.
+
+Each run is looked at once, so that time goes by runs; of a flat column its rows are encoded first.
+"""
+from __future__ import annotations
+
+from typing import TYPE_CHECKING, Any
+
+from . import _lists
+from ._indexing import mask_of
+from ._library import calls
+from ._making import listed
+from ._types import text_of
+from ._values import is_missing, whole
+from .errors import MaskLength, TypeMismatch, Unsupported
+
+if TYPE_CHECKING:
+    from .column import Column
+
+
+def is_valid(column: Column) -> Column:
+    """Whether each row is not null: a row is equal to itself, or null."""
+    if _lists.is_list(column):
+        return column._made(calls.hv_list_validity, column if column.form == "lists" else column.decode())
+    return column.eq(column).fill(False)
+
+
+def chosen(column: Column, mask: Any, other: Any) -> Column:
+    """The row where the mask is true, and else that of another column, or one value."""
+    flags = mask_of(column, mask)
+    if flags._length != column._length:
+        raise MaskLength(flags._length, column._length)
+    beside = other if isinstance(other, type(column)) else constant_of(column, other)
+    left, right = (each.type.rstrip("?") for each in (column, beside))
+    if left != right:
+        raise TypeMismatch().saying(f"where: {left} and {right} are two types; rows of one type are chosen from")
+    kind = column._kind
+    kind.nullable = kind.nullable or beside._kind.nullable
+    sides = [each if bytes(each._kind) == bytes(kind) else each.cast(text_of(kind)) for each in (beside, column)]
+    return _joined(text_of(kind), ((sides[value is True], start, stop) for start, stop, value in flags.runs()))
+
+
+def _joined(type: str, parts: Any) -> Column:
+    """Stretches of rows of columns of this type, one after the other."""
+    from .builder import Builder
+
+    builder = Builder(type)
+    for column, start, stop in parts:
+        builder.append(column.slice(start, stop))
+    return builder.finish()
+
+
+def constant_of(column: Column, value: Any) -> Column:
+    """A value in each row of a column, of its type, which has null only where the value is null."""
+    kind = column._kind
+    kind.nullable = is_missing(value)
+    return column.constant(value, column._length, text_of(kind))
+
+
+def is_among(column: Column, values: Any) -> Column:
+    """Whether each row is one of some values. A null row is where one of these is null."""
+    given, nothing = listed(values, "values"), column[:0]
+    for value in given:
+        nothing.eq(value)  # refused of a value of another sort
+    wanted = {bytes(value) if isinstance(value, (bytearray, memoryview)) else value for value in given}
+    has_null = None in wanted
+    runs = list(column.runs())
+    flags = column.of([has_null if run.value is None else run.value in wanted for run in runs], "bool")
+    return column.from_runs([run.stop for run in runs], flags).to_runs()
+
+
+def counted(column: Column) -> tuple[Column, Column]:
+    """Each value that a row has, null too, in the order of their first rows, and how many rows have it."""
+    counts: dict[Any, int] = {}
+    for start, stop, value in column.runs():
+        counts[value] = counts.get(value, 0) + stop - start
+    return column.of(list(counts), column.type), column.of(list(counts.values()), "u64")
+
+
+def shifted(column: Column, rows: Any) -> Column:
+    """Each row as the one that is this number of rows before it, null where there is none."""
+    by, length, kind = whole(rows, "the number of rows"), column._length, column._kind
+    kind.nullable = True
+    type, past = text_of(kind), min(abs(by), length)
+    if _lists.is_list(column):
+        raise Unsupported().about("shift", column)
+    shown = column.slice(0, length - past) if by > 0 else column.slice(past, length)
+    nulls = column.constant(None, past, type)
+    parts = [nulls, shown.cast(type)] if by > 0 else [shown.cast(type), nulls]
+    return _joined(type, ((part, 0, part._length) for part in parts))
+
+
+def is_same(column: Column, other: Column) -> bool:
+    """Whether type and rows are the same, whatever the forms: the encodings of equal rows have the same bytes."""
+    if column.type != other.type or column._length != other._length:
+        return False
+    if _lists.is_list(column):
+        return column.to_list() == other.to_list()
+    return column.to_runs().to_bytes() == other.to_runs().to_bytes()
+
+
+def truths_of(column: Column, call: str) -> Column:
+    """The column, of which rows are asked whether they are true."""
+    if column.type.rstrip("?") != "bool":
+        raise Unsupported().about(call, column)
+    return column
