@@ -233,7 +233,7 @@ else
 fi
 
 # SQLite: the extension linked with its test, under the sanitizers, and as SQLite loads it
-sqlite_parts="$(echo examples/sqlite/functions.c examples/sqlite/*_table.c examples/engines/*.c)"
+sqlite_parts="$(echo examples/sqlite/functions.c examples/sqlite/pairs.c examples/sqlite/*_table.c examples/engines/*.c)"
 with_sqlite() {
     $cc $c_flags -Iexamples/c -DSQLITE_CORE $2 "examples/sqlite/$1.c" $sqlite_parts lib/libhivevigil.a -lsqlite3 \
         -o "$work/program" && timeout 200 "$work/program"

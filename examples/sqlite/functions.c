@@ -4,7 +4,9 @@
  *     SELECT hv_column(level, 'integer') FROM readings          the same, refused where a row is of another type
  *     SELECT hv_concat(levels) FROM packed                      aggregate: the rows of all blobs, one after the other
  *     hv_rows(c)  hv_count(c)  hv_sum(c)  hv_min(c)  hv_max(c)  hv_at(c, row)
- *     hv_filter(c, '>', 5)  hv_slice(c, start, stop)            a blob of some of the rows
+ *     hv_filter(c, '>', 5)  hv_filter(c, mask)  hv_slice(c, start, stop)      a blob of some of the rows
+ *     hv_add(c, d)  hv_subtract(c, d)  hv_multiply(c, d)        a blob of what the two rows at each place give
+ *     hv_and(c, d)  hv_or(c, d)  hv_not(c)  hv_compare(c, '<', d)      the same, 1 for true and 0 for false
  *     SELECT start, stop, value FROM hv_runs(c)                 a row for each run
  *     SELECT key, sum FROM hv_groups(keys, values)              a row for each run of equal keys
  *
@@ -64,8 +66,7 @@ bool column_of(const char *function, sqlite3_value *value, hv_column *out, char 
     return !answer;
 }
 
-/* Ends the call with this sentence, or as out of memory where it is null. */
-static void fail(sqlite3_context *context, char *reason) {
+void fail(sqlite3_context *context, char *reason) {
     if (reason) sqlite3_result_error(context, reason, -1);
     else sqlite3_result_error_nomem(context);
     sqlite3_free(reason);
@@ -84,7 +85,7 @@ static void answer_encoding(sqlite3_context *context, const char *function, hv_c
     else sqlite3_result_blob64(context, bytes, size, free);
 }
 
-static void answer_column(sqlite3_context *context, const char *function, const hv_column *column) {
+void answer_column(sqlite3_context *context, const char *function, const hv_column *column) {
     hv_error error = {0, 0, 0};
     hv_column runs = HV_EMPTY;
     const int32_t answer = hv_encode_rows(column, &runs, &error);
@@ -407,6 +408,7 @@ int sqlite3_hivevigilsqlite_init(sqlite3 *db, char **error, const sqlite3_api_ro
     for (size_t i = 0; !answer && i < sizeof functions / sizeof *functions; i++)
         answer = sqlite3_create_function(db, functions[i].name, functions[i].arguments, flags, (void *)&functions[i],
                                          ask, NULL, NULL);
+    if (!answer) answer = register_pairs(db);
     if (!answer) answer = register_runs_table(db);
     return answer ? answer : register_groups_table(db);
 }

@@ -58,6 +58,9 @@ int main(void) {
         "SELECT length(hv_filter(w, '<', 'a text of number 4')) FROM p",
         "SELECT length(hv_slice(c, 3, 20)) FROM p",
         "SELECT length(hv_slice(c, 3, 4)) FROM p",
+        "SELECT length(hv_add(c, 7)) FROM p",
+        "SELECT length(hv_or(c, hv_compare(w, '>', 'a text of number 4'))) FROM p",
+        "SELECT length(hv_filter(w, hv_not(c))) FROM p",
         "SELECT sum(length(key) + sum + first + rows) FROM p, hv_groups(w, c)",
         "SELECT sum(stop * length(value)) FROM p, hv_runs(w)",
         "SELECT sum(hv_count(c)) FROM (SELECT hv_concat(x'0801100B180120022803620200006A00') AS c)",
@@ -65,6 +68,8 @@ int main(void) {
     };
     static const char *const refused_statements[] = {
         "SELECT hv_sum(hv_column(9223372036854775000 + v * 100)) FROM t",
+        "SELECT hv_multiply(c, 461168601842738790) FROM p",
+        "SELECT hv_add(c, w) FROM p",
         "SELECT hv_column(iif(v < 20, v || ' trees', CAST(x'C328' AS TEXT))) FROM t",
     };
     long all = 0;

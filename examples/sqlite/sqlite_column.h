@@ -20,6 +20,15 @@ bool column_of(const char *function, sqlite3_value *value, hv_column *out, char 
 
 void answer_value(sqlite3_context *context, const row_value *value);
 
+/* Answers the bytes of a column, encoded. */
+void answer_column(sqlite3_context *context, const char *function, const hv_column *column);
+
+/* Ends the call with this sentence, which is freed, or as out of memory where it is null. */
+void fail(sqlite3_context *context, char *reason);
+
+/* The functions of two columns. */
+int register_pairs(sqlite3 *db);
+
 /* The table-valued functions hv_runs and hv_groups. */
 int register_runs_table(sqlite3 *db);
 int register_groups_table(sqlite3 *db);

@@ -122,6 +122,10 @@ static void check_lists(void) {
     NO_LISTS("hv_filter(c, '=', 7)", "hv_filter");
     NO_LISTS("hv_slice(c, 0, 1)", "hv_slice");
     NO_LISTS("hv_concat(c)", "hv_concat");
+    NO_LISTS("hv_add(c, 1)", "hv_add");
+    NO_LISTS("hv_compare(c, '=', c)", "hv_compare");
+    NO_LISTS("hv_not(c)", "hv_not");
+    NO_LISTS("hv_filter(c, c)", "hv_filter");
     CHECK_SQL("SELECT * FROM hv_runs(x'" LIST_RUNS "')", NOT_SERVED("hv_runs"));
     CHECK_SQL("SELECT * FROM hv_runs(x'" NULL_LISTS "')", NOT_SERVED("hv_runs"));
     /* a list of two where there is one element */
@@ -268,6 +272,68 @@ static void check_groups(void) {
          "SELECT k, count(*), count(v), sum(v), min(v), max(v), (SELECT v FROM bg AS o WHERE o.k IS g.k AND o.island = "
          "g.island AND v NOT NULL ORDER BY i LIMIT 1), (SELECT v FROM bg AS o WHERE o.k IS g.k AND o.island = g.island "
          "AND v NOT NULL ORDER BY i DESC LIMIT 1) FROM bg AS g GROUP BY k, island ORDER BY min(i)");
+}
+
+/* Two columns worked row by row: by hand, and next to SQLite's own answers over rows. */
+static void check_pairs(void) {
+    ask("CREATE TABLE xy(i INTEGER PRIMARY KEY, a, b, s, t)");
+    ask("INSERT INTO xy(a, b, s, t) VALUES (4, 1, 'a', 'b'), (4, 1, 'a', 'a'), (NULL, 1, NULL, 'a'), (7, NULL, 'b', "
+        "NULL), (0, -9, 'b', 'a'), (0, 0, '', 'a')");
+    ask("CREATE TABLE z AS SELECT hv_column(a) AS a, hv_column(b) AS b, hv_column(s) AS s, hv_column(t) AS t, "
+        "hv_column(NULL) AS n FROM (SELECT * FROM xy ORDER BY i)");
+    CHECK_SQL("SELECT start, stop, value FROM z, hv_runs(hv_add(a, b))", "0|2|5 2|4|NULL 4|5|-9 5|6|0");
+    CHECK_SQL("SELECT start, stop, value FROM z, hv_runs(hv_subtract(10, a))", "0|2|6 2|3|NULL 3|4|3 4|6|10");
+    CHECK_SQL("SELECT start, stop, value FROM z, hv_runs(hv_multiply(a, a))", "0|2|16 2|3|NULL 3|4|49 4|6|0");
+    CHECK_SQL("SELECT start, stop, value FROM z, hv_runs(hv_and(a, b))", "0|2|1 2|4|NULL 4|6|0");
+    CHECK_SQL("SELECT start, stop, value FROM z, hv_runs(hv_or(a, b))", "0|5|1 5|6|0");
+    CHECK_SQL("SELECT start, stop, value FROM z, hv_runs(hv_not(a))", "0|2|0 2|3|NULL 3|4|0 4|6|1");
+    CHECK_SQL("SELECT start, stop, value FROM z, hv_runs(hv_compare(s, '<=', t))", "0|2|1 2|4|NULL 4|5|0 5|6|1");
+    CHECK_SQL("SELECT start, stop, value FROM z, hv_runs(hv_compare(s, '=', 'b'))", "0|2|0 2|3|NULL 3|5|1 5|6|0");
+    CHECK_SQL("SELECT start, stop, value FROM z, hv_runs(hv_filter(s, hv_compare(a, '>', b)))", "0|2|a 2|3|b");
+    CHECK_SQL("SELECT hv_rows(hv_filter(s, n)), hv_count(hv_add(a, n)), hv_count(hv_compare(s, '<', n)), "
+              "hv_rows(hv_compare(n, '=', n)) FROM z", "0|0|0|6");
+    CHECK_SQL("SELECT hv_sum(hv_and(n, 0)), hv_count(hv_and(n, 1)), hv_sum(hv_or(n, 5)) FROM z", "0|0|6");
+    CHECK_SQL("SELECT hv_add(NULL, a), hv_add(a, NULL), hv_not(NULL), hv_compare(NULL, '=', a), hv_filter(a, NULL) "
+              "FROM z", "NULL|NULL|NULL|NULL|NULL");
+    CHECK_SQL("SELECT hv_sum(hv_multiply(hv_column(v), 2)) FROM (SELECT 3 AS v UNION ALL SELECT 4)", "14");
+
+    CHECK_SQL("SELECT hv_add(a, hv_slice(b, 0, 2)) FROM z", "error: hv_add: a length of 6 next to one of 2");
+    CHECK_SQL("SELECT hv_add(a, s) FROM z", "error: hv_add: only integers are added, and this is a column of texts");
+    CHECK_SQL("SELECT hv_or(s, a) FROM z", "error: hv_or: only integers are connected, and this is a column of texts");
+    CHECK_SQL("SELECT hv_not(s) FROM z", "error: hv_not: only integers are negated, and this is a column of texts");
+    CHECK_SQL("SELECT hv_filter(a, s) FROM z",
+              "error: hv_filter: only integers are a mask, and this is a column of texts");
+    CHECK_SQL("SELECT hv_filter(a, hv_slice(a, 0, 2)) FROM z",
+              "error: hv_filter: a mask of 2 rows over a column of 6 rows");
+    CHECK_SQL("SELECT hv_compare(a, '<', s) FROM z",
+              "error: hv_compare: a column of integers is not compared with one of texts");
+    CHECK_SQL("SELECT hv_compare(a, '~', b) FROM z", "error: hv_compare: an operator is one of = <> > >= < <=");
+    CHECK_SQL("SELECT hv_compare(s, '<', CAST(x'C328' AS TEXT)) FROM z", "error: hv_compare: a text is not UTF-8");
+    CHECK_SQL("SELECT hv_add(1, 2)", "error: hv_add: a column is a blob, and this is an integer");
+    CHECK_SQL("SELECT hv_add(a, 0.5) FROM z", "error: hv_add: a column is a blob, and this is a real number");
+    CHECK_SQL("SELECT hv_multiply(x'01', 2)", "error: hv_multiply: the blob is not a column");
+    CHECK_SQL("SELECT hv_add(hv_column(v), 2) FROM (SELECT 1 AS v UNION ALL SELECT 9223372036854775806)",
+              "error: hv_add: integer overflow in row 1");
+
+    ask("CREATE TABLE o2 AS WITH RECURSIVE n(i, s) AS (SELECT 0, 7 UNION ALL SELECT i + 1, (s * 1103515245 + 12345) & "
+        "2147483647 FROM n WHERE i < 1999) SELECT i, CASE WHEN s / 65536 % 4 THEN s / 65536 % 3 - 1 END AS a, "
+        "CASE WHEN s / 4096 % 5 THEN s / 1024 % 3 - 1 END AS b FROM n");
+    static const char *const pairs[][2] = {
+        {"hv_add(a, b)", "a + b"}, {"hv_subtract(a, b)", "a - b"}, {"hv_multiply(a, b)", "a * b"},
+        {"hv_and(a, b)", "a AND b"}, {"hv_or(a, b)", "a OR b"}, {"hv_not(a)", "NOT a"},
+        {"hv_compare(a, '=', b)", "a = b"}, {"hv_compare(a, '<>', b)", "a <> b"}, {"hv_compare(a, '<', b)", "a < b"},
+        {"hv_compare(a, '<=', b)", "a <= b"}, {"hv_compare(a, '>', 0)", "a > 0"}, {"hv_compare(0, '>=', b)", "0 >= b"},
+    };
+    for (size_t i = 0; i < COUNT(pairs); i++) {
+        char runs[512], rows[512];
+        snprintf(runs, sizeof runs, "SELECT hex(%s) FROM (SELECT hv_column(a) AS a, hv_column(b) AS b FROM (SELECT a, b "
+                 "FROM o2 ORDER BY i))", pairs[i][0]);
+        snprintf(rows, sizeof rows, "SELECT hex(hv_column(v)) FROM (SELECT %s AS v FROM o2 ORDER BY i)", pairs[i][1]);
+        same(runs, rows);
+    }
+    same("SELECT hex(hv_filter(a, hv_compare(a, '<', b))) FROM (SELECT hv_column(a) AS a, hv_column(b) AS b FROM (SELECT "
+         "a, b FROM o2 ORDER BY i))",
+         "SELECT hex(hv_column(a)) FROM (SELECT a FROM o2 WHERE a < b ORDER BY i)");
 }
 
 /* More rows, and more bytes of texts, than wait for the library's builder at a time. */
@@ -425,6 +491,7 @@ int main(int count, char **words) {
     check_others();
     check_constants();
     check_groups();
+    check_pairs();
     check_refusals();
     ask("CREATE TABLE r(v)");
     ask("CREATE TABLE k AS SELECT 0 AS first, 0 AS stop");

@@ -1,0 +1,122 @@
+#include "column_pairs.h"
+#include "column_bytes.h"
+#include "hivevigil_helpers.h"
+#include <stdbool.h>
+#include <stdlib.h>
+
+/* The type in which a column has a value of this kind. */
+static hv_kind kind_of_values(uint8_t kind) {
+    const uint8_t number = kind == HV_TEXT ? HV_UTF8 : kind == HV_BYTES ? HV_BINARY : HV_I64;
+    return (hv_kind){number, kind == HV_NULL, 0, 0};
+}
+
+int32_t column_of_value(const row_value *value, size_t rows, hv_column *out, hv_error *error) {
+    const hv_value given = {value->len, value->number, value->kind, 0};
+    const hv_kind kind = kind_of_values(value->kind);
+    return hv_constant(&kind, &given, value->bytes, value->len, rows, out, error);
+}
+
+/* ---- Truths as numbers ---- */
+
+/* Whether each number is not 0, as booleans; 12 for other rows. */
+static int32_t truths_of(const hv_column *numbers, hv_column *out, hv_error *error) {
+    const hv_value zero = {0, 0, HV_SIGNED, 0};
+    hv_session session;
+    hv_session_initial(&session);
+    return hv_compare_scalar(&session, numbers, HV_NE, &zero, NULL, 0, out, error);
+}
+
+/* The flat numbers of flat booleans: 1, 0 and null. */
+static int32_t flat_numbers(const hv_column *truths, hv_column *out, hv_error *error) {
+    const size_t rows = hv_length(truths), words = (rows + 63) / 64;
+    uint64_t *bits = calloc(words + 1, sizeof *bits), *valid = calloc(words + 1, sizeof *valid);
+    int64_t *numbers = calloc(rows + 1, sizeof *numbers);
+    int32_t answer = bits && valid && numbers ? HV_OK : HV_OUT_OF_MEMORY;
+    if (!answer) answer = hv_read_bools(truths, bits, words, error);
+    if (!answer) answer = hv_read_validity(truths, valid, words, error);
+    for (size_t row = 0; !answer && row < rows; row++) numbers[row] = (int64_t)(bits[row / 64] >> row % 64 & 1);
+    if (!answer)
+        answer = hv_i64(numbers, rows, hv_valid_bits((const uint8_t *)valid, 8 * words, 0), out, error);
+    free(bits), free(valid), free(numbers);
+    return answer;
+}
+
+/* The same of booleans in any form, by their runs. */
+static int32_t numbers_of(const hv_column *truths, hv_column *out, hv_error *error) {
+    hv_column runs = HV_EMPTY, ends = HV_EMPTY, values = HV_EMPTY, flat = HV_EMPTY, numbers = HV_EMPTY;
+    hv_session session;
+    hv_session_initial(&session);
+    int32_t answer = hv_encode_rows(truths, &runs, error);
+    if (!answer) answer = hv_ends(&runs, &ends, error);
+    if (!answer) answer = hv_values(&runs, &values, error);
+    if (!answer) answer = hv_decode(&session, &values, &flat, error);
+    if (!answer) answer = flat_numbers(&flat, &numbers, error);
+    if (!answer) answer = hv_runs(&ends, &numbers, hv_offset(&runs), hv_length(&runs), out, error);
+    hv_column *const all[] = {&runs, &ends, &values, &flat, &numbers};
+    for (size_t i = 0; i < sizeof all / sizeof *all; i++) hv_free(all[i]);
+    return answer;
+}
+
+int32_t column_not(const hv_column *column, hv_column *out, hv_error *error) {
+    const hv_value zero = {0, 0, HV_SIGNED, 0};
+    hv_column truths = HV_EMPTY;
+    hv_session session;
+    hv_session_initial(&session);
+    int32_t answer = hv_compare_scalar(&session, column, HV_EQ, &zero, NULL, 0, &truths, error);
+    if (!answer) answer = numbers_of(&truths, out, error);
+    hv_free(&truths);
+    return answer;
+}
+
+int32_t column_where(const hv_column *column, const hv_column *mask, hv_column *out, hv_error *error) {
+    hv_column truths = HV_EMPTY;
+    hv_session session;
+    hv_session_initial(&session);
+    int32_t answer = truths_of(mask, &truths, error);
+    if (!answer) answer = hv_filter(&session, column, &truths, out, error);
+    hv_free(&truths);
+    return answer;
+}
+
+/* ---- Two columns ---- */
+
+/* A column of only null in the type of another; `made` has it, which is empty where the column has another value. */
+static int32_t as_null(const hv_column *column, hv_kind kind, hv_column *made, hv_error *error) {
+    const hv_value null = {0, 0, HV_NULL, 0};
+    uint8_t is_null = 0;
+    const int32_t answer = column_is_null_alone(column, &is_null, error);
+    kind.nullable = 1;
+    return answer || !is_null ? answer : hv_constant(&kind, &null, NULL, 0, hv_length(column), made, error);
+}
+
+static int32_t combine(const hv_column *left, uint8_t operator_, const hv_column *right, hv_column *out,
+                       hv_error *error) {
+    hv_column left_truths = HV_EMPTY, right_truths = HV_EMPTY, made = HV_EMPTY;
+    const bool connects = operator_ == HV_AND || operator_ == HV_OR;
+    int32_t answer = HV_OK;
+    if (connects) {
+        answer = truths_of(left, &left_truths, error);
+        if (!answer) answer = truths_of(right, &right_truths, error);
+        left = &left_truths, right = &right_truths;
+    }
+    if (!answer) answer = hv_combine(left, operator_, right, &made, error);
+    if (!answer && hv_kind_of(&made).number == HV_BOOL) answer = numbers_of(&made, out, error);
+    else if (!answer) hv_put(out, &made);
+    hv_free(&left_truths), hv_free(&right_truths), hv_free(&made);
+    return answer;
+}
+
+int32_t columns_combine(const hv_column *left, uint8_t operator_, const hv_column *right, hv_column *out,
+                        hv_error *error) {
+    hv_column nulls = HV_EMPTY;
+    int32_t answer = HV_OK;
+    if (hv_kind_of(left).number != hv_kind_of(right).number) {
+        answer = as_null(left, hv_kind_of(right), &nulls, error);
+        if (!answer && !hv_is_empty(&nulls)) left = &nulls;
+        else if (!answer) answer = as_null(right, hv_kind_of(left), &nulls, error);
+        if (!answer && left != &nulls && !hv_is_empty(&nulls)) right = &nulls;
+    }
+    if (!answer) answer = combine(left, operator_, right, out, error);
+    hv_free(&nulls);
+    return answer;
+}
