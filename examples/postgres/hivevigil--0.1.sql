@@ -63,6 +63,42 @@ CREATE FUNCTION hv_runs(hvcolumn, OUT start bigint, OUT stop bigint, OUT value b
 CREATE FUNCTION hv_text_runs(hvcolumn, OUT start bigint, OUT stop bigint, OUT value text) RETURNS SETOF record
     AS 'MODULE_PATHNAME', 'pg_hv_runs_texts' LANGUAGE C IMMUTABLE STRICT PARALLEL SAFE COST 100 ROWS 1000;
 
+-- What the values are in each run of equal neighbouring keys: values are numbers.
+CREATE FUNCTION hv_groups(keys hvcolumn, vals hvcolumn, OUT key bigint, OUT rows bigint, OUT count bigint,
+        OUT sum bigint, OUT min bigint, OUT max bigint, OUT first bigint, OUT last bigint) RETURNS SETOF record
+    AS 'MODULE_PATHNAME', 'pg_hv_groups_numbers' LANGUAGE C IMMUTABLE STRICT PARALLEL SAFE COST 100 ROWS 1000;
+CREATE FUNCTION hv_text_groups(keys hvcolumn, vals hvcolumn, OUT key text, OUT rows bigint, OUT count bigint,
+        OUT sum bigint, OUT min bigint, OUT max bigint, OUT first bigint, OUT last bigint) RETURNS SETOF record
+    AS 'MODULE_PATHNAME', 'pg_hv_groups_texts' LANGUAGE C IMMUTABLE STRICT PARALLEL SAFE COST 100 ROWS 1000;
+
+-- Two columns worked row by row, or a column and a value. A truth is 1 or 0, and any number but 0 is true.
+CREATE FUNCTION hv_add(hvcolumn, hvcolumn) RETURNS hvcolumn
+    AS 'MODULE_PATHNAME', 'pg_hv_add' LANGUAGE C IMMUTABLE STRICT PARALLEL SAFE COST 100;
+CREATE FUNCTION hv_add(hvcolumn, bigint) RETURNS hvcolumn
+    AS 'MODULE_PATHNAME', 'pg_hv_add_number' LANGUAGE C IMMUTABLE STRICT PARALLEL SAFE COST 100;
+CREATE FUNCTION hv_subtract(hvcolumn, hvcolumn) RETURNS hvcolumn
+    AS 'MODULE_PATHNAME', 'pg_hv_subtract' LANGUAGE C IMMUTABLE STRICT PARALLEL SAFE COST 100;
+CREATE FUNCTION hv_subtract(hvcolumn, bigint) RETURNS hvcolumn
+    AS 'MODULE_PATHNAME', 'pg_hv_subtract_number' LANGUAGE C IMMUTABLE STRICT PARALLEL SAFE COST 100;
+CREATE FUNCTION hv_multiply(hvcolumn, hvcolumn) RETURNS hvcolumn
+    AS 'MODULE_PATHNAME', 'pg_hv_multiply' LANGUAGE C IMMUTABLE STRICT PARALLEL SAFE COST 100;
+CREATE FUNCTION hv_multiply(hvcolumn, bigint) RETURNS hvcolumn
+    AS 'MODULE_PATHNAME', 'pg_hv_multiply_number' LANGUAGE C IMMUTABLE STRICT PARALLEL SAFE COST 100;
+CREATE FUNCTION hv_and(hvcolumn, hvcolumn) RETURNS hvcolumn
+    AS 'MODULE_PATHNAME', 'pg_hv_and' LANGUAGE C IMMUTABLE STRICT PARALLEL SAFE COST 100;
+CREATE FUNCTION hv_or(hvcolumn, hvcolumn) RETURNS hvcolumn
+    AS 'MODULE_PATHNAME', 'pg_hv_or' LANGUAGE C IMMUTABLE STRICT PARALLEL SAFE COST 100;
+CREATE FUNCTION hv_not(hvcolumn) RETURNS hvcolumn
+    AS 'MODULE_PATHNAME', 'pg_hv_not' LANGUAGE C IMMUTABLE STRICT PARALLEL SAFE COST 100;
+CREATE FUNCTION hv_compare(hvcolumn, operator hv_operator, hvcolumn) RETURNS hvcolumn
+    AS 'MODULE_PATHNAME', 'pg_hv_compare' LANGUAGE C IMMUTABLE STRICT PARALLEL SAFE COST 100;
+CREATE FUNCTION hv_compare(hvcolumn, operator hv_operator, value bigint) RETURNS hvcolumn
+    AS 'MODULE_PATHNAME', 'pg_hv_compare_number' LANGUAGE C IMMUTABLE STRICT PARALLEL SAFE COST 100;
+CREATE FUNCTION hv_compare(hvcolumn, operator hv_operator, value text) RETURNS hvcolumn
+    AS 'MODULE_PATHNAME', 'pg_hv_compare_text' LANGUAGE C IMMUTABLE STRICT PARALLEL SAFE COST 100;
+CREATE FUNCTION hv_filter(hvcolumn, mask hvcolumn) RETURNS hvcolumn
+    AS 'MODULE_PATHNAME', 'pg_hv_filter_mask' LANGUAGE C IMMUTABLE STRICT PARALLEL SAFE COST 100;
+
 -- Equality by rows, for DISTINCT, GROUP BY, joins and hash indexes. Columns have no order.
 CREATE FUNCTION hv_equal(hvcolumn, hvcolumn) RETURNS boolean
     AS 'MODULE_PATHNAME', 'pg_hv_equal' LANGUAGE C IMMUTABLE STRICT PARALLEL SAFE COST 100;

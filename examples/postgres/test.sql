@@ -80,6 +80,65 @@ SELECT same('SELECT runs = constant, runs <> constant, runs = hv_slice(runs, 0, 
     same('SELECT count(*) FROM e JOIN e f ON e.runs = f.constant', 'SELECT 1')
 \g /dev/null
 
+-- ---- Two columns, row by row: by hand, and next to PostgreSQL's own answers over rows ----
+CREATE TABLE xy(n serial, a bigint, b bigint, s text, t text);
+INSERT INTO xy(a, b, s, t) VALUES (4, 1, 'a', 'b'), (4, 1, 'a', 'a'), (NULL, 1, NULL, 'a'), (7, NULL, 'b', NULL),
+    (0, -9, 'b', 'a'), (0, 0, '', 'a');
+CREATE TABLE z AS SELECT hv_column(a ORDER BY n) AS a, hv_column(b ORDER BY n) AS b, hv_column(s ORDER BY n) AS s,
+    hv_column(t ORDER BY n) AS t, hv_column(NULL::text ORDER BY n) AS nothing FROM xy;
+SELECT same('SELECT r.* FROM z, hv_runs(hv_add(a, b)) r', 'VALUES (0, 2, 5), (2, 4, NULL), (4, 5, -9), (5, 6, 0)'),
+    same('SELECT r.* FROM z, hv_runs(hv_subtract(a, 10)) r', 'VALUES (0, 2, -6), (2, 3, NULL), (3, 4, -3), (4, 6, -10)'),
+    same('SELECT r.* FROM z, hv_runs(hv_multiply(a, a)) r', 'VALUES (0, 2, 16), (2, 3, NULL), (3, 4, 49), (4, 6, 0)'),
+    same('SELECT r.* FROM z, hv_runs(hv_and(a, b)) r', 'VALUES (0, 2, 1), (2, 4, NULL), (4, 6, 0)'),
+    same('SELECT r.* FROM z, hv_runs(hv_or(a, b)) r', 'VALUES (0, 5, 1), (5, 6, 0)'),
+    same('SELECT r.* FROM z, hv_runs(hv_not(a)) r', 'VALUES (0, 2, 0), (2, 3, NULL), (3, 4, 0), (4, 6, 1)'),
+    same($$SELECT r.* FROM z, hv_runs(hv_compare(s, '<=', t)) r$$,
+         'VALUES (0, 2, 1), (2, 4, NULL), (4, 5, 0), (5, 6, 1)'),
+    same($$SELECT r.* FROM z, hv_runs(hv_compare(s, '=', 'b'::text)) r$$,
+         'VALUES (0, 2, 0), (2, 3, NULL), (3, 5, 1), (5, 6, 0)'),
+    same($$SELECT r.* FROM z, hv_text_runs(hv_filter(s, hv_compare(a, '>', b))) r$$, $$VALUES (0, 2, 'a'), (2, 3, 'b')$$),
+    same($$SELECT hv_rows(hv_filter(s, nothing)), hv_count(hv_add(a, nothing)), hv_count(hv_compare(s, '<', nothing)),
+           hv_add(NULL, a), hv_compare(a, '=', NULL::bigint) FROM z$$, 'SELECT 0, 0, 0, NULL, NULL')
+\g /dev/null
+SELECT refused('SELECT hv_add(a, hv_slice(b, 0, 2)) FROM z', 'hv_add: a length of 6 next to one of 2'),
+    refused('SELECT hv_add(a, s) FROM z', 'hv_add: only numbers are added, and this is a column of texts'),
+    refused('SELECT hv_or(s, a) FROM z', 'hv_or: only numbers are connected, and this is a column of texts'),
+    refused('SELECT hv_not(s) FROM z', 'hv_not: only numbers are negated, and this is a column of texts'),
+    refused('SELECT hv_filter(a, s) FROM z', 'hv_filter: only numbers are a mask, and this is a column of texts'),
+    refused('SELECT hv_filter(a, hv_slice(a, 0, 2)) FROM z', 'hv_filter: a mask of 2 rows over a column of 6 rows'),
+    refused($$SELECT hv_compare(a, '<', s) FROM z$$,
+            'hv_compare: a column of numbers is not compared with one of texts'),
+    refused($$SELECT hv_compare(a, '<', 'a'::text) FROM z$$,
+            'hv_compare: a column of numbers is not compared with one of texts'),
+    refused('SELECT hv_multiply(a, 4611686018427387904) FROM z', 'hv_multiply: bigint out of range')
+\g /dev/null
+-- an overflow names its row
+DO $$
+DECLARE detail text;
+BEGIN
+    PERFORM hv_add(b, 9223372036854775807) FROM z;
+    RAISE EXCEPTION 'the sum is not refused';
+EXCEPTION WHEN numeric_value_out_of_range THEN
+    GET STACKED DIAGNOSTICS detail = PG_EXCEPTION_DETAIL;
+    IF detail <> 'Row 0 leaves the range.' THEN RAISE EXCEPTION '%', detail; END IF;
+END $$;
+
+-- ---- Groups ----
+SELECT same('SELECT g.* FROM z, hv_text_groups(s, a) g',
+            $$VALUES ('a', 2, 2, 8, 4, 4, 4, 4), (NULL, 1, 0, NULL, NULL, NULL, NULL, NULL),
+                     ('b', 2, 2, 7, 0, 7, 7, 0), ('', 1, 1, 0, 0, 0, 0, 0)$$),
+    same('SELECT key, sum FROM z, hv_groups(b, a)', 'VALUES (1, 8), (NULL, 7), (-9, 0), (0, 0)'),
+    same('SELECT count(*) FROM z, hv_groups(a, NULL)', 'SELECT 0'),
+    same('SELECT length(key) FROM q, hv_text_groups(c, (SELECT hv_column(n ORDER BY n) FROM w))',
+         'VALUES (4), (NULL), (0), (568), (1)'),
+    refused('SELECT g.* FROM z, hv_groups(a, s) g', 'hv_groups: only numbers are grouped, and this is a column of texts'),
+    refused('SELECT g.* FROM z, hv_groups(s, a) g', 'hv_groups: keys are not a column of numbers'),
+    refused('SELECT g.* FROM z, hv_text_groups(a, a) g', 'hv_text_groups: keys are not a column of texts'),
+    refused('SELECT g.* FROM z, hv_groups(a, hv_slice(a, 0, 2)) g', 'hv_groups: a length of 6 next to one of 2'),
+    refused('SELECT g.* FROM (SELECT hv_column(v) AS v, hv_column(1) AS k FROM (VALUES (9223372036854775807), (1)) x(v)) y,
+             hv_groups(k, v) g', 'hv_groups: bigint out of range')
+\g /dev/null
+
 -- ---- Refusals ----
 SELECT refused($$SELECT '\x00'::hvcolumn$$, 'hvcolumn: the bytes are not a column'),
     refused($$SELECT 'x'::hvcolumn$$, 'hvcolumn: the bytes are not a column'),
@@ -166,6 +225,23 @@ BEGIN
     PERFORM same('SELECT u.* FROM (SELECT hv_column(v ORDER BY n) AS c FROM r) x, hv_runs(c) u',
         'SELECT min(n) - 1, max(n), v FROM (SELECT n, v, sum(s) OVER (ORDER BY n) AS g FROM (SELECT n, v, (n = 1 OR
          v IS DISTINCT FROM lag(v) OVER (ORDER BY n))::int AS s FROM r) y) z GROUP BY g, v ORDER BY g');
+    PERFORM same('SELECT key, rows, count, sum, min, max, first, last FROM
+                  (SELECT hv_column(v ORDER BY n) AS k, hv_column(n ORDER BY n) AS c FROM r) x, hv_groups(k, c)',
+        'SELECT v, count(*), count(n), sum(n), min(n), max(n), min(n), max(n) FROM (SELECT n, v, sum(s) OVER (ORDER BY n)
+         AS g FROM (SELECT n, v, (n = 1 OR v IS DISTINCT FROM lag(v) OVER (ORDER BY n))::int AS s FROM r) y) z
+         GROUP BY g, v ORDER BY g');
+    PERFORM same(format('SELECT %s::text FROM (SELECT hv_column(v ORDER BY n) AS v, hv_column(n %% 3 - 1 ORDER BY n) AS n
+                         FROM r) x', pair[1]),
+                 format('SELECT hv_column(x ORDER BY n)::text FROM (SELECT n, (%s)::int AS x FROM (SELECT n, v,
+                         n %% 3 - 1 AS m FROM r) y) z', pair[2]))
+    FROM (VALUES (ARRAY['hv_add(v, n)', 'v + m']), (ARRAY['hv_subtract(v, n)', 'v - m']),
+          (ARRAY['hv_multiply(v, n)', 'v * m']), (ARRAY['hv_add(v, 5)', 'v + 5']),
+          (ARRAY['hv_and(v, n)', 'v <> 0 AND m <> 0']), (ARRAY['hv_or(v, n)', 'v <> 0 OR m <> 0']),
+          (ARRAY['hv_not(v)', 'v = 0']), (ARRAY[$q$hv_compare(v, '<', n)$q$, 'v < m']),
+          (ARRAY[$q$hv_compare(v, '>=', n)$q$, 'v >= m']), (ARRAY[$q$hv_compare(v, '=', 1)$q$, 'v = 1'])) tried(pair);
+    PERFORM same($q$SELECT hv_filter(v, hv_compare(v, '>', n))::text FROM (SELECT hv_column(v ORDER BY n) AS v,
+                    hv_column(n % 3 - 1 ORDER BY n) AS n FROM r) x$q$,
+                 'SELECT hv_column(v ORDER BY n)::text FROM r WHERE v > n % 3 - 1');
     FOREACH op IN ARRAY ARRAY['=', '<>', '<', '<=', '>', '>='] LOOP
         value := floor(5 * random()) - 2;
         PERFORM same(format('SELECT hv_filter(hv_column(v ORDER BY n), %L, %s)::text FROM r', op, value),
@@ -278,12 +354,16 @@ BEGIN
     SELECT p.c, q.c FROM p, q INTO c, d;
     FOR i IN 1 .. times LOOP
         BEGIN
-            CASE i % 6
+            CASE i % 10
             WHEN 0 THEN PERFORM hv_slice(c, 2, 12);
             WHEN 1 THEN PERFORM hv_filter(d, '=', 5);
             WHEN 2 THEN PERFORM hv_concat(x) FROM (VALUES (d), (c)) v(x);
             WHEN 3 THEN PERFORM hv_sum(d);
             WHEN 4 THEN PERFORM hv_column(1 / (3 - g)) FROM generate_series(1, 3) g;
+            WHEN 5 THEN PERFORM hv_add(c, d);
+            WHEN 6 THEN PERFORM hv_compare(d, '<', hv_slice(d, 0, 2));
+            WHEN 7 THEN PERFORM hv_filter(d, hv_slice(c, 0, 2));
+            WHEN 8 THEN PERFORM g.* FROM hv_text_groups(d, d) g;
             ELSE PERFORM r.* FROM hv_runs(d) r;
             END CASE;
             RAISE EXCEPTION 'call % was not refused', i;
