@@ -29,8 +29,8 @@ MESSAGES = "examples/corpus/messages.txt"
 # The pages by their titles, in groups. What is not a file of this list, and not a crate's page, is not in the site.
 GROUPS = {
     "Use it": {
-        "README.md": "Overview", "docs/PROGRAM.md": "On the command line", "python/README.md": "Python",
-        "docs/TABLES.md": "Tables",
+        "README.md": "Overview", "docs/QUESTIONS.md": "How do I ..?", "docs/PROGRAM.md": "On the command line",
+        "python/README.md": "Python", "docs/TABLES.md": "Tables",
         "examples/README.md": "C, C++, Rust, Arrow", "examples/sqlite/README.md": "SQLite",
         "examples/postgres/README.md": "PostgreSQL", "docs/CALLING.md": "Rattle", "CHANGELOG.md": "Changes",
     },

@@ -12,11 +12,15 @@ import pytest
 from hivevigil import Column
 
 PAGE = Path(__file__).resolve().parents[1] / "README.md"
+QUESTIONS = PAGE.parents[1] / "docs/QUESTIONS.md"
 
 
-def test_the_page():
-    failed, tried = doctest.testfile(str(PAGE), module_relative=False)
-    assert failed == 0 and tried >= 4
+@pytest.mark.parametrize("page, least", [(PAGE, 4), (QUESTIONS, 30)])
+def test_a_page(page, least):
+    if not page.exists():
+        pytest.skip(f"no {page.name}: the package is not in a checkout")
+    failed, tried = doctest.testfile(str(page), module_relative=False)
+    assert failed == 0 and tried >= least
 
 
 def test_version():
