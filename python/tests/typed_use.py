@@ -20,6 +20,12 @@ both: tuple[Row, Row] = column.min_max()
 column.save("file")
 kept: Column = Column.load("file")
 whole: Column = concat([column, kept])
+summed: Column = 2 * column - kept
+less: Column = column < kept
+either: Column = (column == 3) | ~mask
+picked: Column = column.where(mask, 0)
+counted: tuple[Column, Column] = column.value_counts()
+is_same: bool = column.equals(kept) and mask.any()
 builder: Builder = Builder("i64")
 builder.append_value(3, count=2)
 
