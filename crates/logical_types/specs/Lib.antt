@@ -1,0 +1,5 @@
+pub mod Formats
+pub mod Laws
+pub mod Numbers
+pub mod Operations
+pub mod Storage

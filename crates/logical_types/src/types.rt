@@ -1,0 +1,46 @@
+//! The types.
+use column_base::{DecimalDType, PType};
+use float_bits::FloatFormat;
+
+/// What a number of times, timestamps and durations counts.
+#[derive(Clone, Copy, Debug, PartialEq, Eq)]
+pub enum TimeUnit {
+    Second,
+    Millisecond,
+    Microsecond,
+    Nanosecond,
+}
+
+/// What a number of dates counts, from 1970-01-01 on.
+#[derive(Clone, Copy, Debug, PartialEq, Eq)]
+pub enum DateUnit {
+    Day,
+    Millisecond,
+}
+
+/// How wide the decimals of another library are. Here each has 128 bits.
+#[derive(Clone, Copy, Debug, PartialEq, Eq)]
+pub enum DecimalWidth {
+    Bits32,
+    Bits64,
+    Bits128,
+}
+
+/// What the numbers of a column mean.
+#[derive(Clone, Copy, Debug, PartialEq, Eq)]
+pub enum LogicalType {
+    /// Themselves.
+    Integer(PType),
+    /// Floating-point numbers, stored by their keys in the total order (`float_bits`).
+    Float(FloatFormat),
+    /// Days of the calendar.
+    Date(DateUnit),
+    /// Times of a day, counted from midnight.
+    TimeOfDay(TimeUnit),
+    /// Points in time, counted from 1970-01-01 00:00: of UTC where there is a zone, else of an unknown clock.
+    Timestamp(TimeUnit),
+    /// Lengths of time.
+    Duration(TimeUnit),
+    /// Decimals.
+    Decimal(DecimalDType, DecimalWidth),
+}
