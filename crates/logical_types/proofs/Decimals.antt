@@ -1,10 +1,10 @@
 -- The words of decimals: at most one decimal is spelled, and what is written spells its decimal.
-use Rattle.std.proofs.Common.{◌≡◌, ◌≢◌, ◌∙◌, ◌<◌, ◌≤◌, ◌+◌, ◌*◌, ◌^◌, ◌++◌, ◌⊎◌, [], ◌∷◌, ℕ, ℤ, pos, negsuc, neg_ℤ, List, Bool, true, false, length, get_or, drop, zero, suc, refl, ap, ap₂, sym, subst, inl, inr, arith}
+use Rattle.std.proofs.Common.{◌≡◌, ◌∙◌, ◌<◌, ◌≤◌, ◌+◌, ◌*◌, ◌^◌, ◌++◌, [], ◌∷◌, ℕ, ℤ, pos, negsuc, neg_ℤ, List, Bool, true, false, get_or, drop, zero, suc, refl, ap, ap₂, sym, inl, inr, arith}
 use Rattle.std.specs.Prelude.{codes, if◌then◌else◌, ◌==◌, FitsSigned}
 use Rattle.std.specs.Int.{w8}
 use Rattle.std.specs.Fmt.{decimal, signed_decimal}
-use Rattle.std.specs.Str.Parse.{AllDigits, IsNumeral, digits_value, starts_with_minus}
-use Rattle.std.proofs.lemmas.Bool.{eq-eqb, ne_eqb, eqb-true}
+use Rattle.std.specs.Str.Parse.{AllDigits, IsNumeral, digits_value}
+use Rattle.std.proofs.lemmas.Bool.{ne_eqb, eqb-true}
 use Rattle.std.proofs.lemmas.Fmt.{decimal_is_IsNumeral}
 use Rattle.std.proofs.lemmas.Int.{ints}
 use Rattle.std.proofs.lemmas.List.{append-nil}
@@ -12,7 +12,6 @@ use Rattle.std.proofs.lemmas.Str.Parse.{digit_at}
 use Rattle.column_base.specs.declared.dtype.DecimalDType.{DecimalDType}
 use Rattle.logical_types.specs.declared.types.DecimalWidth.{DecimalWidth}
 use Rattle.logical_types.specs.declared.types.DecimalWidth.TheVariants.{Bits32, Bits64, Bits128}
-use Rattle.logical_types.specs.declared.types.LogicalType.{LogicalType}
 use Rattle.logical_types.specs.declared.types.LogicalType.TheVariants.{Decimal}
 use Rattle.logical_types.specs.Formats.{IsEnding, SpellsDecimal, most_digits, written_ending}
 use Rattle.logical_types.specs.Numbers.{IsNumberOf, IsWholeNumberOf, whole_number, without_minus}

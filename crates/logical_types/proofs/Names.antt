@@ -1,7 +1,6 @@
 -- What formats of types begin with, which says the type.
-use Rattle.std.proofs.Common.{◌≡◌, ◌≢◌, ◌∙◌, ◌+◌, ◌*◌, ◌++◌, [], ◌∷◌, ℕ, List, Bool, true, false, refl, ap, sym}
+use Rattle.std.proofs.Common.{◌≡◌, ◌∙◌, ◌+◌, ◌*◌, [], ◌∷◌, ℕ, List, Bool, true, false, refl, ap, sym}
 use Rattle.std.specs.Prelude.{codes, if◌then◌else◌, ◌==◌, pos}
-use Rattle.column_base.specs.declared.dtype.DecimalDType.{DecimalDType}
 use Rattle.column_base.specs.declared.dtype.PType.TheVariants.{U8, U16, U32, U64, I8, I16, I32, I64}
 use Rattle.float_bits.specs.declared.formats.FloatFormat.TheVariants.{F16, F32, F64}
 use Rattle.logical_types.specs.declared.types.TimeUnit.TheVariants.{Second, Millisecond, Microsecond, Nanosecond}
@@ -10,7 +9,7 @@ use Rattle.logical_types.specs.declared.types.DecimalWidth.TheVariants.{Bits128}
 use Rattle.logical_types.specs.declared.types.LogicalType.{LogicalType}
 use Rattle.logical_types.specs.declared.types.LogicalType.TheVariants.{Integer, Float, Date, TimeOfDay, Timestamp, Duration, Decimal}
 use Rattle.logical_types.specs.Formats.{Names, date_format, duration_format, float_format, integer_format, time_format, timestamp_format}
-use Rattle.logical_types.proofs.Cuts.{before, after, has}
+use Rattle.logical_types.proofs.Cuts.{before, has}
 
 -- what comes before the colon, or the whole word where there is none
 abbrev pub front_of : LogicalType → List ℕ

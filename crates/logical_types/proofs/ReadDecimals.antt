@@ -1,5 +1,5 @@
 -- Words that spell no decimal, by what is read of them.
-use Rattle.std.proofs.Common.{◌≡◌, ◌≢◌, ◌∙◌, ◌<◌, ◌≤◌, ◌^◌, ◌++◌, ◌⊎◌, [], ◌∷◌, ℕ, ℤ, List, Bool, true, false, refl, ap, sym, subst, inl, inr, true≢false, arith}
+use Rattle.std.proofs.Common.{◌≡◌, ◌≢◌, ◌∙◌, ◌<◌, ◌≤◌, ◌^◌, ◌++◌, ◌∷◌, ℕ, ℤ, List, true, ap, sym, subst, inl, inr, true≢false, arith}
 use Rattle.std.specs.Prelude.{Option, None, Some, IfNone, codes, FitsSigned}
 use Rattle.std.specs.Int.{w8}
 use Rattle.std.specs.Str.Parse.{digits_value}
@@ -10,7 +10,7 @@ use Rattle.logical_types.specs.declared.types.DecimalWidth.TheVariants.{Bits32, 
 use Rattle.logical_types.specs.Formats.{IsEnding, SpellsDecimal, most_digits, width_format}
 use Rattle.logical_types.specs.Numbers.{IsNumberOf, IsWholeNumberOf}
 use Rattle.logical_types.proofs.Cuts.{HasNone, after, after_at, before, before_at, has, has_at, has_none}
-use Rattle.logical_types.proofs.Decimals.{digits_are, front_is, most_small, places_at, rest_is, scale_is, scale_none, width_at, width_is}
+use Rattle.logical_types.proofs.Decimals.{front_is, most_small, places_at, rest_is, scale_none, width_at}
 
 -- what holds of every answer holds where there is none
 pub if_none : {T : Type 0} (o : Option T) (P : Type 0) → P → IfNone o P

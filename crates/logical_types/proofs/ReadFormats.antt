@@ -1,5 +1,5 @@
 -- What begins as decimals do and spells none names no type.
-use Rattle.std.proofs.Common.{◌≡◌, ◌∙◌, ◌++◌, [], ◌∷◌, ℕ, List, refl, ap, sym, subst}
+use Rattle.std.proofs.Common.{◌≡◌, ◌∙◌, ◌++◌, ℕ, List, ap, sym, subst}
 use Rattle.std.specs.Prelude.{codes}
 use Rattle.column_base.specs.declared.dtype.DecimalDType.{DecimalDType}
 use Rattle.logical_types.specs.declared.types.DecimalWidth.{DecimalWidth}
@@ -7,7 +7,7 @@ use Rattle.logical_types.specs.declared.types.LogicalType.{LogicalType}
 use Rattle.logical_types.specs.declared.types.LogicalType.TheVariants.{Integer, Float, Date, TimeOfDay, Timestamp, Duration, Decimal}
 use Rattle.logical_types.specs.Formats.{Names, SpellsDecimal}
 use Rattle.logical_types.proofs.Cuts.{after, before}
-use Rattle.logical_types.proofs.Names.{front_of, fronts_tell, head_is, no_decimal, sort_of}
+use Rattle.logical_types.proofs.Names.{fronts_tell, head_is, no_decimal, sort_of}
 use Rattle.logical_types.proofs.Unique.{IsNoDecimal}
 
 module _ (word rest : List ℕ) (whole : word ≡ codes "d:" ++ rest) (none : (d : DecimalDType) (w : DecimalWidth) → SpellsDecimal rest d w → ⊥) where

@@ -1,5 +1,5 @@
 -- A word names at most one type and zone, and what is written names its type.
-use Rattle.std.proofs.Common.{◌≡◌, ◌∙◌, ◌++◌, [], ◌∷◌, ℕ, List, refl, ap, sym, subst}
+use Rattle.std.proofs.Common.{◌≡◌, ◌∙◌, ◌++◌, ℕ, List, refl, ap, sym, subst}
 use Rattle.std.specs.Prelude.{codes}
 use Rattle.logical_types.specs.declared.types.TimeUnit.{TimeUnit}
 use Rattle.logical_types.specs.declared.types.TimeUnit.TheVariants.{Second, Millisecond, Microsecond, Nanosecond}
@@ -9,7 +9,7 @@ use Rattle.logical_types.specs.Formats.{Names, SpellsDecimal, timestamp_format}
 use Rattle.logical_types.specs.Laws.{NamesAreUnique, WrittenFormatsAreRead}
 use Rattle.logical_types.proofs.Cuts.{after}
 use Rattle.logical_types.proofs.Decimals.{one_decimal, written_decimal}
-use Rattle.logical_types.proofs.Names.{one_sort, sort_of, no_decimal}
+use Rattle.logical_types.proofs.Names.{one_sort, sort_of}
 
 abbrev pub IsNoDecimal : LogicalType → Type 0
 IsNoDecimal (Integer t) = Unit {0}

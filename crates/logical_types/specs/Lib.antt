@@ -3,3 +3,4 @@ pub mod Laws
 pub mod Numbers
 pub mod Operations
 pub mod Storage
+pub mod Units

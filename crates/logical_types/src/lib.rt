@@ -7,10 +7,12 @@ mod numbers;
 mod operations;
 mod storage;
 mod types;
+mod units;
 mod written;
 
 pub use formats::{Annotation, read_format};
 pub use laws::{names_are_unique, written_formats_are_read};
 pub use operations::Operation;
 pub use types::{DateUnit, DecimalWidth, LogicalType, TimeUnit};
+pub use units::recount;
 pub use written::push_format;
