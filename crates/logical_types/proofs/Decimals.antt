@@ -17,7 +17,7 @@ use Rattle.logical_types.specs.Formats.{IsEnding, SpellsDecimal, most_digits, wr
 use Rattle.logical_types.specs.Numbers.{IsNumberOf, IsWholeNumberOf, whole_number, without_minus}
 use Rattle.logical_types.proofs.Cuts.{HasNone, after, after_at, before, before_at, before_none, has, has_at, has_none}
 
--- ---- Digits, and a minus, are no commas
+-- ---- Digits and a minus are not commas
 
 pub digits_have_none : (word : List ℕ) → AllDigits 10 word → HasNone 44 word
 digits_have_none word all i inside comma = let digit = digit_at word i all inside in absurd (omega (arith, digit))

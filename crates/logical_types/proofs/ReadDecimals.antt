@@ -37,7 +37,7 @@ module _ (word front bits : List ℕ) (whole : word ≡ front ++ (44 ∷ bits)) 
   has_comma : has 44 word ≡ true
   has_comma = rw whole (has_at 44 front bits)
 
-  -- what follows a comma is no width
+  -- what follows a comma is not a width
   pub no_width : ((w : DecimalWidth) → bits ≢ width_format w) → (places ending : List ℕ) (w : DecimalWidth) → HasNone 44 places → IsEnding ending w → word ≢ places ++ ending
   no_width unknown places ending Bits32 none e same = unknown Bits32 (bits_after places (codes "32") none (same ∙ ap (λ tail. places ++ tail) e))
   no_width unknown places ending Bits64 none e same = unknown Bits64 (bits_after places (codes "64") none (same ∙ ap (λ tail. places ++ tail) e))

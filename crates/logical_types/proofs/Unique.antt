@@ -20,7 +20,7 @@ IsNoDecimal (Timestamp u) = Unit {0}
 IsNoDecimal (Duration u) = Unit {0}
 IsNoDecimal (Decimal d w) = ⊥
 
--- a type that is no decimal is its sort
+-- a type other than decimals is its sort
 pub type_of_sort : (t u : LogicalType) → IsNoDecimal t → t ≡ sort_of u → t ≡ u
 type_of_sort t (Integer b) is e = e
 type_of_sort t (Float b) is e = e

@@ -14,11 +14,11 @@ use crate::types::{DateUnit, DecimalWidth, LogicalType, TimeUnit};
 use column_base::{DecimalDType, PType};
 use float_bits::FloatFormat;
 
-/// What travels with a column: what its numbers mean, and, of timestamps, their zone.
+/// Travels with a column: what its numbers mean, and, for timestamps, their zone.
 #[derive(Clone, Copy)]
 pub struct Annotation<'a> {
     pub logical: LogicalType,
-    /// The zone of timestamps, empty where they have none, and for all other types.
+    /// Names the zone of timestamps; empty where they have none, and for all other types.
     pub zone: &'a str,
 }
 
@@ -164,9 +164,11 @@ fn read_decimal(word: &str) -> Option<(DecimalDType, DecimalWidth)>
 
 // Returns the word before the width, or the whole one, and the width.
 fn read_places(word: &str) -> Option<(&str, DecimalWidth)>
-    ensures found { IfSome result (λ found. (ending : List ℕ) × (word.now ≡ found.0.now ++ ending) × IsEnding ending found.1) }
+    ensures found { IfSome result (λ found.
+        (ending : List ℕ) × (word.now ≡ found.0.now ++ ending) × IsEnding ending found.1) }
     ensures before { IfSome result (λ found. HasNoComma found.0.now) }
-    ensures none { IfNone result ((places ending : List ℕ) (w : DecimalWidth) → HasNoComma places → IsEnding ending w → word.now ≢ places ++ ending) }
+    ensures none { IfNone result ((places ending : List ℕ) (w : DecimalWidth) →
+        HasNoComma places → IsEnding ending w → word.now ≢ places ++ ending) }
 {
     match word.split_once(',') {
         None => Some((word, DecimalWidth::Bits128)),

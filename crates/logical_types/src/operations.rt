@@ -6,7 +6,7 @@ use crate::formats::Annotation;
 use crate::types::LogicalType;
 use column_base::PType;
 
-/// What is done to a column, or asked of it.
+/// Says what is done to a column, or asked of it.
 #[derive(Clone, Copy, Debug, PartialEq, Eq)]
 pub enum Operation {
     Slice,
@@ -51,7 +51,8 @@ impl Annotation<'_> {
     /// Returns whether rows of both are compared by their numbers: they are of one type, and of timestamps both have a
     /// zone, whichever it is, or neither has one.
     pub fn is_compared_with(self, other: Annotation<'_>) -> bool
-        ensures { IsTrue result ↔ IsCompared self.entry.logical self.entry.zone.now other.entry.logical other.entry.zone.now }
+        ensures { IsTrue result ↔
+            IsCompared self.entry.logical self.entry.zone.now other.entry.logical other.entry.zone.now }
     {
         self.logical == other.logical && self.zone.is_empty() == other.zone.is_empty()
     }

@@ -2,7 +2,7 @@
 use column_base::{DecimalDType, PType};
 use float_bits::FloatFormat;
 
-/// What a number of times, timestamps and durations counts.
+/// Says what a number of times, timestamps and durations counts.
 #[derive(Clone, Copy, Debug, PartialEq, Eq)]
 pub enum TimeUnit {
     Second,
@@ -11,14 +11,14 @@ pub enum TimeUnit {
     Nanosecond,
 }
 
-/// What a number of dates counts, from 1970-01-01 on.
+/// Says what a number of dates counts, from 1970-01-01 on.
 #[derive(Clone, Copy, Debug, PartialEq, Eq)]
 pub enum DateUnit {
     Day,
     Millisecond,
 }
 
-/// How wide the decimals of another library are. Here each has 128 bits.
+/// Says how wide the decimals of another library are. Here each has 128 bits.
 #[derive(Clone, Copy, Debug, PartialEq, Eq)]
 pub enum DecimalWidth {
     Bits32,
@@ -26,7 +26,7 @@ pub enum DecimalWidth {
     Bits128,
 }
 
-/// What the numbers of a column mean.
+/// Says what the numbers of a column mean.
 #[derive(Clone, Copy, Debug, PartialEq, Eq)]
 pub enum LogicalType {
     /// Themselves.

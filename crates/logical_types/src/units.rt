@@ -7,7 +7,7 @@ ghost use Rattle.logical_types.specs.Units.{IsSameTime, counted_type, kind_of, n
 use crate::types::{DateUnit, LogicalType, TimeUnit};
 use column_base::NativePType;
 
-/// What times are of: a time is counted anew in a type of its kind.
+/// Says what times are of: a time is counted anew in a type of its kind.
 #[derive(Clone, Copy, Debug, PartialEq, Eq)]
 pub enum TimeKind {
     /// Points in time: dates, and timestamps.

@@ -1,4 +1,5 @@
-//! Times counted in other units. Python made the table: `fractions.Fraction(value * unit, other)` is whole or it is not.
+//! Times counted in other units. Python made the table: `fractions.Fraction(value * unit, other)` is whole, or it is
+//! not.
 use logical_types::{read_format, recount};
 
 // A number, the format of its type, another format, and the number that counts the same time in it.
