@@ -134,11 +134,11 @@ def test_each_byte_counts(tmp_path):
 
 
 def test_files_that_are_no_tables(tmp_path):
-    KEPT["level"].save(tmp_path / "column")
+    KEPT["same"].save(tmp_path / "column")
     (tmp_path / "text").write_text("place,level\n")
     (tmp_path / "empty").write_bytes(b"")
     for name, size, more in (
-        ("column", len(KEPT["level"].to_bytes()), ": Column.load reads the file of a column"),
+        ("column", len(KEPT["same"].to_bytes()), ": Column.load reads the file of a column"),
         ("text", 12, ""), ("empty", 0, ""),
     ):  # fmt: skip
         said = f"load: {tmp_path / name}, of {size} bytes, is not a file that Table.save wrote{more}"

@@ -174,14 +174,14 @@ def test_groups(sample, numbers, data):
 def test_groups_of_a_table():
     table = Table(
         {"station": ["a", "a", "b", "a"], "day": Column.of([1, 2, 2, 3], "i32"), "level": [5, None, 7, 2**63 - 1]},
-        {"day": "tdD"},
+        {"day": "tiM"},
     )
     found = table.group_by("station").agg({"total level": ("level", "sum")}, days="size", since=("day", "first"))
     assert found.to_dict() == {
         "station": ["a", "b", "a"], "total level": [5, 7, 2**63 - 1], "days": [2, 1, 1], "since": [1, 2, 3],
     }
-    assert found.logical_types == {"since": "tdD"}
-    assert table.group_by("day").agg(n="size").logical_types == {"day": "tdD"}
+    assert found.logical_types == {"since": "tiM"}
+    assert table.group_by("day").agg(n="size").logical_types == {"day": "tiM"}
     by_day = table.with_column("day", [1, 1, 1, 1]).group_by("day")
     with pytest.raises(OverflowError, match="^column 'level': sum: group 0 does not fit i64$"):
         by_day.agg(total=("level", "sum"))
@@ -220,7 +220,7 @@ def test_lists():
     assert table.filter_by("b", "<", 3).append(table[2:]).equals(table) and "lists" in table._repr_html_()
 
 
-T = Table({"a": [1, 2, None], "b": ["x", "y", "z"]}, {"a": "tsu:UTC"})
+T = Table({"a": [1, 2, None], "b": ["x", "y", "z"]}, {"a": "tiM"})
 
 
 @pytest.mark.parametrize(
@@ -270,7 +270,7 @@ T = Table({"a": [1, 2, None], "b": ["x", "y", "z"]}, {"a": "tsu:UTC"})
         (lambda: T.drop("b").append(T), ValueError,
          "append: the tables have columns of different names: only the other has 'b'"),
         (lambda: T.append(Table({"a": T["a"], "b": T["b"]})), errors.TypeMismatch,
-         "append: the logical types of column 'a' are tsu:UTC and none"),
+         "append: the logical types of column 'a' are tiM and none"),
         (lambda: T.append(T.with_column("b", [1, 2, 3])), errors.TypeMismatch,
          "column 'b': concat: utf8 and i64 are two types; columns of one type are joined"),
         (lambda: T.group_by("b").agg(b="size"), ValueError, "two columns have the name 'b': it is that of the keys"),
@@ -285,7 +285,7 @@ def test_refusals(call, kind, said):
     with pytest.raises(kind) as refused:
         call()
     assert str(refused.value).startswith(said)
-    assert T.to_dict() == {"a": [1, 2, None], "b": ["x", "y", "z"]} and T.logical_types == {"a": "tsu:UTC"}
+    assert T.to_dict() == {"a": [1, 2, None], "b": ["x", "y", "z"]} and T.logical_types == {"a": "tiM"}
 
 
 def test_a_name_that_is_not_there_is_pickled():
