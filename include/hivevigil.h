@@ -436,9 +436,11 @@ HV_ANSWER hv_write_size(const hv_column *column, size_t *size, hv_error *error);
 /* Writes the message to the front of `bytes`, which takes no memory, and its number of bytes to *size; 11 (needed,
  * bytes_len) where it does not fit. Refused, it leaves `bytes` as it was. 21 only for 2^64 bytes or more. */
 HV_ANSWER hv_write(const hv_column *column, uint8_t *bytes, size_t bytes_len, size_t *size, hv_error *error);
-/* The column that was written so; 17 for bytes that are the message of no column, or 21 where memory is refused before
- * the damage of lists is found, under runs too; for other bytes 21 comes only where they are a message. */
+/* The column that was written so; 17 exactly for bytes that are the message of no column, so 21 only for a message. */
 HV_ANSWER hv_read_column(const uint8_t *bytes, size_t bytes_len, hv_column *out, hv_error *error);
+/* Are the bytes the message of a column? 1, or 0. Takes no memory, and refuses nothing: for bytes of a stranger before
+ * any of them is read. */
+HV_ANSWER hv_is_message(const uint8_t *bytes, size_t bytes_len, uint8_t *truth, hv_error *error);
 
 /* Frees the column, if there is one; the handle is empty afterwards. */
 HV_CALL void hv_free(hv_column *column);

@@ -132,6 +132,12 @@ public:
             return hv_read_column(message.data(), message.size(), out, error);
         });
     }
+    // Are the bytes what to_bytes writes of some column? Nothing is made.
+    static bool is_message(const Bytes &message) {
+        uint8_t truth = 0;
+        detail::ask([&](auto *error) { return hv_is_message(message.data(), message.size(), &truth, error); });
+        return truth != 0;
+    }
     Column clone() const {
         return made([&](auto *out, auto *error) { return hv_clone(&handle, out, error); });
     }

@@ -460,6 +460,11 @@ HV_ANSWER hv_read_column(const uint8_t *bytes, size_t bytes_len, hv_column *out,
     HV_ITEMS(const uint8_t, bytes, bytes_len);
     return (hv_read_column)(bytes, bytes_len, out, HV_FIELDS);
 }
+HV_ANSWER hv_is_message(const uint8_t *bytes, size_t bytes_len, uint8_t *truth, hv_error *error) {
+    hv_error ignored;
+    HV_ITEMS(const uint8_t, bytes, bytes_len);
+    return (hv_is_message)(bytes, bytes_len, truth, HV_FIELDS);
+}
 /* end of what tools/declarations.py makes */
 
 #undef HV_ITEMS

@@ -117,7 +117,10 @@ static void print_written(const hv_column *column) {
 static void answer(const uint8_t *bytes, size_t len) {
     hv_column column = HV_EMPTY;
     hv_error error;
+    uint8_t is_message;
     int32_t read = hv_read_column(bytes, len, &column, &error);
+    expect(hv_is_message(bytes, len, &is_message, &error), 0, "hv_is_message");
+    expect(is_message, read == 0, "hv_is_message, in its truth,");
     if (read != 0) {
         expect(read, HV_BAD_METADATA, "hv_read_column");
         puts("refused");

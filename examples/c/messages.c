@@ -63,6 +63,13 @@ static bool is_filled(const uint8_t *bytes, size_t len) {
     return true;
 }
 
+static bool is_message(const uint8_t *bytes, size_t len) {
+    uint8_t truth;
+    FILL(truth);
+    CHECK(!hv_is_message(bytes, len, &truth, &error) && truth <= 1);
+    return truth;
+}
+
 /* The message of a column is these bytes, after which nothing is written; with room for one less there is none, and
  * nothing is written at all; what is read of it has these rows. */
 static void check_message(hv_column *column, const uint8_t *message, size_t len, const char *rows) {
@@ -80,7 +87,7 @@ static void check_message(hv_column *column, const uint8_t *message, size_t len,
 
     hv_column read = HV_EMPTY;
     uint8_t form, read_form;
-    CHECK(!hv_read_column(message, len, &read, &error));
+    CHECK(is_message(message, len) && !hv_read_column(message, len, &read, &error));
     CHECK_ROWS(&read, rows);
     form = hv_form(column), read_form = hv_form(&read);
     CHECK(form == read_form && hv_offset(column) == hv_offset(&read));
@@ -95,16 +102,18 @@ static void check_damaged(const uint8_t *message, size_t len) {
     for (size_t kept = 0; kept < len; kept++) {
         memcpy(damaged, message, len);
         CHECK_REFUSED(hv_read_column(damaged, kept, &out, &error), 17, 0, 0, 0);
+        CHECK(!is_message(damaged, kept));
     }
     damaged[len] = 0;
     CHECK_REFUSED(hv_read_column(damaged, len + 1, &out, &error), 17, 0, 0, 0);
+    CHECK(!is_message(damaged, len + 1));
     CHECK_ROWS(&out, "7 null");
     for (size_t at = 0; at < len; at++)
         for (int bit = 0; bit < 8; bit++) {
             memcpy(damaged, message, len);
             damaged[at] = (uint8_t)(damaged[at] ^ 1 << bit);
             int32_t answer = hv_read_column(damaged, len, &out, &error);
-            CHECK(answer == 0 || answer == 17);
+            CHECK((answer == 0 || answer == 17) && is_message(damaged, len) == (answer == 0));
             if (answer) continue;
             /* what was read has these bytes, and no others */
             uint8_t again[LONGEST];

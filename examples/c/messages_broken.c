@@ -252,6 +252,9 @@ static bool check_answer(const uint8_t *bytes, size_t len, hv_column *kept) {
     int32_t answer = hv_read_column(message, len, &out, &error);
     CHECK(answer == 0 || answer == HV_BAD_METADATA);
     CHECK(most_held - before <= 24 * len + 4096);
+    uint8_t is_message;
+    most_held = held;
+    CHECK(!hv_is_message(message, len, &is_message, &error) && is_message == (answer == 0) && most_held == held);
     if (answer != 0) {
         CHECK(held == before);
         CHECK_REFUSED(hv_read_column(message, len, kept, &error), HV_BAD_METADATA, 0, 0, 0);

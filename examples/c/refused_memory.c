@@ -242,6 +242,7 @@ STEP(size_of_lists, hv_write_size(&lists, &size, &error))
 STEP(write_lists, hv_write(&list_runs, message, sizeof message, &size, &error))
 STEP(lists_of_message, hv_read_column(lists_message, lists_size, &out, &error))
 STEP(write_decoded_lists, hv_write(&decoded_lists, message, sizeof message, &size, &error))
+STEP(is_message, hv_is_message(decoded_message, decoded_size, &truth, &error))
 STEP(decoded_lists_of_message, hv_read_column(decoded_message, decoded_size, &out, &error))
 STEP(export_flat, hv_arrow_export(&session, &flat, "flat", &schema, &array, &error))
 STEP(export_runs, hv_arrow_export(&session, &part, "runs", &schema, &array, &error))
@@ -374,7 +375,7 @@ static const step steps[] = {
     NAMED(serialize), NAMED(deserialize), NAMED(size_of_message), NAMED(write_message), NAMED(column_of_message),
     NAMED(write_decimals), NAMED(decimals_of_message), NAMED(write_constant), NAMED(constant_of_message),
     NAMED(write_texts), NAMED(texts_of_message), NAMED(size_of_lists), NAMED(write_lists), NAMED(lists_of_message),
-    NAMED(write_decoded_lists), NAMED(decoded_lists_of_message),
+    NAMED(write_decoded_lists), NAMED(is_message), NAMED(decoded_lists_of_message),
     NAMED(export_flat), NAMED(export_runs), NAMED(export_constant),
     NAMED(export_texts), NAMED(export_truths), NAMED(export_dictionary), NAMED(import_texts),
     NAMED(import_dictionary), NAMED(export_and_import),
@@ -409,10 +410,11 @@ static bool try_step(const step *it, long number, bool rest) {
     return was_refused;
 }
 
-/* Reads, messages that are measured or written, and these questions over runs whose kernels are registered and whose
+/* Reads, messages that are measured or written, and these questions, over runs whose kernels are registered and whose
  * values are not texts, take no memory. */
 static bool takes_no_memory(const char *name) {
-    static const char *const questions[] = {"sum", "is_constant", "is_sorted", "extreme", "min_max_numbers"};
+    static const char *const questions[] = {"sum", "is_constant", "is_sorted", "extreme", "min_max_numbers",
+                                            "is_message"};
     static const char *const fronts[] = {"read_", "size_of_", "write_"};
     for (size_t i = 0; i < COUNT(questions); i++)
         if (strcmp(name, questions[i]) == 0) return true;

@@ -90,6 +90,7 @@ static void check_lists() {
     const hv::Bytes message = some.to_bytes();
     const Column read = Column::from_bytes(message);
     CHECK(message.size() == 102 && read.to_bytes() == message && read.form() == hv::Form::lists);
+    CHECK(Column::is_message(message) && !Column::is_message({}));
     CHECK(read.list_validity().truths() == valid && rows_of(read.list_elements()) == rows_of(elements));
     CHECK(read.list_offsets().numbers<uint64_t>() == (std::vector<uint64_t>{0, 9})); // also of the list that is null
 }

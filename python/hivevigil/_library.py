@@ -107,7 +107,7 @@ _LONG = frozenset("hv_" + name for name in (
     "compare_scalar", "combine", "fill", "fold_by", "sum", "is_constant", "is_sorted", "extreme", "min_max",
     "read_u8", "read_u16", "read_u32", "read_u64", "read_i8", "read_i16", "read_i32", "read_i64", "read_decimals",
     "read_bools_from", "read_validity_from", "read_large_offsets", "read_bytes", "read_ends_u64",
-    "write_size", "write", "read_column",
+    "write_size", "write", "read_column", "is_message",
 ))
 _MANY = 16384  # rows, runs, items or bytes: from here on a call takes longer than the clones that it is lent
 _LIST = 12  # the number of the type of lists

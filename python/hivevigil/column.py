@@ -185,6 +185,14 @@ class Column(_comparing.Comparisons, _pairs.Pairs):
         data = bytes(_making.view_of(message))  # of a number bytes() would make as many bytes
         return cls._made(calls.hv_read_column, data or b"\0", len(data))
 
+    @staticmethod
+    def is_message(message: bytes) -> bool:
+        """Whether the bytes are what `to_bytes` writes of some column, so that `from_bytes` reads them. Nothing is
+        made: it takes no memory but for a copy of bytes that are not of the type `bytes`."""
+        data, truth = bytes(_making.view_of(message)), ctypes.c_uint8()
+        ask(calls.hv_is_message, data or b"\0", len(data), truth)
+        return truth.value == 1
+
     @classmethod
     def load(cls, path: Any) -> Column:
         """The column that `save` wrote to a file. `BadMetadata` for a file of other bytes, OSError for none."""

@@ -265,6 +265,13 @@ impl Column {
         })
     }
 
+    /// Returns whether the bytes are what [`Column::to_bytes`] writes of some column. Nothing is made.
+    pub fn is_message(bytes: &[u8]) -> bool {
+        let (mut truth, mut fields) = (0, Fields::default());
+        unsafe { raw::hv_is_message(bytes.as_ptr(), bytes.len(), &mut truth, &mut fields) };
+        truth != 0
+    }
+
     /// Returns the same column in the same form. What holds 32 items or more is shared and not copied.
     pub fn try_clone(&self) -> Result<Column, Error> {
         self.part(|column, out, fields| unsafe { raw::hv_clone(column, out, fields) })

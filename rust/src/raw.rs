@@ -536,6 +536,12 @@ extern "C" {
         out: *mut Handle,
         error: *mut Fields,
     ) -> i32;
+    pub fn hv_is_message(
+        bytes: *const u8,
+        bytes_len: usize,
+        truth: *mut u8,
+        error: *mut Fields,
+    ) -> i32;
     pub fn hv_free(column: *mut Handle);
 }
 // end of what tools/declarations.py makes

@@ -140,8 +140,10 @@ fn columns_as_bytes() -> Result<(), Error> {
     let again = Column::from_bytes(&message)?;
     assert_eq!((rows(&again)?, again.offset()), (rows(&own)?, 1));
     assert_eq!(again.to_bytes()?, message);
+    assert!(Column::is_message(&message));
     for kept in 0..message.len() {
         assert!(Column::from_bytes(&message[..kept]).is_err());
+        assert!(!Column::is_message(&message[..kept]));
     }
     // version 1, texts, flat, two rows without null; lengths 1 and 0, and the bytes
     let texts = Column::texts(&["a", ""], None)?;
@@ -204,11 +206,13 @@ fn lists_as_bytes() -> Result<(), Error> {
     assert!(lists.kind().is_list() && lists.kind().is_nullable());
     assert_eq!((lists.form(), lists.len()), (Form::Lists, 2));
     assert_eq!(lists.to_bytes()?, message);
+    assert!(Column::is_message(&message));
     let cut = message.len() - 1;
     let refusal = refused(17, 0, 0, 0);
     assert_eq!(Column::from_bytes(&message[..cut]).err(), Some(refusal));
     // a valid list from 9 on leaves the elements
     message[12] = 3;
+    assert!(!Column::is_message(&message));
     assert_eq!(Column::from_bytes(&message).err(), Some(refusal));
     Ok(())
 }

@@ -1,10 +1,12 @@
 //! Columns as messages, and columns of messages.
 ghost use Rattle.std.specs.Prelude.{◌≡◌, length, IfOk, IfErr, OnErr, OnOk};
 ghost use Rattle.runend_array.specs.Array.{column_of};
-ghost use Rattle.c_columns.specs.Messages.{HasMessage, IsColumnOfMessage, IsMessageAtFront, IsUnreadable, MessageFault, ReadFault, SizeFault};
+ghost use Rattle.c_columns.specs.Flags.{Tells};
+ghost use Rattle.c_columns.specs.Messages.{AreMessage, HasMessage, IsColumnOfMessage, IsMessageAtFront, IsUnreadable, MessageFault, ReadFault, SizeFault};
 
 use crate::flat::{Boxed, boxed};
 use crate::front::Front;
+use crate::questions::byte_of;
 use column_bytes::read_column;
 use column_core::{VortexError, VortexResult};
 use runend_array::ArrayRef;
@@ -47,8 +49,8 @@ pub fn put_message(array: &ArrayRef<Global>, room: &mut [u8]) -> VortexResult<us
     Ok(size)
 }
 
-/// Returns the column of which the bytes are the message, on the heap. Refused as `BadMetadata` only where they are the
-/// message of no column, and always where they do not even begin as one does; else refused for memory.
+/// Returns the column of which the bytes are the message, on the heap. Refused as `BadMetadata` exactly where they are
+/// the message of no column, else as `OutOfMemory` only.
 #[tactic(auto, using(crate::proofs::MessageEndings::read_served))]
 pub fn column_of_message(alloc: Global, bytes: &[u8]) -> VortexResult<Boxed>
     ensures made { IfOk result (λ made. IsColumnOfMessage bytes.now made.value) }
@@ -59,4 +61,12 @@ pub fn column_of_message(alloc: Global, bytes: &[u8]) -> VortexResult<Boxed>
         Ok(array) => boxed(alloc, array),
         Err(error) => Err(error),
     }
+}
+
+/// Returns 1 where the bytes are the message of a column, else 0. Takes no memory.
+#[tactic(auto, using(crate::proofs::MessageEndings::message_told))]
+pub fn is_message(bytes: &[u8]) -> u8
+    ensures { Tells result (AreMessage bytes.now) }
+{
+    byte_of(column_bytes::is_message(bytes))
 }

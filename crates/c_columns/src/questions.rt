@@ -201,8 +201,8 @@ fn check_no_lists(dtype: DType) -> VortexResult<()>
     }
 }
 
-// 1 for true, 0 for false.
-fn byte_of(truth: bool) -> u8
+/// Returns 1 for true, 0 for false.
+pub(crate) fn byte_of(truth: bool) -> u8
     ensures { result ≡ byte_of_truth truth }
 {
     truth as u8

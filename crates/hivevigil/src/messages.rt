@@ -1,7 +1,8 @@
 //! Calls that write columns as messages, and read messages.
 ghost use Rattle.std.specs.Prelude.{◌≡◌, ◌≢◌, IsSomeAnd, length, pos};
 ghost use Rattle.runend_array.specs.Array.{column_of};
-ghost use Rattle.c_columns.specs.Messages.{EndsOnReading, EndsOnSize, EndsOnWrite, HasMessage, IsColumnOfMessage, IsMessageAtFront};
+ghost use Rattle.c_columns.specs.Flags.{Tells};
+ghost use Rattle.c_columns.specs.Messages.{AreMessage, EndsOnReading, EndsOnSize, EndsOnWrite, HasMessage, IsColumnOfMessage, IsMessageAtFront};
 
 use c_columns::commands::answer;
 use c_columns::error_fields::{ErrorFields, NO_COLUMN, write_answer};
@@ -57,8 +58,8 @@ pub extern "C" fn hv_write(
     write_answer(outcome, size, error)
 }
 
-/// Makes the column of which the bytes are the message. Refused as `BadMetadata` only where they are the message of no
-/// column, and always where they do not even begin as one does.
+/// Makes the column of which the bytes are the message. Refused as `BadMetadata` exactly where they are the message of
+/// no column, else as `OutOfMemory` only.
 #[tactic(auto, using(c_columns::proofs::MessageEndings::read_done, c_columns::proofs::MessageEndings::read_refused))]
 #[unsafe(no_mangle)]
 pub extern "C" fn hv_read_column(
@@ -72,4 +73,16 @@ pub extern "C" fn hv_read_column(
     ensures ended { EndsOnReading bytes.now result error.new }
 {
     answer(messages::column_of_message(alloc, bytes), out, error)
+}
+
+/// Writes 1 to `truth` where the bytes are the message of a column, else 0. Takes no memory, and is never refused.
+#[unsafe(no_mangle)]
+pub extern "C" fn hv_is_message(bytes: &[u8], truth: &mut u8, error: &mut ErrorFields) -> i32
+    ensures told { Tells truth.new (AreMessage bytes.now) }
+    ensures served { result ≡ pos 0 }
+    ensures kept { error.new ≡ error.old }
+{
+    let _ = error;
+    *truth = messages::is_message(bytes);
+    0
 }
