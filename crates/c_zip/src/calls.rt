@@ -3,7 +3,7 @@ ghost use Rattle.std.specs.Prelude.{◌≡◌, ◌≢◌, IfErr, IfOk, IsSomeAnd
 ghost use Rattle.c_columns.specs.Ending.{WhereAll};
 ghost use Rattle.c_zip.specs.Combined.{operator_numbered, AreCombined, EndsOnPairs, IsToldAs};
 
-use crate::combined::combined;
+use crate::combined::combine;
 use crate::operators::{PairOperator, pair_operator_by};
 use c_columns::error_fields::{BAD_NUMBER, ErrorFields, NO_COLUMN, refuse};
 use c_columns::flat::Boxed;
@@ -14,7 +14,7 @@ use std::alloc::Global;
 
 /// Puts what the operator of this number answers of the two rows at each place into a handle, and returns 0. Else
 /// returns the number of an error, and leaves that handle: 23 for a number that names no operator, then 22 for an empty
-/// handle, and then as `combined` is refused, with 14 and the row in the first field for an integer that the type does
+/// handle, and then as `combine` is refused, with 14 and the row in the first field for an integer that the type does
 /// not have.
 pub fn combine_handles(
     alloc: Global,
@@ -61,7 +61,7 @@ fn combine_held(
         left.put(lent);
         return NO_COLUMN;
     };
-    let outcome = combined(alloc, &lent, operator, &array);
+    let outcome = combine(alloc, &lent, operator, &array);
     left.put(lent);
     right.put(array);
     answer(outcome, out, error)

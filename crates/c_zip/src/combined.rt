@@ -13,7 +13,7 @@ use std::alloc::Global;
 /// Returns what the operator answers of the two rows at each place: a constant where both columns are constants that
 /// have a row, else runs, as few as possible. Refused as `compare`, `numeric` and `boolean` of `runend_zip` refuse, and
 /// for memory.
-pub fn combined(
+pub fn combine(
     alloc: Global,
     left: &ArrayRef<Global>,
     operator: PairOperator,

@@ -6,5 +6,5 @@ mod combined;
 mod operators;
 
 pub use calls::combine_handles;
-pub use combined::combined;
+pub use combined::combine;
 pub use operators::{PairOperator, pair_operator_by};
