@@ -1,0 +1,5 @@
+pub mod KeyBounds
+pub mod TestMeanings
+pub mod StoredRows
+pub mod TestedRows
+pub mod KeyExtremes

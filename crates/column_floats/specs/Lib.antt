@@ -1,0 +1,5 @@
+pub mod Formats
+pub mod FloatRows
+pub mod Patterns
+pub mod Comparisons
+pub mod Extremes
