@@ -15,12 +15,14 @@ from ._arrow_structs import ArrowArray, ArrowArrayStream, ArrowSchema
 from ._library import ArrowOptions, Fields, Handle, ask, calls, calls_without_lock, session
 from ._values import NOT_FLOAT, checked_text
 from .errors import ArrowStreamFailed, HivevigilError, TypeMismatch, Unsupported, in_words, refusal
+from .logical import LogicalType
 
 if TYPE_CHECKING:
     from .column import Column
 
 _AS_IT_IS, _AS_RUNS, _AS_FLAT = range(3)
 _RUNS, _BATCH = b"+r", b"+s"
+_DEPTH = 65  # of runs and dictionaries, as hivevigil_arrow.h has it
 _NOT_SERVED = re.compile(r"[efgn]|\+[smwuv].*|d:.*,256|ti[Dn]|.* within a list", re.DOTALL)
 _WORDS = 512  # bytes of what a stream says of its failure
 
@@ -95,6 +97,9 @@ def _text(value: Any, what: str) -> bytes:
 
 def export(column: Column, name: str, format: Optional[str], dictionary: Optional[Column]) -> Exported:
     options = ArrowOptions()
+    logical = getattr(column if dictionary is None else dictionary, "_logical", None)
+    if format is None and logical is not None:
+        format = logical.format
     options.format = None if format is None else _text(format, "a format")
     values = None if dictionary is None else column._beside(dictionary)
     if values is not None:
@@ -108,25 +113,29 @@ def export(column: Column, name: str, format: Optional[str], dictionary: Optiona
     return exported
 
 
-def _options(requested: Any) -> Iterator[Any]:
-    """What is tried in turn: the form and format that a consumer asks for, only the form, the column as it is."""
+def _options(column: Column, requested: Any) -> Iterator[Any]:
+    """What is tried in turn: the form and format that a consumer asks for, only the form, the column as it is. A column
+    with a logical type goes out in the format of the type, and a consumer casts what it wants otherwise."""
+    own = None if column._logical is None else column._logical.format.encode()
     if requested is not None:
-        yield from _asked_options(_held(requested, ArrowSchema))
-    yield ArrowOptions()
+        yield from _asked_options(_held(requested, ArrowSchema), own)
+    yield ArrowOptions(format=own)
 
 
-def _asked_options(schema: Any) -> list[ArrowOptions]:
-    """The form and format of a schema that is asked for, then only the form."""
+def _asked_options(schema: Any, own: Optional[bytes]) -> list[ArrowOptions]:
+    """The form and format of a schema that is asked for, then only the form; in a format of its own that a column has
+    only this one."""
     is_runs = schema.format == _RUNS and schema.n_children == 2
     values = schema.children[1].contents if is_runs else schema
     form = _AS_RUNS if is_runs else _AS_FLAT
-    return [ArrowOptions(form=form, format=values.format), ArrowOptions(form=form)]
+    asked = [ArrowOptions(form=form, format=values.format)] if own is None else []
+    return [*asked, ArrowOptions(form=form, format=own)]
 
 
 def array_capsules(column: Column, requested: Any) -> tuple[Any, Any]:
     schema_capsule, schema = _new(ArrowSchema)
     array_capsule, items = _new(ArrowArray)
-    for options in _options(requested):
+    for options in _options(column, requested):
         try:
             ask(calls.hv_export_with, session, column, b"", options, schema, items)
             return schema_capsule, array_capsule
@@ -142,7 +151,7 @@ def schema_capsule(column: Column) -> Any:
 def stream_capsule(column: Column, requested: Any) -> Any:
     """A stream of arrays with one chunk: all rows."""
     capsule, stream = _new(ArrowArrayStream)
-    for options in _options(requested):
+    for options in _options(column, requested):
         try:
             ask(calls.hv_export_stream, session, column, None, 1, 0, options, stream)
             return capsule
@@ -198,9 +207,9 @@ def _children_of(requested: Any, count: int) -> list[Any]:
 
 def _settled(name: str, column: Column, format: Optional[str], asked: Any) -> ArrowOptions:
     """How a column goes out: as it is asked for where that can be, else in its logical type."""
-    own = ArrowOptions(format=None if format is None else _text(format, "a format"))
+    own = None if format is None else _text(format, "a format")
     none = column.slice(0, 0)
-    for options in [*([] if asked is None else _asked_options(asked)), own]:
+    for options in [*([] if asked is None else _asked_options(asked, own)), ArrowOptions(format=own)]:
         with Exported() as (schema, items):
             try:
                 ask(calls.hv_export_with, session, none, b"", options, schema, items)
@@ -242,6 +251,24 @@ def imported(source: Any, kind: type[Column]) -> Imported:
     raise TypeError(f"from_arrow takes an array, a batch or a table of an Arrow library, not {in_words(source)}")
 
 
+def logical_of(schema: Any, child: Optional[int] = None) -> Optional[LogicalType]:
+    """What the integers of an array mean, or of a child of a batch, below runs and dictionaries; None of others, and
+    of a schema that the import refuses."""
+    part = ArrowSchema.from_address(schema) if isinstance(schema, int) else schema
+    if child is not None:
+        if not part.children or not 0 <= child < part.n_children:
+            return None
+        part = part.children[child].contents
+    for _ in range(_DEPTH):
+        if part.dictionary:
+            part = part.dictionary.contents
+        elif part.format == _RUNS and part.n_children == 2 and part.children:
+            part = part.children[1].contents
+        else:
+            break
+    return LogicalType.of_format((part.format or b"").decode(errors="replace"))
+
+
 def _names_of(schema: Any) -> Optional[list[str]]:
     """The names of a batch's children; None of an array."""
     if schema.format != _BATCH:
@@ -253,9 +280,9 @@ def _names_of(schema: Any) -> Optional[list[str]]:
 
 
 def _formats_of(schema: Any) -> list[str]:
-    """The formats of a batch's children, below runs and dictionaries."""
+    """The formats of a batch's children, below runs and dictionaries; of an array its own."""
     if schema.format != _BATCH:
-        return []
+        return [_format_below(schema)]
     return [_format_below(schema.children[child].contents) for child in range(schema.n_children)]
 
 
@@ -275,9 +302,12 @@ def _of_array(capsules: Any, kind: type[Column]) -> Imported:
     formats = _formats_of(schema)
     try:
         if names is None:
-            return Imported(None, [kind._made(calls.hv_import_array, session, byref(schema), byref(items))], formats)
+            column = kind._made(calls.hv_import_array, session, byref(schema), byref(items))
+            return Imported(None, [column._meaning(logical_of(schema))], formats)
         columns = [
-            kind._made(calls.hv_import_child, session, byref(schema), byref(items), child)
+            kind._made(calls.hv_import_child, session, byref(schema), byref(items), child)._meaning(
+                logical_of(schema, child)
+            )
             for child in range(len(names))
         ]
         return Imported(names, columns, formats)
@@ -329,7 +359,9 @@ def _of_stream(capsule: Any, kind: type[Column]) -> Imported:
         raise ArrowStreamFailed(fields.first, words=words.value.decode(errors="replace"))
     if number:
         raise _in_words(refusal(number, fields.first, fields.second, fields.third), not_served)
-    return Imported(names, [kind._owning(Handle(handle.at)) for handle in handles[:count]], formats)
+    logical = map(LogicalType.of_format, formats)
+    columns = [kind._owning(Handle(handle.at), sort) for handle, sort in zip(handles[:count], logical)]
+    return Imported(names, columns, formats)
 
 
 def _described(stream: Any) -> tuple[Optional[list[str]], list[str], str]:

@@ -1,11 +1,13 @@
 """Casts, and the row at which one is refused."""
 from __future__ import annotations
 
-from typing import TYPE_CHECKING, Optional
+from typing import TYPE_CHECKING, Any, Optional
 
+from . import _runs
 from ._library import Kind, calls, session
 from ._types import TYPES, WHOLE_NUMBERS, range_of, text_of
-from .errors import CastOutOfRange, NullNotAllowed, Unsupported
+from .errors import CastOutOfRange, NullNotAllowed, TypeMismatch, Unsupported
+from .logical import LogicalType
 
 if TYPE_CHECKING:
     from .column import Column
@@ -20,6 +22,55 @@ def cast(column: Column, kind: Kind, call: Optional[str] = None) -> Column:
         raise refused.about(name, column) from None
     except (CastOutOfRange, NullNotAllowed) as refused:
         raise refused.saying(f"{name}: {_misfit(column, kind)}") from None
+
+
+def recounted(column: Column, kind: Kind, logical: Optional[LogicalType], call: str) -> Column:
+    """The rows as values of a logical type, or as the integers of one. Integers mean what the type says; times are
+    counted anew, exactly, once for each run, and are refused at the first row that has no such count."""
+    before = column._logical
+    if before is None or logical is None or (before.sort, before.unit) == (logical.sort, logical.unit):
+        if before is not None and logical is not None:
+            _checked_kinds(before, logical, call)
+        return cast(column.storage(), kind, call)._meaning(logical)
+    _checked_kinds(before, logical, call)
+    return cast(_counted(column, before, logical, call), kind, call)._meaning(logical)
+
+
+_KINDS = {"date": "instant", "timestamp": "instant", "time": "time", "duration": "duration"}
+
+
+def _checked_kinds(before: LogicalType, after: LogicalType, call: str) -> None:
+    if _KINDS[before.sort] != _KINDS[after.sort] or bool(before.zone) != bool(after.zone):
+        raise TypeMismatch().saying(
+            f"{call}: {before} is not counted as {after}; column.storage() has the integers, which may mean it"
+        )
+
+
+def _counted(column: Column, before: LogicalType, after: LogicalType, call: str) -> Column:
+    """The integers of the same times in another unit, in the same form."""
+    stored = column.storage()
+    if stored.form == "runs":
+        shown = _runs.visible(stored)
+        starts, values = [0, *shown.stops], shown.values.to_list()
+    else:
+        values = stored.to_list() if stored.form == "flat" else stored.slice(0, min(1, stored._length)).to_list()
+        starts = list(range(len(values)))
+    counts: list[Optional[int]] = []
+    for start, value in zip(starts, values):
+        number: Any = value
+        count, rest = (None, 0) if number is None else divmod(number * before.nanoseconds, after.nanoseconds)
+        if rest or count is not None and count not in range_of(after.storage):
+            raise CastOutOfRange().saying(f"{call}: row {start} is {number} of {before}, which {after} does not count")
+        counts.append(count)
+    made = column.of(counts, after.storage)
+    if stored.form == "runs":
+        return column.from_runs(column.of(shown.stops, "u64"), made)
+    return made if stored.form == "flat" else _repeated(made, stored._length)
+
+
+def _repeated(made: Column, rows: int) -> Column:
+    """The one row of a column as often, or none."""
+    return made.constant(made[0], rows, made.type) if len(made) else made
 
 
 def _misfit(column: Column, kind: Kind) -> str:

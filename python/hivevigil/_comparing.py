@@ -9,13 +9,15 @@ import operator
 from decimal import Decimal
 from fractions import Fraction
 from numbers import Real
-from typing import TYPE_CHECKING, Any
+from typing import TYPE_CHECKING, Any, Optional
 
+from . import _times
 from ._library import calls, session
 from ._making import is_array
 from ._types import TYPES, WHOLE_NUMBERS, range_of
-from ._values import is_truth, is_whole, operator_of, passed, stored
+from ._values import is_missing, is_truth, is_whole, operator_of, passed, stored
 from .errors import TypeMismatch, in_words
+from .logical import LogicalType
 
 if TYPE_CHECKING:
     from .column import Column
@@ -78,6 +80,10 @@ class Comparisons:
 def with_value(column: Column, sign: str, value: Any) -> Column:
     """Row by row whether `row sign value`; null where the row or the value is null."""
     operator_of(sign)
+    if column._logical is not None:
+        if not is_missing(value):
+            value = _times.exact(column._logical, value)
+        return with_value(column.storage(), sign, value)
     if isinstance(value, (list, tuple, range)) or is_array(value) and getattr(value, "ndim", 1) > 0:
         made = f"Column.of(..) makes one of {in_words(value)}"
         raise TypeError(f"a column is compared with a column or one value: {made}")
@@ -87,6 +93,13 @@ def with_value(column: Column, sign: str, value: Any) -> Column:
         sign, number = _decided(sign, *_place(value, column._kind.scale), fits)
     parts = passed(column._kind, value) if number is None else stored(name, number)
     return column._made(calls.hv_compare_scalar, session, column, operator_of(sign), *parts)
+
+
+def are_compared(left: Optional[LogicalType], right: Optional[LogicalType]) -> bool:
+    """Whether the integers of both count one unit, of timestamps with a zone on both sides or on neither."""
+    if left is None or right is None:
+        return left is right
+    return (left.sort, left.unit, bool(left.zone)) == (right.sort, right.unit, bool(right.zone))
 
 
 def is_number(value: Any) -> bool:
@@ -128,6 +141,12 @@ def with_column(column: Column, sign: str, right: Column) -> Column:
     """Row by row whether `row sign other`, for the rows of a column of the same type: by the runs of both, unless both
     are flat."""
     number, beside = operator_of(sign), column._beside(right)
+    if not are_compared(column._logical, right._logical):
+        left, other = (each._logical or each.type.rstrip("?") for each in (column, right))
+        raise TypeMismatch().saying(
+            f"compare: {left} and {other} are two types; column.cast('{other}') counts the same times in it, exactly"
+            if column._logical and right._logical else f"compare: {left} and {other} are two types; rows of one are compared"
+        )
     try:
         if column.form == right.form == "flat":
             return column._made(calls.hv_compare, session, column, number, beside)

@@ -6,9 +6,11 @@ import pickle
 import sys
 from typing import TYPE_CHECKING, Any
 
+from . import _time_arrays
 from ._types import LETTERS, TYPES
 from ._values import is_whole
 from .errors import Unsupported
+from .logical import LogicalType
 
 if TYPE_CHECKING:
     from .column import Column
@@ -49,6 +51,8 @@ def dtype(column: Column) -> Any:
         import numpy
     except ImportError:
         raise AttributeError("the dtype of a column is one of NumPy, which is not installed") from None
+    if column._logical is not None:
+        return _time_arrays.dtype(column._logical)
     if not _has_dtype(column):
         return numpy.dtype(object)
     return numpy.dtype("?" if name == "bool" else name[0] + str(int(name[1:]) // 8))
@@ -62,7 +66,10 @@ def _has_dtype(column: Column) -> bool:
 def to_numpy(column: Column, null: Any) -> Any:
     import numpy
 
-    if not _has_dtype(column):
+    if column._logical is not None and column._logical.sort != "time":
+        filled = column.fill(null) if null is not None and column.nullable else column
+        return _time_arrays.to_numpy(filled, column._logical)
+    if column._logical is not None or not _has_dtype(column):
         items = _objects(column)
         if null is not None:
             items[numpy.array([item is None for item in items], dtype=bool)] = null
@@ -79,7 +86,9 @@ def as_numpy(column: Column, asked: Any) -> Any:
     """The rows as an implicit conversion has them: objects where a row is null. pandas 1.5 makes floats of integers
     next to None, and 2**53 + 1 is not among these, but keeps them next to its own NA: where it is loaded, null is
     that."""
-    if _has_dtype(column) and not column.null_count:
+    if column._logical is not None:
+        items = to_numpy(column, None)
+    elif _has_dtype(column) and not column.null_count:
         items = _stored(column._flat())[0]
     else:
         items = _objects(column)
@@ -92,6 +101,8 @@ def as_numpy(column: Column, asked: Any) -> Any:
 def to_pandas(column: Column) -> Any:
     import pandas
 
+    if column._logical is not None:
+        return _time_arrays.to_pandas(column, column._logical)
     if not _has_dtype(column):
         name = TYPES[column._kind.number]
         return pandas.Series(_objects(column), dtype="string" if name == "utf8" else object)
@@ -113,7 +124,9 @@ def token(column: Column) -> tuple[str, str]:
 def reduced(column: Column) -> Any:
     """How pickle makes the column again: from its bytes, or, of runs in more levels than bytes have, from ends and
     values."""
-    kind = type(column)
+    kind, logical = type(column), column._logical
+    if logical is not None:
+        return _made_of_storage, (column.storage(), logical.format)
     try:
         return _made_of_message, (kind, column.to_bytes())
     except Unsupported:
@@ -124,6 +137,10 @@ def reduced(column: Column) -> Any:
 
 def _made_of_message(kind: type[Column], message: bytes) -> Column:
     return kind.from_bytes(message)
+
+
+def _made_of_storage(storage: Column, format: str) -> Column:
+    return storage._meaning(LogicalType.of_format(format))
 
 
 def _made_of_runs(kind: type[Column], ends: Column, values: Column, offset: int, rows: int) -> Column:

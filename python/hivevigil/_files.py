@@ -1,4 +1,5 @@
-"""Columns in files, each a message of its own as docs/BYTES.md says it."""
+"""Columns in files, each a message of its own as docs/BYTES.md says it. In front of that of a column with a logical type
+is a line, `hivevigil type 1 FORMAT`, with the format that Arrow has for the type."""
 from __future__ import annotations
 
 import contextlib
@@ -9,24 +10,36 @@ from collections.abc import Iterable
 from typing import TYPE_CHECKING, Any
 
 from .errors import BadMetadata, in_words
+from .logical import LogicalType
 
 if TYPE_CHECKING:
     from .column import Column
+
+
+_HEAD = b"hivevigil type 1 "
 
 
 def load(kind: type[Column], path: Any) -> Column:
     name = name_of(path)
     with open(name, "rb") as file:
         message = file.read()
+    logical, start = None, 0
+    if message.startswith(_HEAD):  # a message begins otherwise
+        line = message[: message.find(b"\n")]
+        logical, start = LogicalType.of_format(line[len(_HEAD) :].decode(errors="replace")), len(line) + 1
     try:
-        return kind.from_bytes(message)
+        column = kind.from_bytes(message[start:])
+        if start and (logical is None or logical.storage != column.type.rstrip("?")):
+            raise BadMetadata()
+        return column._meaning(logical)
     except BadMetadata as refused:
         hint = ": Table.load reads the file of a table" if message.startswith(b"\x0a\x09hivevigil") else ""
         raise refused.saying(f"load: {name}, of {len(message):,} bytes, is not a file that save wrote{hint}") from None
 
 
 def save(column: Column, path: Any) -> None:
-    write(path, [column.to_bytes()])
+    head = b"" if column._logical is None else _HEAD + column._logical.format.encode() + b"\n"
+    write(path, [head, column.to_bytes()])
 
 
 def write(path: Any, parts: Iterable[bytes]) -> None:

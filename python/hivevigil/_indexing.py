@@ -73,8 +73,8 @@ def indices_of(column: Column, indices: Any) -> Column:
     chosen = _column_of(column, indices)
     if chosen is None:
         return column.of(_rows(listed(indices, "indices"), column._length), "u64")
-    if chosen.type.rstrip("?") not in WHOLE_NUMBERS:
-        raise TypeMismatch().saying(f"take: indices are integers, not of {chosen.type}")
+    if chosen.type.rstrip("?") not in WHOLE_NUMBERS or chosen._logical is not None:
+        raise TypeMismatch().saying(f"take: indices are integers, not of {chosen._logical or chosen.type}")
     return chosen
 
 
@@ -86,6 +86,8 @@ def _column_of(column: Column, key: Any) -> Optional[Column]:
     if not is_array(key) or _has_objects(key):
         return None
     chosen = column._of_array(key)
+    if chosen._logical is not None:
+        return chosen
     least = chosen.min() if chosen.type.rstrip("?") in SIGNED else None
     if isinstance(least, int) and least < 0:
         return column.of(_rows(chosen.to_list(), column._length), "u64")

@@ -20,6 +20,8 @@ def is_list(column: Column) -> bool:
 
 def made(elements: Column, offsets: Any, sizes: Any, valid: Optional[Any]) -> Column:
     """Lists: row i is the sizes[i] elements from offsets[i] on, null where its flag is false."""
+    if elements._logical is not None:
+        raise TypeError(f"from_lists: lists of {elements._logical} are not served; elements.storage() are integers")
     starts = numbers(listed(offsets, "offsets"), "u64", "offset")
     counts = numbers(listed(sizes, "sizes"), "u64", "size")
     passed = [(ctypes.c_uint64 * max(1, len(items)))(*items) for items in (starts, counts)]

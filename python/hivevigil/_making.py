@@ -10,10 +10,12 @@ from numbers import Integral
 from operator import index
 from typing import Any, Optional
 
+from . import _time_arrays, _times
 from ._library import NUMBERS, Kind, Pair, calls
 from ._types import GREATEST_PRECISION, LETTERS, TYPES, checked_places, range_of
 from ._values import NOT_FLOAT, checked_text, is_missing_class, is_truth, is_whole, unscaled, why_not
 from .errors import ColumnLength, in_words
+from .logical import LogicalType, sort_of_class, storage_of
 
 Made = tuple[Any, ...]
 _DIGITS = bytes([48, 49]) + bytes(254)  # the bytes 0 and 1 as the letters 0 and 1
@@ -81,7 +83,7 @@ def _sort_of(kind: type) -> Optional[str]:
     for sort, classes in (("whole", Integral), ("decimal", Decimal), ("utf8", str)):
         if issubclass(kind, classes):
             return sort
-    return "binary" if issubclass(kind, (bytes, bytearray, memoryview)) else None
+    return "binary" if issubclass(kind, (bytes, bytearray, memoryview)) else sort_of_class(kind)
 
 
 def inferred(rows: Sequence[Any]) -> Kind:
@@ -288,14 +290,41 @@ def of_numpy(items: Any, valid: Optional[Any] = None) -> Made:
     if items.dtype.kind == "b":
         return truths_of(bits_of(items), len(items), validity_of(valid, len(items)))
     if items.dtype.kind not in "OUS":
-        hints = {"m": "its .view('i8') are integers", "M": "its .view('i8') are integers", "f": NOT_FLOAT}
-        hint = f": {hints[items.dtype.kind]}" if items.dtype.kind in hints else ""
+        hint = f": {NOT_FLOAT}" if items.dtype.kind == "f" else ""
         raise TypeError(f"no column has items of dtype {items.dtype}{hint}")
     rows = listed(items.tolist())
     if valid is not None:
         rows = [row if flag else None for row, flag in zip(rows, valid)]
     name = {"U": "utf8", "S": "binary"}.get(items.dtype.kind)
     return flat_of(rows, Kind(TYPES.index(name), 0, 0, 0) if name else inferred(rows))
+
+
+def of_timed(items: Any) -> Optional[tuple[Made, LogicalType]]:
+    """An array of dates, timestamps or durations of NumPy or pandas, in which NaT is null; None of another array."""
+    dtype = getattr(items, "dtype", None)
+    if getattr(dtype, "kind", "") == "O" and getattr(items, "ndim", 1) == 1:
+        rows = listed(items if hasattr(items, "isna") else items.tolist())
+        sort = _times.inferred(rows)
+        return None if sort is None else (flat_of(_times.stored_rows(sort, rows), storage_of(sort)), sort)
+    if not _time_arrays.is_timed(dtype):
+        return None
+    if getattr(items, "ndim", 1) != 1:
+        raise ValueError(f"a column has one dimension, and the array has {items.ndim}")
+    if hasattr(items, "isna"):
+        numbers, valid, logical = _time_arrays.of_pandas(items)
+    else:
+        numbers, valid, logical = _time_arrays.of_numpy(_unmasked(items))
+    return numbers_of(numbers, validity_of(valid, len(numbers))), logical
+
+
+def _unmasked(items: Any) -> Any:
+    """An array in which NaT is in place of what is masked."""
+    import numpy
+
+    masks: Any = numpy.ma
+    if not isinstance(items, numpy.ma.MaskedArray):
+        return items
+    return numpy.where(masks.getmaskarray(items), items.dtype.type("NaT"), items.data)
 
 
 def of_pandas(items: Any) -> Made:
@@ -307,9 +336,8 @@ def of_pandas(items: Any) -> Made:
     missing = numpy.asarray(items.isna())
     valid = ~missing if missing.any() else None
     native = getattr(items.dtype, "numpy_dtype", items.dtype)
-    if getattr(native, "kind", "O") in "fmM":
-        hint = f"{NOT_FLOAT}, .astype('Int64')" if native.kind == "f" else "its .astype('int64')"
-        raise TypeError(f"no column has items of dtype {items.dtype}: {hint} are integers")
+    if getattr(native, "kind", "O") == "f":
+        raise TypeError(f"no column has items of dtype {items.dtype}: {NOT_FLOAT}, .astype('Int64') are integers")
     if getattr(native, "kind", "O") not in "iub":
         return of_numpy(numpy.asarray(items.astype(object)), valid)
     if native is items.dtype:

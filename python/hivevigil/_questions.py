@@ -5,12 +5,13 @@ import ctypes
 from decimal import Decimal
 from typing import TYPE_CHECKING, Any
 
-from . import _runs
+from . import _runs, _times
 from ._library import Total, Value, ask, calls, session
 from ._making import is_array
 from ._types import TYPES, WHOLE_NUMBERS, range_of
 from ._values import Scalar, is_missing, is_truth, shown
 from .errors import ColumnLength, in_words
+from .logical import LogicalType
 
 if TYPE_CHECKING:
     from .column import Column
@@ -20,8 +21,13 @@ _CLASSES: dict[str, Any] = {
 }
 
 
-def total(column: Column) -> int:
+def total(column: Column) -> Any:
     """The sum of the rows that are not null; an OverflowError where it leaves 64 bits on the way from row to row."""
+    logical = column._there()._logical
+    if logical is not None:
+        if logical.sort != "duration":
+            raise TypeError(f"sum: rows of type {logical} have no sum; column.storage().sum() is that of their integers")
+        return _times.shown(logical, total(column.storage()))
     found = Total()
     ask(calls.hv_sum, session, column, found)
     if found.kind:
@@ -58,7 +64,8 @@ def value_of(column: Column, call: Any, *arguments: Any) -> Scalar:
         value, text = Value(), ctypes.create_string_buffer(room)
         try:
             ask(call, *arguments, value, text, room)
-            return shown(value, column._kind, text)
+            answer: Scalar = _times.value_of(column._logical, shown(value, column._kind, text))
+            return answer
         except ColumnLength as short:
             room = short.fields[0]
 
@@ -70,7 +77,8 @@ def least_and_greatest(column: Column) -> tuple[Scalar, Scalar]:
         low, high = ctypes.create_string_buffer(room), ctypes.create_string_buffer(room)
         try:
             ask(calls.hv_min_max, session, column, least, low, room, greatest, high, room)
-            return shown(least, column._kind, low), shown(greatest, column._kind, high)
+            found = shown(least, column._kind, low), shown(greatest, column._kind, high)
+            return _times.value_of(column._logical, found[0]), _times.value_of(column._logical, found[1])
         except ColumnLength as short:
             room = short.fields[0]
 
@@ -86,6 +94,8 @@ def has(column: Column, value: Any) -> bool:
     if column.form == "runs":
         shown = _runs.span(column)
         return has(column.values().slice(shown.start, shown.stop), value)
+    if column._logical is not None:
+        return _has_time(column, column._logical, value)
     name = TYPES[column._kind.number]
     if isinstance(value, _CLASSES.get(name, ())) and is_truth(value) == (name == "bool"):
         try:
@@ -93,6 +103,15 @@ def has(column: Column, value: Any) -> bool:
         except ValueError:  # NaN, or a text that is not UTF-8
             return False
     return value in _runs.rows(column)
+
+
+def _has_time(column: Column, logical: LogicalType, value: Any) -> bool:
+    """Whether a row is a time, which a value of another sort is not."""
+    try:
+        count = _times.exact(logical, value)
+    except TypeError:
+        return False
+    return has(column.storage(), count)
 
 
 def _is_true_anywhere(mask: Column) -> bool:

@@ -6,6 +6,7 @@ import ctypes
 from collections.abc import Iterator
 from typing import TYPE_CHECKING, Any
 
+from . import _times
 from ._library import NUMBERS, Pair, ask, calls
 from ._types import LETTERS, TYPES, WIDTHS
 from ._values import Scalar, decimal_of
@@ -86,10 +87,10 @@ def _split(offsets: array.array[int], data: bytes, is_text: bool) -> list[Any]:
 def window(column: Column, start: int, stop: int) -> list[Scalar]:
     """The rows from `start` to `stop` - 1."""
     stored = _stored(column, start, stop)
-    if not column.nullable:
-        return stored
-    flags = flags_of(validity(column, start, stop), stop - start)
-    return stored if 0 not in flags else [item if flag else None for item, flag in zip(stored, flags)]
+    if column.nullable:
+        flags = flags_of(validity(column, start, stop), stop - start)
+        stored = stored if 0 not in flags else [item if flag else None for item, flag in zip(stored, flags)]
+    return _times.values_of(column._logical, stored)
 
 
 def _stored(column: Column, start: int, stop: int) -> list[Any]:

@@ -2,13 +2,14 @@
 from __future__ import annotations
 
 import zlib
+from datetime import date, time, timedelta
 from decimal import Decimal
 from fractions import Fraction
 from html import escape
 from itertools import groupby, repeat
 from typing import TYPE_CHECKING, Any, Optional
 
-from . import _runs
+from . import _runs, _times
 from ._types import TYPES, WHOLE_NUMBERS
 from ._values import Scalar
 
@@ -26,7 +27,7 @@ _NULL_PATTERN = (
 
 def _word(value: Scalar) -> str:
     """A value as Python writes it, a decimal without its class; of a long text its front and three points."""
-    if isinstance(value, Decimal):
+    if isinstance(value, (Decimal, date, time, timedelta)):
         return str(value)
     text = repr(value)
     if len(text) <= _LETTERS_SHOWN or not isinstance(value, (str, bytes)):
@@ -47,7 +48,8 @@ def _head(column: Column) -> str:
     runs = _runs_of(column)
     in_form = column.form if runs is None or column.form == "constant" else f"in {_counted(runs, 'run')}"
     comma = "," if not in_form.startswith("in ") else ""
-    return f"Column {column.type}: {_counted(column._length, 'row')}{comma} {in_form}"
+    name = column.type if column._logical is None else f"{column._logical}{'?' * column.nullable}"
+    return f"Column {name}: {_counted(column._length, 'row')}{comma} {in_form}"
 
 
 def text(column: Column) -> str:
@@ -88,13 +90,14 @@ def _strip(column: Column) -> str:
         return ""
     count = min(length, _SAMPLES)
     rows = [at * length // count for at in range(count)]
-    values = repeat(column.at(0)) if column.form == "constant" else iter(column.take(rows))
+    stored = column.storage()
+    values = repeat(stored.at(0)) if column.form == "constant" else iter(stored.take(rows))
     samples: list[tuple[int, Scalar]] = list(zip(rows, values))
     stretches = [list(stretch) for _, stretch in groupby(samples, key=lambda sample: sample[1])]
-    colour_of = _colours(column)
+    colour_of = _colours(stored)
     starts = [stretch[0][0] for stretch in stretches]
     rects = [
-        _rect(start, stop, length, stretch[0][1], colour_of(stretch[0][1]))
+        _rect(start, stop, length, _times.value_of(column._logical, stretch[0][1]), colour_of(stretch[0][1]))
         for start, stop, stretch in zip(starts, [*starts[1:], length], stretches)
     ]
     frame = f'<rect width="{_SAMPLES}" height="{_HEIGHT}" fill="none" stroke="currentColor" stroke-opacity="0.4"/>'

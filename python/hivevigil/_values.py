@@ -3,6 +3,7 @@ from __future__ import annotations
 
 import ctypes
 import operator
+from datetime import date, time, timedelta
 from decimal import Decimal
 from numbers import Rational, Real
 from typing import Any, Union
@@ -11,7 +12,7 @@ from ._library import Kind, Value
 from ._types import OPERATORS, TYPES, WHOLE_NUMBERS, range_of, text_of
 from .errors import OutOfBounds, in_words
 
-Scalar = Union[int, bool, Decimal, str, bytes, None]
+Scalar = Union[int, bool, Decimal, str, bytes, date, time, timedelta, None]
 _UNSIGNED, _SIGNED, _TRUTH, _DECIMAL, _TEXT, _BYTES = range(1, 7)
 _LOW = 2**64 - 1
 _SORTS = {
@@ -27,14 +28,21 @@ def is_truth(value: Any) -> bool:
 
 
 def is_missing_class(kind: type) -> bool:
-    """Whether values of a class are null: None, pandas.NA, numpy.ma.masked."""
+    """Whether values of a class are null: None, pandas.NA and pandas.NaT, numpy.ma.masked."""
     library = kind.__module__.partition(".")[0]
-    return kind is type(None) or (library, kind.__name__) in (("pandas", "NAType"), ("numpy", "MaskedConstant"))
+    return kind is type(None) or (library, kind.__name__) in (
+        ("pandas", "NAType"), ("pandas", "NaTType"), ("numpy", "MaskedConstant"),
+    )
 
 
 def is_missing(value: Any) -> bool:
     """Whether a value is null."""
-    return value is None or is_missing_class(type(value))
+    return value is None or is_missing_class(type(value)) or _is_nat(value)
+
+
+def _is_nat(value: Any) -> bool:
+    """Whether a value is NumPy's NaT, which has the class of its times."""
+    return type(value).__name__ in ("datetime64", "timedelta64") and bool(value != value)
 
 
 def is_whole(value: Any) -> bool:

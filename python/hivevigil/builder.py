@@ -4,12 +4,13 @@ from __future__ import annotations
 import sys
 from typing import Any
 
-from . import _casting
+from . import _casting, _times
 from ._library import BuilderHandle, ask, calls
-from ._types import kind_of, text_of
-from ._values import Scalar, passed, size_of
+from ._types import text_of
+from ._values import passed, size_of
 from .column import Column
 from .errors import NullNotAllowed, TypeMismatch
+from .logical import asked_type
 
 
 class Builder:
@@ -23,16 +24,19 @@ class Builder:
         runs = builder.finish()             # as few runs as there can be; the builder has no rows after
     """
 
-    __slots__ = ("_handle", "_kind")
+    __slots__ = ("_handle", "_kind", "_logical")
 
     def __init__(self, type: Any) -> None:
-        self._kind = kind_of(type)
+        self._kind, self._logical = asked_type(type)
         self._handle = BuilderHandle()
         ask(calls.hv_builder_new, self._kind, self._handle)
 
     def append(self, batch: Any) -> None:
         """Adds the rows of a batch, a column of the builder's type or what Column.of takes."""
         column = batch if isinstance(batch, Column) else self._column_of(batch)
+        if column._logical != self._logical:
+            words = (self._logical or self.type, column._logical or column.type)
+            raise TypeMismatch().saying(f"append: {words[0]} (builder) and {words[1]} are two types")
         try:
             ask(calls.hv_append, self._handle, column)
         except TypeMismatch as refused:
@@ -41,24 +45,27 @@ class Builder:
             raise
 
     def _column_of(self, batch: Any) -> Column:
-        column = Column.of(batch, self.type)
-        return column if column.type == self.type else _casting.cast(column, self._kind, "append")
+        if self._logical is None:
+            column = Column.of(batch, self.type)
+            return column if column.type == self.type else _casting.cast(column, self._kind, "append")
+        column = Column.of(batch, f"{self._logical}?")
+        return _casting.cast(column.storage(), self._kind, "append")._meaning(self._logical)
 
-    def append_value(self, value: Scalar, count: int = 1) -> None:
+    def append_value(self, value: Any, count: int = 1) -> None:
         """Adds `count` rows of one value, or of None."""
         size = size_of(count, "the number of rows")
         try:
-            ask(calls.hv_append_value, self._handle, *passed(self._kind, value), size)
+            ask(calls.hv_append_value, self._handle, *passed(self._kind, _times.number_of(self._logical, value)), size)
         except NullNotAllowed as refused:
             raise refused.saying(f"append_value: the value is null, and {self.type} has no null") from None
 
     def encoding(self) -> Column:
         """All rows so far as runs, as few as there can be; the builder keeps its rows."""
-        return Column._made(calls.hv_encoding, self._handle)
+        return Column._made(calls.hv_encoding, self._handle)._meaning(self._logical)
 
     def finish(self) -> Column:
         """The same, made of the builder's own memory where that can be; it has no rows after, and takes others."""
-        return Column._made(calls.hv_finish, self._handle)
+        return Column._made(calls.hv_finish, self._handle)._meaning(self._logical)
 
     @property
     def type(self) -> str:

@@ -89,6 +89,8 @@ class Partial:
             raise TypeError(f"Partial.of takes a Column, not {in_words(column)}")
         if column.type.startswith("list"):
             raise Unsupported().about("Partial.of", column)
+        if column.logical_type is not None:
+            raise TypeError(f"Partial.of does not serve {column.logical_type}: column.storage() are its integers")
         if not column._length:
             return cls.empty(column.type)
         runs = column.to_runs()

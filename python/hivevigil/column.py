@@ -9,7 +9,7 @@ from typing import Any, Optional
 
 from . import (
     _arrow, _casting, _comparing, _copying, _files, _indexing, _lists, _making, _pairs, _questions, _reading, _rows,
-    _runs, _showing,
+    _runs, _showing, _times,
 )
 from ._library import Handle, Kind, ask, calls, session
 from ._runs import Run
@@ -17,6 +17,7 @@ from ._types import FORMS, LETTERS, SIGNED, TYPES, kind_of, text_of
 from ._values import Scalar, is_missing, passed, row_of, size_of, whole
 from .errors import NoColumn, Unsupported, in_words
 from .groups import Groups
+from .logical import LogicalType, asked_type, storage_of
 
 
 class Column(_comparing.Comparisons, _pairs.Pairs):
@@ -26,9 +27,10 @@ class Column(_comparing.Comparisons, _pairs.Pairs):
     as NoColumn. Threads may use one column at once: calls over many rows release the interpreter's lock.
     """
 
-    __slots__ = ("_handle", "_as_parameter_", "__weakref__")
+    __slots__ = ("_handle", "_as_parameter_", "_logical", "__weakref__")
     _handle: Handle
     _as_parameter_: Any  # what ctypes passes for a column, which it keeps alive during the call
+    _logical: Optional[LogicalType]
 
     def __init__(self, *_: object, **__: object) -> None:
         raise TypeError("Column.of(rows) makes a column; so do from_buffer, from_runs, from_arrow and from_record")
@@ -36,9 +38,9 @@ class Column(_comparing.Comparisons, _pairs.Pairs):
     # ---- Life ----
 
     @classmethod
-    def _owning(cls, handle: Handle) -> Column:
+    def _owning(cls, handle: Handle, logical: Optional[LogicalType] = None) -> Column:
         column = cls.__new__(cls)
-        column._handle, column._as_parameter_ = handle, ctypes.pointer(handle)
+        column._handle, column._as_parameter_, column._logical = handle, ctypes.pointer(handle), logical
         return column
 
     @classmethod
@@ -46,6 +48,15 @@ class Column(_comparing.Comparisons, _pairs.Pairs):
         column = cls._owning(Handle())
         ask(call, *arguments, column._handle)
         return column
+
+    def _kept(self, call: Any, *arguments: Any) -> Column:
+        """What a call makes whose rows mean what those of this column do."""
+        return self._made(call, *arguments)._meaning(self._logical)
+
+    def _meaning(self, logical: Optional[LogicalType]) -> Column:
+        """This column, which was made just now, of integers that mean something."""
+        self._logical = logical
+        return self
 
     def _there(self) -> Column:
         """The column, for calls that refuse nothing. The others refuse a freed one themselves."""
@@ -77,11 +88,11 @@ class Column(_comparing.Comparisons, _pairs.Pairs):
 
     def copy(self) -> Column:
         """The same column in the same form, which is freed by itself."""
-        return self._made(calls.hv_clone, self)
+        return self._kept(calls.hv_clone, self)
 
     def compact(self) -> Column:
         """A copy in the same form that shares no buffer but texts' bytes: a small slice keeps a whole column's."""
-        return self._made(calls.hv_compact, self)
+        return self._kept(calls.hv_compact, self)
 
     def __copy__(self) -> Column:
         return self.copy()
@@ -107,31 +118,41 @@ class Column(_comparing.Comparisons, _pairs.Pairs):
         what is masked or missing are null.
 
         The type is inferred where none is given: integers are i64 (u64 where one needs it) or as the array has
-        them, decimal.Decimal a decimal of 38 digits with the places that the rows need, then bool, utf8 and binary. A
-        type is given as 'i32', 'decimal(10, 2)', int, str or a dtype, and may be null where a row is; 'i32?' always.
+        them, decimal.Decimal a decimal of 38 digits with the places that the rows need, then bool, utf8 and binary;
+        dates, times, datetimes and timedeltas have a `logical_type`. A type is given as 'i32', 'decimal(10, 2)',
+        'timestamp[us, UTC]', int, str or a dtype, and may be null where a row is; 'i32?' always.
         """
-        asked = None if type is None else kind_of(type)
+        asked, logical = (None, None) if type is None else asked_type(type)
         if isinstance(rows, str):
             raise TypeError("rows come first, then their type: Column.of([1, 2], 'i64')")
         if isinstance(rows, (array.array, memoryview, bytes, bytearray)) or _making.is_array(rows):
             column = cls._of_array(rows)
-            return column if asked is None else column._as(asked)
+            return column if asked is None else column._as(asked, logical)
         rows = _making.listed(rows)
+        logical = _times.inferred(rows) if asked is None else logical
+        if logical is not None:
+            numbers = _times.stored_rows(logical, rows)
+            return cls._made(*_making.flat_of(numbers, asked or storage_of(logical)))._meaning(logical)
         return cls._made(*_making.flat_of(rows, _making.inferred(rows) if asked is None else asked))
 
     @classmethod
     def _of_array(cls, rows: Any) -> Column:
         if isinstance(rows, Column):
             return rows.copy()
+        timed = _making.of_timed(rows)
+        if timed is not None:
+            return cls._made(*timed[0])._meaning(timed[1])
         if hasattr(rows, "isna"):
             return cls._made(*_making.of_pandas(rows))
         if _making.is_arrow(rows):
             return cls.from_arrow(rows)
         return cls._made(*_making.of_numpy(rows)) if hasattr(rows, "dtype") else cls.from_buffer(rows)
 
-    def _as(self, asked: Kind, call: str = "Column.of") -> Column:
+    def _as(self, asked: Kind, logical: Optional[LogicalType] = None, call: str = "Column.of") -> Column:
         """The same rows as a type, which may be null where a row is, or where it says so."""
         asked.nullable = asked.nullable or self._kind.nullable
+        if logical is not None or self._logical is not None:
+            return _casting.recounted(self, asked, logical, call)
         if bytes(asked) == bytes(self._kind):
             return self
         same_sort = TYPES[asked.number] in LETTERS and TYPES[self._kind.number] in LETTERS
@@ -152,20 +173,25 @@ class Column(_comparing.Comparisons, _pairs.Pairs):
         shown; without `rows` all to the last end. Both are copied; ends are integers without sign. More than 64 levels
         of runs are refused, as `Unsupported`."""
         end_column = ends if isinstance(ends, Column) else cls.of(ends, None if hasattr(ends, "dtype") else "u64")
-        end_column = end_column._as(kind_of("u64"), "from_runs, ends") if end_column.type in SIGNED else end_column
+        end_column = end_column._as(kind_of("u64"), None, "from_runs, ends") if end_column.type in SIGNED else end_column
         value_column = values if isinstance(values, Column) else cls.of(values)
         start = size_of(offset, "the offset")
         if rows is None:
             rows = max(0, whole(end_column[-1], "an end") - start) if len(end_column) else 0
         count = size_of(rows, "the number of rows")
-        return cls._made(calls.hv_runs, end_column, end_column._beside(value_column), start, count)
+        return value_column._kept(calls.hv_runs, end_column, end_column._beside(value_column), start, count)
 
     @classmethod
     def constant(cls, value: Scalar, rows: int, type: Any = None) -> Column:
         """The value in each of `rows` rows, in memory for one. The type is that of the value where none is given."""
-        kind = _making.inferred(_making.listed([value])) if type is None else kind_of(type)
+        logical = _times.inferred([value])
+        kind = storage_of(logical) if logical else _making.inferred(_making.listed([value])) if type is None else None
+        if type is not None:
+            kind, logical = asked_type(type)
+        assert kind is not None
         kind.nullable = kind.nullable or is_missing(value)
-        return cls._made(calls.hv_constant, kind, *passed(kind, value), size_of(rows, "the number of rows"))
+        made = (kind, *passed(kind, _times.number_of(logical, value)), size_of(rows, "the number of rows"))
+        return cls._made(calls.hv_constant, *made)._meaning(logical)
 
     @classmethod
     def from_lists(cls, elements: Any, offsets: Any, sizes: Any, valid: Any = None) -> Column:
@@ -212,55 +238,59 @@ class Column(_comparing.Comparisons, _pairs.Pairs):
         """A copy of an array by the two structs of Arrow's C data interface, or their addresses, which stay the
         producer's; with `child`, of that column of a batch."""
         structs = (session, _address(schema), _address(items))
+        logical = _arrow.logical_of(schema, child)
         if child is None:
-            return cls._made(calls.hv_import_array, *structs)
-        return cls._made(calls.hv_import_child, *structs, size_of(child, "the child"))
+            return cls._made(calls.hv_import_array, *structs)._meaning(logical)
+        return cls._made(calls.hv_import_child, *structs, size_of(child, "the child"))._meaning(logical)
 
     # ---- Commands ----
 
     def encode(self) -> Column:
         """The rows of integers in as few runs as possible; to_runs() serves every type but lists."""
-        return self._made(calls.hv_encode, session, self)
+        return self._kept(calls.hv_encode, session, self)
 
     def to_runs(self) -> Column:
         """The rows of any type but lists in as few runs as possible."""
-        return self._made(calls.hv_encode_rows, self)
+        return self._kept(calls.hv_encode_rows, self)
 
     def decode(self) -> Column:
         """The rows written out in a flat form."""
-        return self._made(calls.hv_decode, session, self)
+        return self._kept(calls.hv_decode, session, self)
 
     def _flat(self) -> Column:
         return self if self.form == "flat" else self.decode()
 
     def slice(self, start: int, stop: int) -> Column:
         """The rows from `start` to `stop` - 1, all of which have to exist; `column[start:stop]` cuts as Python does."""
-        return self._made(calls.hv_slice, session, self, size_of(start, "the start"), size_of(stop, "the stop"))
+        return self._kept(calls.hv_slice, session, self, size_of(start, "the start"), size_of(stop, "the stop"))
 
     def cast(self, type: Any, nullable: Optional[bool] = None) -> Column:
         """Each row as the same value of a type: refused at the first row that does not fit, or that is null where the
-        type has no null. 'i8' has none, 'i8?' has, and so has each type with `nullable`."""
-        kind = kind_of(type)
+        type has no null. 'i8' has none, 'i8?' has, and so has each type with `nullable`. A cast of integers to
+        'timestamp[us]' says what they count; one of timestamps counts the same times, exactly, in another unit."""
+        kind, logical = asked_type(type)
         kind.nullable = kind.nullable if nullable is None else nullable
+        if logical is not None or self._logical is not None:
+            return _casting.recounted(self, kind, logical, f"cast to {logical or text_of(kind)}")
         return _casting.cast(self, kind)
 
     def take(self, indices: Any) -> Column:
         """The rows at the indices: a column, a list, or an array; null at a null index. In lists and arrays negative
         indices count from the end."""
-        return self._made(calls.hv_take, session, self, self._beside(_indexing.indices_of(self, indices)))
+        return self._kept(calls.hv_take, session, self, self._beside(_indexing.indices_of(self, indices)))
 
     def filter(self, mask: Any) -> Column:
         """The rows at which the mask, a column in any form, a list or an array, is true; null selects nothing."""
-        return self._made(calls.hv_filter, session, self, self._beside(_indexing.mask_of(self, mask)))
+        return self._kept(calls.hv_filter, session, self, self._beside(_indexing.mask_of(self, mask)))
 
     def take_from(self, dictionary: Any) -> Column:
         """The rows of the dictionary that these codes number from 0; null stays null."""
         values = dictionary if isinstance(dictionary, Column) else self.of(dictionary)
-        return self._made(calls.hv_take_from, session, self, self._beside(values))
+        return values._kept(calls.hv_take_from, session, self, self._beside(values))
 
     def fill(self, value: Any) -> Column:
         """A value in place of each null, after which the type has no null."""
-        return self._made(calls.hv_fill, session, self, *passed(self._kind, value))
+        return self._kept(calls.hv_fill, session, self, *passed(self._kind, _times.number_of(self._logical, value)))
 
     def is_null(self) -> Column:
         """Whether each row is null: a mask without null."""
@@ -326,6 +356,16 @@ class Column(_comparing.Comparisons, _pairs.Pairs):
         return text_of(self._kind)
 
     @property
+    def logical_type(self) -> Optional[LogicalType]:
+        """What the integers mean, as 'timestamp[us, UTC]' by str: dates, times, timestamps, durations. None where
+        they mean themselves, and for columns of other types."""
+        return self._there()._logical
+
+    def storage(self) -> Column:
+        """The same column of the integers that its rows are stored as."""
+        return self._made(calls.hv_clone, self)
+
+    @property
     def dtype(self) -> Any:
         """The dtype of `to_numpy()`: that of the type for integers and booleans, else that of objects."""
         return _copying.dtype(self)
@@ -359,9 +399,9 @@ class Column(_comparing.Comparisons, _pairs.Pairs):
         """How many rows are null."""
         return _runs.null_count(self)
 
-    def sum(self) -> int:
-        """The sum of the rows that are not null, 0 where there is none. OverflowError where it leaves 64 bits on the
-        way from row to row, which names the row."""
+    def sum(self) -> Any:
+        """The sum of the rows that are not null, 0 where there is none; a duration of durations, and of no other times.
+        OverflowError where it leaves 64 bits on the way from row to row, which names the row."""
         return _questions.total(self)
 
     def group_by(self, keys: Any) -> Groups:
@@ -502,7 +542,7 @@ class Column(_comparing.Comparisons, _pairs.Pairs):
         """The value of each stored run."""
         if self.form == "constant":
             return self.slice(0, min(1, self._length)).decode()
-        return self._made(calls.hv_values, self)
+        return self._kept(calls.hv_values, self)
 
     def record(self) -> bytes:
         """The metadata record of a run column."""

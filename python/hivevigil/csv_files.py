@@ -9,46 +9,47 @@ import csv
 import re
 from collections.abc import Callable, Iterator
 from dataclasses import dataclass, field
-from datetime import date
 from decimal import Decimal
 from itertools import islice
 from typing import Any, Optional
 
+from . import _iso
 from ._types import GREATEST_PRECISION, range_of
 from .column import Column
+from .logical import NANOSECONDS, asked_type
 
-_EPOCH = date(1970, 1, 1).toordinal()
 _TRUTHS = {"true": True, "false": False}
 _WHOLE = re.compile(r"-?(?:0|[1-9]\d{0,37})", re.ASCII)
 _DECIMAL = re.compile(_WHOLE.pattern + r"(?:\.\d+)?", re.ASCII)
-_DATE = re.compile(r"\d{4}-\d\d-\d\d", re.ASCII)
 
 
 class BadFile(Exception):
     """A file that is not a CSV, in a sentence."""
 
 
-def _is_date(text: str) -> bool:
-    try:
-        return bool(_DATE.fullmatch(text)) and bool(date.fromisoformat(text))
-    except ValueError:
-        return False
+def _has_zone(text: str) -> Optional[bool]:
+    """Whether a timestamp has an offset; None for another text."""
+    found = _iso.instant(text)
+    return None if found is None else found.has_offset
 
 
 _TESTS: dict[str, Callable[[str], Any]] = {
-    "truth": _TRUTHS.__contains__, "whole": _WHOLE.fullmatch, "decimal": _DECIMAL.fullmatch, "date": _is_date,
+    "truth": _TRUTHS.__contains__, "whole": _WHOLE.fullmatch, "decimal": _DECIMAL.fullmatch,
+    "date": lambda text: _iso.day(text) is not None, "time": _iso.time_of_day,
+    "timestamp": lambda text: _has_zone(text) is False, "instant": lambda text: _has_zone(text) is True,
 }
 
 
 @dataclass
 class Guess:
-    """What all fields of a column are, so far: booleans, integers, decimals, dates; else texts."""
+    """What all fields of a column are, so far: booleans, integers, decimals, dates, times, timestamps without an offset
+    or with one; else texts."""
 
     could_be: set[str] = field(default_factory=lambda: set(_TESTS))
     least: int = 0
     greatest: int = 0
     digits: int = 1  # before the point
-    places: int = 0  # after it
+    places: int = 0  # after it, or after the second
     seen: bool = False
 
     def add(self, texts: set[str]) -> None:
@@ -62,6 +63,17 @@ class Guess:
             parts = [text.lstrip("-").partition(".") for text in texts]
             self.digits = max([self.digits, *(len(before) for before, _, _ in parts)])
             self.places = max([self.places, *(len(after) for _, _, after in parts)])
+        if self.could_be & {"time", "timestamp", "instant"}:
+            self._add_times(texts)
+
+    def _add_times(self, texts: set[str]) -> None:
+        if "time" in self.could_be:
+            self.places = max([self.places, *(places for _, places in filter(None, map(_iso.time_of_day, texts)))])
+            return
+        found = [each for each in map(_iso.instant, texts) if each is not None]
+        self.places = max([self.places, *(each.places for each in found)])
+        self.least = min([self.least, *(each.nanoseconds for each in found)])
+        self.greatest = max([self.greatest, *(each.nanoseconds for each in found)])
 
     def type(self) -> str:
         """The type of the column; texts where no row says more."""
@@ -75,15 +87,25 @@ class Guess:
                     return name + "?"
         if "decimal" in self.could_be and self.digits + self.places <= GREATEST_PRECISION:
             return f"decimal({self.digits + self.places}, {self.places})?"
-        return "date?" if "date" in self.could_be else "utf8?"
+        if "date" in self.could_be:
+            return "date?"
+        unit = _iso.unit_of(min(self.places, 9))
+        if "time" in self.could_be:
+            return f"time[{unit}]?"
+        past = unit == "ns" and (self.least not in range_of("i64") or self.greatest not in range_of("i64"))
+        if past or not self.could_be & {"timestamp", "instant"}:
+            return "utf8?"
+        return f"timestamp[{unit}]?" if "timestamp" in self.could_be else f"timestamp[{unit}, UTC]?"
 
 
 def _reader_of(type: str) -> Callable[[str], Any]:
     """How a field of a type is read."""
-    name = type.rstrip("?").partition("(")[0]
+    name = type.rstrip("?").partition("(")[0].partition("[")[0]
+    unit = NANOSECONDS.get(re.split(r"\W", type.partition("[")[2])[0], 1)
     readers: dict[str, Callable[[str], Any]] = {
         "i32": int, "i64": int, "decimal": Decimal, "bool": _TRUTHS.__getitem__, "utf8": str,
-        "date": lambda text: date.fromisoformat(text).toordinal() - _EPOCH,
+        "date": _iso.day, "time": lambda text: (_iso.time_of_day(text) or (0, 0))[0] // unit,
+        "timestamp": lambda text: getattr(_iso.instant(text), "nanoseconds", 0) // unit,
     }
     return readers[name]
 
@@ -158,4 +180,6 @@ class CsvFile:
 
 def _column(texts: list[str], kind: str) -> Column:
     read = _reader_of(kind)
-    return Column.of([read(text) if text else None for text in texts], "i32?" if kind == "date?" else kind)
+    rows = [read(text) if text else None for text in texts]
+    logical = asked_type(kind)[1]
+    return Column.of(rows, kind) if logical is None else Column.of(rows, f"{logical.storage}?").cast(kind)

@@ -24,11 +24,16 @@ def concat(columns: Iterable[Column]) -> Column:
     given = [_column(column) for column in listed(columns, "columns")]
     if not given:
         raise ValueError("concat takes at least one column, whose type is that of the answer")
+    logical = given[0]._logical
+    for column in given:
+        if column._logical != logical:
+            names = f"{logical or given[0].type.rstrip('?')} and {column._logical or column.type.rstrip('?')}"
+            raise TypeMismatch().saying(f"concat: {names} are two types; columns of one type are joined")
     handles = (Handle * max(1, len(given)))()
     for place, column in enumerate(given):
         handles[place] = column._there()._handle
     try:
-        return Column._made(calls.hv_concat_columns, session, handles, len(given))
+        return given[0]._kept(calls.hv_concat_columns, session, handles, len(given))
     except TypeMismatch as refused:
         types = list(dict.fromkeys(column.type.rstrip("?") for column in given))
         why = f"{types[0]} and {types[1]} are two types" if len(types) > 1 else "the elements are of two types"

@@ -29,8 +29,11 @@ class Groups:
         self._keys, self._values = keys, values
 
     def sum(self) -> tuple[Column, Column]:
-        """The sum of each group, 'i64?' or 'u64?'. OverflowError, with the group counted from 0 in its first field,
+        """The sum of each group, 'i64?' or 'u64?', or the duration of durations. OverflowError, with the group counted from 0 in its first field,
         where one does not fit 64 bits."""
+        logical = self._values._logical
+        if logical is not None and logical.sort != "duration":
+            raise TypeError(f"sum: rows of type {logical} have no sum; values.storage() are their integers")
         try:
             return self._folded("sum")
         except CastOutOfRange as large:
@@ -66,4 +69,5 @@ class Groups:
         keys, answers = kind._owning(Handle()), kind._owning(Handle())
         values, number = self._keys._beside(self._values), FOLDS.index(fold)
         ask(calls.hv_fold_by, self._keys, values, number, keys._handle, answers._handle)
-        return keys, answers
+        keys._meaning(self._keys._logical)
+        return keys, answers._meaning(None if fold in ("rows", "count") else self._values._logical)

@@ -2,6 +2,7 @@
 import os
 import subprocess
 import sys
+from datetime import date, datetime, time, timezone
 from pathlib import Path
 from xml.etree import ElementTree
 
@@ -162,6 +163,12 @@ def test_files_without_rows_and_without_values(tmp_path, reader):
         (["1", "-2147483648"], "i32?"), (["2147483648"], "i64?"), (["9223372036854775808"], "decimal(19, 0)?"),
         (["007"], "utf8?"), (["1", "2.5"], "decimal(2, 1)?"), (["1" * 39], "utf8?"), (["1e5"], "utf8?"),
         (["true", "false"], "bool?"), (["true", "1"], "utf8?"), (["2024-02-29"], "date?"), (["2023-02-29"], "utf8?"),
+        (["09:30", "23:59:59"], "time[s]?"), (["09:30:00.25"], "time[ms]?"), (["24:00"], "utf8?"),
+        (["2026-01-31T09:30", "2026-01-31 09:30:01.5"], "timestamp[ms]?"), (["2026-01-31"], "date?"),
+        (["2026-01-31T09:30Z", "2026-01-31T09:30:00.000001+02:00"], "timestamp[us, UTC]?"),
+        (["2026-01-31T09:30Z", "2026-01-31T09:30"], "utf8?"), (["2026-02-30T09:30"], "utf8?"),
+        (["2263-01-01T00:00:00.000000001"], "utf8?"), (["2026-01-31T09:30:00.000000001"], "timestamp[ns]?"),
+        (["2026-01-31T09:30+24:00"], "utf8?"), (["2026-01-31", "2026-01-31T09:30"], "utf8?"),
         (["", ""], "utf8?"), (["1", "x"], "utf8?"), (["-0.5", ""], "decimal(2, 1)?"), (["１"], "utf8?"),
     ],
 )
@@ -173,6 +180,21 @@ def test_types_of_fields(tmp_path, fields, type):
     assert file.types["a"] == type
     if type in ("i32?", "i64?"):
         assert [column[0] for column in columns] == list(map(int, fields))
+
+
+@pytest.mark.parametrize(
+    "field, value",
+    [
+        ("2026-01-31", date(2026, 1, 31)), ("09:30:00.25", time(9, 30, 0, 250_000)),
+        ("2026-01-31 09:30", datetime(2026, 1, 31, 9, 30)),
+        ("1969-12-31T23:59:59.999999-01:30", datetime(1970, 1, 1, 1, 29, 59, 999_999, timezone.utc)),
+    ],
+)
+def test_dates_and_times_of_fields(tmp_path, field, value):
+    path = tmp_path / "fields.csv"
+    path.write_text(f"a,b\n{field},x\n,x\n")
+    (columns,) = CsvFile(str(path), 9).batches(lambda _: None)
+    assert columns["a"].to_list() == [value, None]
 
 
 def test_other_separators(tmp_path):

@@ -1,4 +1,5 @@
 """A user's program, of which test_types.py has mypy say the types; nothing runs it."""
+from datetime import date, time, timedelta
 from decimal import Decimal
 from typing import Any, Optional, Union
 
@@ -7,7 +8,7 @@ from hivevigil.chunks import Partial, Stretch, Sums, join, joined
 from hivevigil.dask import Answer, ChunkedColumn
 from hivevigil.pandas import RunEndArray, RunEndDtype
 
-Row = Union[int, bool, Decimal, str, bytes, None]
+Row = Union[int, bool, Decimal, str, bytes, date, time, timedelta, None]
 
 column: Column = Column.of([1, None], "i64?").to_runs()
 rows: list[Row] = column.tolist()
