@@ -13,7 +13,7 @@ from typing import Any, Optional
 from . import _time_arrays, _times
 from ._library import NUMBERS, Kind, Pair, calls
 from ._types import GREATEST_PRECISION, LETTERS, TYPES, checked_places, range_of
-from ._values import NOT_FLOAT, checked_text, is_missing_class, is_truth, is_whole, unscaled, why_not
+from ._values import NOT_FLOAT, checked_text, is_missing, is_missing_class, is_truth, is_whole, unscaled, why_not
 from .errors import ColumnLength, in_words
 from .logical import LogicalType, sort_of_class, storage_of
 
@@ -76,14 +76,19 @@ def listed(rows: Any, what: str = "rows") -> list[Any]:
 _SORTS = {"whole": "integers", "decimal": "decimals", "bool": "booleans", "utf8": "texts", "binary": "bytes"}
 
 
+_TIMES = {"date", "time", "timestamp", "duration"}  # rows of these are counted before
+
+
 def _sort_of(kind: type) -> Optional[str]:
     """What values of a class of Python are; None of a class that no column has values of."""
     if kind is bool or kind.__module__ == "numpy" and kind.__name__ in ("bool_", "bool"):
         return "bool"
+    if sort_of_class(kind) is not None:  # timedelta64 is among NumPy's integers
+        return sort_of_class(kind)
     for sort, classes in (("whole", Integral), ("decimal", Decimal), ("utf8", str)):
         if issubclass(kind, classes):
             return sort
-    return "binary" if issubclass(kind, (bytes, bytearray, memoryview)) else sort_of_class(kind)
+    return "binary" if issubclass(kind, (bytes, bytearray, memoryview)) else None
 
 
 def inferred(rows: Sequence[Any]) -> Kind:
@@ -92,7 +97,7 @@ def inferred(rows: Sequence[Any]) -> Kind:
     present = [row for row in rows if row is not None]
     sorts = set(map(_sort_of, set(map(type, present))))
     nullable = len(present) < len(rows)
-    if not sorts:
+    if not sorts or sorts <= _TIMES and all(map(is_missing, present)):
         raise ValueError("no row tells a type: name one, as Column.of(rows, 'i64')")
     if sorts == {"whole", "decimal"}:
         sorts = {"decimal"}

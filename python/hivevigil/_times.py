@@ -10,7 +10,7 @@ from itertools import groupby, repeat
 from typing import Any, Optional, Union
 
 from ._types import range_of
-from ._values import is_missing
+from ._values import is_missing, is_missing_class
 from .errors import in_words
 from .logical import NANOSECONDS, LogicalType, article, sort_of_class
 
@@ -106,11 +106,13 @@ def stored_rows(logical: LogicalType, rows: Sequence[Any]) -> list[Optional[int]
 def inferred(rows: Sequence[Any]) -> Optional[LogicalType]:
     """The type of rows that are dates, times, timestamps or durations, in microseconds, or nanoseconds where a library
     has them; None where a row is of another sort."""
-    present = [(number, row) for number, row in enumerate(rows) if not is_missing(row)]
-    sorts = {sort_of_class(kind) for kind in {type(row) for _, row in present}}
+    sorts = {sort_of_class(kind) for kind in set(map(type, rows)) if not is_missing_class(kind)}
     if len(sorts) != 1 or None in sorts:
         return None
     (sort,) = sorts
+    present = [(number, row) for number, row in enumerate(rows) if not is_missing(row)]
+    if not present:  # only NaT of NumPy
+        return None
     if sort == "date":
         return LogicalType("date", "D")
     unit = "ns" if any(hasattr(row, "asm8") or type(row).__module__ == "numpy" for _, row in present) else "us"
@@ -168,7 +170,7 @@ def _with_zone(length: timedelta, zone: tzinfo) -> datetime:
 
 
 def _whole(logical: LogicalType, number: int, nanoseconds: int) -> int:
-    """How many of so many nanoseconds a count is."""
+    """A count in units of this number of nanoseconds."""
     whole, rest = divmod(number * logical.nanoseconds, nanoseconds)
     if rest:
         raise ValueError(f"{number} of {logical} is finer than Python's {logical.sort}{_STORAGE}")

@@ -2,7 +2,7 @@
 from __future__ import annotations
 
 import sys
-from typing import Any
+from typing import Any, Optional
 
 from . import _casting, _times
 from ._library import BuilderHandle, ask, calls
@@ -10,7 +10,7 @@ from ._types import text_of
 from ._values import passed, size_of
 from .column import Column
 from .errors import NullNotAllowed, TypeMismatch
-from .logical import asked_type
+from .logical import LogicalType, asked_type
 
 
 class Builder:
@@ -73,6 +73,11 @@ class Builder:
         return text_of(self._kind)
 
     @property
+    def logical_type(self) -> Optional[LogicalType]:
+        """What the integers mean, as that of a column."""
+        return self._logical
+
+    @property
     def rows(self) -> int:
         """How many rows there are; there may be more than len() can answer, 2**63 and above."""
         return int(calls.hv_builder_rows(self._handle))
@@ -92,7 +97,8 @@ class Builder:
         return int(calls.hv_builder_runs(self._handle))
 
     def __repr__(self) -> str:
-        return f"<Builder {self.type}: {self.rows} rows in {self.runs} runs>"
+        name = self.type if self._logical is None else f"{self._logical}{'?' * self._kind.nullable}"
+        return f"<Builder {name}: {self.rows} rows in {self.runs} runs>"
 
     def __del__(self, free: Any = calls.hv_builder_free) -> None:  # kept here: modules are emptied before the last one
         if hasattr(self, "_handle"):

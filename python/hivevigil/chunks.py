@@ -20,11 +20,12 @@ from dataclasses import dataclass, replace
 from itertools import accumulate
 from typing import Any, NamedTuple, Optional
 
-from . import _runs
-from ._types import WHOLE_NUMBERS, kind_of, range_of, text_of
+from . import _runs, _times
+from ._types import WHOLE_NUMBERS, range_of, text_of
 from ._values import Scalar
 from .column import Column
 from .errors import TypeMismatch, Unsupported, in_words
+from .logical import asked_type
 
 __all__ = ["Partial", "Stretch", "Sums", "join", "joined"]
 
@@ -78,8 +79,9 @@ class Partial:
     @classmethod
     def empty(cls, type: Any) -> Partial:
         """What is known of no rows of a type; joined with a part it is that part."""
-        name = text_of(kind_of(type))
-        sums = Sums() if name.rstrip("?") in WHOLE_NUMBERS else None
+        kind, logical = asked_type(type)
+        name = text_of(kind) if logical is None else f"{logical}{'?' * kind.nullable}"
+        sums = Sums() if _is_summed(name) else None
         return cls(name, 0, 0, 0, sums, None, None, True, True, None, None)
 
     @classmethod
@@ -89,16 +91,17 @@ class Partial:
             raise TypeError(f"Partial.of takes a Column, not {in_words(column)}")
         if column.type.startswith("list"):
             raise Unsupported().about("Partial.of", column)
-        if column.logical_type is not None:
-            raise TypeError(f"Partial.of does not serve {column.logical_type}: column.storage() are its integers")
+        logical = column.logical_type
+        name = column.type if logical is None else f"{logical}{'?' * column.nullable}"
         if not column._length:
-            return cls.empty(column.type)
+            return cls.empty(name)
         runs = column.to_runs()
         count = runs.run_count()
         first, last = _runs.run_at(runs, 0), _runs.run_at(runs, -1)
         least, greatest = runs.min_max()
+        sums = _sums_of(runs.storage()) if _is_summed(name) else None
         return cls(
-            column.type, last.stop, runs.null_count, count, _sums_of(runs, least, greatest), least, greatest,
+            name, last.stop, runs.null_count, count, sums, least, greatest,
             runs.is_sorted(), runs.is_sorted(strict=True),
             Stretch(first.value, first.stop), Stretch(last.value, last.stop - last.start),
         )
@@ -113,17 +116,18 @@ class Partial:
         """How many rows are not null."""
         return self.rows - self.null_count
 
-    def sum(self) -> int:
-        """The sum of the rows that are not null. OverflowError where it leaves 64 bits on the way from row to row, as
-        that of the whole column is; which row it is, no part knows."""
+    def sum(self) -> Any:
+        """The sum of the rows that are not null, a duration of durations. OverflowError where it leaves 64 bits on the
+        way from row to row, as that of the whole column is; which row it is, no part knows."""
         if self.sums is None:
             raise Unsupported().saying(f"sum does not serve parts of type {self.type}")
+        logical = asked_type(self.type)[1]
         name = "u64" if self.type.startswith("u") else "i64"
         fits = range_of(name)
         if self.sums.least not in fits or self.sums.greatest not in fits:
             past = self.sums.least if self.sums.least not in fits else self.sums.greatest
             raise OverflowError(f"sum: it leaves {name} on the way from row to row, where it is {in_words(past)}")
-        return self.sums.total
+        return _times.value_of(logical, self.sums.total)
 
     def join(self, after: Partial) -> Partial:
         """What is known of the rows of this part and of those of the part after it."""
@@ -158,11 +162,17 @@ def joined(parts: Iterable[Partial]) -> Partial:
     return functools.reduce(join, given)
 
 
-def _sums_of(runs: Column, least: Any, greatest: Any) -> Optional[Sums]:
+def _is_summed(name: str) -> bool:
+    """Whether rows of a type are added: integers, and durations."""
+    return name.rstrip("?") in WHOLE_NUMBERS or name.startswith("duration")
+
+
+def _sums_of(runs: Column) -> Sums:
     """The three numbers of runs of integers. Where all rows have one sign the sum says them; else, or where it leaves
     64 bits, they are added run by run, since within a run sums only rise or only fall."""
-    if runs.type.rstrip("?") not in WHOLE_NUMBERS:
-        return None
+    found = runs.min_max()
+    least: Any = found[0]
+    greatest: Any = found[1]
     if least is None:
         return Sums()
     if least >= 0 or greatest <= 0:

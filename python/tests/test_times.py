@@ -13,7 +13,7 @@ from hypothesis import given
 from hypothesis import strategies as st
 
 from hivevigil import Builder, Column, HivevigilError, columns_from_arrow, concat
-from hivevigil.chunks import Partial
+from hivevigil.chunks import Partial, joined
 from hivevigil.errors import BadMetadata, CastOutOfRange, TypeMismatch
 from hivevigil.logical import LogicalType
 from hivevigil.pandas import RunEndArray
@@ -283,6 +283,13 @@ def test_values_that_do_not_fit_are_refused():
         Column.of([1, NOON])
 
 
+def test_only_nulls_show_no_type():
+    for rows in ([numpy.datetime64("NaT")], [pandas.NaT, None], [numpy.timedelta64("NaT"), None]):
+        with pytest.raises(ValueError, match="no row tells a type"):
+            Column.of(rows)
+        assert Column.of(rows, "timestamp[us]").to_list() == [None] * len(rows)
+
+
 def test_columns_of_two_units_are_not_compared():
     seconds, micros = Column.of([NOON], "timestamp[s]"), Column.of([NOON])
     with pytest.raises(TypeMismatch, match=r"compare: timestamp\[s\] and timestamp\[us\] are two types; column.cast\('timestamp"):
@@ -320,8 +327,6 @@ def test_what_does_not_serve_times_says_so():
     column = Column.of([NOON])
     with pytest.raises(TypeError, match=r"RunEndArray does not serve timestamp\[us\]"):
         RunEndArray(column)
-    with pytest.raises(TypeError, match=r"Partial.of does not serve timestamp\[us\]"):
-        Partial.of(column)
     with pytest.raises(TypeError, match="lists of"):
         Column.from_lists(column, [0], [1])
     with pytest.raises(TypeMismatch, match=r"take: indices are integers, not of timestamp\[us\]"):
@@ -341,6 +346,7 @@ def test_builders(sample):
         builder.append_value(row)
     made = builder.finish()
     assert (str(made.logical_type), made.to_list()) == (name, rows * 3)
+    assert repr(builder) == f"<Builder {name}?: 0 rows in 0 runs>" and builder.logical_type == made.logical_type
 
 
 def test_a_builder_takes_its_type():
@@ -353,6 +359,27 @@ def test_a_builder_takes_its_type():
     with pytest.raises(TypeMismatch, match=r"append: i64 \(builder\) and timestamp\[us\] are two types"):
         Builder("i64").append(Column.of([NOON]))
     assert builder.rows == 0
+
+
+# ---- Parts ----
+
+
+@given(columns(), st.data())
+def test_parts_are_joined(sample, data):
+    name, rows, column = sample
+    cut = data.draw(st.integers(0, len(rows)))
+    whole = joined([Partial.empty(name), Partial.of(column[:cut]), Partial.of(column[cut:])])
+    present = [row for row in rows if row is not None]
+    assert (whole.type.rstrip("?"), whole.rows, whole.null_count) == (name, len(rows), len(rows) - len(present))
+    assert (whole.least, whole.greatest) == (min(present, default=None), max(present, default=None))
+    assert whole.is_sorted == column.is_sorted() and pickle.loads(pickle.dumps(whole)) == whole
+    if name.startswith("duration"):
+        assert whole.sum() == sum(present, timedelta())
+    else:
+        with pytest.raises(TypeError, match="sum does not serve parts of type"):
+            whole.sum()
+    with pytest.raises(TypeMismatch, match="are two types"):
+        whole.join(Partial.empty("u8"))
 
 
 # ---- NumPy and pandas ----
