@@ -203,7 +203,7 @@ class Column(_comparing.Comparisons, _pairs.Pairs):
         """The run column of this many rows that a metadata record describes, over copies of ends and values."""
         count, data = size_of(rows, "the number of rows"), bytes(_making.view_of(record))
         passed_record = (kind_of(type), count, data or b"\0", len(data))
-        return cls._made(calls.hv_deserialize, *passed_record, _column(ends), ends._beside(values))
+        return _column(values)._kept(calls.hv_deserialize, *passed_record, _column(ends), ends._beside(values))
 
     @classmethod
     def from_bytes(cls, message: bytes) -> Column:

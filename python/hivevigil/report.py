@@ -39,7 +39,7 @@ class Summary:
         """One batch, as it came."""
         if len(flat) == 0:
             return
-        with flat.to_runs() as runs:
+        with flat.storage().to_runs() as runs:
             found = lengths(visible(runs).stops)
             if self.open_rows and runs[0] == self.last:
                 found[0] += self.open_rows

@@ -197,6 +197,16 @@ def test_dates_and_times_of_fields(tmp_path, field, value):
     assert columns["a"].to_list() == [value, None]
 
 
+def test_times_in_the_table(tmp_path):
+    path = tmp_path / "times.csv"
+    path.write_text("at,seen\n09:30,2026-01-31T09:30Z\n09:30,2026-01-31T10:30:00.000000001+01:00\n,\n")
+    ended = run(path, "--reader", "csv")
+    assert (ended.returncode, ended.stderr) == (0, "")
+    assert [line.split()[:6] for line in ended.stdout.splitlines()[1:3]] == [
+        ["at", "time[s]?", "3", "1", "2", "13"], ["seen", "timestamp[ns,", "UTC]?", "3", "1", "3"],
+    ]
+
+
 def test_other_separators(tmp_path):
     path = tmp_path / "semicolons.csv"
     path.write_text("\ufeffa;b\n1;2,5\n", encoding="utf-8")

@@ -503,5 +503,7 @@ def test_constants_and_windows():
     runs = Column.from_runs([2, 5], Column.of([date(2026, 1, 1), date(2026, 1, 2)]), 1, 3)
     assert runs.to_list() == [date(2026, 1, 1), date(2026, 1, 2), date(2026, 1, 2)]
     assert runs.values().to_list() == [date(2026, 1, 1), date(2026, 1, 2)] and runs.ends().logical_type is None
+    again = Column.from_record("i32", 3, runs.record(), runs.ends(), runs.values())
+    assert (again.to_list(), again.logical_type) == (runs.to_list(), runs.logical_type)
     assert [part.to_list() for part in runs.blocks(2)] == [runs.to_list()[:2], runs.to_list()[2:]]
     assert HivevigilError and columns_from_arrow
