@@ -12,7 +12,7 @@ from typing import Any, BinaryIO, Optional
 from . import _files
 from ._making import decimals_of, flat_of, validity_of, view_of
 from ._protobuf import Damaged, Fields, number_field, sized_field, sized_head
-from ._table_making import about, refuse_twice
+from ._table_making import about, meant, refuse_twice
 from ._types import TYPES
 from ._values import Scalar
 from .column import Column
@@ -95,7 +95,7 @@ def _column_footer(name: str, column: Column, logical_type: str, size: int) -> b
     footer = sized_field(1, name.encode()) + sized_field(2, logical_type.encode()) + number_field(3, size)
     if column.type.startswith("list"):
         return footer
-    runs = column.to_runs()
+    runs = column.storage().to_runs()
     least, greatest = runs.min_max()
     bounds = _bounds(column, [] if least is None else [least, greatest])
     return footer + number_field(4, runs.null_count) + number_field(5, runs.run_count()) + (
@@ -197,7 +197,8 @@ def _entry(data: bytes, start: int) -> _Entry:
     nulls, runs, bounds = fields.number(4), fields.number(5), _column_of(fields.content(6))
     if not fields.is_at_end or bounds.form != "flat" or bounds._length not in (0, 2) or bounds.null_count:
         raise Damaged
-    return _Entry(ColumnFooter(name, logical_type or None, size, nulls, runs, bounds), data, start)
+    footer = ColumnFooter(name, logical_type or None, size, nulls, runs, meant(bounds, logical_type or None))
+    return _Entry(footer, data, start)
 
 
 def _column_of(message: bytes) -> Column:

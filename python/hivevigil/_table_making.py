@@ -4,18 +4,17 @@ from __future__ import annotations
 import contextlib
 import os
 from collections.abc import Iterable, Iterator, Mapping
-from typing import TYPE_CHECKING, Any
+from typing import TYPE_CHECKING, Any, Optional
 
 from ._values import checked_text, size_of
 from .builder import Builder
 from .column import Column
 from .csv_files import CsvFile
 from .errors import HivevigilError, TypeMismatch, in_words
+from .logical import LogicalType
 
 if TYPE_CHECKING:
     from .table import Table
-
-DATE = "tdD"  # Arrow's format of days since 1970
 
 
 @contextlib.contextmanager
@@ -88,6 +87,26 @@ def logical_types_of(given: Any, columns: Mapping[str, Column]) -> dict[str, str
     return {name: given[name] for name in columns if name in given}
 
 
+def meanings(columns: Mapping[str, Column], formats: Mapping[str, str]) -> dict[str, str]:
+    """The logical types of columns that nobody else has, by name: those that are given, which columns of the integers
+    that these are stored as have from then on, else their own."""
+    found = {}
+    for name, column in columns.items():
+        if name in formats:
+            found[name] = formats[name]
+            meant(column, formats[name])
+        elif column.logical_type is not None:
+            found[name] = column.logical_type.format
+    return found
+
+
+def meant(column: Column, format: Optional[str]) -> Column:
+    """The column, whose rows mean what a format of Arrow says, where it is one of their type."""
+    logical = None if format is None else LogicalType.of_format(format)
+    is_stored_so = logical is not None and logical.storage == column.type.rstrip("?")
+    return column._meaning(logical if is_stored_so else None)
+
+
 def check_alike(table: Table, other: Any) -> None:
     """Refuses a table that cannot be appended: it has other names, or other logical types."""
     if type(other) is not type(table):
@@ -137,8 +156,8 @@ def frame_of(columns: Mapping[str, Column], rows: int, in_runs: bool) -> Any:
 # ---- CSV files ----
 
 
-def read_csv(path: Any, batch_rows: int) -> tuple[dict[str, Column], dict[str, str]]:
-    """The columns of a CSV file in runs, and the logical types of those that are dates."""
+def read_csv(path: Any, batch_rows: int) -> dict[str, Column]:
+    """The columns of a CSV file in runs."""
     if not isinstance(path, (str, os.PathLike)):
         raise TypeError(f"a file is named by a text or a path, not by {in_words(path)}")
     if size_of(batch_rows, "the number of rows of a batch") == 0:
@@ -148,9 +167,8 @@ def read_csv(path: Any, batch_rows: int) -> tuple[dict[str, Column], dict[str, s
     for batch in file.batches(lambda _: None):
         for name, column in batch.items():
             if name not in builders:
-                builders[name] = Builder(column.type)
+                builders[name] = Builder(file.types[name])
             builders[name].append(column)
-    logical = {name: DATE for name, kind in file.types.items() if kind == "date?"}
     for name, kind in file.types.items():
-        builders.setdefault(name, Builder("i32?" if name in logical else kind))
-    return {name: builder.finish() for name, builder in builders.items()}, logical
+        builders.setdefault(name, Builder(kind))
+    return {name: builder.finish() for name, builder in builders.items()}

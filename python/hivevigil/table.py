@@ -44,14 +44,15 @@ class Table(Mapping[str, Column]):
                 said = f"column {in_words(name)} has {length} rows, and {other} {count}"
                 raise ColumnLength(count, length).saying(said)
         self._columns, self._rows = made, count
-        self._logical = _table_making.logical_types_of({} if logical_types is None else logical_types, made)
+        given = _table_making.logical_types_of({} if logical_types is None else logical_types, made)
+        self._logical = _table_making.meanings(made, given)
 
     @classmethod
     def _of(cls, columns: dict[str, Column], rows: int, logical: Mapping[str, str]) -> Table:
         """A table of columns that nobody else has, of which those are known to fit."""
         table = cls.__new__(cls)
         table._columns, table._rows = columns, rows
-        table._logical = {name: logical[name] for name in columns if name in logical}
+        table._logical = _table_making.meanings(columns, logical)
         return table
 
     # ---- Making ----
@@ -65,9 +66,8 @@ class Table(Mapping[str, Column]):
     @classmethod
     def from_csv(cls, path: Any, batch_rows: int = 65536) -> Table:
         """The columns of a CSV file in runs, as few as there can be: each of the type that all of its fields have,
-        null where a field is empty. Dates are 'i32?' of logical type 'tdD'. BadFile for a file that is not a CSV."""
-        columns, logical = _table_making.read_csv(path, batch_rows)
-        return cls(columns, logical)
+        null where a field is empty; dates, times and timestamps too. BadFile for a file that is not a CSV."""
+        return cls(_table_making.read_csv(path, batch_rows))
 
     @classmethod
     def from_arrow(cls, source: Any) -> Table:

@@ -1,6 +1,7 @@
 """The examples of docs/BYTES.md, byte by byte: what the page writes is read as the rows that it names, and written
 again as these bytes."""
 import re
+from datetime import date
 from decimal import Decimal
 from pathlib import Path
 
@@ -56,6 +57,6 @@ def test_an_example_is_read_and_written(at):
 def test_the_example_of_a_table():
     (message,) = messages("## Tables", "## Versions")
     table = Table.from_bytes(message)
-    assert table.to_dict() == {"day": [7, 7, None], "place": ["ab", "ab", "ab"]} and len(message) == 164
+    assert table.to_dict() == {"day": [date(1970, 1, 8), date(1970, 1, 8), None], "place": ["ab", "ab", "ab"]} and len(message) == 164
     assert table.types == {"day": "i32?", "place": "utf8"} and table.logical_types == {"day": "tdD"}
     assert table.to_bytes() == message

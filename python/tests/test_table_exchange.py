@@ -3,6 +3,7 @@ import ctypes
 import os
 import subprocess
 import sys
+from datetime import date
 from pathlib import Path
 
 import arrow_model
@@ -168,7 +169,7 @@ def test_a_csv_file(tmp_path):
         table = Table.from_csv(file, batch_rows)
         assert table.types == {"place": "utf8?", "day": "i32?", "count": "i32?", "price": "decimal(4, 2)?"}
         assert table.logical_types == {"day": "tdD"} and {column.form for column in table.values()} == {"runs"}
-        assert table["day"].to_list() == [19723, 19723, 19724] and table["place"].run_count() == 2
+        assert table["day"].to_list() == [date(2024, 1, 1), date(2024, 1, 1), date(2024, 1, 2)] and table["place"].run_count() == 2
         assert [str(row) for row in table["price"]] == ["1.50", "None", "-20.00"]
 
 
@@ -199,7 +200,7 @@ def test_the_command(tmp_path):
     (tmp_path / "readings.csv").write_text("place,day\nOslo,2024-01-01\nOslo,2024-01-01\n,\n")
     assert run("readings.csv", "--to", "readings.hv", "--batch", 1) == (0, "", [])
     table = Table.load(tmp_path / "readings.hv")
-    assert table.to_dict() == {"place": ["Oslo", "Oslo", None], "day": [19723, 19723, None]}
+    assert table.to_dict() == {"place": ["Oslo", "Oslo", None], "day": [date(2024, 1, 1), date(2024, 1, 1), None]}
     assert table.logical_types == {"day": "tdD"} and table.equals(Table.from_csv(tmp_path / "readings.csv"))
     assert run("readings.csv", "--to", "none/x.hv")[:2] == (1, "")
     assert run("readings.csv", "--to", "x.hv", "--plot", "x.svg")[:2] == (2, "")
