@@ -143,10 +143,10 @@ def with_column(column: Column, sign: str, right: Column) -> Column:
     number, beside = operator_of(sign), column._beside(right)
     if not are_compared(column._logical, right._logical):
         left, other = (each._logical or each.type.rstrip("?") for each in (column, right))
-        raise TypeMismatch().saying(
-            f"compare: {left} and {other} are two types; column.cast('{other}') counts the same times in it, exactly"
-            if column._logical and right._logical else f"compare: {left} and {other} are two types; rows of one are compared"
-        )
+        hint = "rows of one type are compared"
+        if column._logical and right._logical:
+            hint = f"column.cast('{other}') counts the same times in it, exactly"
+        raise TypeMismatch().saying(f"compare: {left} and {other} are two types; {hint}")
     try:
         if column.form == right.form == "flat":
             return column._made(calls.hv_compare, session, column, number, beside)

@@ -1,5 +1,5 @@
-"""Columns in files, each a message of its own as docs/BYTES.md says it. In front of that of a column with a logical type
-is a line, `hivevigil type 1 FORMAT`, with the format that Arrow has for the type."""
+"""Columns in files, each a message of its own as docs/BYTES.md says it. Where a column has a logical type, a line comes
+first, `hivevigil type 1 FORMAT`, with the format that Arrow has for the type."""
 from __future__ import annotations
 
 import contextlib

@@ -1,4 +1,4 @@
-"""Dates and times as ISO 8601 spells them, in the fields of files: `2026-01-31`, `09:30`, `2026-01-31T09:30:00.5+02:00`."""
+"""Dates and times as ISO 8601 spells them: `2026-01-31`, `09:30`, `2026-01-31T09:30:00.5+02:00`."""
 from __future__ import annotations
 
 import re
@@ -16,7 +16,7 @@ UNITS = ("s", "ms", "us", "ns")
 
 @dataclass(frozen=True)
 class Instant:
-    """A date and a time: nanoseconds from 1970-01-01 00:00, of UTC where there is an offset; digits after the second."""
+    """A date and a time: nanoseconds from 1970-01-01 00:00, in UTC where it has an offset; digits after the second."""
 
     nanoseconds: int
     has_offset: bool

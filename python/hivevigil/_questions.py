@@ -26,7 +26,8 @@ def total(column: Column) -> Any:
     logical = column._there()._logical
     if logical is not None:
         if logical.sort != "duration":
-            raise TypeError(f"sum: rows of type {logical} have no sum; column.storage().sum() is that of their integers")
+            hint = "column.storage().sum() is that of their integers"
+            raise TypeError(f"sum: rows of type {logical} have no sum; {hint}")
         return _times.shown(logical, total(column.storage()))
     found = Total()
     ask(calls.hv_sum, session, column, found)

@@ -104,8 +104,8 @@ def to_numpy(column: Column, logical: LogicalType) -> Any:
 
 
 def to_pandas(column: Column, logical: LogicalType) -> Any:
-    """The rows as a Series: of timestamps, in their zone, and durations; dates and times of day are objects. OverflowError
-    where pandas has no such time."""
+    """The rows as a Series: of timestamps, in their zone, and durations; dates and times of day are objects.
+    OverflowError where pandas has no such time."""
     import pandas
 
     if logical.sort in ("date", "time"):

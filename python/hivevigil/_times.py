@@ -20,8 +20,9 @@ _SECOND, _DAY = NANOSECONDS["s"], NANOSECONDS["D"]
 _OFFSET = re.compile(r"([+-])(\d\d):(\d\d)")
 # nanoseconds in a unit of NumPy that is not a calendar's
 _NUMPY_UNITS = {
-    **{unit: Fraction(count) for unit, count in NANOSECONDS.items()}, "W": Fraction(7 * _DAY), "h": Fraction(3600 * _SECOND),
-    "m": Fraction(60 * _SECOND), "ps": Fraction(1, 10**3), "fs": Fraction(1, 10**6), "as": Fraction(1, 10**9),
+    **{unit: Fraction(count) for unit, count in NANOSECONDS.items()}, "W": Fraction(7 * _DAY),
+    "h": Fraction(3600 * _SECOND), "m": Fraction(60 * _SECOND), "ps": Fraction(1, 10**3), "fs": Fraction(1, 10**6),
+    "as": Fraction(1, 10**9),
 }
 
 
@@ -29,8 +30,8 @@ _NUMPY_UNITS = {
 
 
 def exact(logical: LogicalType, value: Any) -> Union[int, Fraction]:
-    """How many of the type's units a value is, exactly. TypeError for a value of another sort: a date is not a timestamp,
-    as for Python itself, and a zone is on both sides or on neither."""
+    """How many of the type's units a value is, exactly. TypeError for a value of another sort: a date is not a
+    timestamp, as for Python itself, and a zone is on both sides or on neither."""
     sort = sort_of_class(type(value))
     if sort is None or not _is_of_sort(logical, sort, value):
         raise TypeError(f"a value of type {logical} is {article(logical)}, not {in_words(value)}")
@@ -73,7 +74,8 @@ def _of_numpy(value: Any) -> Union[int, Fraction]:
     if unit in ("M", "Y") and value.dtype.kind == "M":
         value, unit, count = value.astype("datetime64[D]"), "D", 1
     if unit not in _NUMPY_UNITS:
-        raise TypeError(f"{in_words(value)} counts {'no unit' if unit == 'generic' else 'months'}, which have no length")
+        counted = "no unit" if unit == "generic" else "months"
+        raise TypeError(f"{in_words(value)} counts {counted}, which have no length")
     return int(value.astype("i8")) * count * _NUMPY_UNITS[unit]
 
 

@@ -173,7 +173,8 @@ class Column(_comparing.Comparisons, _pairs.Pairs):
         shown; without `rows` all to the last end. Both are copied; ends are integers without sign. More than 64 levels
         of runs are refused, as `Unsupported`."""
         end_column = ends if isinstance(ends, Column) else cls.of(ends, None if hasattr(ends, "dtype") else "u64")
-        end_column = end_column._as(kind_of("u64"), None, "from_runs, ends") if end_column.type in SIGNED else end_column
+        if end_column.type in SIGNED:
+            end_column = end_column._as(kind_of("u64"), None, "from_runs, ends")
         value_column = values if isinstance(values, Column) else cls.of(values)
         start = size_of(offset, "the offset")
         if rows is None:

@@ -29,8 +29,8 @@ class Groups:
         self._keys, self._values = keys, values
 
     def sum(self) -> tuple[Column, Column]:
-        """The sum of each group, 'i64?' or 'u64?', or the duration of durations. OverflowError, with the group counted from 0 in its first field,
-        where one does not fit 64 bits."""
+        """The sum of each group, 'i64?' or 'u64?', or the duration of durations. OverflowError, with the group counted
+        from 0 in its first field, where one does not fit 64 bits."""
         logical = self._values._logical
         if logical is not None and logical.sort != "duration":
             raise TypeError(f"sum: rows of type {logical} have no sum; values.storage() are their integers")

@@ -6,8 +6,8 @@
     str(days.logical_type), days.type                   # 'date', 'i32?'
     days.storage().to_list()                            # [20454, None]
 
-A type is written 'date', 'date[ms]', 'time[us]', 'timestamp[us]', 'timestamp[ns, Europe/Berlin]' or 'duration[ms]', with
-a '?' after it where rows may be null. Its `format` is that of Arrow's C data interface.
+A type is written 'date', 'date[ms]', 'time[us]', 'timestamp[us]', 'timestamp[ns, Europe/Berlin]' or 'duration[ms]',
+with a '?' after it where rows may be null. Its `format` is that of Arrow's C data interface.
 """
 from __future__ import annotations
 
@@ -28,7 +28,9 @@ _UNITS = {letter: unit for unit, letter in _LETTERS.items()}
 _SORTS = {"date": "td", "time": "tt", "timestamp": "ts", "duration": "tD"}
 _OF_LETTERS = {letters: sort for sort, letters in _SORTS.items()}
 _NARROW = {("date", "D"), ("time", "s"), ("time", "ms")}  # stored in 32 bits
-_TEXT = re.compile(r"\s*(date|time|timestamp|duration|datetime64|timedelta64)\s*(?:\[\s*(\w+)\s*(?:,\s*([^\]]+?)\s*)?\])?")
+_TEXT = re.compile(
+    r"\s*(date|time|timestamp|duration|datetime64|timedelta64)\s*(?:\[\s*(\w+)\s*(?:,\s*([^\]]+?)\s*)?\])?"
+)
 _NUMPY = {"datetime64": "timestamp", "timedelta64": "duration"}
 _CLASSES: dict[Any, str] = {date: "date", datetime: "timestamp", time: "time", timedelta: "duration"}
 

@@ -94,10 +94,8 @@ class RunEndArray(ExtensionArray):
         if column.type.startswith("list"):
             raise TypeError("RunEndArray does not serve columns of lists")
         if column.logical_type is not None:
-            raise TypeError(
-                f"RunEndArray does not serve {column.logical_type}: column.to_pandas() makes a Series, column.storage() has "
-                "the integers"
-            )
+            hint = "column.to_pandas() makes a Series, column.storage() has the integers"
+            raise TypeError(f"RunEndArray does not serve {column.logical_type}: {hint}")
         self._column = column if column.form == "runs" else column.to_runs()
 
     @property

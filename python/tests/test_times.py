@@ -1,5 +1,5 @@
-"""Dates, times of day, timestamps and durations: what comes in goes out as the same, with its unit and its zone. The model
-is Python's datetime and NumPy."""
+"""Dates, times of day, timestamps and durations: what comes in goes out as the same, with its unit and its zone. The
+model is Python's datetime and NumPy."""
 import copy
 import pickle
 from datetime import date, datetime, time, timedelta, timezone
@@ -77,8 +77,8 @@ def test_types_are_those_of_arrow_s_formats(name):
 
 
 @pytest.mark.parametrize("format", [
-    "", "l", "td", "tdX", "tdDD", "tts:", "ttx", "ts", "tss", "tsx:", "tss;", "tD", "tDx", "tDs:", "tiM", "+r", "u", "e",
-    "d:5,2", "Tss:", "tss UTC",
+    "", "l", "td", "tdX", "tdDD", "tts:", "ttx", "ts", "tss", "tsx:", "tss;", "tD", "tDx", "tDs:", "tiM", "+r", "u",
+    "e", "d:5,2", "Tss:", "tss UTC",
 ])
 def test_other_formats_are_of_no_logical_type(format):
     assert LogicalType.of_format(format) is None
@@ -160,7 +160,9 @@ def test_literals_are_compared(sample, data):
         assert (value in column) == (value in rows)
 
 
-@given(st.lists(st.integers(-(10**6), 10**6), min_size=1), st.integers(-(10**9), 10**9), st.sampled_from(["s", "ms", "us"]))
+@given(
+    st.lists(st.integers(-(10**6), 10**6), min_size=1), st.integers(-(10**9), 10**9), st.sampled_from(["s", "ms", "us"])
+)
 def test_a_finer_literal_is_compared_exactly(numbers, microseconds, unit):
     column = Column.of(numbers).cast(f"timestamp[{unit}]")
     literal = EPOCH + timedelta(microseconds=microseconds)
@@ -212,7 +214,9 @@ def test_other_times_have_no_sum(rows):
 
 
 @given(
-    st.lists(st.none() | st.integers(-(2**63), 2**63 - 1) | st.integers(-5, 5).map(lambda n: n * 86_400_000), max_size=6),
+    st.lists(
+        st.none() | st.integers(-(2**63), 2**63 - 1) | st.integers(-5, 5).map(lambda n: n * 86_400_000), max_size=6
+    ),
     st.sampled_from(list(PER_SECOND)), st.sampled_from(list(PER_SECOND)), st.booleans(),
 )
 def test_units_are_counted_exactly_or_refused(numbers, before, after, in_runs):
@@ -238,11 +242,12 @@ def test_casts_between_types():
     utc = Column.of([NOON.replace(tzinfo=timezone.utc)])
     assert utc.cast("timestamp[us, Europe/Berlin]")[0] == utc[0]
     for column, asked in (
-        (utc, "timestamp[us]"), (Column.of([NOON]), "timestamp[us, UTC]"), (days, "duration[s]?"), (Column.of([time(1)]), "date"),
+        (utc, "timestamp[us]"), (Column.of([NOON]), "timestamp[us, UTC]"), (days, "duration[s]?"),
+        (Column.of([time(1)]), "date"),
     ):
         with pytest.raises(TypeMismatch, match="is not counted as .*; column.storage"):
             column.cast(asked)
-    with pytest.raises(CastOutOfRange, match=r"row 0 is 1767268800000000 of timestamp\[us\], which date does not count"):
+    with pytest.raises(CastOutOfRange, match=r"row 0 is 17672688\d+ of timestamp\[us\], which date does not count"):
         Column.of([NOON]).cast("date")
     with pytest.raises(ValueError, match="has no null"):
         days.cast("timestamp[s]")
@@ -252,7 +257,7 @@ def test_casts_between_types():
 
 
 @pytest.mark.parametrize("column, value, sentence", [
-    (Column.of([NOON]), date(2026, 1, 1), r"a value of type timestamp\[us\] is a datetime without a zone, not datetime.date"),
+    (Column.of([NOON]), date(2026, 1, 1), r"of type timestamp\[us\] is a datetime without a zone, not datetime.date"),
     (Column.of([NOON]), NOON.replace(tzinfo=timezone.utc), "is a datetime without a zone, not datetime.datetime"),
     (Column.of([NOON.replace(tzinfo=timezone.utc)]), NOON, "is a datetime with a zone, not"),
     (Column.of([NOON.replace(tzinfo=timezone.utc)]), numpy.datetime64("2026-01-01"), "is a datetime with a zone, not"),
@@ -273,7 +278,7 @@ def test_values_that_do_not_fit_are_refused():
         Column.of([NOON, NOON.replace(microsecond=1)], "timestamp[s]")
     with pytest.raises(OverflowError, match=r"row 0: .* does not fit timestamp\[ns\]"):
         Column.of([datetime(9999, 1, 1)], "timestamp[ns]")
-    with pytest.raises(TypeError, match="row 0 is in the zone UTC and row 1 is in the zone Europe/Berlin: a column has one"):
+    with pytest.raises(TypeError, match="row 0 is in the zone UTC and row 1 is in the zone Europe/Berlin: a column"):
         Column.of([NOON.replace(tzinfo=timezone.utc), NOON.replace(tzinfo=BERLIN)])
     with pytest.raises(TypeError, match="row 0 is without a zone and row 1 is in the zone UTC"):
         Column.of([NOON, NOON.replace(tzinfo=timezone.utc)])
@@ -292,7 +297,7 @@ def test_only_nulls_show_no_type():
 
 def test_columns_of_two_units_are_not_compared():
     seconds, micros = Column.of([NOON], "timestamp[s]"), Column.of([NOON])
-    with pytest.raises(TypeMismatch, match=r"compare: timestamp\[s\] and timestamp\[us\] are two types; column.cast\('timestamp"):
+    with pytest.raises(TypeMismatch, match=r"timestamp\[s\] and timestamp\[us\] are two types; column.cast\('times"):
         seconds.lt(micros)
     with pytest.raises(TypeMismatch, match="are two types"):
         micros.eq(micros.storage())
@@ -320,7 +325,8 @@ def test_what_python_does_not_have_is_said():
         Column.of([1]).cast("timestamp[s, Nowhere/There]")[0]
     with pytest.raises(OverflowError, match="is NaT for NumPy"):
         Column.of([-(2**63)]).cast("timestamp[s]").to_numpy()
-    assert far.storage()[0] == 2**62 and repr(Column.of([NOON])) == "<Column timestamp[us]: 1 row, flat>\n  [2026-01-01 12:00:00]"
+    assert far.storage()[0] == 2**62
+    assert repr(Column.of([NOON])) == "<Column timestamp[us]: 1 row, flat>\n  [2026-01-01 12:00:00]"
 
 
 def test_what_does_not_serve_times_says_so():
@@ -385,20 +391,26 @@ def test_parts_are_joined(sample, data):
 # ---- NumPy and pandas ----
 
 
-@given(st.sampled_from(["D", "s", "ms", "us", "ns", "h", "W"]), st.lists(st.none() | st.integers(-10**6, 10**6), max_size=8), st.sampled_from("mM"))
+@given(
+    st.sampled_from(["D", "s", "ms", "us", "ns", "h", "W"]),
+    st.lists(st.none() | st.integers(-(10**6), 10**6), max_size=8), st.sampled_from("mM"),
+)
 def test_arrays_of_numpy(unit, numbers, kind):
     name = "timedelta64" if kind == "m" else "datetime64"
-    items = numpy.array([numpy.datetime64("NaT").view("i8") if n is None else n for n in numbers], "i8").view(f"{name}[{unit}]")
+    items = numpy.array([-(2**63) if n is None else n for n in numbers], "i8").view(f"{name}[{unit}]")  # NaT
     column = Column.of(items)
     back = column.to_runs().to_numpy()
     assert (back == items)[~numpy.isnat(items)].all() and (numpy.isnat(back) == numpy.isnat(items)).all()
-    assert back.dtype == column.dtype and (back.dtype == items.dtype or unit in ("h", "W") or kind == "m" and unit == "D")
+    is_coarse = unit in ("h", "W") or (kind, unit) == ("m", "D")
+    assert back.dtype == column.dtype and (back.dtype == items.dtype or is_coarse)
 
 
 def test_arrays_that_are_refused():
     for items, sentence in (
-        (numpy.array([1], "timedelta64[M]"), "no length in seconds"), (numpy.array([1], "timedelta64"), "no length in seconds"),
-        (numpy.array([1], "datetime64[ps]"), "nanoseconds are the finest unit"), (numpy.array([[1]], "datetime64[s]"), "one dimension"),
+        (numpy.array([1], "timedelta64[M]"), "no length in seconds"),
+        (numpy.array([1], "timedelta64"), "no length in seconds"),
+        (numpy.array([1], "datetime64[ps]"), "nanoseconds are the finest unit"),
+        (numpy.array([[1]], "datetime64[s]"), "one dimension"),
     ):
         with pytest.raises((TypeError, ValueError), match=sentence):
             Column.of(items)
@@ -487,8 +499,8 @@ def test_files_keep_the_type(tmp_path_factory, sample):
 
 
 @pytest.mark.parametrize("head", [
-    b"hivevigil type 1 tsx:\n", b"hivevigil type 2 tsu:\n", b"hivevigil type 1 tdD\n", b"hivevigil type 1 tsu:", b"hivevigil type 1 l\n",
-    b"hivevigil type 1 \xff\n", b"hivevigil type 1 ",
+    b"hivevigil type 1 tsx:\n", b"hivevigil type 2 tsu:\n", b"hivevigil type 1 tdD\n", b"hivevigil type 1 tsu:",
+    b"hivevigil type 1 l\n", b"hivevigil type 1 \xff\n", b"hivevigil type 1 ",
 ])
 def test_damaged_files_are_refused(tmp_path, head):
     (tmp_path / "bad").write_bytes(head + Column.of([1]).to_bytes())
