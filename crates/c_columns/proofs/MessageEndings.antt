@@ -72,8 +72,8 @@ read_short bytes a error made short = inr (record { told = short; message = (col
 
 -- the byte says whether they are a message
 pub message_told : (truth : Bool) (bytes : List ℕ) → OnTrue truth (AreMessage bytes) → OnFalse truth (IsNoMessage 16 bytes) → Tells (byte_of truth) (AreMessage bytes)
-message_told true bytes yes no = yes
-message_told false bytes yes no = λ found. no.none found.0 found.1
+message_told true bytes is _ = is
+message_told false bytes _ none = λ found. none.none found.0 found.1
 
 pub read_served : (bytes : List ℕ) (a : ArrayRef Global) → IsColumnOfMessage bytes a → (error : VortexError) → ¬ IsUnreadable bytes error
 read_served bytes a made error fault = fault.none.none (column_of a) made
