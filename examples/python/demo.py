@@ -121,7 +121,7 @@ def check_refusals():
     assert refusal(column.slice, 5, 11) == ("BadRange", (5, 11, 10))
     assert refusal(Column.of(["a"]).encode) == ("OnlyPrimitive", (0, 0, 0))
     assert refusal(column.fill, None) == ("NullFill", (0, 0, 0))
-    assert refusal(column.cast, "i8") == ("NullNotAllowed", (0, 0, 0)) and refusal(lambda: column == 1) == "TypeError"
+    assert refusal(column.cast, "i8") == ("NullNotAllowed", (0, 0, 0)) and refusal(lambda: column == "a") == "TypeError"
     assert refusal(Column.of([2**63 - 1, 1]).sum) == "OverflowError"
     assert refusal(column.at, 2**64) == ("OutOfBounds", (2**64, 10, 0))
     assert refusal(column.compare, 256, 1) == "ValueError" and refusal(column.fill, 2**64) == "OverflowError"
