@@ -4,4 +4,10 @@
 #[cfg(test)]
 mod bits;
 #[cfg(test)]
+mod columns;
+#[cfg(test)]
+mod refused;
+#[cfg(test)]
 mod sums;
+#[cfg(test)]
+mod tables;

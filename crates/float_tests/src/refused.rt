@@ -1,0 +1,59 @@
+//! Calls on columns of floats with each request for memory refused in turn, and calls that are refused.
+use crate::columns::{bits_of_rows, floats_of_rows};
+use column_core::{ScalarView, VortexError, VortexResult};
+use refusing::{Calls, are_answered_in_turn};
+use runend_array::{ArrayRef, ExecutionCtx, VortexSession};
+use runend_floats::{FloatFormat, FloatPatterns, decode_floats, encode_floats, float_at};
+use std::alloc::{Allocator, Global};
+use std::test::Fail;
+
+// The bits of 1.0 and of 2.0.
+const ONE: u64 = 0x3ff0_0000_0000_0000;
+
+const TWO: u64 = 0x4000_0000_0000_0000;
+
+// The run column of 1.0, 1.0, null, 2.0.
+fn column<A: Allocator + Copy>(ctx: &mut ExecutionCtx<A>) -> VortexResult<ArrayRef<A>> {
+    let rows = [Some(ONE), Some(ONE), None, Some(TWO)];
+    let runs = floats_of_rows(ctx, FloatFormat::F64, &rows, FloatPatterns::Exact)?;
+    ArrayRef::of_runs(*ctx.allocator(), runs)
+}
+
+struct Decoded {}
+
+impl Calls for Decoded {
+    fn are_answered<A: Allocator + Copy>(alloc: A) -> VortexResult<bool> {
+        let mut ctx = ExecutionCtx::new(VortexSession::empty(), alloc);
+        let column = column(&mut ctx)?;
+        let bits = decode_floats(&column, &mut ctx);
+        drop(column);
+        let bits = ArrayRef::Primitive(bits?);
+        Ok(matches!(bits.scalar_at(3), Ok(ScalarView::Unsigned(TWO))))
+    }
+}
+
+#[test]
+fn decoding_is_refused_for_memory(rt: HostRuntime) -> Result<(), Fail> {
+    assert!(rt; are_answered_in_turn::<Decoded>(rt.alloc()));
+    Ok(())
+}
+
+// Is each call refused for a column of another type?
+fn refuses_types(alloc: Global) -> VortexResult<bool> {
+    let mut ctx = ExecutionCtx::new(VortexSession::empty(), alloc);
+    let ctx = &mut ctx;
+    let bits = bits_of_rows(alloc, FloatFormat::F64, &[Some(ONE)])?;
+    let keys = column(ctx)?;
+    let mismatch = VortexError::TypeMismatch;
+    let encoded =
+        matches!(encode_floats(&keys, FloatPatterns::Exact, ctx), Err(e) if e == mismatch);
+    let decoded = matches!(decode_floats(&bits, ctx), Err(e) if e == mismatch);
+    let at = matches!(float_at(&bits, 9), Err(e) if e == mismatch);
+    Ok(encoded && decoded && at)
+}
+
+#[test]
+fn other_types_are_refused(rt: HostRuntime) -> Result<(), Fail> {
+    assert!(rt; refuses_types(rt.alloc())?);
+    Ok(())
+}

@@ -1,0 +1,9 @@
+//! Columns of floats of 16, 32 and 64 bits in any form, stored by their keys in columns of integers.
+#![tactic(auto)]
+
+mod decoding;
+mod encoding;
+
+pub use column_floats::{FloatFormat, FloatPatterns, bits_type, float_format, key_type};
+pub use decoding::{decode_floats, float_at};
+pub use encoding::encode_floats;
