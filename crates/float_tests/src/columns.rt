@@ -1,5 +1,8 @@
 //! Columns of floats against tables that Python computed.
-use crate::tables::{Column, floats_16, floats_32, floats_64};
+use crate::table_16::floats_16;
+use crate::table_32::floats_32;
+use crate::table_64::floats_64;
+use crate::tables::Column;
 use column_core::{
     BitBufferMut, DType, NativePType, Nullability, PrimitiveArray, ScalarView, Validity,
     VortexError, VortexResult,
@@ -9,11 +12,20 @@ use runend_array::{
 };
 use runend_column::slice;
 use runend_floats::{
-    FloatFormat, FloatPatterns, bits_type, decode_floats, encode_floats, float_at, float_format,
-    key_type,
+    CompareOperator, FloatFormat, FloatPatterns, bits_type, compare_numbers, compare_total,
+    decode_floats, encode_floats, float_at, float_format, key_type,
 };
 use std::alloc::{Allocator, Global};
 use std::test::Fail;
+
+static OPERATORS: [CompareOperator; 6] = [
+    CompareOperator::Eq,
+    CompareOperator::NotEq,
+    CompareOperator::Gt,
+    CompareOperator::Gte,
+    CompareOperator::Lt,
+    CompareOperator::Lte,
+];
 
 /// Returns the flat column of these bits, in the unsigned type of the format.
 pub(crate) fn bits_of_rows<A: Allocator + Copy>(
@@ -125,6 +137,59 @@ fn floats_are_decoded(rt: HostRuntime) -> Result<(), Fail> {
     assert!(rt; decodes(rt.alloc(), FloatFormat::F16, &floats_16())?);
     assert!(rt; decodes(rt.alloc(), FloatFormat::F32, &floats_32())?);
     assert!(rt; decodes(rt.alloc(), FloatFormat::F64, &floats_64())?);
+    Ok(())
+}
+
+// Are the booleans of the rows these bits, and null where the row is?
+fn has_truths(truths: &ArrayRef<Global>, rows: &[Option<u64>], bits: u64) -> VortexResult<bool> {
+    let mut all = truths.len() == rows.len();
+    let mut rest = bits;
+    for (index, row) in rows.iter().enumerate() {
+        all = all
+            && match truths.scalar_at(index)? {
+                ScalarView::Bool(truth) => row.is_some() && truth == (rest % 2 == 1),
+                ScalarView::Null => row.is_none(),
+                _ => false,
+            };
+        rest = rest / 2;
+    }
+    Ok(all)
+}
+
+// Does each operator hold where it has to, of numbers and in the total order?
+fn compares_with(
+    column: &ArrayRef<Global>,
+    rows: &[Option<u64>],
+    expected: &(u64, [u64; 6], [u64; 6]),
+    ctx: &mut ExecutionCtx<Global>,
+) -> VortexResult<bool> {
+    let (constant, numbers, total) = *expected;
+    let mut all = true;
+    for operator in 0..6 {
+        let truths = compare_numbers(column, OPERATORS[operator], constant, ctx)?;
+        all = all && has_truths(&truths, rows, numbers[operator])?;
+        let truths = compare_total(column, OPERATORS[operator], constant, ctx)?;
+        all = all && has_truths(&truths, rows, total[operator])?;
+    }
+    Ok(all)
+}
+
+fn compares(alloc: Global, format: FloatFormat, table: &Column) -> VortexResult<bool> {
+    let mut ctx = ExecutionCtx::new(VortexSession::empty(), alloc);
+    let runs = floats_of_rows(&mut ctx, format, table.rows, FloatPatterns::Exact)?;
+    let column = ArrayRef::of_runs(alloc, runs)?;
+    let mut all = true;
+    for expected in table.compared {
+        all = all && compares_with(&column, table.rows, expected, &mut ctx)?;
+    }
+    Ok(all)
+}
+
+#[test]
+fn floats_are_compared(rt: HostRuntime) -> Result<(), Fail> {
+    assert!(rt; compares(rt.alloc(), FloatFormat::F16, &floats_16())?);
+    assert!(rt; compares(rt.alloc(), FloatFormat::F32, &floats_32())?);
+    assert!(rt; compares(rt.alloc(), FloatFormat::F64, &floats_64())?);
     Ok(())
 }
 

@@ -10,4 +10,10 @@ mod refused;
 #[cfg(test)]
 mod sums;
 #[cfg(test)]
+mod table_16;
+#[cfg(test)]
+mod table_32;
+#[cfg(test)]
+mod table_64;
+#[cfg(test)]
 mod tables;

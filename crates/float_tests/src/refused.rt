@@ -3,7 +3,10 @@ use crate::columns::{bits_of_rows, floats_of_rows};
 use column_core::{ScalarView, VortexError, VortexResult};
 use refusing::{Calls, are_answered_in_turn};
 use runend_array::{ArrayRef, ExecutionCtx, VortexSession};
-use runend_floats::{FloatFormat, FloatPatterns, decode_floats, encode_floats, float_at};
+use runend_floats::{
+    CompareOperator, FloatFormat, FloatPatterns, compare_numbers, compare_total, decode_floats,
+    encode_floats, float_at,
+};
 use std::alloc::{Allocator, Global};
 use std::test::Fail;
 
@@ -32,9 +35,28 @@ impl Calls for Decoded {
     }
 }
 
+struct Compared {}
+
+impl Calls for Compared {
+    fn are_answered<A: Allocator + Copy>(alloc: A) -> VortexResult<bool> {
+        let mut ctx = ExecutionCtx::new(VortexSession::empty(), alloc);
+        let column = column(&mut ctx)?;
+        let truths = compare_numbers(&column, CompareOperator::Gt, ONE, &mut ctx);
+        drop(column);
+        let truths = truths?;
+        Ok(matches!(truths.scalar_at(3), Ok(ScalarView::Bool(true))))
+    }
+}
+
 #[test]
 fn decoding_is_refused_for_memory(rt: HostRuntime) -> Result<(), Fail> {
     assert!(rt; are_answered_in_turn::<Decoded>(rt.alloc()));
+    Ok(())
+}
+
+#[test]
+fn comparing_is_refused_for_memory(rt: HostRuntime) -> Result<(), Fail> {
+    assert!(rt; are_answered_in_turn::<Compared>(rt.alloc()));
     Ok(())
 }
 
@@ -49,11 +71,31 @@ fn refuses_types(alloc: Global) -> VortexResult<bool> {
         matches!(encode_floats(&keys, FloatPatterns::Exact, ctx), Err(e) if e == mismatch);
     let decoded = matches!(decode_floats(&bits, ctx), Err(e) if e == mismatch);
     let at = matches!(float_at(&bits, 9), Err(e) if e == mismatch);
-    Ok(encoded && decoded && at)
+    let numbers =
+        matches!(compare_numbers(&bits, CompareOperator::Eq, ONE, ctx), Err(e) if e == mismatch);
+    let total =
+        matches!(compare_total(&bits, CompareOperator::Eq, ONE, ctx), Err(e) if e == mismatch);
+    Ok(encoded && decoded && at && numbers && total)
+}
+
+// Is a constant of 64 bits refused for a column of 32 bits?
+fn refuses_constants(alloc: Global) -> VortexResult<bool> {
+    let mut ctx = ExecutionCtx::new(VortexSession::empty(), alloc);
+    let rows = [Some(0x3f80_0000)];
+    let runs = floats_of_rows(&mut ctx, FloatFormat::F32, &rows, FloatPatterns::Exact)?;
+    let floats = ArrayRef::of_runs(alloc, runs)?;
+    let past = 1 << 32;
+    let numbers = compare_numbers(&floats, CompareOperator::Eq, past, &mut ctx);
+    let numbers = matches!(numbers, Err(VortexError::CastOutOfRange));
+    let total = compare_total(&floats, CompareOperator::Eq, past, &mut ctx);
+    let total = matches!(total, Err(VortexError::CastOutOfRange));
+    let largest = compare_total(&floats, CompareOperator::Lt, past - 1, &mut ctx).is_ok();
+    Ok(numbers && total && largest)
 }
 
 #[test]
 fn other_types_are_refused(rt: HostRuntime) -> Result<(), Fail> {
     assert!(rt; refuses_types(rt.alloc())?);
+    assert!(rt; refuses_constants(rt.alloc())?);
     Ok(())
 }

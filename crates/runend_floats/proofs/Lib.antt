@@ -1,1 +1,2 @@
 pub mod CoveredRows
+pub mod TestedRows

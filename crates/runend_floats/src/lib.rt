@@ -1,9 +1,12 @@
 //! Columns of floats of 16, 32 and 64 bits in any form, stored by their keys in columns of integers.
 #![tactic(auto)]
 
+mod comparisons;
 mod decoding;
 mod encoding;
 
 pub use column_floats::{FloatFormat, FloatPatterns, bits_type, float_format, key_type};
+pub use column_order::CompareOperator;
+pub use comparisons::{compare_numbers, compare_total};
 pub use decoding::{decode_floats, float_at};
 pub use encoding::encode_floats;
