@@ -30,7 +30,7 @@ MESSAGES = "examples/corpus/messages.txt"
 GROUPS = {
     "Use it": {
         "README.md": "Overview", "docs/QUESTIONS.md": "How do I ..?", "docs/PROGRAM.md": "On the command line",
-        "python/README.md": "Python", "docs/TABLES.md": "Tables",
+        "python/README.md": "Python", "docs/TABLES.md": "Tables", "docs/TYPES.md": "Dates and times",
         "examples/README.md": "C, C++, Rust, Arrow", "examples/sqlite/README.md": "SQLite",
         "examples/postgres/README.md": "PostgreSQL", "docs/CALLING.md": "Rattle", "CHANGELOG.md": "Changes",
     },
