@@ -44,21 +44,24 @@ class ColumnFooter:
     @property
     def least(self) -> Scalar:
         """The least row that is not null, None where there is none."""
-        return self.bounds[0] if self.bounds else None
+        return self._bound(0)
 
     @property
     def greatest(self) -> Scalar:
         """The greatest row that is not null, None where there is none."""
-        return self.bounds[1] if self.bounds else None
+        return self._bound(1)
 
     def may_have(self, operator: str, value: Any) -> bool:
         """Whether `row operator value` may be true of a row, as Column.compare has it: where not, the column need not
         be read."""
         if self.bounds is None:
             return True
-        if operator == "==" and self.bounds:
+        if operator == "==" and len(self.bounds):
             return bool(self.bounds.le(value)[0] and self.bounds.ge(value)[1])
         return True in self.bounds.compare(operator, value)
+
+    def _bound(self, place: int) -> Scalar:
+        return None if self.bounds is None or not len(self.bounds) else self.bounds[place]
 
 
 @dataclass(frozen=True, eq=False)

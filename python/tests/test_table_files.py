@@ -34,7 +34,7 @@ def test_bytes_are_the_table_again(sample):
 
 @given(sample=tables(), data=st.data())
 def test_files(folder, sample, data):
-    formats = {name: data.draw(st.sampled_from(["tdD", "ttu", "größe"])) for name in sample.names[:2]}
+    formats = {name: data.draw(st.sampled_from(["tiM", "tiD", "größe"])) for name in sample.names[:2]}
     table = Table(sample.table, formats, sample.count)
     table.save(folder / "table")
     assert (folder / "table").read_bytes() == table.to_bytes() and os.listdir(folder) == ["table"]
