@@ -98,7 +98,7 @@ def _text(value: Any, what: str) -> bytes:
 def export(column: Column, name: str, format: Optional[str], dictionary: Optional[Column]) -> Exported:
     options = ArrowOptions()
     logical = getattr(column if dictionary is None else dictionary, "_logical", None)
-    if format is None and logical is not None:
+    if format is None and isinstance(logical, LogicalType):
         format = logical.format
     options.format = None if format is None else _text(format, "a format")
     values = None if dictionary is None else column._beside(dictionary)

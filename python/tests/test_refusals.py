@@ -246,7 +246,7 @@ ARGUMENTS = {
 STAY = {"free", "freed", "__repr__", "__exit__", "__del__", "_repr_html_", "__hash__", "__sizeof__"}
 MAKERS = {
     "of", "constant", "from_buffer", "from_lists", "from_runs", "from_record", "from_bytes", "from_arrow",
-    "from_arrow_structs", "load",
+    "from_arrow_structs", "load", "is_message",
 }
 
 

@@ -4,7 +4,7 @@ from hivevigil.chunks import Partial
 from hivevigil.dask import ChunkedColumn
 
 Column.of([1]).split("four")  # wrong
-Column.of([1]).sum() + "a"  # wrong
+Column.of([1]).run_count() + "a"  # wrong
 Partial.of([1])  # wrong
 Partial.of(Column.of([1])).join(3)  # wrong
 Partial.of(Column.of([1])).rows = 3  # wrong
