@@ -4,16 +4,4 @@
 #[cfg(test)]
 mod bits;
 #[cfg(test)]
-mod columns;
-#[cfg(test)]
-mod refused;
-#[cfg(test)]
 mod sums;
-#[cfg(test)]
-mod table_16;
-#[cfg(test)]
-mod table_32;
-#[cfg(test)]
-mod table_64;
-#[cfg(test)]
-mod tables;
