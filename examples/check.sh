@@ -233,20 +233,23 @@ else
 fi
 
 # SQLite: the extension linked with its test, under the sanitizers, and as SQLite loads it
-sqlite_parts="$(echo examples/sqlite/functions.c examples/sqlite/pairs.c examples/sqlite/*_table.c examples/engines/*.c)"
+sqlite_parts="$(echo examples/sqlite/functions.c examples/sqlite/pairs.c examples/sqlite/appends.c examples/sqlite/steps.c \
+    examples/sqlite/*_table.c examples/engines/*.c)"
 with_sqlite() {
     $cc $c_flags -Iexamples/c -DSQLITE_CORE $2 "examples/sqlite/$1.c" $sqlite_parts lib/libhivevigil.a -lsqlite3 \
         -o "$work/program" && timeout 200 "$work/program"
 }
 sqlite_loaded() {
     sh examples/sqlite/build.sh &&
-        $cc $c_flags -Iexamples/c -DLOADED_ALONE examples/sqlite/test.c -lsqlite3 -o "$work/program" &&
+        $cc $c_flags -Iexamples/c -DLOADED_ALONE "examples/sqlite/$1.c" -lsqlite3 -o "$work/program" &&
         timeout 200 "$work/program" lib/hivevigil_sqlite.so
 }
 if echo '#include <sqlite3ext.h>' | $cc -E - >/dev/null 2>&1; then
     run "sqlite/test.c$arrow_how" with_sqlite test "$arrow_flags"
+    run "sqlite/test_steps.c$arrow_how" with_sqlite test_steps "$arrow_flags"
     run "sqlite/memory.c" with_sqlite memory "-O2 $wraps"
-    run "sqlite, the extension as it is loaded" sqlite_loaded
+    run "sqlite, the extension as it is loaded" sqlite_loaded test
+    run "sqlite, the same of test_steps.c" sqlite_loaded test_steps
     if "$python" -c 'import sqlite3; sqlite3.connect(":memory:").enable_load_extension(True)' 2>/dev/null; then
         run "sqlite/figures.py" timeout 200 "$python" examples/sqlite/figures.py --rows 20000
     elif /usr/bin/python3 -c 'import sqlite3; sqlite3.connect(":memory:").enable_load_extension(True)' 2>/dev/null; then

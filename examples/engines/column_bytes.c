@@ -84,6 +84,36 @@ int32_t column_bytes_write(const hv_column *column, uint8_t **bytes, size_t *siz
     return answer;
 }
 
+/* The flat numbers of flat booleans: 1, 0 and null. */
+static int32_t flat_numbers(const hv_column *truths, hv_column *out, hv_error *error) {
+    const size_t rows = hv_length(truths), words = (rows + 63) / 64;
+    uint64_t *bits = calloc(words + 1, sizeof *bits), *valid = calloc(words + 1, sizeof *valid);
+    int64_t *numbers = calloc(rows + 1, sizeof *numbers);
+    int32_t answer = bits && valid && numbers ? HV_OK : HV_OUT_OF_MEMORY;
+    if (!answer) answer = hv_read_bools(truths, bits, words, error);
+    if (!answer) answer = hv_read_validity(truths, valid, words, error);
+    for (size_t row = 0; !answer && row < rows; row++) numbers[row] = (int64_t)(bits[row / 64] >> row % 64 & 1);
+    if (!answer)
+        answer = hv_i64(numbers, rows, hv_valid_bits((const uint8_t *)valid, 8 * words, 0), out, error);
+    free(bits), free(valid), free(numbers);
+    return answer;
+}
+
+int32_t column_of_truths(const hv_column *truths, hv_column *out, hv_error *error) {
+    hv_column runs = HV_EMPTY, ends = HV_EMPTY, values = HV_EMPTY, flat = HV_EMPTY, numbers = HV_EMPTY;
+    hv_session session;
+    hv_session_initial(&session);
+    int32_t answer = hv_encode_rows(truths, &runs, error);
+    if (!answer) answer = hv_ends(&runs, &ends, error);
+    if (!answer) answer = hv_values(&runs, &values, error);
+    if (!answer) answer = hv_decode(&session, &values, &flat, error);
+    if (!answer) answer = flat_numbers(&flat, &numbers, error);
+    if (!answer) answer = hv_runs(&ends, &numbers, hv_offset(&runs), hv_length(&runs), out, error);
+    hv_column *const all[] = {&runs, &ends, &values, &flat, &numbers};
+    for (size_t i = 0; i < sizeof all / sizeof *all; i++) hv_free(all[i]);
+    return answer;
+}
+
 int32_t column_bytes_read(const uint8_t *bytes, size_t size, hv_column *out, hv_error *error) {
     hv_column column = HV_EMPTY;
     int32_t answer = hv_read_column(bytes, size, &column, error);
@@ -97,7 +127,7 @@ int32_t column_bytes_read(const uint8_t *bytes, size_t size, hv_column *out, hv_
         kind.number = HV_I64;
         answer = column_cast(&column, &kind, out, error);
     } else {
-        answer = HV_UNSUPPORTED;
+        answer = kind.number == HV_BOOL ? column_of_truths(&column, out, error) : HV_UNSUPPORTED;
     }
     hv_free(&column);
     return answer;

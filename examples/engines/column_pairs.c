@@ -2,7 +2,6 @@
 #include "column_bytes.h"
 #include "hivevigil_helpers.h"
 #include <stdbool.h>
-#include <stdlib.h>
 
 /* The type in which a column has a value of this kind. */
 static hv_kind kind_of_values(uint8_t kind) {
@@ -26,44 +25,13 @@ static int32_t truths_of(const hv_column *numbers, hv_column *out, hv_error *err
     return hv_compare_scalar(&session, numbers, HV_NE, &zero, NULL, 0, out, error);
 }
 
-/* The flat numbers of flat booleans: 1, 0 and null. */
-static int32_t flat_numbers(const hv_column *truths, hv_column *out, hv_error *error) {
-    const size_t rows = hv_length(truths), words = (rows + 63) / 64;
-    uint64_t *bits = calloc(words + 1, sizeof *bits), *valid = calloc(words + 1, sizeof *valid);
-    int64_t *numbers = calloc(rows + 1, sizeof *numbers);
-    int32_t answer = bits && valid && numbers ? HV_OK : HV_OUT_OF_MEMORY;
-    if (!answer) answer = hv_read_bools(truths, bits, words, error);
-    if (!answer) answer = hv_read_validity(truths, valid, words, error);
-    for (size_t row = 0; !answer && row < rows; row++) numbers[row] = (int64_t)(bits[row / 64] >> row % 64 & 1);
-    if (!answer)
-        answer = hv_i64(numbers, rows, hv_valid_bits((const uint8_t *)valid, 8 * words, 0), out, error);
-    free(bits), free(valid), free(numbers);
-    return answer;
-}
-
-/* The same of booleans in any form, by their runs. */
-static int32_t numbers_of(const hv_column *truths, hv_column *out, hv_error *error) {
-    hv_column runs = HV_EMPTY, ends = HV_EMPTY, values = HV_EMPTY, flat = HV_EMPTY, numbers = HV_EMPTY;
-    hv_session session;
-    hv_session_initial(&session);
-    int32_t answer = hv_encode_rows(truths, &runs, error);
-    if (!answer) answer = hv_ends(&runs, &ends, error);
-    if (!answer) answer = hv_values(&runs, &values, error);
-    if (!answer) answer = hv_decode(&session, &values, &flat, error);
-    if (!answer) answer = flat_numbers(&flat, &numbers, error);
-    if (!answer) answer = hv_runs(&ends, &numbers, hv_offset(&runs), hv_length(&runs), out, error);
-    hv_column *const all[] = {&runs, &ends, &values, &flat, &numbers};
-    for (size_t i = 0; i < sizeof all / sizeof *all; i++) hv_free(all[i]);
-    return answer;
-}
-
 int32_t column_not(const hv_column *column, hv_column *out, hv_error *error) {
     const hv_value zero = {0, 0, HV_SIGNED, 0};
     hv_column truths = HV_EMPTY;
     hv_session session;
     hv_session_initial(&session);
     int32_t answer = hv_compare_scalar(&session, column, HV_EQ, &zero, NULL, 0, &truths, error);
-    if (!answer) answer = numbers_of(&truths, out, error);
+    if (!answer) answer = column_of_truths(&truths, out, error);
     hv_free(&truths);
     return answer;
 }
@@ -100,7 +68,7 @@ static int32_t combine(const hv_column *left, uint8_t operator_, const hv_column
         left = &left_truths, right = &right_truths;
     }
     if (!answer) answer = hv_combine(left, operator_, right, &made, error);
-    if (!answer && hv_kind_of(&made).number == HV_BOOL) answer = numbers_of(&made, out, error);
+    if (!answer && hv_kind_of(&made).number == HV_BOOL) answer = column_of_truths(&made, out, error);
     else if (!answer) hv_put(out, &made);
     hv_free(&left_truths), hv_free(&right_truths), hv_free(&made);
     return answer;

@@ -24,11 +24,11 @@ static int32_t begin(row_builder *rows, uint8_t kind, hv_error *error) {
     return answer;
 }
 
-int32_t row_builder_add(row_builder *rows, const row_value *value, hv_error *error) {
+int32_t row_builder_add(row_builder *rows, const row_value *value, uint64_t count, hv_error *error) {
     int32_t answer = value->kind == HV_NULL ? HV_OK : begin(rows, value->kind, error);
-    if (!answer && rows->rows == UINT64_MAX) answer = HV_WINDOW_OVERFLOW;
-    if (!answer) answer = append_rows(rows, value, 1, error);
-    if (!answer) rows->rows++;
+    if (!answer && count > UINT64_MAX - rows->rows) answer = HV_WINDOW_OVERFLOW;
+    if (!answer) answer = append_rows(rows, value, count, error);
+    if (!answer) rows->rows += count;
     return answer;
 }
 
@@ -95,4 +95,15 @@ void row_builder_free(row_builder *rows) {
     static const row_builder empty = ROW_BUILDER_EMPTY;
     hv_builder_free(&rows->runs);
     *rows = empty;
+}
+
+int32_t column_append(const hv_column *column, const row_value *value, uint64_t count, hv_column *out,
+                      hv_error *error) {
+    row_builder rows = ROW_BUILDER_EMPTY;
+    int32_t answer = row_builder_add_column(&rows, column, error);
+    if (!answer) answer = row_builder_add(&rows, value, count, error);
+    if (!answer && rows.rows > INT64_MAX) answer = HV_WINDOW_OVERFLOW;
+    if (!answer) answer = row_builder_finish(&rows, out, error);
+    row_builder_free(&rows);
+    return answer;
 }

@@ -25,8 +25,9 @@ typedef struct row_value {
     size_t len;
 } row_value;
 
-/* Adds a row. 12 where the rows are of another type, or where the text is not UTF-8; 5 for 2^64 rows, 21. */
-int32_t row_builder_add(row_builder *rows, const row_value *value, hv_error *error);
+/* Adds `count` rows of a value, as one run. 12 where the rows are of another type, or where the text is not UTF-8, also
+ * for a count of 0; 5 for 2^64 rows, 21. */
+int32_t row_builder_add(row_builder *rows, const row_value *value, uint64_t count, hv_error *error);
 
 /* Adds all rows of a column of any form; one of only null goes with rows of every type. Refused as above, and as 13
  * unless the column is one of signed numbers of 64 bits, texts or bytes. */
@@ -42,5 +43,9 @@ int32_t row_builder_encoding(row_builder *rows, hv_column *out, hv_error *error)
 int32_t row_builder_finish(row_builder *rows, hv_column *out, hv_error *error);
 
 void row_builder_free(row_builder *rows);
+
+/* The rows of a column, and `count` rows of a value after them, by the runs of the column; refused as what is added
+ * to rows, and as 5 for 2^63 rows. */
+int32_t column_append(const hv_column *column, const row_value *value, uint64_t count, hv_column *out, hv_error *error);
 
 #endif

@@ -1,5 +1,6 @@
 #include "run_filter.h"
 #include "hivevigil_helpers.h"
+#include "run_parts.h"
 #include <stdlib.h>
 #include <string.h>
 
@@ -14,56 +15,21 @@ uint8_t operator_number(const char *name) {
     return NO_OPERATOR;
 }
 
-/* The runs of a column, which may be hidden: where each stops, its value, and a bit for each. */
-typedef struct run_parts {
-    size_t count, words;
-    uint64_t *stops, *valid;
-    hv_column values; /* flat */
-} run_parts;
-
-static void free_parts(run_parts *runs) {
-    free(runs->stops);
-    free(runs->valid);
-    hv_free(&runs->values);
-}
-
-static int32_t read_parts(const hv_session *session, const hv_column *column, run_parts *runs, hv_error *error) {
-    hv_column encoding = HV_EMPTY, values = HV_EMPTY;
-    int32_t answer = HV_OK;
-    if (hv_form(column) != HV_FORM_RUNS) answer = hv_encode_rows(column, &encoding, error), column = &encoding;
-    if (!answer) answer = hv_run_count(column, &runs->count, error);
-    if (!answer) answer = hv_values(column, &values, error);
-    if (!answer) answer = hv_decode(session, &values, &runs->values, error);
-    if (!answer) {
-        runs->words = (runs->count + 63) / 64;
-        runs->stops = calloc(runs->count + 1, sizeof *runs->stops);
-        runs->valid = calloc(runs->words + 1, sizeof *runs->valid);
-        if (!runs->stops || !runs->valid) answer = HV_OUT_OF_MEMORY;
-    }
-    if (!answer) answer = hv_read_ends_u64(column, 0, runs->stops, runs->count, error);
-    if (!answer) answer = hv_read_validity(&runs->values, runs->valid, runs->words, error);
-    hv_free(&encoding);
-    hv_free(&values);
-    return answer;
-}
-
 /* How many rows the runs have that are not null. */
 static uint64_t valid_rows(const run_parts *runs) {
     uint64_t start = 0, rows = 0;
     for (size_t run = 0; run < runs->count; run++) {
-        if (runs->valid[run / 64] >> run % 64 & 1) rows += runs->stops[run] - start;
+        if (run_is_valid(runs, run)) rows += runs->stops[run] - start;
         start = runs->stops[run];
     }
     return rows;
 }
 
 int32_t column_valid_rows(const hv_column *column, uint64_t *rows, hv_error *error) {
-    run_parts runs = {.values = HV_EMPTY};
-    hv_session session;
-    hv_session_initial(&session);
-    const int32_t answer = read_parts(&session, column, &runs, error);
+    run_parts runs = RUN_PARTS_EMPTY;
+    const int32_t answer = run_parts_read(column, &runs, error);
     if (!answer) *rows = valid_rows(&runs);
-    free_parts(&runs);
+    run_parts_free(&runs);
     return answer;
 }
 
@@ -87,19 +53,12 @@ int32_t column_valid_row(const hv_column *column, bool last, size_t *row, hv_err
     return answer;
 }
 
-/* How many rows of a number are added to a sum until it would leave the range of 64 bits. */
-static uint64_t rows_that_fit(int64_t sum, int64_t number) {
-    const uint64_t up = (uint64_t)INT64_MAX - (uint64_t)sum, down = (uint64_t)sum - (uint64_t)INT64_MIN;
-    if (number == 0) return UINT64_MAX;
-    return number > 0 ? up / (uint64_t)number : down / (0 - (uint64_t)number);
-}
-
 /* The row with which the sum leaves the range, or the number of rows. */
 static uint64_t overflow_row(const run_parts *runs, const int64_t *numbers) {
     uint64_t start = 0;
     int64_t sum = 0;
     for (size_t run = 0; run < runs->count; run++) {
-        const bool valid = runs->valid[run / 64] >> run % 64 & 1;
+        const bool valid = run_is_valid(runs, run);
         const uint64_t rows = runs->stops[run] - start, fit = valid ? rows_that_fit(sum, numbers[run]) : UINT64_MAX;
         if (fit < rows) return start + fit;
         if (valid) sum = (int64_t)((uint64_t)sum + (uint64_t)numbers[run] * rows);
@@ -109,16 +68,13 @@ static uint64_t overflow_row(const run_parts *runs, const int64_t *numbers) {
 }
 
 int32_t column_overflow_row(const hv_column *column, uint64_t *row, hv_error *error) {
-    run_parts runs = {.values = HV_EMPTY};
-    hv_session session;
-    hv_session_initial(&session);
-    int32_t answer = read_parts(&session, column, &runs, error);
-    int64_t *numbers = answer ? NULL : calloc(runs.count + 1, sizeof *numbers);
-    if (!answer && !numbers) answer = HV_OUT_OF_MEMORY;
-    if (!answer) answer = hv_read_i64(&runs.values, 0, numbers, runs.count, error);
+    run_parts runs = RUN_PARTS_EMPTY;
+    int64_t *numbers = NULL;
+    int32_t answer = run_parts_read(column, &runs, error);
+    if (!answer) answer = run_parts_numbers(&runs, &numbers, error);
     if (!answer) *row = overflow_row(&runs, numbers);
     free(numbers);
-    free_parts(&runs);
+    run_parts_free(&runs);
     return answer;
 }
 
@@ -156,18 +112,18 @@ static int32_t keep_runs(const hv_session *session, run_parts *runs, const hv_co
 int32_t column_filter(const hv_column *column, uint8_t operator_, const row_value *value, hv_column *out,
                       hv_error *error) {
     const hv_value right = {value->len, value->number, value->kind, 0};
-    run_parts runs = {.values = HV_EMPTY};
+    run_parts runs = RUN_PARTS_EMPTY;
     hv_column mask = HV_EMPTY;
     hv_session session;
     hv_session_initial(&session);
-    int32_t answer = read_parts(&session, column, &runs, error);
+    int32_t answer = run_parts_read(column, &runs, error);
     if (!answer && (value->kind == HV_NULL || !valid_rows(&runs))) {
         answer = hv_slice(&session, column, 0, 0, out, error);
     } else if (!answer) {
         answer = hv_compare_scalar(&session, &runs.values, operator_, &right, value->bytes, value->len, &mask, error);
         if (!answer) answer = keep_runs(&session, &runs, &mask, out, error);
     }
-    free_parts(&runs);
+    run_parts_free(&runs);
     hv_free(&mask);
     return answer;
 }

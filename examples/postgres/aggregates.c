@@ -35,27 +35,35 @@ static const char *aggregate_name(FunctionCallInfo fcinfo) {
     return name ? name : "hv_column";
 }
 
-static Datum added(FunctionCallInfo fcinfo, const row_value *value) {
+Datum hv_added(FunctionCallInfo fcinfo, const char *function, const row_value *value, uint64_t count) {
     hv_error error = {0, 0, 0};
     row_builder *rows = state(fcinfo);
-    const int32_t answer = row_builder_add(rows, value, &error);
-    hv_raise("hv_column", answer, &error);
+    const int32_t answer = row_builder_add(rows, value, count, &error);
+    hv_raise(function, answer, &error);
     PG_RETURN_POINTER(rows);
 }
 
-HV_FUNCTION(pg_hv_step_number) {
+row_value hv_number_of(FunctionCallInfo fcinfo, int at) {
     row_value value = {HV_NULL, 0, NULL, 0};
-    if (!PG_ARGISNULL(1)) {
-        value.kind = HV_SIGNED;
-        value.number = PG_GETARG_INT64(1);
-    }
-    return added(fcinfo, &value);
+    if (PG_ARGISNULL(at)) return value;
+    value.kind = HV_SIGNED;
+    value.number = PG_GETARG_INT64(at);
+    return value;
+}
+
+row_value hv_text_or_null(const char *function, FunctionCallInfo fcinfo, int at) {
+    const row_value null = {HV_NULL, 0, NULL, 0};
+    return PG_ARGISNULL(at) ? null : hv_value_of_text(function, PG_GETARG_TEXT_PP(at));
+}
+
+HV_FUNCTION(pg_hv_step_number) {
+    const row_value value = hv_number_of(fcinfo, 1);
+    return hv_added(fcinfo, "hv_column", &value, 1);
 }
 
 HV_FUNCTION(pg_hv_step_text) {
-    row_value value = {HV_NULL, 0, NULL, 0};
-    if (!PG_ARGISNULL(1)) value = hv_value_of_text("hv_column", PG_GETARG_TEXT_PP(1));
-    return added(fcinfo, &value);
+    const row_value value = hv_text_or_null("hv_column", fcinfo, 1);
+    return hv_added(fcinfo, "hv_column", &value, 1);
 }
 
 static const char *words_of_rows(const row_builder *rows) {

@@ -32,11 +32,16 @@ void hv_raise(const char *function, int32_t answer, const hv_error *error) {
     if (!answer) return;
     const char *why = hv_error_text(answer, error, text);
     if (answer == HV_BAD_METADATA) why = "the bytes are not a column";
-    if (answer == HV_UNSUPPORTED) why = "columns of booleans, decimals and lists are not served";
+    if (answer == HV_UNSUPPORTED) why = "columns of decimals and lists are not served";
     if (answer == HV_WINDOW_OVERFLOW) why = "a column of 2^63 rows or more";
     if (answer == HV_CAST_OUT_OF_RANGE) why = "a number of the column is 2^63 or more";
     if (answer == HV_TYPE_MISMATCH) why = "a column holds numbers, texts or bytes, and not two of them";
     ereport(ERROR, (errcode(error_code(answer)), errmsg("%s: %s", function, why)));
+}
+
+void hv_raise_range(const char *function, uint64_t row) {
+    ereport(ERROR, (errcode(ERRCODE_NUMERIC_VALUE_OUT_OF_RANGE), errmsg("%s: bigint out of range", function),
+                    errdetail("Row " UINT64_FORMAT " leaves the range.", (uint64)row)));
 }
 
 void hv_column_of(const char *function, bytea *bytes, hv_column *out) {
@@ -274,18 +279,13 @@ static Datum filtered(FunctionCallInfo fcinfo, const row_value *value) {
 }
 
 HV_FUNCTION(pg_hv_filter_numbers) {
-    row_value value = {HV_NULL, 0, NULL, 0};
+    const row_value value = hv_number_of(fcinfo, 2);
     if (PG_ARGISNULL(0)) PG_RETURN_NULL();
-    if (!PG_ARGISNULL(2)) {
-        value.kind = HV_SIGNED;
-        value.number = PG_GETARG_INT64(2);
-    }
     return filtered(fcinfo, &value);
 }
 
 HV_FUNCTION(pg_hv_filter_texts) {
-    row_value value = {HV_NULL, 0, NULL, 0};
     if (PG_ARGISNULL(0)) PG_RETURN_NULL();
-    if (!PG_ARGISNULL(2)) value = hv_value_of_text("hv_filter", PG_GETARG_TEXT_PP(2));
+    const row_value value = hv_text_or_null("hv_filter", fcinfo, 2);
     return filtered(fcinfo, &value);
 }

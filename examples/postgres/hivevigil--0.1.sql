@@ -99,6 +99,42 @@ CREATE FUNCTION hv_compare(hvcolumn, operator hv_operator, value text) RETURNS h
 CREATE FUNCTION hv_filter(hvcolumn, mask hvcolumn) RETURNS hvcolumn
     AS 'MODULE_PATHNAME', 'pg_hv_filter_mask' LANGUAGE C IMMUTABLE STRICT PARALLEL SAFE COST 100;
 
+-- `count` more rows of a value at the end; a null value is that many nulls
+CREATE FUNCTION hv_append(hvcolumn, value bigint, count bigint) RETURNS hvcolumn
+    AS 'MODULE_PATHNAME', 'pg_hv_append_number' LANGUAGE C IMMUTABLE PARALLEL SAFE COST 100;
+CREATE FUNCTION hv_append(hvcolumn, value text, count bigint) RETURNS hvcolumn
+    AS 'MODULE_PATHNAME', 'pg_hv_append_text' LANGUAGE C IMMUTABLE PARALLEL SAFE COST 100;
+
+-- Each row that is not null as its difference to the one before, and back; and the bucket of each row, or of each row of
+-- hv_totals, by where the bucket begins: origin + k * width.
+CREATE FUNCTION hv_steps(hvcolumn) RETURNS hvcolumn
+    AS 'MODULE_PATHNAME', 'pg_hv_steps' LANGUAGE C IMMUTABLE STRICT PARALLEL SAFE COST 100;
+CREATE FUNCTION hv_totals(steps hvcolumn) RETURNS hvcolumn
+    AS 'MODULE_PATHNAME', 'pg_hv_totals' LANGUAGE C IMMUTABLE STRICT PARALLEL SAFE COST 100;
+CREATE FUNCTION hv_buckets(hvcolumn, width bigint, origin bigint DEFAULT 0) RETURNS hvcolumn
+    AS 'MODULE_PATHNAME', 'pg_hv_buckets' LANGUAGE C IMMUTABLE STRICT PARALLEL SAFE COST 100;
+CREATE FUNCTION hv_step_buckets(steps hvcolumn, width bigint, origin bigint DEFAULT 0) RETURNS hvcolumn
+    AS 'MODULE_PATHNAME', 'pg_hv_step_buckets' LANGUAGE C IMMUTABLE STRICT PARALLEL SAFE COST 100;
+
+-- Booleans are kept as 1 and 0, dates as days from 1970-01-01 on, timestamps as microseconds from 1970-01-01 00:00 on, in
+-- UTC where they have a time zone: the number that a column has, and back.
+CREATE FUNCTION hv_number(boolean) RETURNS bigint
+    AS 'MODULE_PATHNAME', 'pg_hv_number_of_boolean' LANGUAGE C IMMUTABLE STRICT PARALLEL SAFE;
+CREATE FUNCTION hv_number(date) RETURNS bigint
+    AS 'MODULE_PATHNAME', 'pg_hv_number_of_date' LANGUAGE C IMMUTABLE STRICT PARALLEL SAFE;
+CREATE FUNCTION hv_number(timestamp) RETURNS bigint
+    AS 'MODULE_PATHNAME', 'pg_hv_number_of_time' LANGUAGE C IMMUTABLE STRICT PARALLEL SAFE;
+CREATE FUNCTION hv_number(timestamptz) RETURNS bigint
+    AS 'MODULE_PATHNAME', 'pg_hv_number_of_time' LANGUAGE C IMMUTABLE STRICT PARALLEL SAFE;
+CREATE FUNCTION hv_number(interval) RETURNS bigint
+    AS 'MODULE_PATHNAME', 'pg_hv_number_of_interval' LANGUAGE C IMMUTABLE STRICT PARALLEL SAFE;
+CREATE FUNCTION hv_date(number bigint) RETURNS date
+    AS 'MODULE_PATHNAME', 'pg_hv_date_of_number' LANGUAGE C IMMUTABLE STRICT PARALLEL SAFE;
+CREATE FUNCTION hv_timestamp(number bigint) RETURNS timestamp
+    AS 'MODULE_PATHNAME', 'pg_hv_timestamp_of_number' LANGUAGE C IMMUTABLE STRICT PARALLEL SAFE;
+CREATE FUNCTION hv_timestamptz(number bigint) RETURNS timestamptz
+    AS 'MODULE_PATHNAME', 'pg_hv_timestamptz_of_number' LANGUAGE C IMMUTABLE STRICT PARALLEL SAFE;
+
 -- Equality by rows, for DISTINCT, GROUP BY, joins and hash indexes. Columns have no order.
 CREATE FUNCTION hv_equal(hvcolumn, hvcolumn) RETURNS boolean
     AS 'MODULE_PATHNAME', 'pg_hv_equal' LANGUAGE C IMMUTABLE STRICT PARALLEL SAFE COST 100;
@@ -125,6 +161,18 @@ CREATE FUNCTION hv_step(internal, bigint) RETURNS internal
     AS 'MODULE_PATHNAME', 'pg_hv_step_number' LANGUAGE C IMMUTABLE PARALLEL SAFE;
 CREATE FUNCTION hv_step(internal, text) RETURNS internal
     AS 'MODULE_PATHNAME', 'pg_hv_step_text' LANGUAGE C IMMUTABLE PARALLEL SAFE;
+CREATE FUNCTION hv_step(internal, boolean) RETURNS internal
+    AS 'MODULE_PATHNAME', 'pg_hv_step_boolean' LANGUAGE C IMMUTABLE PARALLEL SAFE;
+CREATE FUNCTION hv_step(internal, date) RETURNS internal
+    AS 'MODULE_PATHNAME', 'pg_hv_step_date' LANGUAGE C IMMUTABLE PARALLEL SAFE;
+CREATE FUNCTION hv_step(internal, timestamp) RETURNS internal
+    AS 'MODULE_PATHNAME', 'pg_hv_step_time' LANGUAGE C IMMUTABLE PARALLEL SAFE;
+CREATE FUNCTION hv_step(internal, timestamptz) RETURNS internal
+    AS 'MODULE_PATHNAME', 'pg_hv_step_time' LANGUAGE C IMMUTABLE PARALLEL SAFE;
+CREATE FUNCTION hv_step(internal, bigint, count bigint) RETURNS internal
+    AS 'MODULE_PATHNAME', 'pg_hv_step_numbers' LANGUAGE C IMMUTABLE PARALLEL SAFE;
+CREATE FUNCTION hv_step(internal, text, count bigint) RETURNS internal
+    AS 'MODULE_PATHNAME', 'pg_hv_step_texts' LANGUAGE C IMMUTABLE PARALLEL SAFE;
 CREATE FUNCTION hv_step(internal, hvcolumn) RETURNS internal
     AS 'MODULE_PATHNAME', 'pg_hv_step_column' LANGUAGE C IMMUTABLE PARALLEL SAFE COST 100;
 CREATE FUNCTION hv_final(internal) RETURNS hvcolumn
@@ -144,7 +192,39 @@ CREATE AGGREGATE hv_column(text) (
     SFUNC = hv_step, STYPE = internal, FINALFUNC = hv_final,
     COMBINEFUNC = hv_combine, SERIALFUNC = hv_serial, DESERIALFUNC = hv_deserial, PARALLEL = SAFE
 );
+CREATE AGGREGATE hv_column(boolean) (
+    SFUNC = hv_step, STYPE = internal, FINALFUNC = hv_final,
+    COMBINEFUNC = hv_combine, SERIALFUNC = hv_serial, DESERIALFUNC = hv_deserial, PARALLEL = SAFE
+);
+CREATE AGGREGATE hv_column(date) (
+    SFUNC = hv_step, STYPE = internal, FINALFUNC = hv_final,
+    COMBINEFUNC = hv_combine, SERIALFUNC = hv_serial, DESERIALFUNC = hv_deserial, PARALLEL = SAFE
+);
+CREATE AGGREGATE hv_column(timestamp) (
+    SFUNC = hv_step, STYPE = internal, FINALFUNC = hv_final,
+    COMBINEFUNC = hv_combine, SERIALFUNC = hv_serial, DESERIALFUNC = hv_deserial, PARALLEL = SAFE
+);
+CREATE AGGREGATE hv_column(timestamptz) (
+    SFUNC = hv_step, STYPE = internal, FINALFUNC = hv_final,
+    COMBINEFUNC = hv_combine, SERIALFUNC = hv_serial, DESERIALFUNC = hv_deserial, PARALLEL = SAFE
+);
+-- rows of a value and how often it comes, as hv_runs has them
+CREATE AGGREGATE hv_repeat(bigint, bigint) (
+    SFUNC = hv_step, STYPE = internal, FINALFUNC = hv_final,
+    COMBINEFUNC = hv_combine, SERIALFUNC = hv_serial, DESERIALFUNC = hv_deserial, PARALLEL = SAFE
+);
+CREATE AGGREGATE hv_repeat(text, bigint) (
+    SFUNC = hv_step, STYPE = internal, FINALFUNC = hv_final,
+    COMBINEFUNC = hv_combine, SERIALFUNC = hv_serial, DESERIALFUNC = hv_deserial, PARALLEL = SAFE
+);
 CREATE AGGREGATE hv_concat(hvcolumn) (
     SFUNC = hv_step, STYPE = internal, FINALFUNC = hv_final,
     COMBINEFUNC = hv_combine, SERIALFUNC = hv_serial, DESERIALFUNC = hv_deserial, PARALLEL = SAFE
+);
+
+-- The sum of the rows of all columns, exact, in whichever order they come.
+CREATE FUNCTION hv_step_sum(numeric, hvcolumn) RETURNS numeric
+    AS 'MODULE_PATHNAME', 'pg_hv_step_sum' LANGUAGE C IMMUTABLE PARALLEL SAFE COST 100;
+CREATE AGGREGATE hv_sum_all(hvcolumn) (
+    SFUNC = hv_step_sum, STYPE = numeric, COMBINEFUNC = numeric_add, PARALLEL = SAFE
 );

@@ -14,9 +14,7 @@ typedef struct pairing {
 
 static void raise(const pairing *called, int32_t answer, const hv_error *error, hv_kind left, hv_kind right) {
     const hv_kind other = left.number == HV_I64 ? right : left;
-    if (answer == HV_CAST_OUT_OF_RANGE)
-        ereport(ERROR, (errcode(ERRCODE_NUMERIC_VALUE_OUT_OF_RANGE), errmsg("%s: bigint out of range", called->name),
-                        errdetail("Row " UINT64_FORMAT " leaves the range.", (uint64)error->first)));
+    if (answer == HV_CAST_OUT_OF_RANGE) hv_raise_range(called->name, error->first);
     if (answer != HV_TYPE_MISMATCH && answer != HV_UNSUPPORTED) hv_raise(called->name, answer, error);
     else if (called->done)
         ereport(ERROR, (errcode(ERRCODE_DATATYPE_MISMATCH),

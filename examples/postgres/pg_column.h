@@ -36,4 +36,14 @@ text *hv_text_of(const char *function, const uint8_t *bytes, size_t len);
 /* A text of PostgreSQL's, which has to be UTF-8, as a row of a column. */
 row_value hv_value_of_text(const char *function, text *value);
 
+/* An argument that is a bigint or null, and one that is a text or null, as a row of a column. */
+row_value hv_number_of(FunctionCallInfo fcinfo, int at);
+row_value hv_text_or_null(const char *function, FunctionCallInfo fcinfo, int at);
+
+/* Adds `count` rows of a value to the rows of an aggregate, which are answered; its name is for a refusal. */
+Datum hv_added(FunctionCallInfo fcinfo, const char *function, const row_value *value, uint64_t count);
+
+/* Raises that a row leaves the range of bigint. */
+void hv_raise_range(const char *function, uint64_t row);
+
 #endif

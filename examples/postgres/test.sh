@@ -65,4 +65,6 @@ restored() {
     ask -At -d restored -c "$answers" | cmp - "$work/before" >&2 || fail "a column is another after it was restored"
 }
 ask ${count:+-v "count=$count"} -v "folder=$work/socket" -At -f "$work/build/examples/postgres/$file"
-[ "$file" = figures.sql ] || restored
+[ "$file" = test.sql ] || exit 0
+ask -At -f "$work/build/examples/postgres/test_steps.sql"
+restored

@@ -3,10 +3,14 @@
  *     SELECT hv_column(level) FROM readings                     aggregate: the rows in their order, as one blob
  *     SELECT hv_column(level, 'integer') FROM readings          the same, refused where a row is of another type
  *     SELECT hv_concat(levels) FROM packed                      aggregate: the rows of all blobs, one after the other
+ *     SELECT hv_repeat(value, count) FROM runs                  aggregate: each value as often as it is said
+ *     SELECT hv_sum_all(levels) FROM packed                     aggregate: the sum of all blobs, in any order
  *     hv_rows(c)  hv_count(c)  hv_sum(c)  hv_min(c)  hv_max(c)  hv_at(c, row)
  *     hv_filter(c, '>', 5)  hv_filter(c, mask)  hv_slice(c, start, stop)      a blob of some of the rows
  *     hv_add(c, d)  hv_subtract(c, d)  hv_multiply(c, d)        a blob of what the two rows at each place give
  *     hv_and(c, d)  hv_or(c, d)  hv_not(c)  hv_compare(c, '<', d)      the same, 1 for true and 0 for false
+ *     hv_append(c, value, count)                                a blob with more rows at its end
+ *     hv_steps(c)  hv_totals(c)  hv_buckets(c, width)  hv_step_buckets(c, width)      times, and where they lie
  *     SELECT start, stop, value FROM hv_runs(c)                 a row for each run
  *     SELECT key, sum FROM hv_groups(keys, values)              a row for each run of equal keys
  *
@@ -28,11 +32,12 @@ const char *type_in_words(int type) {
     }
 }
 
-static const char *kind_in_words(uint8_t kind) {
+const char *kind_in_words(uint8_t kind) {
     return kind == HV_TEXT || kind == HV_UTF8 ? "texts" : kind == HV_BYTES || kind == HV_BINARY ? "blobs" : "integers";
 }
 
-static const char too_long[] = "a column of 2^63 rows or more", not_utf8[] = "a text is not UTF-8";
+static const char too_long[] = "a column of 2^63 rows or more";
+const char not_utf8[] = "a text is not UTF-8";
 
 char *refusal(const char *function, int32_t answer, const hv_error *error) {
     char text[HV_ERROR_TEXT];
@@ -40,7 +45,7 @@ char *refusal(const char *function, int32_t answer, const hv_error *error) {
     if (answer == HV_OUT_OF_MEMORY) return NULL;
     if (answer == HV_BAD_METADATA) why = "the blob is not a column";
     if (answer == HV_WINDOW_OVERFLOW) why = too_long;
-    if (answer == HV_UNSUPPORTED) why = "columns of booleans, decimals and lists are not served";
+    if (answer == HV_UNSUPPORTED) why = "columns of decimals and lists are not served";
     if (answer == HV_CAST_OUT_OF_RANGE) why = "a number of the column is 2^63 or more";
     return sqlite3_mprintf("%s: %s", function, why);
 }
@@ -72,11 +77,11 @@ void fail(sqlite3_context *context, char *reason) {
     sqlite3_free(reason);
 }
 
-static void refuse(sqlite3_context *context, const char *function, int32_t answer, const hv_error *error) {
+void refuse(sqlite3_context *context, const char *function, int32_t answer, const hv_error *error) {
     fail(context, refusal(function, answer, error));
 }
 
-static void answer_encoding(sqlite3_context *context, const char *function, hv_column *runs) {
+void answer_encoding(sqlite3_context *context, const char *function, hv_column *runs) {
     hv_error error = {0, 0, 0};
     uint8_t *bytes = NULL;
     size_t size = 0;
@@ -94,8 +99,7 @@ void answer_column(sqlite3_context *context, const char *function, const hv_colu
     hv_free(&runs);
 }
 
-/* The SQL value as a row of a column; false for a real number. */
-static bool row_value_of(sqlite3_value *from, row_value *value) {
+bool row_value_of(sqlite3_value *from, row_value *value) {
     const row_value null = {HV_NULL, 0, NULL, 0};
     *value = null;
     switch (sqlite3_value_type(from)) {
@@ -165,7 +169,7 @@ static void column_step(sqlite3_context *context, int count, sqlite3_value **val
                                       kind ? kind_in_words(kind) : "integers, texts or blobs"));
         return;
     }
-    const int32_t answer = row_builder_add(rows, &value, &error);
+    const int32_t answer = row_builder_add(rows, &value, 1, &error);
     if (answer == HV_TYPE_MISMATCH)
         fail(context, sqlite3_mprintf("hv_column: row %llu is a text that is not UTF-8",
                                       (unsigned long long)rows->rows));
@@ -195,8 +199,7 @@ static void concat_step(sqlite3_context *context, int count, sqlite3_value **val
     hv_free(&column);
 }
 
-/* It is called where a statement ends early too, to give the memory back. */
-static void finish(sqlite3_context *context) {
+void finish_rows(sqlite3_context *context) {
     row_builder nothing = ROW_BUILDER_EMPTY, *rows = sqlite3_aggregate_context(context, 0);
     hv_error error = {0, 0, 0};
     hv_column runs = HV_EMPTY;
@@ -403,12 +406,14 @@ int sqlite3_hivevigilsqlite_init(sqlite3 *db, char **error, const sqlite3_api_ro
     SQLITE_EXTENSION_INIT2(api);
     int answer = SQLITE_OK;
     for (int count = 1; !answer && count <= 2; count++)
-        answer = sqlite3_create_function(db, "hv_column", count, flags, "hv_column", NULL, column_step, finish);
-    if (!answer) answer = sqlite3_create_function(db, "hv_concat", 1, flags, "hv_concat", NULL, concat_step, finish);
+        answer = sqlite3_create_function(db, "hv_column", count, flags, "hv_column", NULL, column_step, finish_rows);
+    if (!answer) answer = sqlite3_create_function(db, "hv_concat", 1, flags, "hv_concat", NULL, concat_step, finish_rows);
     for (size_t i = 0; !answer && i < sizeof functions / sizeof *functions; i++)
         answer = sqlite3_create_function(db, functions[i].name, functions[i].arguments, flags, (void *)&functions[i],
                                          ask, NULL, NULL);
     if (!answer) answer = register_pairs(db);
+    if (!answer) answer = register_appends(db);
+    if (!answer) answer = register_steps(db);
     if (!answer) answer = register_runs_table(db);
     return answer ? answer : register_groups_table(db);
 }

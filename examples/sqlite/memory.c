@@ -65,11 +65,23 @@ int main(void) {
         "SELECT sum(stop * length(value)) FROM p, hv_runs(w)",
         "SELECT sum(hv_count(c)) FROM (SELECT hv_concat(x'0801100B180120022803620200006A00') AS c)",
         "SELECT hv_sum(hv_concat(x'080110011803200528013A0107'))",
+        "SELECT hv_sum(hv_concat(x'080110091801200428043201" "0D" "3A0105'))",
+        "SELECT length(hv_append(c, 7, 3)) + length(hv_append(w, NULL, 3)) FROM p",
+        "SELECT length(hv_append(w, 'a text that is longer than the room that there is at first', 3)) FROM p",
+        "SELECT length(hv_repeat(v, 1000)) FROM t",
+        "SELECT hv_sum_all(c) FROM p",
+        "SELECT length(hv_steps(c)) + length(hv_totals(c)) FROM p",
+        "SELECT length(hv_buckets(c, 4)) + length(hv_step_buckets(c, 50)) FROM p",
+        "SELECT sum(key * sum) FROM p, hv_groups(hv_step_buckets(c, 50), c)",
     };
     static const char *const refused_statements[] = {
         "SELECT hv_sum(hv_column(9223372036854775000 + v * 100)) FROM t",
         "SELECT hv_multiply(c, 461168601842738790) FROM p",
         "SELECT hv_add(c, w) FROM p",
+        "SELECT hv_append(c, w, 2) FROM p",
+        "SELECT hv_repeat(iif(v < 20, v, 'a'), 2) FROM t",
+        "SELECT hv_totals(hv_append(c, 9223372036854775807, 1)) FROM p",
+        "SELECT hv_sum_all(w) FROM p",
         "SELECT hv_column(iif(v < 20, v || ' trees', CAST(x'C328' AS TEXT))) FROM t",
     };
     long all = 0;

@@ -12,22 +12,46 @@ extern const sqlite3_api_routines *sqlite3_api; /* is in functions.c */
 /* "an integer", "a text" .. of the type of an SQL value */
 const char *type_in_words(int type);
 
+/* "integers", "texts" or "blobs" of the kind of a value, or of the type of a column */
+const char *kind_in_words(uint8_t kind);
+
+extern const char not_utf8[];
+
 /* A refusal as a sentence after the function's name, in memory of sqlite3_malloc; null where memory is refused. */
 char *refusal(const char *function, int32_t answer, const hv_error *error);
 
 /* The column that a blob is; if it is none, false and the reason as with `refusal`, or null. */
 bool column_of(const char *function, sqlite3_value *value, hv_column *out, char **reason);
 
+/* The SQL value as a row of a column; false for a real number. */
+bool row_value_of(sqlite3_value *from, row_value *value);
+
 void answer_value(sqlite3_context *context, const row_value *value);
 
 /* Answers the bytes of a column, encoded. */
 void answer_column(sqlite3_context *context, const char *function, const hv_column *column);
+
+/* Answers the bytes of an encoding, which may be changed. */
+void answer_encoding(sqlite3_context *context, const char *function, hv_column *runs);
+
+/* Answers the rows of an aggregate, which are in SQLite's memory for it as a row_builder, and frees them. It is called
+ * where a statement ends early too. The function's data is its name. */
+void finish_rows(sqlite3_context *context);
+
+/* Ends the call with this refusal. */
+void refuse(sqlite3_context *context, const char *function, int32_t answer, const hv_error *error);
 
 /* Ends the call with this sentence, which is freed, or as out of memory where it is null. */
 void fail(sqlite3_context *context, char *reason);
 
 /* The functions of two columns. */
 int register_pairs(sqlite3 *db);
+
+/* hv_append, and the aggregates hv_repeat and hv_sum_all. */
+int register_appends(sqlite3 *db);
+
+/* hv_steps, hv_totals, hv_buckets, hv_step_buckets. */
+int register_steps(sqlite3 *db);
 
 /* The table-valued functions hv_runs and hv_groups. */
 int register_runs_table(sqlite3 *db);
