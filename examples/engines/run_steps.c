@@ -3,11 +3,16 @@
 #include "run_parts.h"
 #include <stdlib.h>
 
-/* A column that is made from the runs of another, one after the other. */
+enum { FEW = 512 };
+
+/* A column that is made from the runs of another, one after the other. Single rows wait, and go to the builder together,
+ * which is faster. */
 typedef struct walk {
     hv_builder made;
     int64_t last; /* the number before, or the sum so far */
     bucket_grid grid;
+    size_t waiting;
+    int64_t few[FEW];
 } walk;
 
 /* A run of rows of one number. */
@@ -19,10 +24,40 @@ typedef struct number_run {
 /* Adds what is made of a run. */
 typedef int32_t add_run(walk *at, const number_run *run, hv_error *error);
 
+static int32_t add_batch(walk *at, hv_error *error) {
+    hv_column rows = HV_EMPTY;
+    int32_t answer = hv_i64(at->few, at->waiting, hv_all_valid(), &rows, error);
+    if (!answer) answer = hv_append(&at->made, &rows, error);
+    hv_free(&rows);
+    return answer;
+}
+
+/* Adds the single rows that wait: as a column, which takes longer for few of them. */
+static int32_t add_few(walk *at, hv_error *error) {
+    hv_value value = {0, 0, HV_SIGNED, 0};
+    int32_t answer = HV_OK;
+    if (hv_builder_runs(&at->made) >= MOST_RUNS) return TOO_MANY_RUNS;
+    if (at->waiting > FEW / 32) answer = add_batch(at, error), at->waiting = 0;
+    for (size_t row = 0; !answer && row < at->waiting; row++) {
+        value.as_signed = at->few[row];
+        answer = hv_append_value(&at->made, &value, NULL, 0, 1, error);
+    }
+    at->waiting = 0;
+    return answer;
+}
+
+/* Adds rows of a value, after all that wait. */
+static int32_t add_value(walk *at, const hv_value *value, uint64_t rows, hv_error *error) {
+    const int32_t answer = add_few(at, error);
+    return answer ? answer : hv_append_value(&at->made, value, NULL, 0, rows, error);
+}
+
 static int32_t add_rows(walk *at, int64_t number, uint64_t rows, hv_error *error) {
     const hv_value value = {0, number, HV_SIGNED, 0};
-    if (hv_builder_runs(&at->made) >= MOST_RUNS) return TOO_MANY_RUNS;
-    return hv_append_value(&at->made, &value, NULL, 0, rows, error);
+    if (rows == 0) return HV_OK;
+    if (rows > 1) return add_value(at, &value, rows, error);
+    at->few[at->waiting++] = number;
+    return at->waiting == FEW ? add_few(at, error) : HV_OK;
 }
 
 static int32_t past_range(uint64_t row, hv_error *error) {
@@ -112,18 +147,17 @@ static int32_t add_all(walk *at, const run_parts *runs, const int64_t *numbers, 
     int32_t answer = HV_OK;
     for (size_t run = 0; !answer && run < runs->count; run++) {
         const number_run next = {start, runs->stops[run] - start, numbers[run]};
-        answer = run_is_valid(runs, run) ? add(at, &next, error)
-                                         : hv_append_value(&at->made, &null, NULL, 0, next.rows, error);
+        answer = run_is_valid(runs, run) ? add(at, &next, error) : add_value(at, &null, next.rows, error);
         start = runs->stops[run];
     }
-    return answer;
+    return answer ? answer : add_few(at, error);
 }
 
 /* Makes a column from an encoding of numbers. */
 static int32_t walked(const hv_column *encoding, bucket_grid grid, add_run *add, hv_column *out, hv_error *error) {
     const hv_kind numbers_or_null = {HV_I64, 1, 0, 0};
     run_parts runs = RUN_PARTS_EMPTY;
-    walk at = {HV_EMPTY, 0, grid};
+    walk at = {.made = HV_EMPTY, .grid = grid};
     int64_t *numbers = NULL;
     int32_t answer = run_parts_read(encoding, &runs, error);
     if (!answer) answer = run_parts_numbers(&runs, &numbers, error);

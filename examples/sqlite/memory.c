@@ -71,6 +71,7 @@ int main(void) {
         "SELECT length(hv_repeat(v, 1000)) FROM t",
         "SELECT hv_sum_all(c) FROM p",
         "SELECT length(hv_steps(c)) + length(hv_totals(c)) FROM p",
+        "SELECT length(hv_totals(c)) FROM (SELECT hv_repeat(7, 600) AS c)",
         "SELECT length(hv_buckets(c, 4)) + length(hv_step_buckets(c, 50)) FROM p",
         "SELECT sum(key * sum) FROM p, hv_groups(hv_step_buckets(c, 50), c)",
     };
