@@ -1,21 +1,29 @@
-/* hv_groups and hv_text_groups: a row for each run of equal neighbouring keys, with what is asked of it. */
+/* hv_groups, hv_sum_by and their like: a row for each run of equal neighbouring keys, with what is asked of it. */
 #include "pg_column.h"
 
 #include "funcapi.h"
 #include "hivevigil_helpers.h"
 #include "utils/memutils.h"
 
-enum { KEY, ROWS, COUNT, SUM, LEAST, GREATEST, FIRST, LAST, SHOWN };
+enum { MOST = 7 };
 
-/* The keys of the groups and the answers, freed with the memory context. */
+/* What is asked of each group, and whether its key is a text or a number. */
+typedef struct question {
+    const char *name;
+    uint8_t key;
+    int count;
+    uint8_t folds[MOST];
+} question;
+
+/* The keys of the groups, and after them each answer, freed with the memory context. */
 typedef struct held_groups {
     MemoryContextCallback freed;
-    hv_column columns[SHOWN];
+    hv_column columns[1 + MOST];
 } held_groups;
 
 static void free_groups(void *given) {
     held_groups *held = given;
-    for (int i = 0; i < SHOWN; i++) hv_free(&held->columns[i]);
+    for (int i = 0; i <= MOST; i++) hv_free(&held->columns[i]);
 }
 
 static held_groups *groups_in(MemoryContext context) {
@@ -27,12 +35,11 @@ static held_groups *groups_in(MemoryContext context) {
 }
 
 /* Answers all folds, each of which makes the keys. */
-static int32_t fold(held_groups *held, const hv_column *keys, const hv_column *values, hv_error *error) {
-    static const uint8_t folds[SHOWN] = {HV_FOLD_ROWS,  HV_FOLD_ROWS,     HV_FOLD_COUNT, HV_FOLD_SUM,
-                                         HV_FOLD_LEAST, HV_FOLD_GREATEST, HV_FOLD_FIRST, HV_FOLD_LAST};
+static int32_t fold(const question *asked, held_groups *held, const hv_column *keys, const hv_column *values,
+                    hv_error *error) {
     int32_t answer = HV_OK;
-    for (int i = ROWS; !answer && i < SHOWN; i++)
-        answer = hv_fold_by(keys, values, folds[i], &held->columns[KEY], &held->columns[i], error);
+    for (int i = 0; !answer && i < asked->count; i++)
+        answer = hv_fold_by(keys, values, asked->folds[i], &held->columns[0], &held->columns[1 + i], error);
     return answer;
 }
 
@@ -48,8 +55,9 @@ static void raise(const char *function, int32_t answer, const hv_error *error, h
 }
 
 /* The groups of the arguments, in memory that is there until the last row was asked for. */
-static void begin(const char *function, FunctionCallInfo fcinfo) {
+static void begin(const question *asked, FunctionCallInfo fcinfo) {
     FuncCallContext *calls = SRF_FIRSTCALL_INIT();
+    const char *function = asked->name;
     hv_error error = {0, 0, 0};
     held_groups *held = groups_in(calls->multi_call_memory_ctx), *given = groups_in(CurrentMemoryContext);
     MemoryContext before = MemoryContextSwitchTo(calls->multi_call_memory_ctx);
@@ -60,11 +68,11 @@ static void begin(const char *function, FunctionCallInfo fcinfo) {
     hv_column_of(function, PG_GETARG_BYTEA_PP(0), &given->columns[0]);
     hv_column_of(function, PG_GETARG_BYTEA_PP(1), &given->columns[1]);
     const hv_kind values = hv_kind_of(&given->columns[1]);
-    const int32_t answer = fold(held, &given->columns[0], &given->columns[1], &error);
+    const int32_t answer = fold(asked, held, &given->columns[0], &given->columns[1], &error);
     free_groups(given);
     raise(function, answer, &error, values);
     calls->user_fctx = held;
-    calls->max_calls = hv_length(&held->columns[KEY]);
+    calls->max_calls = hv_length(&held->columns[0]);
 }
 
 static Datum shown(const char *function, const hv_value *value, const uint8_t *text, uint8_t kind) {
@@ -76,14 +84,14 @@ static Datum shown(const char *function, const hv_value *value, const uint8_t *t
     return PointerGetDatum(hv_text_of(function, text, value->as_unsigned));
 }
 
-static Datum next(const char *function, FunctionCallInfo fcinfo, uint8_t kind) {
-    if (SRF_IS_FIRSTCALL()) begin(function, fcinfo);
+static Datum next(const question *asked, FunctionCallInfo fcinfo) {
+    if (SRF_IS_FIRSTCALL()) begin(asked, fcinfo);
     FuncCallContext *calls = SRF_PERCALL_SETUP();
     held_groups *held = calls->user_fctx;
-    Datum row[SHOWN];
-    bool nulls[SHOWN];
+    Datum row[1 + MOST];
+    bool nulls[1 + MOST];
     if (calls->call_cntr >= calls->max_calls) SRF_RETURN_DONE(calls);
-    for (int i = 0; i < SHOWN; i++) {
+    for (int i = 0; i <= asked->count; i++) {
         hv_error error = {0, 0, 0};
         uint8_t few[256], *text = few;
         hv_value value;
@@ -93,12 +101,27 @@ static Datum next(const char *function, FunctionCallInfo fcinfo, uint8_t kind) {
             text = MemoryContextAllocHuge(CurrentMemoryContext, len);
             answer = hv_at(&held->columns[i], calls->call_cntr, &value, text, len, &error);
         }
-        hv_raise(function, answer, &error);
+        hv_raise(asked->name, answer, &error);
         nulls[i] = value.kind == HV_NULL;
-        row[i] = nulls[i] ? (Datum)0 : shown(function, &value, text, i == KEY ? kind : HV_SIGNED);
+        row[i] = nulls[i] ? (Datum)0 : shown(asked->name, &value, text, i ? HV_SIGNED : asked->key);
     }
     SRF_RETURN_NEXT(calls, HeapTupleGetDatum(heap_form_tuple(calls->tuple_desc, row, nulls)));
 }
 
-HV_FUNCTION(pg_hv_groups_numbers) { return next("hv_groups", fcinfo, HV_SIGNED); }
-HV_FUNCTION(pg_hv_groups_texts) { return next("hv_text_groups", fcinfo, HV_TEXT); }
+/* The function of SQL that is called by a number as its key, and that which is called by a text. */
+#define HV_ASKED(name, count, ...)                                                                                     \
+    HV_FUNCTION(pg_hv_##name##_numbers) {                                                                              \
+        static const question asked = {"hv_" #name, HV_SIGNED, count, {__VA_ARGS__}};                                  \
+        return next(&asked, fcinfo);                                                                                   \
+    }                                                                                                                  \
+    HV_FUNCTION(pg_hv_##name##_texts) {                                                                                \
+        static const question asked = {"hv_text_" #name, HV_TEXT, count, {__VA_ARGS__}};                               \
+        return next(&asked, fcinfo);                                                                                   \
+    }
+
+HV_ASKED(groups, 7, HV_FOLD_ROWS, HV_FOLD_COUNT, HV_FOLD_SUM, HV_FOLD_LEAST, HV_FOLD_GREATEST, HV_FOLD_FIRST,
+         HV_FOLD_LAST)
+HV_ASKED(sum_by, 1, HV_FOLD_SUM)
+HV_ASKED(count_by, 1, HV_FOLD_COUNT)
+HV_ASKED(min_by, 1, HV_FOLD_LEAST)
+HV_ASKED(max_by, 1, HV_FOLD_GREATEST)

@@ -71,6 +71,24 @@ CREATE FUNCTION hv_text_groups(keys hvcolumn, vals hvcolumn, OUT key text, OUT r
         OUT sum bigint, OUT min bigint, OUT max bigint, OUT first bigint, OUT last bigint) RETURNS SETOF record
     AS 'MODULE_PATHNAME', 'pg_hv_groups_texts' LANGUAGE C IMMUTABLE STRICT PARALLEL SAFE COST 100 ROWS 1000;
 
+-- the same of one question, at the cost of that one
+CREATE FUNCTION hv_sum_by(keys hvcolumn, vals hvcolumn, OUT key bigint, OUT sum bigint) RETURNS SETOF record
+    AS 'MODULE_PATHNAME', 'pg_hv_sum_by_numbers' LANGUAGE C IMMUTABLE STRICT PARALLEL SAFE COST 100 ROWS 1000;
+CREATE FUNCTION hv_text_sum_by(keys hvcolumn, vals hvcolumn, OUT key text, OUT sum bigint) RETURNS SETOF record
+    AS 'MODULE_PATHNAME', 'pg_hv_sum_by_texts' LANGUAGE C IMMUTABLE STRICT PARALLEL SAFE COST 100 ROWS 1000;
+CREATE FUNCTION hv_count_by(keys hvcolumn, vals hvcolumn, OUT key bigint, OUT count bigint) RETURNS SETOF record
+    AS 'MODULE_PATHNAME', 'pg_hv_count_by_numbers' LANGUAGE C IMMUTABLE STRICT PARALLEL SAFE COST 100 ROWS 1000;
+CREATE FUNCTION hv_text_count_by(keys hvcolumn, vals hvcolumn, OUT key text, OUT count bigint) RETURNS SETOF record
+    AS 'MODULE_PATHNAME', 'pg_hv_count_by_texts' LANGUAGE C IMMUTABLE STRICT PARALLEL SAFE COST 100 ROWS 1000;
+CREATE FUNCTION hv_min_by(keys hvcolumn, vals hvcolumn, OUT key bigint, OUT min bigint) RETURNS SETOF record
+    AS 'MODULE_PATHNAME', 'pg_hv_min_by_numbers' LANGUAGE C IMMUTABLE STRICT PARALLEL SAFE COST 100 ROWS 1000;
+CREATE FUNCTION hv_text_min_by(keys hvcolumn, vals hvcolumn, OUT key text, OUT min bigint) RETURNS SETOF record
+    AS 'MODULE_PATHNAME', 'pg_hv_min_by_texts' LANGUAGE C IMMUTABLE STRICT PARALLEL SAFE COST 100 ROWS 1000;
+CREATE FUNCTION hv_max_by(keys hvcolumn, vals hvcolumn, OUT key bigint, OUT max bigint) RETURNS SETOF record
+    AS 'MODULE_PATHNAME', 'pg_hv_max_by_numbers' LANGUAGE C IMMUTABLE STRICT PARALLEL SAFE COST 100 ROWS 1000;
+CREATE FUNCTION hv_text_max_by(keys hvcolumn, vals hvcolumn, OUT key text, OUT max bigint) RETURNS SETOF record
+    AS 'MODULE_PATHNAME', 'pg_hv_max_by_texts' LANGUAGE C IMMUTABLE STRICT PARALLEL SAFE COST 100 ROWS 1000;
+
 -- Two columns worked row by row, or a column and a value. A truth is 1 or 0, and any number but 0 is true.
 CREATE FUNCTION hv_add(hvcolumn, hvcolumn) RETURNS hvcolumn
     AS 'MODULE_PATHNAME', 'pg_hv_add' LANGUAGE C IMMUTABLE STRICT PARALLEL SAFE COST 100;

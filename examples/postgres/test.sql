@@ -129,6 +129,22 @@ SELECT same('SELECT g.* FROM z, hv_text_groups(s, a) g',
                      ('b', 2, 2, 7, 0, 7, 7, 0), ('', 1, 1, 0, 0, 0, 0, 0)$$),
     same('SELECT key, sum FROM z, hv_groups(b, a)', 'VALUES (1, 8), (NULL, 7), (-9, 0), (0, 0)'),
     same('SELECT count(*) FROM z, hv_groups(a, NULL)', 'SELECT 0'),
+    same('SELECT s.*, c.count, l.min, g.max FROM z, hv_sum_by(b, a) WITH ORDINALITY s(key, sum, n),
+          hv_count_by(b, a) WITH ORDINALITY c(key, count, n), hv_min_by(b, a) WITH ORDINALITY l(key, min, n),
+          hv_max_by(b, a) WITH ORDINALITY g(key, max, n) WHERE s.n = c.n AND s.n = l.n AND s.n = g.n',
+         'VALUES (1, 8, 1, 2, 4, 4), (NULL, 7, 2, 1, 7, 7), (-9, 0, 3, 1, 0, 0), (0, 0, 4, 1, 0, 0)'),
+    same('SELECT s.key, sum, count, min, max FROM z, hv_text_sum_by(s, a) s, hv_text_count_by(s, a) c,
+          hv_text_min_by(s, a) l, hv_text_max_by(s, a) g
+          WHERE (s.key, c.key, l.key) IS NOT DISTINCT FROM (c.key, l.key, g.key)',
+         $$VALUES ('a', 8, 2, 4, 4), (NULL, NULL, 0, NULL, NULL), ('b', 7, 2, 0, 7), ('', 0, 1, 0, 0)$$),
+    same('SELECT key, max FROM (SELECT hv_column(v) AS v, hv_column(1) AS k
+          FROM (VALUES (9223372036854775807), (1)) x(v)) y, hv_max_by(k, v)', 'SELECT 1, 9223372036854775807'),
+    refused('SELECT sum FROM z, hv_sum_by(a, s)', 'hv_sum_by: only numbers are grouped, and this is a column of texts'),
+    refused('SELECT sum FROM z, hv_sum_by(s, a)', 'hv_sum_by: keys are not a column of numbers'),
+    refused('SELECT min FROM z, hv_text_min_by(a, a)', 'hv_text_min_by: keys are not a column of texts'),
+    refused('SELECT count FROM z, hv_count_by(a, hv_slice(a, 0, 2))', 'hv_count_by: a length of 6 next to one of 2'),
+    refused('SELECT sum FROM (SELECT hv_column(v) AS v, hv_column(1) AS k
+             FROM (VALUES (9223372036854775807), (1)) x(v)) y, hv_sum_by(k, v)', 'hv_sum_by: bigint out of range'),
     same('SELECT length(key) FROM q, hv_text_groups(c, (SELECT hv_column(n ORDER BY n) FROM w))',
          'VALUES (4), (NULL), (0), (568), (1)'),
     refused('SELECT g.* FROM z, hv_groups(a, s) g', 'hv_groups: only numbers are grouped, and this is a column of texts'),
@@ -182,7 +198,8 @@ SELECT refused(format('SELECT %L::hvcolumn', bytes), sentence),
 FROM (SELECT '0801100D180420012801' || '8A0114' || '080110081801200128013A080700000000000000' ||
              '920114' || '080110041801200128013A080000000000000000' ||
              '9A0114' || '080110041801200128013A080100000000000000') AS one(list),
-    LATERAL (VALUES ('0801100A1801200128013A109600000000000000000000000000000070057804'), (list), ('0801100D18022003400048015201035A4F' || list),
+    LATERAL (VALUES ('0801100A1801200128013A109600000000000000000000000000000070057804'), (list),
+                    ('0801100D18022003400048015201035A4F' || list),
                     ('0801100D1803200328033A00A00108A80101')) AS all_of(digits),
     LATERAL (SELECT '\x' || digits, 'hvcolumn: columns of decimals and lists are not served')
         AS asked(bytes, sentence)
@@ -228,6 +245,9 @@ BEGIN
         'SELECT v, count(*), count(n), sum(n), min(n), max(n), min(n), max(n) FROM (SELECT n, v, sum(s) OVER (ORDER BY n)
          AS g FROM (SELECT n, v, (n = 1 OR v IS DISTINCT FROM lag(v) OVER (ORDER BY n))::int AS s FROM r) y) z
          GROUP BY g, v ORDER BY g');
+    PERFORM same('SELECT key, sum FROM (SELECT hv_column(v ORDER BY n) AS k, hv_column(n ORDER BY n) AS c FROM r) x,
+                  hv_sum_by(k, c)', 'SELECT key, sum FROM (SELECT hv_column(v ORDER BY n) AS k,
+                  hv_column(n ORDER BY n) AS c FROM r) x, hv_groups(k, c)');
     PERFORM same(format('SELECT %s::text FROM (SELECT hv_column(v ORDER BY n) AS v, hv_column(n %% 3 - 1 ORDER BY n) AS n
                          FROM r) x', pair[1]),
                  format('SELECT hv_column(x ORDER BY n)::text FROM (SELECT n, (%s)::int AS x FROM (SELECT n, v,
