@@ -10,9 +10,11 @@ CREATE FUNCTION hvcolumn_receive(internal) RETURNS hvcolumn
     AS 'MODULE_PATHNAME', 'pg_hvcolumn_receive' LANGUAGE C IMMUTABLE STRICT PARALLEL SAFE;
 CREATE FUNCTION hvcolumn_send(hvcolumn) RETURNS bytea
     AS 'MODULE_PATHNAME', 'pg_hvcolumn_send' LANGUAGE C IMMUTABLE STRICT PARALLEL SAFE;
+CREATE FUNCTION hvcolumn_analyze(internal) RETURNS boolean
+    AS 'MODULE_PATHNAME', 'pg_hvcolumn_analyze' LANGUAGE C STRICT;
 CREATE TYPE hvcolumn (
     INPUT = hvcolumn_in, OUTPUT = hvcolumn_out, RECEIVE = hvcolumn_receive, SEND = hvcolumn_send,
-    INTERNALLENGTH = VARIABLE, STORAGE = extended
+    ANALYZE = hvcolumn_analyze, INTERNALLENGTH = VARIABLE, STORAGE = extended
 );
 
 -- bytes that are a column, and the bytes of a column

@@ -80,6 +80,12 @@ SELECT same('SELECT runs = constant, runs <> constant, runs = hv_slice(runs, 0, 
     same('SELECT count(*) FROM e JOIN e f ON e.runs = f.constant', 'SELECT 1')
 \g /dev/null
 
+-- ANALYZE looks at widths and nulls, and compares no columns
+CREATE TABLE looked AS SELECT CASE WHEN n % 4 > 0 THEN hv_repeat(n, 1000) END AS c FROM generate_series(1, 400) n GROUP BY n;
+ANALYZE looked;
+SELECT same($$SELECT null_frac, avg_width, n_distinct, most_common_vals IS NULL FROM pg_stats WHERE tablename = 'looked'$$,
+            'SELECT 0.25::real, avg(pg_column_size(c))::int, 0::real, true FROM looked') \g /dev/null
+
 -- ---- Two columns, row by row: by hand, and next to PostgreSQL's own answers over rows ----
 CREATE TABLE xy(n serial, a bigint, b bigint, s text, t text);
 INSERT INTO xy(a, b, s, t) VALUES (4, 1, 'a', 'b'), (4, 1, 'a', 'a'), (NULL, 1, NULL, 'a'), (7, NULL, 'b', NULL),
