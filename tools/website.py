@@ -32,7 +32,8 @@ GROUPS = {
         "README.md": "Overview", "docs/QUESTIONS.md": "How do I ..?", "docs/PROGRAM.md": "On the command line",
         "python/README.md": "Python", "docs/TABLES.md": "Tables", "docs/TYPES.md": "Dates and times",
         "examples/README.md": "C, C++, Rust, Arrow", "examples/sqlite/README.md": "SQLite",
-        "examples/postgres/README.md": "PostgreSQL", "docs/CALLING.md": "Rattle", "CHANGELOG.md": "Changes",
+        "examples/postgres/README.md": "PostgreSQL", "examples/postgres/SENSORS.md": "A year of sensors",
+        "docs/CALLING.md": "Rattle", "CHANGELOG.md": "Changes",
     },
     "Reference": {
         HEADER: "Calls of C", PACKAGE: "Python package", RUST: "Rust crate", "docs/ERRORS.md": "Errors",

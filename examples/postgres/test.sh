@@ -3,6 +3,7 @@
 # alone, runs test.sql in it, and ends it. Nothing of the machine's PostgreSQL is changed. From any folder:
 #     sh examples/postgres/test.sh [CALLS]        CALLS: how many calls fail in the loop that looks for lost memory
 #     sh examples/postgres/test.sh --figures [ROWS]
+#     sh examples/postgres/test.sh --sensors [SENSORS [DAYS]]    the figures of SENSORS.md
 # Needs PostgreSQL, its headers and make; as root it also needs runuser, since a server does not run as root.
 set -eu
 here=$(cd "$(dirname "$0")" && pwd)
@@ -10,6 +11,7 @@ top=$(cd "$here/../.." && pwd)
 config=${PG_CONFIG:-pg_config}
 file=test.sql
 [ "${1:-}" = --figures ] && file=figures.sql && shift
+[ "${1:-}" = --sensors ] && file=sensors.sql && shift
 count=${1:-}
 fail() {
     echo "postgres: $1" >&2
@@ -21,9 +23,16 @@ bin=$("$config" --bindir) lib=$("$config" --pkglibdir) share=$("$config" --share
 work=$(mktemp -d)
 as=
 [ "$(id -u)" = 0 ] && as="runuser -u nobody --"
-server() { $as env LC_ALL=C "$work/root$bin/pg_ctl" -D "$work/data" "$@"; }
+# server NAME ARGUMENTS..: its data and its socket are in a folder of this name
+server() {
+    of=$work/$1
+    shift
+    $as env LC_ALL=C "$work/root$bin/pg_ctl" -D "$of/data" "$@"
+}
 finish() {
-    [ -e "$work/data/postmaster.pid" ] && server -m fast -w stop >/dev/null 2>&1
+    for name in one other; do
+        [ -e "$work/$name/data/postmaster.pid" ] && server "$name" -m fast -w stop >/dev/null 2>&1
+    done
     rm -rf "$work"
 }
 trap finish EXIT
@@ -46,25 +55,53 @@ for folder in "$lib" "$share" "$share/extension"; do
 done
 build DESTDIR="$work/root" install || fail "the extension is not installed: $(cat "$work/log")"
 
-mkdir "$work/socket"
-[ "$as" ] && chown -R nobody "$work"
-$as env LC_ALL=C "$work/root$bin/initdb" -D "$work/data" -U tester -E UTF8 --no-sync --auth=trust >"$work/log" 2>&1 ||
-    fail "no server: $(cat "$work/log")"
-server -w -l "$work/server.log" \
-    -o "-k $work/socket -c listen_addresses= -c fsync=off -c max_parallel_workers=8 -c max_worker_processes=16" start \
-    >"$work/log" 2>&1 || fail "no server: $(cat "$work/log" "$work/server.log")"
-ask() { $as env LC_ALL=C.UTF-8 "$bin/psql" -X -q -h "$work/socket" -U tester -d postgres -v ON_ERROR_STOP=1 "$@"; }
+options="-c listen_addresses= -c fsync=off -c max_parallel_workers=8 -c max_worker_processes=16"
+started() {
+    mkdir -p "$work/$1/socket"
+    [ "$as" ] && chown -R nobody "$work"
+    $as env LC_ALL=C "$work/root$bin/initdb" -D "$work/$1/data" -U tester -E UTF8 --no-sync --auth=trust \
+        >"$work/log" 2>&1 && server "$1" -w -l "$work/$1/server.log" -o "-k $work/$1/socket $options" start \
+        >"$work/log" 2>&1 || fail "no server: $(cat "$work/log" "$work/$1/server.log")"
+}
+ask_of() {
+    name=$1
+    shift
+    $as env LC_ALL=C.UTF-8 "$bin/psql" -X -q -h "$work/$name/socket" -U tester -v ON_ERROR_STOP=1 "$@"
+}
+ask() { ask_of one -d postgres "$@"; }
+scripts=$work/build/examples/postgres
 # a database that was dumped and restored answers as it did
 restored() {
     answers="SELECT c::text FROM p UNION ALL SELECT c::text FROM q UNION ALL SELECT hv_sum(c)::text FROM p"
     ask -c "CREATE DATABASE restored"
-    $as "$bin/pg_dump" -h "$work/socket" -U tester postgres >"$work/dump" || fail "no dump"
-    $as env LC_ALL=C.UTF-8 "$bin/psql" -X -q -h "$work/socket" -U tester -d restored -v ON_ERROR_STOP=1 <"$work/dump" \
-        >"$work/log" 2>&1 || fail "not restored: $(cat "$work/log")"
+    $as "$bin/pg_dump" -h "$work/one/socket" -U tester postgres >"$work/dump" || fail "no dump"
+    ask_of one -d restored <"$work/dump" >"$work/log" 2>&1 || fail "not restored: $(cat "$work/log")"
     ask -At -c "$answers" >"$work/before"
-    ask -At -d restored -c "$answers" | cmp - "$work/before" >&2 || fail "a column is another after it was restored"
+    ask_of one -At -d restored -c "$answers" | cmp - "$work/before" >&2 || fail "a column is another after it was restored"
 }
-ask ${count:+-v "count=$count"} -v "folder=$work/socket" -At -f "$work/build/examples/postgres/$file"
-[ "$file" = test.sql ] || exit 0
-ask -At -f "$work/build/examples/postgres/test_steps.sql"
-restored
+# sharded SENSORS DAYS [STAMPS]: a year of sensors, and then the same over two servers, with answers compared
+sharded() {
+    started other
+    ask_of one -d postgres -c "CREATE DATABASE shard"
+    ask_of other -d postgres -c "CREATE DATABASE shard"
+    ask_of one -d shard -f "$scripts/shard.sql"
+    ask_of other -d shard -f "$scripts/shard.sql"
+    ask -At -v "sensors=$1" -v "days=$2" ${3:+-v "stamps=$3"} -f "$scripts/sensors.sql"
+    ask -At -v "folder=$work/one/socket" -v "other=$work/other/socket" -f "$scripts/shards.sql"
+}
+started one
+case $file in
+sensors.sql)
+    ask -f "$scripts/same.sql"
+    sharded "${count:-20}" "${2:-365}"
+    ;;
+figures.sql) ask ${count:+-v "count=$count"} -At -f "$scripts/figures.sql" ;;
+*)
+    ask -f "$scripts/same.sql"
+    ask ${count:+-v "count=$count"} -v "folder=$work/one/socket" -At -f "$scripts/test.sql"
+    ask -At -f "$scripts/test_steps.sql"
+    sharded 5 12 10000 >"$work/sensors"
+    tail -n 1 "$work/sensors"
+    restored
+    ;;
+esac

@@ -1,28 +1,7 @@
 -- The same questions over rows and over runs. A difference ends the script with its query.
 \set VERBOSITY terse
 \if :{?count} \else \set count 60000 \endif
-CREATE EXTENSION hivevigil;
 SELECT setseed(0.25) \g /dev/null
-
--- do both queries answer the same?
-CREATE FUNCTION same(runs text, plain text) RETURNS void LANGUAGE plpgsql AS $$
-DECLARE found text; wanted text;
-BEGIN
-    EXECUTE format('SELECT string_agg(x::text, '' '') FROM (%s) AS x', runs) INTO found;
-    EXECUTE format('SELECT string_agg(x::text, '' '') FROM (%s) AS x', plain) INTO wanted;
-    IF found IS DISTINCT FROM wanted THEN RAISE EXCEPTION E'%\nanswers %\nand should %', runs, found, wanted; END IF;
-END $$;
--- is the query refused with this sentence?
-CREATE FUNCTION refused(query text, sentence text) RETURNS void LANGUAGE plpgsql AS $$
-BEGIN
-    BEGIN
-        EXECUTE query;
-    EXCEPTION WHEN OTHERS OR query_canceled THEN
-        IF SQLERRM <> sentence THEN RAISE EXCEPTION E'%\nis refused by: %', query, SQLERRM; END IF;
-        RETURN;
-    END;
-    RAISE EXCEPTION '% is not refused', query;
-END $$;
 
 -- ---- By hand ----
 CREATE TABLE t(n serial, v bigint);

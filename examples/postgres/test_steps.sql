@@ -46,20 +46,20 @@ SELECT same('SELECT (SELECT hv_repeat(value, stop - start ORDER BY start) FROM h
 
 -- ---- The sum of all columns: past 64 bits on the way, in any order, and in parts of workers ----
 CREATE TABLE parts AS SELECT n % 1000 AS part, hv_column(v) AS c FROM big GROUP BY 1;
-CREATE TABLE far AS SELECT i, hv_repeat(CASE WHEN i % 2 = 0 THEN 1 ELSE -1 END * 9223372036854775807,
+CREATE TABLE wide AS SELECT i, hv_repeat(CASE WHEN i % 2 = 0 THEN 1 ELSE -1 END * 9223372036854775807,
     4611686018427387904 + i)
     AS c FROM generate_series(1, 2000) i GROUP BY i;
-ANALYZE parts, far;
+ANALYZE parts, wide;
 SELECT same('SELECT hv_sum_all(c) FROM p', 'SELECT 19'),
     same('SELECT hv_sum_all(c) FROM (SELECT c FROM p UNION ALL SELECT NULL UNION ALL SELECT none FROM one UNION ALL
           SELECT nulls FROM one) x', 'SELECT 19'),
     same('SELECT hv_sum_all(none), hv_sum_all(nulls), hv_sum_all(NULL) FROM one', 'SELECT NULL, NULL, NULL'),
     same('SELECT hv_sum_all(c) FROM p WHERE false', 'SELECT NULL::numeric'),
     same('SELECT hv_sum_all(hv_slice(c, 6, 8)), hv_sum_all(sevens) FROM p, one', 'SELECT -2, 8070450532247928832'),
-    same('SELECT hv_sum_all(c) FROM far',
+    same('SELECT hv_sum_all(c) FROM wide',
          'SELECT sum((CASE WHEN i % 2 = 0 THEN 1 ELSE -1 END) * 9223372036854775807::numeric *
           (4611686018427387904 + i)) FROM generate_series(1, 2000) i'),
-    same('SELECT i, hv_sum_all(c) FROM far WHERE i < 3 GROUP BY i ORDER BY i',
+    same('SELECT i, hv_sum_all(c) FROM wide WHERE i < 3 GROUP BY i ORDER BY i',
          'VALUES (1, -9223372036854775807::numeric * 4611686018427387905), (2,
          9223372036854775807::numeric * 4611686018427387906)'),
     same('SELECT part, hv_sum_all(c) FROM parts GROUP BY part ORDER BY part',
@@ -71,13 +71,13 @@ SET parallel_tuple_cost = 0;
 SET min_parallel_table_scan_size = 0;
 SET max_parallel_workers_per_gather = 4;
 DO $$
-DECLARE plan text := plan_of('SELECT hv_sum_all(c) FROM far');
+DECLARE plan text := plan_of('SELECT hv_sum_all(c) FROM wide');
 BEGIN
     IF plan !~ 'Finalize Aggregate.*Gather.*Workers Launched: [1-9].*Partial Aggregate' THEN
         RAISE EXCEPTION 'no parallel plan: %', plan;
     END IF;
     FOR i IN 1 .. 5 LOOP
-        PERFORM same('SELECT hv_sum_all(c) FROM far', 'SELECT 1000 * 9223372036854775807::numeric'),
+        PERFORM same('SELECT hv_sum_all(c) FROM wide', 'SELECT 1000 * 9223372036854775807::numeric'),
             same('SELECT hv_sum_all(c) FROM parts', 'SELECT sum(v) FROM big'),
             same('SELECT hv_rows(c), hv_sum(c) FROM (SELECT hv_repeat(v, n % 5) AS c FROM big) x',
              'SELECT sum(n % 5), sum(v * (n % 5)) FROM big');
