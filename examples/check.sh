@@ -11,7 +11,7 @@ work=$(mktemp -d)
 trap 'rm -rf "$work"' EXIT
 passed=0 failed=0 skipped=0
 c_flags="-std=c11 -Wall -Wextra -Werror -Iinclude"
-cxx_flags="-std=c++17 -Wall -Wextra -Werror -Iinclude"
+cxx_flags="-std=c++17 -pthread -Wall -Wextra -Werror -Iinclude"
 watched="-O0 -g -fsanitize=address,undefined -fno-sanitize-recover=all"
 
 has() { command -v "$1" >/dev/null 2>&1; }
@@ -83,9 +83,11 @@ if $cc $watched "$work/empty.c" -o "$work/empty" 2>/dev/null && "$work/empty"; t
     for test in errors answers refusals levels forms constants lists groups pairs builders messages arrow_arrays; do
         run "c/$test.c under sanitizers" built "$cc" "$c_flags $watched" "examples/c/$test.c"
     done
-    for test in demo numbers; do
+    for test in demo numbers spans; do
         has "$cxx" && run "cpp/$test.cpp under sanitizers" built "$cxx" "$cxx_flags $watched" "examples/cpp/$test.cpp"
     done
+    has "$cxx" && run "cpp/spans.cpp in C++20, under sanitizers" built "$cxx" "$cxx_flags -std=c++20 $watched" \
+        examples/cpp/spans.cpp
     arrow_flags=$watched arrow_how=" under sanitizers"
 else
     skip "the address and undefined-behaviour sanitizers" "-fsanitize of $cc"
@@ -128,12 +130,15 @@ headers_alone() {
         cp "$work/alone.c" "$work/alone.cpp"
         $cc -std=c99 $warned "$work/alone.c" && $cxx -std=c++17 $warned "$work/alone.cpp" || return 1
     done
-    $cxx -std=c++17 $warned examples/cpp/demo.cpp && $cxx -std=c++17 $warned examples/cpp/numbers.cpp &&
-        echo "those of C and C++, and what is made of their templates"
+    for test in demo numbers spans; do
+        $cxx -std=c++17 $warned "examples/cpp/$test.cpp" && $cxx -std=c++20 $warned "examples/cpp/$test.cpp" || return 1
+    done
+    echo "those of C and C++, and what is made of their templates"
 }
 if has "$cxx"; then
     run "headers alone, with every warning" headers_alone
-    for test in demo numbers; do run "cpp/$test.cpp" built "$cxx" "$cxx_flags -O2" "examples/cpp/$test.cpp"; done
+    for test in demo numbers spans; do run "cpp/$test.cpp" built "$cxx" "$cxx_flags -O2" "examples/cpp/$test.cpp"; done
+    run "cpp/spans.cpp in C++20" built "$cxx" "$cxx_flags -std=c++20 -O2" examples/cpp/spans.cpp
 else
     skip "cpp/demo.cpp" "$cxx"
 fi

@@ -17,6 +17,7 @@
 namespace hv {
 
 class Runs;
+enum class SplitBy { rows, runs };
 
 class Column {
 public:
@@ -159,6 +160,9 @@ public:
     Column slice(size_t start, size_t stop, const hv_session &session = initial_session()) const {
         return made([&](auto *out, auto *error) { return hv_slice(&session, &handle, start, stop, out, error); });
     }
+    // The column in this many windows, which share its buffers, for threads: of as many rows each, give or take one, or
+    // of as many runs. Some are empty where there are fewer. Refused as HV_BAD_NUMBER for 0.
+    std::vector<Column> split(size_t parts, SplitBy by = SplitBy::rows) const;
     // Each row as the same value of a type. The sentence of a refusal names the first row that does not fit.
     Column cast(hv_kind kind, const hv_session &session = initial_session()) const {
         return made([&](auto *out, auto *error) { return hv_cast(&session, &handle, &kind, out, error); },
@@ -392,6 +396,20 @@ public:
         return message;
     }
 
+#ifdef __cpp_lib_span
+    // ---- With C++20, spans (hivevigil_spans.hpp): of integers to read into, and of bytes of any type of one byte ----
+
+    template <detail::OfNumbers Span> void read(size_t start, Span items) const;
+    template <detail::OfBytes Span> static Column from_bytes(Span message);
+    template <detail::OfBytes Span> static bool is_message(Span message);
+    // Writes the message into the room, and returns its size; refused as HV_COLUMN_LENGTH where there is too little.
+    template <detail::OfBytes Span> size_t to_bytes(Span room) const;
+    template <detail::OfBytes Span>
+    static Column deserialize(hv_kind kind, size_t rows, Span record, const Column &ends, const Column &values);
+    // Integers, null where the flag is false.
+    template <class Items, detail::OfFlags Span> static Column of(const Items &items, Span valid);
+#endif
+
     // The handle, for calls of hivevigil.h and hivevigil_arrow.h; it stays this column's.
     hv_column *raw() const { return &handle; }
 
@@ -423,22 +441,7 @@ private:
             return detail::Native<T>::make(items, rows, validity, out, error);
         });
     }
-    // Rows that may be null, gathered as the makers take them.
-    template <class Items> static Column of_rows(const Items &rows) {
-        using T = detail::Row<Items>;
-        using Item = detail::InnerOf<T>;
-        using Kept = std::conditional_t<detail::is_text<Item>, std::string_view, Item>;
-        std::vector<Kept> items;
-        std::vector<bool> valid;
-        for (const T &row : rows) {
-            const Item *item = detail::Inner<T>::of(row);
-            items.push_back(item ? Kept(*item) : Kept{}), valid.push_back(item != nullptr);
-        }
-        const std::vector<bool> *flags = detail::is_optional<T> ? &valid : nullptr;
-        if constexpr (std::is_same_v<Item, bool>) return truths(items, flags);
-        else if constexpr (detail::is_text<Item>) return texts(items, flags);
-        else return of(items.data(), items.size(), flags);
-    }
+    template <class Items> static Column of_rows(const Items &rows);
     template <class T> std::vector<std::optional<T>> number_optionals() const {
         const std::vector<T> items = numbers<T>();
         const std::vector<bool> valid = validity();
@@ -447,18 +450,7 @@ private:
             if (valid[row]) rows[row] = items[row];
         return rows;
     }
-    static Column cut(bool binary, const std::vector<std::string_view> &rows, const std::vector<bool> *valid) {
-        std::string all;
-        std::vector<int64_t> offsets{0};
-        for (std::string_view row : rows) all += row, offsets.push_back(static_cast<int64_t>(all.size()));
-        return with_nulls(
-            rows.size(), valid,
-            [&](auto validity, auto *out, auto *error) {
-                return hv_large_texts(binary, offsets.data(), offsets.size(),
-                                      reinterpret_cast<const uint8_t *>(all.data()), all.size(), validity, out, error);
-            },
-            detail::words_of_texts(rows, valid));
-    }
+    static Column cut(bool binary, const std::vector<std::string_view> &rows, const std::vector<bool> *valid);
     Column compared(Operator by, const Column &right) const;
     template <class Right> Column compared(Operator by, const Right &right) const { return compare(by, right); }
     std::string words_of_cast(int32_t answer, hv_kind kind) const;
@@ -491,7 +483,10 @@ private:
 };
 
 } // namespace hv
+#include "hivevigil_making.hpp"
 #include "hivevigil_runs.hpp"
+#include "hivevigil_parts.hpp"
+#include "hivevigil_spans.hpp"
 #include "hivevigil_builder.hpp"
 #include "hivevigil_pairs.hpp"
 #endif

@@ -4,6 +4,7 @@
 #define HIVEVIGIL_VALUES_HPP
 #include "hivevigil_decimal.hpp"
 #include "hivevigil_errors.h"
+#include <cstddef>
 #include <cstdint>
 #include <iterator>
 #include <limits>
@@ -15,6 +16,9 @@
 #include <utility>
 #include <variant>
 #include <vector>
+#if __cplusplus >= 202002L && __has_include(<span>)
+#include <span>
+#endif
 
 namespace hv {
 
@@ -270,6 +274,23 @@ template <class Call, class Words> void ask(Call call, Words words) {
 template <class Items>
 using Item = std::remove_cv_t<std::remove_pointer_t<decltype(std::data(std::declval<const Items &>()))>>;
 template <class T> inline constexpr bool is_text = std::is_convertible_v<const T &, std::string_view>;
+
+#ifdef __cpp_lib_span
+template <class T> inline constexpr bool is_span = false;
+template <class T, size_t count> inline constexpr bool is_span<std::span<T, count>> = true;
+
+// Spans by what they hold.
+template <class Span>
+concept OfNumbers = is_span<Span> && is_number<typename Span::element_type>;
+template <class Span>
+concept OfFlags = is_span<Span> && std::is_same_v<typename Span::value_type, bool>;
+template <class Span>
+concept OfBytes = is_span<Span> && (std::is_same_v<typename Span::value_type, uint8_t> ||
+                                    std::is_same_v<typename Span::value_type, char> ||
+                                    std::is_same_v<typename Span::value_type, std::byte>);
+
+template <OfBytes Span> const uint8_t *bytes_of(Span bytes) { return reinterpret_cast<const uint8_t *>(bytes.data()); }
+#endif
 
 // A row as it is in a container, and its type where it is not null.
 template <class Items> using Row = std::decay_t<decltype(*std::begin(std::declval<const Items &>()))>;
