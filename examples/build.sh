@@ -1,6 +1,6 @@
 #!/bin/sh
-# Proves and builds the library: lib/libhivevigil.a, which needs only the C library, and lib/libhivevigil.so,
-# the same with the calls for Arrow, for Python. From any folder:
+# Proves and builds the library: lib/libhivevigil.a, which needs only the C library, and lib/libhivevigil.so. The calls
+# for Arrow, which Rust and Python use, are compiled into both from include/hivevigil_arrow.h, not proved. From any folder:
 #     sh examples/build.sh
 #     sh examples/build.sh --unproved      the same calls in minutes, with nothing proved; lib/UNPROVED says so
 # Needs the toolchain (rt on PATH) and a C compiler (cc, or $CC). The first build proves every crate below the library.
@@ -35,10 +35,12 @@ echo "build: ${proof:+proved and }compiled in $(($(date +%s) - begin)) s"
 (cd "$work" && ar x "$kit/c/liblibc_c.a" heap.pic.o && ar rs libhivevigil.a heap.pic.o 2>/dev/null)
 # 0.1.2 has the binary interface of 0.1, and 1.2.3 that of 1 (docs/ABI.md)
 interface=$(sed -E 's/^(0\.[0-9]+|[1-9][0-9]*)\..*/\1/' "$top/VERSION")
+# the calls for Arrow, for callers without a C header
+(cd "$work" && "$cc" -c -fPIC -O2 -ffunction-sections -ffile-prefix-map="$top=." -I"$top/include" \
+    "$top/examples/python/arrow_calls.c" -o arrow_calls.o && ar rs libhivevigil.a arrow_calls.o 2>/dev/null)
 # the calls begin with hv_, and nothing else is visible
 echo '{ global: hv_*; local: *; };' >"$work/exports"
-"$cc" -shared -fPIC -O2 -I"$top/include" "$top/examples/python/arrow_calls.c" \
-    -Wl,--whole-archive "$work/libhivevigil.a" -Wl,--no-whole-archive \
+"$cc" -shared -fPIC -O2 -Wl,--whole-archive "$work/libhivevigil.a" -Wl,--no-whole-archive \
     -Wl,--version-script="$work/exports" -Wl,-soname,"libhivevigil.so.$interface" -Wl,--no-undefined \
     -o "$work/libhivevigil.so"
 mkdir -p "$top/lib"

@@ -44,23 +44,25 @@ for library in lib/libhivevigil.a lib/libhivevigil.so; do
     [ -e "$library" ] || { echo "no $library: sh examples/build.sh makes it"; exit 1; }
 done
 
-# the header's names are the library's, and the other way round
+# the header's names are the library's, and the other way round, but for the calls over Arrow for callers without a C
+# header
 names_agree() {
     printf 'hv_abi\nhv_version\n' >"$work/versions"
     nm -g --defined-only lib/libhivevigil.a 2>/dev/null |
         awk '$2 == "T" && $3 ~ /^hv_/ { print $3 }' | sort -u >"$work/exported"
     $cc -E -P -DHV_EXPORTS_ALONE -Iinclude include/hivevigil.h | grep -o 'hv_[a-z0-9_]*(' | tr -d '(' | sort -u \
         >"$work/declared"
+    $cc -Iinclude -c examples/python/arrow_calls.c -o "$work/arrow_calls.o" &&
+        nm "$work/arrow_calls.o" | awk '$2 == "T" { print $3 }' | sort -u - "$work/declared" >"$work/all" || return 1
     # each is a call of the header too, but for the two that take nothing
     $cc -E -P -Iinclude include/hivevigil.h | grep -o 'hv_call_[a-z0-9_]*(' | tr -d '(' | sed 's/_call_/_/' |
         sort -u - "$work/versions" | diff "$work/declared" - &&
-        diff "$work/declared" "$work/exported" && echo "$(wc -l <"$work/declared") calls"
+        diff "$work/all" "$work/exported" && echo "$(wc -l <"$work/declared") calls"
 }
-# the shared object shows these, and for callers without a C header those over Arrow; and says its binary interface
+# the shared object shows these and no other, and says its binary interface
 shared_agrees() {
     nm -D --defined-only lib/libhivevigil.so | awk '{ print $3 }' | sort -u >"$work/shown"
-    $cc -Iinclude -c examples/python/arrow_calls.c -o "$work/arrow_calls.o" &&
-        nm "$work/arrow_calls.o" | awk '$2 == "T" { print $3 }' | sort -u - "$work/declared" | diff - "$work/shown" &&
+    diff "$work/all" "$work/shown" &&
         readelf -d lib/libhivevigil.so | grep -o 'libhivevigil\.so\.[0-9.]*[0-9]' | grep -q . &&
         echo "$(wc -l <"$work/shown") calls"
 }
@@ -168,6 +170,15 @@ if has cargo && cargo --version >/dev/null 2>&1; then
     with="--quiet --offline --manifest-path rust/Cargo.toml"
     run "rust, its tests and those of its pages" timeout 200 cargo test $with
     run "rust, the demonstration" timeout 100 cargo run $with --example demo
+    # what owns the structs of Arrow, with the address sanitizer of the same compiler, where it lets one have it
+    arrow_tests="--test arrow --test arrow_broken --test arrow_streams"
+    if echo 'fn main() {}' >"$work/empty.rs" && RUSTC_BOOTSTRAP=1 rustc -Zsanitizer=address "$work/empty.rs" \
+        -o "$work/empty" 2>/dev/null && "$work/empty"; then
+        run "rust, Arrow under the address sanitizer" env RUSTC_BOOTSTRAP=1 RUSTFLAGS=-Zsanitizer=address \
+            timeout 300 cargo test $with --target "$(rustc -vV | sed -n 's/^host: //p')" $arrow_tests
+    else
+        skip "rust, Arrow under the address sanitizer" "rustc that has one"
+    fi
     run "bench, every line over few rows" timeout 300 sh bench/run.sh --smoke
 else
     skip "rust" cargo

@@ -17,6 +17,7 @@
 //! ```
 #![warn(missing_docs)]
 
+pub mod arrow;
 mod builder;
 mod column;
 mod commands;
