@@ -66,6 +66,11 @@ def sentences() -> dict[str, str]:
     return dict(re.findall(r'X\(HV_(\w+), "([^"]*)"\)', text_of("include/hivevigil_errors.h")))
 
 
+def flaws(path: str, pattern: str) -> dict[str, str]:
+    """The sentence for each flaw of an array of Arrow, by its name in one word."""
+    return {name.replace("_", "").lower(): said for name, said in re.findall(pattern, text_of(path))}
+
+
 class Lists:
     """What the header has, and what was found to differ from it."""
 
@@ -124,6 +129,9 @@ class Lists:
         self.same("Operator of Rust", rust_enum("rust/src/value.rs", "Operator"), operators)
         folds = {camel(name): number for name, number in self.folds.items()}
         self.same("Fold of Rust", rust_enum("rust/src/value.rs", "Fold"), folds)
+        due = flaws("include/hivevigil_arrow_errors.h", r"case HV_ARROW_(\w+): return \"(.*?)\"")
+        said = flaws("rust/src/arrow/error.rs", r"Flaw::(\w+)(?:\(row\))? => \{?\s*(?:let said = )?\"(.*?)\"")
+        self.same("flaws of Arrow's arrays of Rust", said, due)
 
     def check_page(self) -> None:
         """docs/ERRORS.md has the errors that Rattle has too, which end with the one for memory."""

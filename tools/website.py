@@ -57,6 +57,7 @@ PYTHON = {
     "hivevigil": "__init__.py", "Column": "column.py", "Builder": "builder.py", "Run": "_runs.py",
     "Table": "table.py", "Groups of a table": "table_groups.py", "Functions": "functions.py", "Errors": "errors.py",
     "hivevigil.chunks": "chunks.py", "hivevigil.pandas": "pandas.py", "hivevigil.dask": "dask.py",
+    "hivevigil.dask_tables": "dask_tables.py",
 }
 # The front page that pages of rustdoc link to, and that it does not make.
 FORWARD = """<!DOCTYPE html>

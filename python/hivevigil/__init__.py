@@ -11,7 +11,7 @@ The shared object is next to this file, in lib/ of a checkout, or where HIVEVIGI
 are used where they are there. `python -m hivevigil FILE.csv` shows what the columns of a CSV file take in runs.
 A Table is columns by name, which are filtered, cut and kept in a file together.
 `hivevigil.chunks` joins what is known of parts of a column; `hivevigil.pandas` has a column as an array of pandas, and
-`hivevigil.dask` one in chunks.
+`hivevigil.dask` one in chunks, and `hivevigil.dask_tables` a table.
 """
 from typing import Any
 

@@ -14,6 +14,7 @@ Dask. Tasks that follow one another on a chunk are sent as one.
 """
 from __future__ import annotations
 
+import operator
 import os
 from collections.abc import Callable, Iterable
 from typing import Any, Optional
@@ -101,8 +102,73 @@ class Answer(_Lazy):
         return Answer(_graph(name, layer, [self]), name, 1)
 
 
-class ChunkedColumn(_Lazy):
+class Chunked(_Lazy):
+    """What columns and tables in chunks have in common: a task for each chunk."""
+
+    _sort = ""
+
+    @classmethod
+    def _made(cls, what: str, tasks: list[Any], *token: Any, after: Iterable[Any] = ()) -> Any:
+        if not tasks:
+            raise ValueError(f"a chunked {cls._sort} has at least one chunk, whose type is that of the rows")
+        name = f"hivevigil-{what}-{_token(*token)}"
+        layer = {(name, number): task for number, task in enumerate(tasks)}
+        return cls(_graph(name, layer, after), name, len(tasks))
+
+    @property
+    def chunk_count(self) -> int:
+        return self._count
+
+    def _chunk(self, number: int) -> Any:
+        if not 0 <= number < self._count:
+            raise IndexError(f"chunk {in_words(number)} is not among {self._count} chunks")
+        return self._made("chunk", [(_same, (self._name, number))], self, number, after=[self])
+
+    def _mapped(self, kind: Any, function: Callable[..., Any], *others: Any) -> Any:
+        for other in others:
+            if isinstance(other, Chunked) and other._count != self._count:
+                raise ValueError(f"columns of {self._count} and of {other._count} chunks do not go together")
+        name = f"hivevigil-{_name_of(function)}-{_token(function, self, *others)}"
+        layer: dict[Any, Any] = {
+            f"{name}-with-{at}": (_same, other) for at, other in enumerate(others) if isinstance(other, Column)
+        }
+        for number in range(self._count):
+            passed = [_argument(name, at, other, number) for at, other in enumerate(others)]
+            layer[name, number] = (_on_chunk, number, self._count, function, (self._name, number), passed)
+        after = [self, *(other for other in others if isinstance(other, Chunked))]
+        return kind(_graph(name, layer, after), name, self._count)
+
+    def _aggregated(self, function: Callable[..., Any], join: Callable[[list[Any]], Any], *others: Any) -> Answer:
+        """What a function says of each chunk, joined as a tree, neighbours in their order."""
+        parts = self._mapped(Answer, function, *others)
+        name, count, layers = f"hivevigil-join-{_token(parts, join)}", self._count, {}
+        keys: list[Any] = [(parts._name, number) for number in range(count)]
+        level = 0
+        while len(keys) > 1 or level == 0:
+            groups = [keys[at : at + _WIDTH] for at in range(0, len(keys), _WIDTH)]
+            level += 1
+            made = [(f"{name}-{level}", at) if len(groups) > 1 else (name, 0) for at in range(len(groups))]
+            layers.update({key: (join, group) for key, group in zip(made, groups)})
+            keys = made
+        return Answer(_graph(name, layers, [parts]), name, 1)
+
+    def _counted(self, function: Callable[..., int]) -> list[int]:
+        """A number for each chunk, at once."""
+        (counts,) = _asked(self._mapped(_Counts, function))
+        return list(counts)
+
+    def rows(self) -> Answer:
+        """How many rows there are."""
+        return self._aggregated(_row_count, _total)
+
+    def __repr__(self) -> str:
+        return f"<{type(self).__name__}: {self._count} chunk{'' if self._count == 1 else 's'}>"
+
+
+class ChunkedColumn(Chunked):
     """A column in chunks, each a column that a task makes."""
+
+    _sort = "column"
 
     # ---- Making ----
 
@@ -113,7 +179,8 @@ class ChunkedColumn(_Lazy):
         for number, column in enumerate(given):
             if not isinstance(column, Column):
                 raise TypeError(f"chunk {number} is {in_words(column)}, not a Column")
-        return cls._made("columns", [(_same, column) for column in given], *given)
+        made: ChunkedColumn = cls._made("columns", [(_same, column) for column in given], *given)
+        return made
 
     @classmethod
     def from_files(cls, paths: Iterable[Any]) -> ChunkedColumn:
@@ -121,7 +188,8 @@ class ChunkedColumn(_Lazy):
         if isinstance(paths, (str, bytes, os.PathLike)):
             raise TypeError(f"from_files takes the names of several files, not {in_words(paths)}")
         names = [os.path.abspath(os.fsdecode(path)) for path in paths]
-        return cls._made("files", [(Column.load, name) for name in names], *map(_stamp, names))
+        made: ChunkedColumn = cls._made("files", [(Column.load, name) for name in names], *map(_stamp, names))
+        return made
 
     @classmethod
     def from_tables(
@@ -137,7 +205,8 @@ class ChunkedColumn(_Lazy):
         names = [os.path.abspath(os.fsdecode(path)) for path in paths]
         kept = [name for name in names if where is None or Table.footer(name).may_have(*where)]
         tasks = [(_column_of_table, name, column, (_same, where)) for name in kept or names[:1]]
-        return cls._made("tables", tasks, column, where, *map(_stamp, kept or names[:1]))
+        made: ChunkedColumn = cls._made("tables", tasks, column, where, *map(_stamp, kept or names[:1]))
+        return made
 
     @classmethod
     def from_delayed(cls, parts: Iterable[Any], type: Any = None) -> ChunkedColumn:
@@ -145,7 +214,8 @@ class ChunkedColumn(_Lazy):
         given, asked = list(parts), None if type is None else text_of(kind_of(type))
         keys = [part.__dask_keys__()[0] if hasattr(part, "__dask_keys__") else part for part in given]
         graphs = [part for part in given if hasattr(part, "__dask_graph__")]
-        return cls._made("delayed", [(_column_of, key, asked) for key in keys], keys, asked, after=graphs)
+        made: ChunkedColumn = cls._made("delayed", [(_column_of, key, asked) for key in keys], keys, asked, after=graphs)
+        return made
 
     @classmethod
     def from_array(cls, array: Any, type: Any = None) -> ChunkedColumn:
@@ -153,14 +223,6 @@ class ChunkedColumn(_Lazy):
         if getattr(array, "ndim", 1) != 1:
             raise ValueError(f"a column has one dimension, and the array has {array.ndim}")
         return cls.from_delayed(array.to_delayed().ravel(), type)
-
-    @classmethod
-    def _made(cls, what: str, tasks: list[Any], *token: Any, after: Iterable[Any] = ()) -> ChunkedColumn:
-        if not tasks:
-            raise ValueError("a chunked column has at least one chunk, whose type is that of the rows")
-        name = f"hivevigil-{what}-{_token(*token)}"
-        layer = {(name, number): task for number, task in enumerate(tasks)}
-        return cls(_graph(name, layer, after), name, len(tasks))
 
     def __dask_postcompute__(self) -> Any:
         return _whole, ()
@@ -177,35 +239,16 @@ class ChunkedColumn(_Lazy):
 
     # ---- Chunks ----
 
-    @property
-    def chunk_count(self) -> int:
-        return self._count
-
     def chunk(self, number: int) -> ChunkedColumn:
         """One of the chunks."""
-        if not 0 <= number < self._count:
-            raise IndexError(f"chunk {in_words(number)} is not among {self._count} chunks")
-        return self._made("chunk", [(_same, (self._name, number))], self, number, after=[self])
+        chosen: ChunkedColumn = self._chunk(number)
+        return chosen
 
     def map_chunks(self, function: Callable[..., Column], *others: Any) -> ChunkedColumn:
         """What a function makes of each chunk: a column. Other chunked columns of as many chunks give it their chunks
         in turn, anything else is passed as it is."""
         mapped: ChunkedColumn = self._mapped(ChunkedColumn, function, *others)
         return mapped
-
-    def _mapped(self, kind: Any, function: Callable[..., Any], *others: Any) -> Any:
-        for other in others:
-            if isinstance(other, ChunkedColumn) and other._count != self._count:
-                raise ValueError(f"columns of {self._count} and of {other._count} chunks do not go together")
-        name = f"hivevigil-{_name_of(function)}-{_token(function, self, *others)}"
-        layer: dict[Any, Any] = {
-            f"{name}-with-{at}": (_same, other) for at, other in enumerate(others) if isinstance(other, Column)
-        }
-        for number in range(self._count):
-            passed = [_argument(name, at, other, number) for at, other in enumerate(others)]
-            layer[name, number] = (_on_chunk, number, self._count, function, (self._name, number), passed)
-        after = [self, *(other for other in others if isinstance(other, ChunkedColumn))]
-        return kind(_graph(name, layer, after), name, self._count)
 
     def rechunk(self, runs: int) -> ChunkedColumn:
         """The same rows in chunks of as many runs, give or take: time and memory go by runs, and small tasks cost more
@@ -214,7 +257,7 @@ class ChunkedColumn(_Lazy):
         most = size_of(runs, "the number of runs")
         if most == 0:
             raise ValueError("a chunk has at least one run")
-        (counts,) = _asked(self._mapped(_Counts, _run_count))
+        counts = self._counted(_run_count)
         total = sum(counts)
         parts = max(1, -(-total // most))
         bounds = [total * part // parts for part in range(parts + 1)]
@@ -269,6 +312,31 @@ class ChunkedColumn(_Lazy):
         """A value in place of each null."""
         return self.map_chunks(Column.fill, value)
 
+    def where(self, mask: ChunkedColumn, other: Any) -> ChunkedColumn:
+        """The row where the mask is true, and else that of `other`, a chunked column or one value, as Column.where."""
+        if not isinstance(mask, ChunkedColumn):
+            raise TypeError(f"a mask of chunks is a ChunkedColumn, as column.gt(3) is, not {in_words(mask)}")
+        return self.map_chunks(Column.where, mask, other)
+
+    def __add__(self, right: Any) -> ChunkedColumn:
+        """Row by row `row + right`, for a chunked column or one value, as those of Column; so are - * & | and ~."""
+        return self.map_chunks(operator.add, right)
+
+    def __sub__(self, right: Any) -> ChunkedColumn:
+        return self.map_chunks(operator.sub, right)
+
+    def __mul__(self, right: Any) -> ChunkedColumn:
+        return self.map_chunks(operator.mul, right)
+
+    def __and__(self, right: Any) -> ChunkedColumn:
+        return self.map_chunks(operator.and_, right)
+
+    def __or__(self, right: Any) -> ChunkedColumn:
+        return self.map_chunks(operator.or_, right)
+
+    def __invert__(self) -> ChunkedColumn:
+        return self.map_chunks(operator.invert)
+
     def take_from(self, dictionary: Column) -> ChunkedColumn:
         """The rows of the dictionary, a column that goes to each worker, that these codes number from 0."""
         return self.map_chunks(Column.take_from, dictionary)
@@ -280,17 +348,7 @@ class ChunkedColumn(_Lazy):
     ) -> Answer:
         """What `function` says of each chunk, joined by `join`, which takes neighbours in their order, as a tree. As it
         is, a Partial: rows, nulls, sum, least and greatest, sorted, runs."""
-        parts = self._mapped(Answer, function)
-        name, count, layers = f"hivevigil-join-{_token(parts, join)}", self._count, {}
-        keys: list[Any] = [(parts._name, number) for number in range(count)]
-        level = 0
-        while len(keys) > 1 or level == 0:
-            groups = [keys[at : at + _WIDTH] for at in range(0, len(keys), _WIDTH)]
-            level += 1
-            made = [(f"{name}-{level}", at) if len(groups) > 1 else (name, 0) for at in range(len(groups))]
-            layers.update({key: (join, group) for key, group in zip(made, groups)})
-            keys = made
-        return Answer(_graph(name, layers, [parts]), name, 1)
+        return self._aggregated(function, join)
 
     def sum(self) -> Answer:
         """The sum of the rows that are not null; its compute() is an OverflowError where Column.sum() is one."""
@@ -304,13 +362,6 @@ class ChunkedColumn(_Lazy):
         """The greatest row that is not null."""
         return self.aggregate().then(_greatest)
 
-    def rows(self) -> Answer:
-        """How many rows there are."""
-        return self.aggregate(_row_count, _total)
-
-    def __repr__(self) -> str:
-        return f"<ChunkedColumn: {self._count} chunk{'' if self._count == 1 else 's'}>"
-
 
 class _Counts(_Lazy):
     """A number for each chunk."""
@@ -322,7 +373,7 @@ class _Counts(_Lazy):
 def _argument(name: str, at: int, other: Any, number: int) -> Any:
     """What the task of a chunk is given of an argument: its chunk, the task of a column, of which all chunks have the
     same, or the value."""
-    if isinstance(other, ChunkedColumn):
+    if isinstance(other, Chunked):
         return other._name, number
     return f"{name}-with-{at}" if isinstance(other, Column) else (_same, other)
 
@@ -355,8 +406,8 @@ def _total(counts: list[int]) -> int:
     return sum(counts)
 
 
-def _row_count(column: Column) -> int:
-    return column.shape[0]  # also where len() cannot answer
+def _row_count(chunk: Any) -> int:
+    return int(chunk.shape[0])  # of columns and tables; also where len() cannot answer
 
 
 def _run_count(column: Column) -> int:

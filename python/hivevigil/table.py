@@ -129,6 +129,14 @@ class Table(Mapping[str, Column]):
         """How many bytes the columns take for what they show, each as Column.nbytes."""
         return sum(column.nbytes for column in self._columns.values())
 
+    def __sizeof__(self) -> int:
+        """How many bytes the table and what its columns show take, as sys.getsizeof and Dask ask for it."""
+        return object.__sizeof__(self) + sum(column.__sizeof__() for column in self._columns.values())
+
+    def __dask_tokenize__(self) -> tuple[Any, ...]:
+        tokens = [(name, column.__dask_tokenize__()) for name, column in self._columns.items()]
+        return "hivevigil.Table", self._rows, tokens, sorted(self._logical.items())
+
     def __len__(self) -> int:
         """How many columns there are."""
         return len(self._columns)

@@ -46,17 +46,24 @@ class TableGroups:
         return self._table._of(columns, columns[self._name]._length, kept)
 
     def _parts(self, name: str, asked: Any) -> tuple[Any, str]:
-        """The name of the column that is asked, None for the groups themselves, and what it is asked."""
-        if isinstance(asked, str) and asked == "size":
-            return None, "size"
-        if not isinstance(asked, (tuple, list)) or len(asked) != 2 or asked[1] not in _FOLDS:
-            expected = f"'size', or a column and one of {', '.join(_FOLDS)}"
-            raise TypeError(f"agg: {in_words(name)} is asked by {expected}, not by {in_words(asked)}")
-        self._table._column(asked[0])
-        return asked[0], asked[1]
+        """The name of the column that is asked, which is there, and what it is asked."""
+        column, fold = parts_of(name, asked)
+        if column is not None:
+            self._table._column(column)
+        return column, fold
 
     def _values(self, name: Any) -> Column:
         return Column.constant(0, self._table.rows, "u8") if name is None else self._table._column(name)
 
     def __repr__(self) -> str:
         return f"<groups of {self._table.rows:,} rows by {in_words(self._name)}>"
+
+
+def parts_of(name: str, asked: Any) -> tuple[Any, str]:
+    """The name of the column that is asked, None for the groups themselves, and what it is asked."""
+    if isinstance(asked, str) and asked == "size":
+        return None, "size"
+    if not isinstance(asked, (tuple, list)) or len(asked) != 2 or asked[1] not in _FOLDS:
+        expected = f"'size', or a column and one of {', '.join(_FOLDS)}"
+        raise TypeError(f"agg: {in_words(name)} is asked by {expected}, not by {in_words(asked)}")
+    return asked[0], asked[1]

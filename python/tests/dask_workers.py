@@ -1,4 +1,4 @@
-"""Chunked columns on two processes; test_dask.py runs it, with a limit of time."""
+"""Chunked columns and tables on two processes; test_dask.py runs it, with a limit of time."""
 import os
 import tempfile
 from pathlib import Path
@@ -6,14 +6,46 @@ from pathlib import Path
 import numpy
 from distributed import Client, LocalCluster, futures_of, wait
 
-from hivevigil import Column
+from hivevigil import Column, Table
 from hivevigil.chunks import Partial
 from hivevigil.dask import ChunkedColumn
+from hivevigil.dask_tables import ChunkedTable
 
 
 def check(holds, what):
     if not holds:
         raise SystemExit(f"does not hold: {what}")
+
+
+def dies_once(table, folder):
+    """The chunk as it is, but the first worker that begins ends its process."""
+    try:
+        os.close(os.open(Path(folder) / "died", os.O_CREAT | os.O_EXCL))
+    except FileExistsError:
+        return table
+    os._exit(1)
+
+
+def check_tables(folder):
+    """A table over files, of which most are left out; groups that go on from file to file; a worker that dies."""
+    parts = [Table({"key": [part // 4] * 1000, "level": Column.of([part, None] * 500)}) for part in range(12)]
+    paths = [Path(folder) / f"{part}.hv" for part in range(12)]
+    for part, path in zip(parts, paths):
+        part.to_runs().save(path)
+    table = ChunkedTable.from_files(paths)
+    due = [part for part in range(12) if part >= 9]
+    high = table.filter_by("level", ">=", 9)
+    check((high.skipped, high["level"].sum().compute()) == (9, 500 * sum(due)), "files are left out")
+    groups = table.group_by("key").agg(rows="size", level=("level", "sum"), most=("level", "max"))
+    sums = [500 * sum(range(4 * key, 4 * key + 4)) for key in range(3)]
+    answers = {"key": [0, 1, 2], "rows": [4000] * 3, "level": sums, "most": [3, 7, 11]}
+    check(groups.compute().to_dict() == answers, "groups go on from file to file")
+    kept = table.map_chunks(dies_once, folder).persist()
+    wait(kept)
+    check((Path(folder) / "died").exists(), "a worker died")
+    check(kept.group_by("key").agg(rows="size", level=("level", "sum"), most=("level", "max")).compute().to_dict()
+          == answers, "after a worker died")
+    check(kept.rechunk(10_000).persist().compute().rows == 12_000, "tables are joined on workers")
 
 
 def main():
@@ -46,6 +78,8 @@ def main():
             check(False, "a row does not fit")
         except OverflowError as error:
             check("chunk 1 of 2: cast to i8: row 0 is 300" in str(error), str(error))
+        del chunks, kept, few, made
+        check_tables(folder)
     print("all hold")
 
 

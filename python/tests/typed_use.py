@@ -6,6 +6,7 @@ from typing import Any, Optional, Union
 from hivevigil import Builder, Column, Run, Table, concat
 from hivevigil.chunks import Partial, Stretch, Sums, join, joined
 from hivevigil.dask import Answer, ChunkedColumn
+from hivevigil.dask_tables import ChunkedTable
 from hivevigil.pandas import RunEndArray, RunEndDtype
 
 Row = Union[int, bool, Decimal, str, bytes, date, time, timedelta, None]
@@ -48,6 +49,12 @@ chunks: ChunkedColumn = ChunkedColumn.from_files(["a", "b"]).rechunk(100)
 answer: Answer = chunks.filter(chunks.fill(0).gt(3)).sum()
 computed: Any = answer.compute()
 gathered: Column = chunks.persist().compute(scheduler="threads")
+worked: ChunkedColumn = (chunks + chunks * 2).where(chunks.gt(3) & ~chunks.lt(9), 0)
+in_files: ChunkedTable = ChunkedTable.from_files(["a", "b"], columns=["level"]).filter_by("level", ">", 3)
+left_out: int = in_files.skipped
+one: ChunkedColumn = in_files["level"]
+by_place: Answer = in_files.with_column("more", one).group_by("level").agg(rows="size")
+all_of_it: Table = in_files.rechunk(100).persist().compute()
 
 array: RunEndArray = RunEndArray(column)
 again: Column = array.column

@@ -1,0 +1,175 @@
+"""The groups of a table's parts, which are joined: a group at the end of a part goes on in the part after it where the
+keys are equal."""
+from __future__ import annotations
+
+from collections.abc import Iterable, Mapping
+from dataclasses import dataclass, replace
+from typing import TYPE_CHECKING, Any, NamedTuple, Optional
+
+from . import _runs
+from .chunks import Partial
+from .column import Column
+from .errors import in_words
+from .table_groups import TableGroups, parts_of
+
+if TYPE_CHECKING:
+    from .table import Table
+
+
+class Values(NamedTuple):
+    """What is known of the values of a group in one column: how many are not null, and of these integers of any size,
+    None where there is none."""
+
+    valid: int = 0
+    total: int = 0
+    least: Any = None
+    greatest: Any = None
+    first: Any = None
+    last: Any = None
+
+    @classmethod
+    def of(cls, column: Column) -> Values:
+        """Those of a column of integers."""
+        part = Partial.of(column)
+        if not part.count:
+            return cls()
+        there = column.to_runs().drop_null()
+        total = 0 if part.sums is None else part.sums.total
+        return cls(part.count, total, part.least, part.greatest, there[0], there[-1])
+
+    def then(self, after: Values) -> Values:
+        """Those of this part of the group and of the part after it."""
+        if not self.valid or not after.valid:
+            return after if after.valid else self
+        return Values(
+            self.valid + after.valid, self.total + after.total, min(self.least, after.least),
+            max(self.greatest, after.greatest), self.first, after.last,
+        )
+
+    def answer(self, fold: str) -> Any:
+        """What is asked of the values."""
+        named = {"sum": self.total, "min": self.least, "max": self.greatest, "first": self.first, "last": self.last}
+        if fold == "count":
+            return self.valid
+        return named[fold] if self.valid else None
+
+
+@dataclass(frozen=True)
+class Edge:
+    """The first or the last group of a part: its key as a column of one row, its rows, and its values by column."""
+
+    key: Column
+    rows: int
+    values: dict[str, Values]
+
+    @classmethod
+    def of(cls, table: Table, name: str, columns: Iterable[str]) -> Edge:
+        """The one group that a table has."""
+        values = {column: Values.of(table._column(column).storage()) for column in columns}
+        return cls(table._column(name).slice(0, 1), table.rows, values)
+
+    def is_same(self, other: Edge) -> bool:
+        """Whether the keys are equal, null equal to null."""
+        return bool(self.key.storage().to_list() == other.key.storage().to_list())
+
+    def then(self, after: Edge) -> Edge:
+        values = {name: part.then(after.values[name]) for name, part in self.values.items()}
+        return Edge(self.key, self.rows + after.rows, values)
+
+
+@dataclass(frozen=True)
+class Groups:
+    """The groups of a part. `none` is the answer of no rows, `whole` are the answers of groups that are known to be
+    whole; a part of one group has only `first`."""
+
+    name: str
+    asked: dict[str, Any]
+    none: Table
+    first: Optional[Edge]
+    whole: tuple[Table, ...]
+    last: Optional[Edge]
+
+    @classmethod
+    def of(cls, table: Table, name: str, asked: Mapping[str, Any]) -> Groups:
+        """Those of a table, by equal neighbouring rows of the column of a name."""
+        none = TableGroups(table.slice(0, 0), name).agg(asked)
+        found = cls(name, dict(asked), none, None, (), None)
+        if not table.rows:
+            return found
+        columns = {column for column, _ in map(parts_of, asked, asked.values()) if column is not None}
+        keys = table._column(name).storage().to_runs()
+        stop, start = _runs.run_at(keys, 0).stop, _runs.run_at(keys, -1).start
+        first = Edge.of(table.slice(0, stop), name, columns)
+        if stop == table.rows:
+            return replace(found, first=first)
+        whole = (_answered(table.slice(stop, start), name, asked),)
+        return replace(found, first=first, whole=whole, last=Edge.of(table.slice(start, table.rows), name, columns))
+
+    def then(self, after: Groups) -> Groups:
+        """The groups of this part and of the part after it."""
+        if self.first is None or after.first is None:
+            return after if self.first is None else self
+        left = [self.first] if self.last is None else [self.first, self.last]
+        right = [after.first] if after.last is None else [after.first, after.last]
+        is_one = left[-1].is_same(right[0])
+        seam = [left[-1].then(right[0])] if is_one else [left[-1], right[0]]
+        edges = [*left[:-1], *seam, *right[1:]]
+        if len(edges) == 1:
+            return replace(self, first=edges[0])
+        closed = tuple(map(self._row, edges[1:-1]))
+        return replace(self, first=edges[0], whole=(*self.whole, *closed, *after.whole), last=edges[-1])
+
+    def table(self) -> Table:
+        """The answers: a row for each group."""
+        ends = [None if edge is None else self._row(edge) for edge in (self.first, self.last)]
+        parts = [self.none, ends[0], *self.whole, ends[1]]
+        return self.none.append(*(part for part in parts[1:] if part is not None))
+
+    def _row(self, edge: Edge) -> Table:
+        """The answers of a group that is whole."""
+        columns = {self.name: edge.key}
+        for name, asked in self.asked.items():
+            column, fold = parts_of(name, asked)
+            answer = edge.rows if column is None or fold == "size" else edge.values[column].answer(fold)
+            columns[name] = self._cell(name, answer, edge.key)
+        return self.none._of(columns, 1, self.none.logical_types)
+
+    def _cell(self, name: str, answer: Any, key: Column) -> Column:
+        """An answer as a row of the column that has it."""
+        try:
+            row = Column.of([answer], self.none._column(name).storage().type)
+        except OverflowError:
+            raise OverflowError(f"{in_words(name)} of the group {in_words(key[0])} is {answer}, past 64 bits") from None
+        logical = self.none._column(name).logical_type
+        return row if logical is None else row.cast(f"{logical}{'?' * row.nullable}")
+
+
+def joined(parts: Iterable[Groups]) -> Groups:
+    """The groups of parts in their order, of which there is at least one."""
+    whole, *others = parts
+    for part in others:
+        whole = whole.then(part)
+    return whole
+
+
+def _answered(table: Table, name: str, asked: Mapping[str, Any]) -> Table:
+    """The answers of whole groups; where a sum leaves 64 bits, which group it is."""
+    try:
+        return TableGroups(table, name).agg(asked)
+    except OverflowError:
+        for group in _each(table, name):
+            Groups.of(group, name, asked).table()
+        raise
+
+
+def _each(table: Table, name: str) -> Iterable[Table]:
+    """The rows of each group."""
+    for start, stop, _ in table._column(name).storage().to_runs().runs():
+        yield table.slice(start, stop)
+
+
+def concatenated(tables: Iterable[Table]) -> Table:
+    """Tables one after the other, of which there is at least one."""
+    first, *others = tables
+    return first.append(*others) if others else first
+
