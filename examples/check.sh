@@ -180,6 +180,7 @@ if has cargo && cargo --version >/dev/null 2>&1; then
         skip "rust, Arrow under the address sanitizer" "rustc that has one"
     fi
     run "bench, every line over few rows" timeout 300 sh bench/run.sh --smoke
+    run "bench/threads, few rows" timeout 300 sh bench/threads/run.sh --rows 100000 --turns 1 1 2
 else
     skip "rust" cargo
     skip "bench, every line over few rows" cargo

@@ -54,6 +54,8 @@ enum Detail {
         found: &'static str,
         asked: &'static str,
     },
+    /// Says all of it.
+    Said(&'static str),
     /// Words about a type, or about a type and another.
     Words(Kind, &'static str, Option<Kind>),
     /// Words that end in a type.
@@ -166,6 +168,11 @@ impl Error {
     /// Makes a refusal without fields.
     pub(crate) fn of(kind: ErrorKind) -> Error {
         Error::new(kind as i32, Fields::default())
+    }
+
+    /// Makes a refusal with a sentence of its own.
+    pub(crate) fn said(kind: ErrorKind, words: &'static str) -> Error {
+        Error::of(kind).with(Detail::Said(words))
     }
 
     fn with(self, detail: Detail) -> Error {
@@ -340,6 +347,7 @@ impl fmt::Display for Error {
                 Some(row) => write!(formatter, "row {row} is {found}, not {asked}"),
                 None => write!(formatter, "{found} is not {asked}"),
             },
+            Detail::Said(words) => formatter.write_str(words),
             Detail::Words(left, words, Some(right)) => write!(formatter, "{left} {words} {right}"),
             Detail::Words(left, words, None) => write!(formatter, "{left} {words}"),
             Detail::Ends(words, kind) => write!(formatter, "{words} {kind}"),

@@ -30,6 +30,7 @@ mod iterate;
 mod kind;
 mod native;
 mod pairs;
+mod parts;
 mod questions;
 mod raw;
 mod same;
@@ -44,6 +45,7 @@ pub use error::{Error, ErrorKind, Fields};
 pub use iterate::{Rows, Run, Runs};
 pub use kind::{Form, Kind};
 pub use native::Native;
+pub use parts::SplitBy;
 pub use value::{Fold, Operator, Sum, Value};
 
 /// Which kernels are registered, and the numbers by which they choose: form and cost, never an answer.
