@@ -33,7 +33,7 @@ echo "build: ${proof:+proved and }compiled in $(($(date +%s) - begin)) s"
 
 # the library calls the toolchain's three allocation functions, which are malloc, realloc and free
 (cd "$work" && ar x "$kit/c/liblibc_c.a" heap.pic.o && ar rs libhivevigil.a heap.pic.o 2>/dev/null)
-# 0.1.2 has the binary interface of 0.1, and 1.2.3 that of 1 (docs/ABI.md)
+# 1.2.3 has the binary interface of 1 (docs/ABI.md)
 interface=$(sed -E 's/^(0\.[0-9]+|[1-9][0-9]*)\..*/\1/' "$top/VERSION")
 # the calls for Arrow, for callers without a C header
 (cd "$work" && "$cc" -c -fPIC -O2 -ffunction-sections -ffile-prefix-map="$top=." -I"$top/include" \

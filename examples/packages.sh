@@ -8,6 +8,7 @@ set -eu
 top=$(cd "$(dirname "$0")/.." && pwd)
 cc=${CC:-cc} cxx=${CXX:-c++}
 what=${1:-}
+interface=$(sed -E 's/^(0\.[0-9]+|[1-9][0-9]*)\..*/\1/' "$top/VERSION")
 dist=${2:-$top/dist}
 work=$(mktemp -d)
 trap 'rm -rf "$work"' EXIT
@@ -62,12 +63,13 @@ CPP
 cmake_minimum_required(VERSION 3.10)
 project(user CXX)
 set(CMAKE_CXX_STANDARD 17)
-find_package(Hivevigil 0.1 REQUIRED)
+find_package(Hivevigil INTERFACE REQUIRED)
 foreach(library hivevigil archive)
   add_executable(by_${library} main.cpp)
   target_link_libraries(by_${library} Hivevigil::${library})
 endforeach()
 CMAKE
+    sed -i "s/INTERFACE/$interface/" CMakeLists.txt
     cmake -S . -B build -DCMAKE_PREFIX_PATH="$work/prefix" -DCMAKE_CXX_COMPILER="$cxx" >cmake.log 2>&1 &&
         cmake --build build >>cmake.log 2>&1 || { cat cmake.log; exit 1; }
     for library in hivevigil archive; do
@@ -75,7 +77,7 @@ CMAKE
 2 of 7
 1 of 9' "build/by_$library"
     done
-    sed -i 's/Hivevigil 0.1 REQUIRED/Hivevigil 9.9 REQUIRED/' CMakeLists.txt
+    sed -i "s/Hivevigil $interface REQUIRED/Hivevigil 9.9 REQUIRED/" CMakeLists.txt
     ! cmake -S . -B other -DCMAKE_PREFIX_PATH="$work/prefix" >cmake.log 2>&1 || fail "CMake took another version"
     echo "find_package(Hivevigil), by shared object and archive"
 }

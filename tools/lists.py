@@ -91,6 +91,19 @@ class Lists:
         else:
             self.faults.append(f"{what}:\n    found    {found}\n    expected {expected}")
 
+    def check_versions(self) -> None:
+        """The header, and what hv_version answers, have the version of VERSION; so has the newest entry of changes."""
+        version = text_of("VERSION").strip()
+        major, minor, patch = map(int, version.split("."))
+        numbers = re.findall(r"^#define HV_VERSION_(?:MAJOR|MINOR|PATCH) (\d+)$", text_of("include/hivevigil.h"), re.M)
+        self.same("version of hivevigil.h", [int(number) for number in numbers], [major, minor, patch])
+        code = text_of("crates/hivevigil/src/versions.rt")
+        number = re.search(r"fn hv_version\(\).*?\{\s*([\d_]+)\s*\}\n", code, re.S)
+        due = major * 1_000_000 + minor * 1_000 + patch
+        self.same("number that hv_version answers", number and int(number[1]), due)
+        entry = re.search(r"^## ([\d.]+)", text_of("CHANGELOG.md"), re.M)
+        self.same("newest entry of CHANGELOG.md", entry and entry[1], version)
+
     def check_words(self) -> None:
         self.same("errors of hivevigil_errors.h", list(sentences()), list(self.errors))
 
@@ -163,6 +176,7 @@ class Lists:
 
 def main() -> int:
     lists = Lists()
+    lists.check_versions()
     lists.check_words()
     lists.check_cpp()
     lists.check_rust()

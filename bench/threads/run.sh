@@ -51,7 +51,8 @@ processor=$(sed -n 's/^model name[^:]*: //p' /proc/cpuinfo | head -n 1)
 proof="proved library"
 [ ! -e "$top/lib/UNPROVED" ] || proof="library built without proof, with checks that the proved one does without"
 echo "$(date -u +%Y-%m-%d), ${processor:-$(uname -m)}, $(nproc) processors."
-echo "Rows: $rows. The $proof. Milliseconds of the clock, the least of $turns turns, by number of threads."
+echo "Rows: $rows. The $proof."
+echo "Milliseconds of the clock, the least of $turns turns, by number of threads."
 echo
 awk -F, -v threads="$threads" '
     { key = $1 "," $2; if (!(key in seen)) { seen[key] = 1; order[++count] = key } time[key, $3] = $4 / 1000 }

@@ -1,5 +1,6 @@
 """The stored messages of examples/corpus: each is read as its rows, written as its bytes again, and made anew of its
 rows where a call of this package makes its form."""
+import hashlib
 import re
 from decimal import Decimal
 from pathlib import Path
@@ -8,7 +9,13 @@ import pytest
 
 from hivevigil import Column, Table
 
-LINES = (Path(__file__).resolve().parents[2] / "examples/corpus/messages.txt").read_text(encoding="utf-8").splitlines()
+CORPUS = Path(__file__).resolve().parents[2] / "examples/corpus"
+LINES = (CORPUS / "messages.txt").read_text(encoding="utf-8").splitlines()
+# how many lines 1.0.0 had, and the checksum of these: what was written is read for ever, so they do not change
+RELEASED = {
+    "messages.txt": (72, "799efcd303de9ed2b38eb9bc6ee6adc459db72e0a6ecc783d02b3501bff1985a"),
+    "tables.txt": (9, "f0c45c203195bc77e8e86912427004f598715b751d33569cf3403221d2a2d60c"),
+}
 LETTERS = {"s": " ", "t": "\t", "n": "\n"}
 SHOWN = 10
 
@@ -25,6 +32,13 @@ def value(word, type_of_rows):
     if word.startswith("x"):
         return bytes.fromhex(word[1:])
     return word == "true" if word in ("true", "false") else int(word)
+
+
+@pytest.mark.parametrize("name", RELEASED)
+def test_released_lines_do_not_change(name):
+    count, due = RELEASED[name]
+    lines = (CORPUS / name).read_text(encoding="utf-8").splitlines()[:count]
+    assert len(lines) == count and hashlib.sha256("\n".join(lines).encode()).hexdigest() == due
 
 
 class Maker:
