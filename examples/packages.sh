@@ -50,6 +50,7 @@ refused: rows 2 to 12 are not among 9 rows'
     echo "Hivevigil $(pkg-config --modversion hivevigil) by pkg-config, shared object and archive"
 }
 
+# a C++ program by CMake over what is installed below $1
 cpp_program() {
     cat >main.cpp <<'CPP'
 #include <hivevigil.hpp>
@@ -70,7 +71,7 @@ foreach(library hivevigil archive)
 endforeach()
 CMAKE
     sed -i "s/INTERFACE/$interface/" CMakeLists.txt
-    cmake -S . -B build -DCMAKE_PREFIX_PATH="$work/prefix" -DCMAKE_CXX_COMPILER="$cxx" >cmake.log 2>&1 &&
+    cmake -S . -B build -DCMAKE_PREFIX_PATH="$1" -DCMAKE_CXX_COMPILER="$cxx" >cmake.log 2>&1 &&
         cmake --build build >>cmake.log 2>&1 || { cat cmake.log; exit 1; }
     for library in hivevigil archive; do
         expect '3 of 4
@@ -78,15 +79,14 @@ CMAKE
 1 of 9' "build/by_$library"
     done
     sed -i "s/Hivevigil $interface REQUIRED/Hivevigil 9.9 REQUIRED/" CMakeLists.txt
-    ! cmake -S . -B other -DCMAKE_PREFIX_PATH="$work/prefix" >cmake.log 2>&1 || fail "CMake took another version"
+    ! cmake -S . -B other -DCMAKE_PREFIX_PATH="$1" >cmake.log 2>&1 || fail "CMake took another version"
     echo "find_package(Hivevigil), by shared object and archive"
 }
 
-# a package that depends on the crate, which finds what is installed by pkg-config
+# a package that depends on the crate in folder $1, which finds the library next to it, or by pkg-config
 rust_program() {
-    mkdir -p crate src
-    for part in Cargo.toml build.rs src; do cp -R "$top/rust/$part" crate/; done
-    export CARGO_TARGET_DIR="$work/target" CARGO_NET_OFFLINE=true PKG_CONFIG_PATH="$work/prefix/lib/pkgconfig"
+    mkdir -p src
+    export CARGO_TARGET_DIR="$work/target" CARGO_NET_OFFLINE=true
     printf '[package]\nname = "user"\nversion = "0.1.0"\nedition = "2021"\n\n[workspace]\n' >Cargo.toml
     cat >src/main.rs <<'RUST'
 fn main() -> Result<(), Box<dyn std::error::Error>> {
@@ -98,10 +98,10 @@ fn main() -> Result<(), Box<dyn std::error::Error>> {
     Ok(())
 }
 RUST
-    cargo add --quiet --path crate hivevigil
+    cargo add --quiet --path "$1" hivevigil
     expect '0..2: 4
 2..3: null' cargo run --quiet
-    echo "cargo add --path, over what pkg-config finds"
+    echo "cargo add --path $(basename "$1")"
 }
 
 # the program $1 by itself, and its page below the folder of manuals $2
@@ -134,6 +134,16 @@ python_program() {
 from hivevigil import Column
 runs = Column.of([4, 4, 4, 7, 7, 9, 9, 9, 9]).encode()
 print(runs.sum(), runs[2:4].to_list())'
+    types=skipped
+    for checker in "$python" /usr/bin/python3; do
+        "$checker" -c 'import mypy' 2>/dev/null || continue
+        cp "$top/python/tests/typed_use.py" program.py
+        "$checker" -m mypy --strict --ignore-missing-imports --allow-subclassing-any --python-executable \
+            "$work/venv/bin/python" --cache-dir "$work/types" -m program -p hivevigil >types.log || { cat types.log; exit 1; }
+        types=found
+        break
+    done
+    [ "$types" = found ] || echo "no mypy: the types of the installed package are not looked at"
     wheel=$(basename "$dist"/hivevigil-*.whl)
     # the machines that it says it is for are those that have what the shared object asks of glibc
     if command -v objdump >/dev/null; then
@@ -158,13 +168,45 @@ databases() {
     for file in hivevigil.so hivevigil.control 'hivevigil--*.sql'; do
         [ "$(find "$work/root" -name "$file" | wc -l)" = 1 ] || fail "no $file in PostgreSQL's package"
     done
-    echo "PostgreSQL's extension is whole"
+    bin=$(pg_config --bindir 2>/dev/null) || bin=
+    if [ -x "$bin/postgres" ] && { [ "$(id -u)" != 0 ] || command -v runuser >/dev/null; }; then
+        postgres_server "$bin"
+    else
+        echo "PostgreSQL's extension is whole, and there is no server that takes it"
+    fi
+}
+
+# a server of its own, whose programs are in folder $1, and which finds the extension next to them
+postgres_server() {
+    lib=$(pg_config --pkglibdir) share=$(pg_config --sharedir) as=
+    [ "$(id -u)" != 0 ] || as="runuser -u nobody --"
+    mkdir -p "$work/root$1" "$work/root$lib" "$work/root$share/extension" "$work/socket"
+    cp "$1/postgres" "$1/initdb" "$1/pg_ctl" "$work/root$1/"
+    for folder in "$lib" "$share" "$share/extension"; do
+        for each in "$folder"/*; do [ -e "$work/root$each" ] || ln -s "$each" "$work/root$each"; done
+    done
+    [ -z "$as" ] || chown -R nobody "$work"
+    $as env LC_ALL=C "$work/root$1/initdb" -D "$work/data" -U tester -E UTF8 --no-sync --auth=trust >server.log 2>&1 &&
+        $as env LC_ALL=C "$work/root$1/pg_ctl" -D "$work/data" -w -l "$work/socket/log" \
+            -o "-k $work/socket -c listen_addresses=" start >>server.log 2>&1 || fail "no server: $(cat server.log)"
+    trap '$as "$work/root$1/pg_ctl" -D "$work/data" -m fast -w stop >/dev/null 2>&1; rm -rf "$work"' EXIT
+    said=$($as "$1/psql" -X -q -A -t -h "$work/socket" -U tester -d postgres -c 'CREATE EXTENSION hivevigil' \
+        -c 'SELECT hv_sum(hv_column(v)) FROM (VALUES (4), (4), (4), (7), (7), (9), (9), (9), (9)) AS t(v)' 2>&1) || true
+    $as "$work/root$1/pg_ctl" -D "$work/data" -m fast -w stop >/dev/null 2>&1
+    trap 'rm -rf "$work"' EXIT
+    [ "$said" = 62 ] || fail "PostgreSQL said '$said' and not 62"
+    echo "PostgreSQL creates its extension"
 }
 
 case $what in
 c) installed && c_program "$work/prefix" ;;
-cpp) installed && cpp_program ;;
-rust) installed && rust_program ;;
+cpp) installed && cpp_program "$work/prefix" ;;
+rust)
+    mkdir crate
+    for part in Cargo.toml build.rs src; do cp -R "$top/rust/$part" crate/; done
+    export PKG_CONFIG_PATH="$work/prefix/lib/pkgconfig"
+    installed && rust_program crate
+    ;;
 uninstall)
     mkdir -p "$work/prefix/lib" "$work/prefix/include"
     echo mine >"$work/prefix/lib/mine"
@@ -182,12 +224,15 @@ tar)
     tar -xzf "$dist"/hivevigil-*-"$(uname -m)".tar.gz
     sh hivevigil-*/install.sh --prefix "$work/prefix" >/dev/null 2>&1
     [ ! -e "$work/prefix/bin" ] || command_line "$work/prefix/bin/hivevigil" "$work/prefix/share/man"
+    ! command -v cmake >/dev/null || ! command -v "$cxx" >/dev/null || cpp_program "$work/prefix"
+    ! command -v cargo >/dev/null || rust_program "$(echo hivevigil-*/rust)"
     c_program "$work/prefix"
     ;;
 deb)
     dpkg-deb --extract "$dist"/libhivevigil-dev_*.deb "$work/root"
     dpkg-deb --info "$dist"/libhivevigil-dev_*.deb | grep -q '^ Package: libhivevigil-dev$'
     for name in hivevigil hv_sum hv_version; do page "$work/root/usr/share/man" "$name" 3; done
+    ! command -v cmake >/dev/null || ! command -v "$cxx" >/dev/null || cpp_program "$work/root/usr"
     c_program "$work/root"
     ;;
 program)

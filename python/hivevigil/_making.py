@@ -27,7 +27,8 @@ def bits_of(flags: Iterable[Any]) -> bytes:
     if hasattr(flags, "dtype"):
         import numpy
 
-        return numpy.packbits(numpy.asarray(flags, dtype=bool), bitorder="little").tobytes() + b"\0"
+        packed: bytes = numpy.packbits(numpy.asarray(flags, dtype=bool), bitorder="little").tobytes()
+        return packed + b"\0"
     letters = bytes(map(bool, flags))[::-1].translate(_DIGITS)
     return int(letters or b"0", 2).to_bytes(len(letters) // 8 + 1, "little")
 

@@ -76,7 +76,8 @@ def _of_numpy(value: Any) -> Union[int, Fraction]:
     if unit not in _NUMPY_UNITS:
         counted = "no unit" if unit == "generic" else "months"
         raise TypeError(f"{in_words(value)} counts {counted}, which have no length")
-    return int(value.astype("i8")) * count * _NUMPY_UNITS[unit]
+    counts: Union[int, Fraction] = int(value.astype("i8")) * count * _NUMPY_UNITS[unit]
+    return counts
 
 
 def stored(logical: LogicalType, value: Any) -> int:
