@@ -41,6 +41,7 @@ make_tar() {
     rm -f "$work/$name/lib/"*_sqlite.so
     [ ! -e "$work/bin" ] || cp -R "$work/bin" "$work/$name/"
     cp -R "$top/tools/packages" "$work/$name/tools/"
+    sed -e "s|@VERSION@|$version|" -e "s|@MACHINE@|$machine|" "$top/tools/packages/README.md" >"$work/$name/README.md"
     for page in ABI.md BYTES.md ERRORS.md PROMISE.md column.proto table.proto; do cp "$top/docs/$page" "$work/$name/docs/"; done
     mkdir -p "$work/$name/examples/corpus"
     cp "$top/examples/corpus/messages.txt" "$work/$name/examples/corpus/"

@@ -50,6 +50,17 @@ refused: rows 2 to 12 are not among 9 rows'
     echo "Hivevigil $(pkg-config --modversion hivevigil) by pkg-config, shared object and archive"
 }
 
+# the program that the page $1 shows, built and run as it says
+readme_program() {
+    sed -n '/^    #include/,/^    }$/s/^    //p' "$1" >first.c
+    (
+        export PKG_CONFIG_PATH="$work/prefix/lib/pkgconfig" LD_LIBRARY_PATH="$work/prefix/lib"
+        # shellcheck disable=SC2046
+        "$cc" first.c $(pkg-config --cflags --libs hivevigil) -o first
+        expect '9 rows, sum 62' ./first
+    )
+}
+
 # a C++ program by CMake over what is installed below $1
 cpp_program() {
     cat >main.cpp <<'CPP'
@@ -223,6 +234,7 @@ uninstall)
 tar)
     tar -xzf "$dist"/hivevigil-*-"$(uname -m)".tar.gz
     sh hivevigil-*/install.sh --prefix "$work/prefix" >/dev/null 2>&1
+    readme_program "$(echo hivevigil-*/README.md)"
     [ ! -e "$work/prefix/bin" ] || command_line "$work/prefix/bin/hivevigil" "$work/prefix/share/man"
     ! command -v cmake >/dev/null || ! command -v "$cxx" >/dev/null || cpp_program "$work/prefix"
     ! command -v cargo >/dev/null || rust_program "$(echo hivevigil-*/rust)"
