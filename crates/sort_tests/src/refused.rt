@@ -1,0 +1,75 @@
+//! Each request for memory refused in turn.
+use crate::columns::{Form, Kind, Row, column_of, shown};
+use column_core::VortexResult;
+use refusing::{Calls, are_answered_in_turn};
+use runend_array::{ArrayRef, ExecutionCtx, VortexSession};
+use runend_sorts::{reverse, sort};
+use std::alloc::Allocator;
+use std::test::Fail;
+
+// 24 rows in as many runs: std's sort takes memory for more than 20 items.
+const ROWS: [Row; 24] = [
+    Some(3),
+    None,
+    Some(1),
+    Some(2),
+    Some(3),
+    None,
+    Some(1),
+    Some(2),
+    Some(3),
+    None,
+    Some(1),
+    Some(2),
+    Some(3),
+    None,
+    Some(1),
+    Some(2),
+    Some(3),
+    None,
+    Some(1),
+    Some(2),
+    Some(3),
+    None,
+    Some(1),
+    Some(2),
+];
+
+// Are the first and the last row these?
+fn spans<A: Allocator + Copy>(array: &ArrayRef<A>, first: Row, last: Row) -> bool {
+    shown(array, 0) == Some(first) && shown(array, array.len().saturating_sub(1)) == Some(last)
+}
+
+struct Reversals {}
+
+impl Calls for Reversals {
+    fn are_answered<A: Allocator + Copy>(alloc: A) -> VortexResult<bool> {
+        let mut ctx = ExecutionCtx::new(VortexSession::empty(), alloc);
+        let array = column_of(&mut ctx, Kind::Numbers, &ROWS, Form::Runs)?;
+        let reversed = reverse(&array, &mut ctx)?;
+        Ok(spans(&array, Some(3), Some(2)) && spans(&reversed, Some(2), Some(3)))
+    }
+}
+
+struct Sorts {}
+
+impl Calls for Sorts {
+    fn are_answered<A: Allocator + Copy>(alloc: A) -> VortexResult<bool> {
+        let mut ctx = ExecutionCtx::new(VortexSession::empty(), alloc);
+        let array = column_of(&mut ctx, Kind::Numbers, &ROWS, Form::Runs)?;
+        let sorted = sort(&array, &mut ctx)?;
+        Ok(spans(&array, Some(3), Some(2)) && spans(&sorted, None, Some(3)))
+    }
+}
+
+#[test]
+fn reversals_are_refused_for_memory(rt: HostRuntime) -> Result<(), Fail> {
+    assert!(rt; are_answered_in_turn::<Reversals>(rt.alloc()));
+    Ok(())
+}
+
+#[test]
+fn sorts_are_refused_for_memory(rt: HostRuntime) -> Result<(), Fail> {
+    assert!(rt; are_answered_in_turn::<Sorts>(rt.alloc()));
+    Ok(())
+}
