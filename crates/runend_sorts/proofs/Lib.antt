@@ -2,6 +2,7 @@ pub mod Stretches
 pub mod Orders
 pub mod Permutations
 pub mod Rising
+pub mod Tallies
 pub mod Appended
 pub mod NewOrders
 pub mod Answered

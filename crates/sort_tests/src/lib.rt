@@ -1,4 +1,4 @@
-//! Tests of rows that are reversed and sorted, against a model that knows of rows only.
+//! Tests of rows that are reversed, sorted and counted by value, against a model that knows of rows only.
 #![tactic(auto)]
 
 #[cfg(test)]

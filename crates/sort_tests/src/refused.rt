@@ -3,7 +3,7 @@ use crate::columns::{Form, Kind, Row, column_of, shown};
 use column_core::VortexResult;
 use refusing::{Calls, are_answered_in_turn};
 use runend_array::{ArrayRef, ExecutionCtx, VortexSession};
-use runend_sorts::{reverse, sort};
+use runend_sorts::{reverse, sort, value_counts};
 use std::alloc::Allocator;
 use std::test::Fail;
 
@@ -62,6 +62,17 @@ impl Calls for Sorts {
     }
 }
 
+struct Counts {}
+
+impl Calls for Counts {
+    fn are_answered<A: Allocator + Copy>(alloc: A) -> VortexResult<bool> {
+        let mut ctx = ExecutionCtx::new(VortexSession::empty(), alloc);
+        let array = column_of(&mut ctx, Kind::Numbers, &ROWS, Form::Flat)?;
+        let counted = value_counts(&array, &mut ctx)?;
+        Ok(spans(&counted.values, None, Some(3)) && spans(&counted.counts, Some(6), Some(6)))
+    }
+}
+
 #[test]
 fn reversals_are_refused_for_memory(rt: HostRuntime) -> Result<(), Fail> {
     assert!(rt; are_answered_in_turn::<Reversals>(rt.alloc()));
@@ -71,5 +82,11 @@ fn reversals_are_refused_for_memory(rt: HostRuntime) -> Result<(), Fail> {
 #[test]
 fn sorts_are_refused_for_memory(rt: HostRuntime) -> Result<(), Fail> {
     assert!(rt; are_answered_in_turn::<Sorts>(rt.alloc()));
+    Ok(())
+}
+
+#[test]
+fn counts_are_refused_for_memory(rt: HostRuntime) -> Result<(), Fail> {
+    assert!(rt; are_answered_in_turn::<Counts>(rt.alloc()));
     Ok(())
 }

@@ -5,7 +5,7 @@ use column_core::{
 };
 use runend_array::{ArrayRef, ExecutionCtx, ListViewArray, RowValidity, ScalarView, VortexSession};
 use runend_builder::RunBuilder;
-use runend_sorts::{reverse, sort};
+use runend_sorts::{reverse, sort, value_counts};
 use std::alloc::{Allocator, Global};
 use std::rc::Rc;
 use std::test::Fail;
@@ -56,7 +56,11 @@ fn are_texts_sorted(alloc: Global) -> VortexResult<bool> {
     let mut ctx = ExecutionCtx::new(VortexSession::empty(), alloc);
     let texts = texts(&mut ctx)?;
     let sorted = sort(&texts, &mut ctx)?;
-    Ok(is_null(&sorted, 0) && is_text(&sorted, 3, "") && is_text(&sorted, 4, "z"))
+    let counted = value_counts(&texts, &mut ctx)?;
+    let is_sorted = is_null(&sorted, 0) && is_text(&sorted, 3, "") && is_text(&sorted, 4, "z");
+    let values = &counted.values;
+    let three = matches!(counted.counts.scalar_at(1), Ok(ScalarView::Unsigned(3)));
+    Ok(is_sorted && is_text(values, 1, "") && is_text(values, 3, "é") && three)
 }
 
 // One list of two integers.
@@ -82,9 +86,11 @@ fn are_lists_refused(alloc: Global) -> VortexResult<bool> {
     let lists = lists(&mut ctx)?;
     let reversed = reverse(&lists, &mut ctx);
     let sorted = sort(&lists, &mut ctx);
+    let counted = value_counts(&lists, &mut ctx);
     Ok(
         matches!(reversed, Err(VortexError::Unsupported))
-            && matches!(sorted, Err(VortexError::Unsupported)),
+            && matches!(sorted, Err(VortexError::Unsupported))
+            && matches!(counted, Err(VortexError::Unsupported)),
     )
 }
 

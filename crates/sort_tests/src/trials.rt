@@ -2,7 +2,7 @@
 use crate::columns::{Form, Kind, Row, column_of, shown};
 use column_core::VortexResult;
 use runend_array::{ArrayRef, ExecutionCtx, VortexSession};
-use runend_sorts::{reverse, sort};
+use runend_sorts::{reverse, sort, value_counts};
 use std::alloc::{Allocator, Global};
 use std::test::Fail;
 
@@ -95,7 +95,42 @@ fn backwards<A: Allocator + Copy>(alloc: A, rows: &[Row]) -> VortexResult<Vec<Ro
     Ok(turned)
 }
 
-// Are the rows of a random column in a form those that are due, reversed and sorted?
+// How many rows are this one?
+fn occurrences(rows: &[Row], wanted: Row) -> i64 {
+    let mut count = 0i64;
+    for row in rows {
+        if *row == wanted {
+            count = count.wrapping_add(1);
+        }
+    }
+    count
+}
+
+// The first of each stretch of equal rows.
+fn firsts<A: Allocator + Copy>(alloc: A, rows: &[Row]) -> VortexResult<Vec<Row, A>> {
+    let mut kept = Vec::new(alloc);
+    for row in 0..rows.len() {
+        if row == 0 || rows[row] != rows[row.wrapping_sub(1)] {
+            kept.push(rows[row])?;
+        }
+    }
+    Ok(kept)
+}
+
+// How many of these rows are each value.
+fn tallies<A: Allocator + Copy>(
+    alloc: A,
+    rows: &[Row],
+    values: &[Row],
+) -> VortexResult<Vec<Row, A>> {
+    let mut counts = Vec::with_capacity(alloc, values.len())?;
+    for value in values {
+        counts.push(Some(occurrences(rows, *value)))?;
+    }
+    Ok(counts)
+}
+
+// Are the rows of a random column in a form those that are due, reversed, sorted and counted?
 fn is_due<A: Allocator + Copy>(
     ctx: &mut ExecutionCtx<A>,
     dice: &mut Dice,
@@ -110,11 +145,16 @@ fn is_due<A: Allocator + Copy>(
     let mut ordered = backwards(alloc, &rows)?;
     ordered.sort()?;
     let sorted = sort(&array, ctx)?;
+    let counted = value_counts(&array, ctx)?;
+    let values = firsts(alloc, &ordered)?;
+    let counts = tallies(alloc, &rows, &values)?;
     Ok(
         has_rows(&reversed, &turned)
             && is_in_form(&reversed, &turned, form)
             && has_rows(&sorted, &ordered)
-            && is_in_form(&sorted, &ordered, form),
+            && is_in_form(&sorted, &ordered, form)
+            && has_rows(&counted.values, &values)
+            && has_rows(&counted.counts, &counts),
     )
 }
 
@@ -146,7 +186,7 @@ fn are_due(alloc: Global, columns: usize) -> VortexResult<bool> {
 }
 
 #[test]
-fn rows_are_reversed_and_sorted(rt: HostRuntime) -> Result<(), Fail> {
+fn rows_are_reversed_sorted_and_counted(rt: HostRuntime) -> Result<(), Fail> {
     assert!(rt; matches!(are_due(rt.alloc(), 300), Ok(true)));
     Ok(())
 }
