@@ -27,7 +27,7 @@ use Rattle.runend_windows.proofs.RunRows.{Covers_iff_run_rows}
 use Rattle.runend_zip.specs.Answers.{rows_of_items}
 use Rattle.runend_zip.specs.Runs.{rows_in, AreColumnRuns}
 use Rattle.runend_zip.specs.Zipped.{are_constant, is_constant, zip_rows, IsAnswerColumn, IsOneRow}
-use Rattle.runend_zip.proofs.Placed.{length-zip_rows, zip_rows-copies}
+use Rattle.runend_zip.proofs.Placed.{zip_rows-copies}
 
 -- the rows of integers and flags
 number_rows_of_items : {S : Type 0} (number : S → ℤ) (items : List S) (bits : List Bool)
@@ -213,23 +213,18 @@ one_answer_row f left right are same =
           ∙ zip_rows-copies f n lefts.0 rights.0;
     }
 
--- the encoding of the answers of rows that two columns show
-module _ (f : Option Value → Option Value → Option Value) (lefts rights shown_lefts shown_rights : List (Option Value)) (count : ℕ) (dtype : DType) (ends : PrimitiveForm) (values : Leaf)
-    (e : IsRowEncoding (zip_rows f shown_lefts shown_rights) dtype ends values) (left_is : shown_lefts ≡ lefts) (right_is : shown_rights ≡ rights) (counted : count ≡ length lefts) (as_many : length lefts ≡ length rights) where
-  own_encoding : IsRowEncoding (zip_rows f lefts rights) dtype ends values
-  own_encoding = subst (λ (xs : List (Option Value)). IsRowEncoding (zip_rows f xs rights) dtype ends values) left_is
-      (subst (λ (ys : List (Option Value)). IsRowEncoding (zip_rows f shown_lefts ys) dtype ends values) right_is e)
-
-  shown_answers : zip_rows f lefts rights ≡ rows_in ends 0 values count
-  shown_answers = rows_of_encoding (zip_rows f lefts rights) dtype ends values count own_encoding (length-zip_rows f lefts rights as_many ∙ sym counted)
+-- the encoding of answers, by the rows that it shows
+module _ (answers : List (Option Value)) (count : ℕ) (dtype : DType) (ends : PrimitiveForm) (values : Leaf) (e : IsRowEncoding answers dtype ends values) (counted : length answers ≡ count) where
+  shown_answers : answers ≡ rows_in ends 0 values count
+  shown_answers = rows_of_encoding answers dtype ends values count e counted
 
   pub shown_encoding : IsRowEncoding (rows_in ends 0 values count) (leaf_dtype values) ends values
   shown_encoding = subst (λ (t : DType). IsRowEncoding (rows_in ends 0 values count) t ends values) (sym e.typed)
-      (subst (λ (rows : List (Option Value)). IsRowEncoding rows dtype ends values) shown_answers own_encoding)
+      (subst (λ (rows : List (Option Value)). IsRowEncoding rows dtype ends values) shown_answers e)
 
-  pub shown_one : IsOneRow (length lefts) (zip_rows f lefts rights) → IsOneRow count (rows_in ends 0 values count)
-  shown_one one = subst (λ (n : ℕ). IsOneRow n (rows_in ends 0 values count)) (sym counted) (subst (λ (rows : List (Option Value)). IsOneRow (length lefts) rows) shown_answers one)
+  pub shown_one : IsOneRow count answers → IsOneRow count (rows_in ends 0 values count)
+  shown_one one = subst (λ (rows : List (Option Value)). IsOneRow count rows) shown_answers one
 
-  pub answers_column : (constant : Bool) (column : Column) → IsAnswerColumn constant (rows_in ends 0 values count) (leaf_dtype values) column → IsAnswerColumn constant (zip_rows f lefts rights) dtype column
-  answers_column constant column made = subst (λ (t : DType). IsAnswerColumn constant (zip_rows f lefts rights) t column) e.typed
+  pub answers_column : (constant : Bool) (column : Column) → IsAnswerColumn constant (rows_in ends 0 values count) (leaf_dtype values) column → IsAnswerColumn constant answers dtype column
+  answers_column constant column made = subst (λ (t : DType). IsAnswerColumn constant answers t column) e.typed
       (subst (λ (rows : List (Option Value)). IsAnswerColumn constant rows (leaf_dtype values) column) (sym shown_answers) made)

@@ -93,7 +93,7 @@ pub same_length : (left right : ℕ) → length_fault left right ≡ None → le
 same_length left right none = as_many left right (left == right) refl none
 
 -- columns of integers without a fault: both are of one native type, and have as many rows
-no_fault_of_three : (a b same : Bool) (rest : Option VortexError) → (if a && b then (if same then rest else Some TypeMismatch) else Some Unsupported) ≡ None
+pub no_fault_of_three : (a b same : Bool) (rest : Option VortexError) → (if a && b then (if same then rest else Some TypeMismatch) else Some Unsupported) ≡ None
     → (a ≡ true) × (b ≡ true) × (same ≡ true) × (rest ≡ None)
 no_fault_of_three true true true rest none = (refl, refl, refl, none)
 no_fault_of_three true true false rest none = cc
@@ -142,7 +142,7 @@ ptype_of_numbers p (column.Binary n) is = absurd is
 ptype_of_numbers p (column.List e n) is = absurd is
 
 -- booleans
-single_truths : (t : DType) → is_truths t ≡ true → ¬ IsLists t
+pub single_truths : (t : DType) → is_truths t ≡ true → ¬ IsLists t
 single_truths (column.Bool n) is = λ h. h
 single_truths (column.Primitive t n) is = cc
 single_truths (column.Decimal d n) is = cc
@@ -195,7 +195,7 @@ of_one_kind true same none = cc
 of_one_kind false true none = refl
 of_one_kind false false none = cc
 
-neither : (first second : Option VortexError) → option_or first second ≡ None → (first ≡ None) × (second ≡ None)
+pub neither : (first second : Option VortexError) → option_or first second ≡ None → (first ≡ None) × (second ≡ None)
 neither None second none = (refl, none)
 neither (Some error) second none = cc
 

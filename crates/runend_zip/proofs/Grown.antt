@@ -6,11 +6,13 @@ use Rattle.column_core.proofs.OptionalRows.{AreBlankAtNulls-push, optionals-push
 use Rattle.column_core.specs.Optionals.{optionals}
 use Rattle.std.proofs.lemmas.Bool.{cases_eq, cases_lt}
 use Rattle.std.proofs.lemmas.List.Elements.{All-nil, All-push}
+use Rattle.std.proofs.lemmas.Option.{slice_get_within}
 use Rattle.column_core.specs.Optionals.{AreBlankAtNulls}
 use Rattle.column_core.specs.Value.{FlatValue, Value}
 use Rattle.runend_windows.specs.Cover.{IsTightCover}
 use Rattle.runend_windows.proofs.Grow.{IsTightCover-of_none, Open, Open-done, Open-first, Open-next, Open-same}
 use Rattle.runend_zip.specs.Answers.{row_of, rows_of_items}
+use Rattle.runend_zip.specs.Zipped.{AllHave}
 
 -- an answer from the item that is stored for it and its flag
 item_parts : {Z : Type 0} (answer : Option Z) (item : Z) → ((found : Z) → answer ≡ Some found → item ≡ found) → (if is_some answer then Some item else None) ≡ answer
@@ -150,3 +152,10 @@ cover_of_grown shown blank never has rows reached ends items bits last values gr
 pub cover_of_none : {Z : Type 0} (shown : Z → FlatValue) (blank : FlatValue) (never : Type 0) (has : Option Value → Type 0) (rows : List (Option Value)) (reached : ℕ) (ends : List ℕ) (items : List Z)
     (bits : List Bool) (last : Option Z) → IsGrown shown blank never has rows reached ends items bits last → reached ≡ 0 → length rows ≡ 0 → IsTightCover rows ends (rows_of_items shown items bits)
 cover_of_none shown blank never has rows reached ends items bits last grown none empty = rw (grown.no_ends none, grown.no_items none) (IsTightCover-of_none rows empty)
+
+-- and each of the rows has its answer
+pub all_had : {Z : Type 0} (shown : Z → FlatValue) (blank : FlatValue) (never : Type 0) (has : Option Value → Type 0) (rows : List (Option Value)) (reached : ℕ) (ends : List ℕ) (items : List Z)
+    (bits : List Bool) (last : Option Z) → IsGrown shown blank never has rows reached ends items bits last → length rows ≤ reached → AllHave has rows
+all_had shown blank never has rows reached ends items bits last grown all k answer at =
+    let within = slice_get_within rows k answer at in
+    grown.fit k answer (omega (arith, within, all)) at

@@ -3,3 +3,8 @@ pub mod Grown
 pub mod Placed
 pub mod AnswerColumns
 pub mod Faultless
+pub mod Mapped
+pub mod Same
+pub mod Picked
+pub mod Chosen
+pub mod Hashed

@@ -1,7 +1,7 @@
 -- Two windows walked along together: the answers of a stretch of rows in which both stay in one run.
-use Rattle.std.proofs.Common.{◌≡◌, ℕ, zero, suc, ◌+◌, ◌-◌, ◌<◌, ◌≤◌, List, [], ◌∷◌, Bool, true, Option, Some, None, length, min, replicate, slice_index, refl, sym, subst, ◌∙◌, ap, arith, add-zero}
+use Rattle.std.proofs.Common.{◌≡◌, ℕ, zero, suc, ◌+◌, ◌-◌, ◌<◌, ◌≤◌, List, [], ◌∷◌, Bool, true, Option, Some, None, length, min, replicate, slice_index, refl, sym, subst, ◌∙◌, ap, arith, inl, inr, add-zero}
 use Rattle.std.specs.Prelude.{IsSome, is_some, slice_get}
-use Rattle.std.proofs.lemmas.Bool.{false≢true}
+use Rattle.std.proofs.lemmas.Bool.{cases_eq, false≢true}
 use Rattle.column_base.specs.Types.{nullability_of}
 use Rattle.column_base.specs.declared.dtype.DType.{DType}
 use Rattle.column_core.specs.ScalarView.{sees, IsViewOf}
@@ -14,7 +14,7 @@ use Rattle.runend_zip.specs.Answers.{row_of, IsFound}
 use Rattle.runend_zip.specs.Operations.{IsNeverNull}
 use Rattle.runend_zip.specs.Zipped.{zip_rows, IsFirstWithout}
 use Rattle.runend_zip.proofs.Grown.{IsGrown, IsStretch}
-use Rattle.runend_zip.proofs.Walked.{IsRunAfter, one_value, run_next, run_past}
+use Rattle.runend_zip.proofs.Walked.{IsRunAfter, one_value, run_next, run_past, run_there}
 
 -- the answer at a row
 pub zip_rows-at : {X : Type 0} (f : X → X → X) (lefts rights : List X) (k : ℕ) (left right : X) → slice_get lefts k ≡ Some left → slice_get rights k ≡ Some right
@@ -90,6 +90,39 @@ module _ (left : List ℕ) (left_offset : ℕ) (right : List ℕ) (right_offset 
       (one_value left left_offset count row left_run left_window more placed.at_left stop (omega arith) left_values one left_paired (omega arith) left_is k from before)
       (one_value right right_offset count row right_run right_window more placed.at_right stop (omega arith) right_values other right_paired (omega arith) right_is k from before)
 
+-- how many steps the walk took: no more than rows, and than runs that ended; at the end fewer than there are runs
+pub record IsCounted (left_runs right_runs count row left_run right_run steps : ℕ) : Type 0 where
+  pub walked : steps ≤ row
+  pub during : row < count → steps ≤ left_run + right_run
+  pub done : 0 < count → row ≡ count → steps < left_runs + right_runs
+
+pub IsCounted-none : (left_runs right_runs count : ℕ) → IsCounted left_runs right_runs count 0 0 0 0
+IsCounted-none left_runs right_runs count = record {
+  walked = omega arith;
+  during = λ h. omega arith;
+  done = λ some at. absurd (omega arith);
+}
+
+-- the walk goes to no earlier run
+run_on : (run stop end next : ℕ) → IsRunAfter run stop end next → run ≤ next
+run_on run stop end next after = elim (cases_eq stop end) [
+  | inl same ↦ let is = after.0 same in omega arith
+  | inr other ↦ let is = after.1 other in omega arith
+]
+
+-- a step that ends before the last row ends a run
+run_ended : (left_run right_run left_stop right_stop count stop left_next right_next : ℕ) → stop ≡ min (min left_stop right_stop) count → stop < count → IsRunAfter left_run left_stop stop left_next
+    → IsRunAfter right_run right_stop stop right_next → left_run + right_run < left_next + right_next
+run_ended left_run right_run left_stop right_stop count stop left_next right_next is before left_after right_after =
+    let left_on = run_on left_run left_stop stop left_next left_after in
+    let right_on = run_on right_run right_stop stop right_next right_after in
+    elim (cases_eq left_stop stop) [
+      | inl same ↦ let ended = left_after.0 same in omega arith
+      | inr other ↦
+          let same : right_stop ≡ stop = omega arith in
+          let ended = right_after.0 same in omega arith
+    ]
+
 -- an item whose row is not null is there
 some_of_row : {Z : Type 0} (shown : Z → FlatValue) (found : Option Z) → IsSome (row_of shown found) → is_some found ≡ true
 some_of_row shown None some = absurd (false≢true some)
@@ -144,6 +177,20 @@ module _ {Z : Type 0} (shown : Z → FlatValue) (never : Type 0) (has : Option V
   step_placed left_next right_next left_after right_after =
       IsPlaced-next left left_offset right right_offset count row left_run right_run stop left_window right_window more placed at_stop left_next right_next
       (subst (λ (s : ℕ). IsRunAfter left_run s stop left_next) left_stops left_after) (subst (λ (s : ℕ). IsRunAfter right_run s stop right_next) right_stops right_after)
+
+  pub step_counted : (steps left_next right_next : ℕ) → IsRunAfter left_run left_stop stop left_next → IsRunAfter right_run right_stop stop right_next → IsCounted (length left) (length right) count row left_run right_run steps
+      → IsCounted (length left) (length right) count stop left_next right_next (steps + 1)
+  step_counted steps left_next right_next left_after right_after counted =
+      let later = step_later in
+      let one = run_there left left_offset count row left_run left_window more placed.at_left in
+      let other = run_there right right_offset count row right_run right_window more placed.at_right in
+      let walked = counted.walked in
+      let during = counted.during more in
+      record {
+        walked = omega arith;
+        during = λ before. let ended = run_ended left_run right_run left_stop right_stop count stop left_next right_next is before left_after right_after in omega arith;
+        done = λ some at. omega arith;
+      }
 
   -- an answer is found for all of its rows
   pub step_found : (found : Option Z) → result ≡ Some found → (never → IsSome (f one other))

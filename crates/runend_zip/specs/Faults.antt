@@ -1,14 +1,19 @@
 -- Why answers are refused.
-use Rattle.std.specs.Prelude.{◌≡◌, ◌⊎◌, ◌&&◌, ℕ, if◌then◌else◌, Bool, true, false, List, Option, Some, None}
+use Rattle.std.specs.Prelude.{◌≡◌, ◌⊎◌, ◌&&◌, ◌||◌, ℕ, if◌then◌else◌, Bool, true, false, List, Option, Some, None}
+use Rattle.std.specs.Option.{option_or}
 use Rattle.column_base.specs.declared.dtype.DType.{DType}
+use Rattle.column_base.specs.declared.dtype.Nullability.{Nullability}
 use Rattle.column_base.specs.declared.dtype.DType.TheVariants as column
 use Rattle.column_base.specs.declared.error.VortexError.{VortexError}
 use Rattle.column_base.specs.declared.error.VortexError.TheVariants.{OutOfMemory, TypeMismatch, Unsupported}
-use Rattle.column_core.specs.Kinds.{is_numbers, same_kind}
+use Rattle.column_core.specs.Kinds.{is_numbers, list_fault, same_kind}
 use Rattle.column_base.specs.declared.dtype.PType.{PType}
 use Rattle.column_core.specs.Value.{IsLists, Value}
 use Rattle.runend_array.specs.Encoding.{IsNumbersOf}
 use Rattle.column_order.specs.CompareFault.{length_fault}
+use Rattle.runend_zip.specs.Operations.{IsLeftOf, IsOfKind}
+use Rattle.runend_zip.specs.declared.choices.PickRule.{PickRule}
+use Rattle.runend_zip.specs.declared.choices.PickRule.TheVariants.{FirstValid, Lesser, Greater, WhereTrue, WhereFalse}
 use Rattle.runend_zip.specs.Zipped.{IsFirstWithout}
 use Rattle.runend_zip.specs.declared.fault.ZipError.{ZipError}
 use Rattle.runend_zip.specs.declared.fault.ZipError.TheVariants.{Refused, Overflow}
@@ -31,10 +36,53 @@ numeric_fault left right left_count right_count =
 abbrev pub boolean_fault : DType → DType → ℕ → ℕ → Option VortexError
 boolean_fault left right left_count right_count = if is_truths left && is_truths right then length_fault left_count right_count else Some Unsupported
 
+-- both are of integers or of booleans, of one type but for null, and have as many rows
+abbrev pub is_picked : DType → Bool
+is_picked dtype = is_numbers dtype || is_truths dtype
+
+abbrev pub pick_fault : DType → DType → ℕ → ℕ → Option VortexError
+pick_fault left right left_count right_count =
+    if is_picked left && is_picked right then (if same_kind left right then length_fault left_count right_count else Some TypeMismatch) else Some Unsupported
+
+-- a mask is of booleans, rows can be picked of both columns, and all have as many rows
+abbrev pub choice_fault : DType → DType → DType → ℕ → ℕ → ℕ → Option VortexError
+choice_fault mask left right mask_count left_count right_count =
+    if is_truths mask then option_or (pick_fault left right left_count right_count) (length_fault mask_count left_count) else Some Unsupported
+
+-- a column is of booleans
+abbrev pub truth_fault : DType → Option VortexError
+truth_fault dtype = if is_truths dtype then None else Some Unsupported
+
+-- two columns are not compared where both are lists of one type
+abbrev pub equality_fault : DType → DType → Option VortexError
+equality_fault left right = if same_kind left right then list_fault left else None
+
 -- two columns that are worked pair by pair: neither is of lists, and they have as many rows
 pub record AreSingle (left right : DType) (left_count right_count : ℕ) : Type 0 where
   pub left_is : ¬ IsLists left
   pub right_is : ¬ IsLists right
+  pub counted : left_count ≡ right_count
+
+-- the left column is one that a rule takes next to the right one
+abbrev pub IsLeftFor : PickRule → DType → DType → Type 0
+IsLeftFor FirstValid left right = same_kind left right ≡ true
+IsLeftFor Lesser left right = same_kind left right ≡ true
+IsLeftFor Greater left right = same_kind left right ≡ true
+IsLeftFor WhereTrue left right = is_truths left ≡ true
+IsLeftFor WhereFalse left right = is_truths left ≡ true
+
+-- two columns that a rule picks rows of
+pub record ArePicked (rule : PickRule) (left right : DType) (left_count right_count : ℕ) : Type 0 where
+  pub kind : is_picked right ≡ true
+  pub left_is : IsLeftFor rule left right
+  pub counted : left_count ≡ right_count
+
+-- the same, where the right column is of this type, with null or without
+pub record AreOfKind (rule : PickRule) (dtype_in : Nullability → DType) (left right : DType) (left_count right_count : ℕ) : Type 0 where
+  pub left_is : IsLeftOf rule dtype_in left
+  pub right_is : IsOfKind dtype_in right
+  pub left_single : ¬ IsLists left
+  pub right_single : ¬ IsLists right
   pub counted : left_count ≡ right_count
 
 -- two columns of integers of this native type, with as many rows

@@ -3,3 +3,4 @@ pub mod Operations
 pub mod Runs
 pub mod Answers
 pub mod Faults
+pub mod Hashes

@@ -1,23 +1,45 @@
 -- What operations answer for two rows, of which either may be null.
-use Rattle.std.specs.Prelude.{◌+ℤ◌, ◌-ℤ◌, ◌*ℤ◌, ◌≡◌, ℤ, pos, Bool, true, false, Option, Some, None, option_map, IsSome}
+use Rattle.std.specs.Prelude.{if◌then◌else◌, List, [], ◌∷◌, ◌+ℤ◌, ◌-ℤ◌, ◌*ℤ◌, ◌≡◌, ℤ, pos, Bool, true, false, not, Option, Some, None, is_some, option_map, IsSome}
+use Rattle.std.specs.Ordering.{is_eq, is_ge, is_le}
 use Rattle.column_base.specs.declared.dtype.Nullability.{Nullability}
 use Rattle.column_base.specs.declared.dtype.Nullability.TheVariants.{NonNullable}
 use Rattle.column_base.specs.declared.dtype.DType.{DType}
 use Rattle.column_base.specs.declared.dtype.PType.{PType}
 use Rattle.column_base.specs.declared.dtype.PType.TheVariants.{I64}
-use Rattle.column_base.specs.Types.{nullability_of}
+use Rattle.column_base.specs.Types.{nullability_of, with_nullability}
 use Rattle.column_order.specs.Comparing.{either_nullability}
+use Rattle.column_order.specs.Order.{row_cmp, value_cmp}
 use Rattle.column_base.specs.declared.dtype.DType.TheVariants as column
 use Rattle.column_base.specs.declared.dtype.Nullability.TheVariants.{Nullable}
+use Rattle.column_core.specs.ScalarView.{IsViewOf}
 use Rattle.column_core.specs.Value.{Value, Single, Truth, Number, IsRowOf}
+use Rattle.column_core.specs.declared.view.ScalarView.{ScalarView}
 use Rattle.runend_zip.specs.declared.numerics.NumericOperator.{NumericOperator}
 use Rattle.runend_zip.specs.declared.numerics.NumericOperator.TheVariants.{Add, Subtract, Multiply}
+use Rattle.runend_zip.specs.declared.choices.PickRule.{PickRule}
+use Rattle.runend_zip.specs.declared.choices.PickRule.TheVariants.{FirstValid, Lesser, Greater, WhereTrue, WhereFalse}
 use Rattle.runend_zip.specs.declared.booleans.BooleanOperator.{BooleanOperator}
 use Rattle.runend_zip.specs.declared.booleans.BooleanOperator.TheVariants.{And, Or}
 
 -- an operation answers no null where neither row may be null: a row may be where its type has null
 abbrev pub IsNeverNull : Nullability → Nullability → (Option Value → Option Value → Option Value) → Type 0
 IsNeverNull left right f = (a b : Option Value) → (left ≡ NonNullable → IsSome a) → (right ≡ NonNullable → IsSome b) → IsSome (f a b)
+
+-- two views of rows of two types, of which an operation takes columns
+pub record AreViewsOf {A B : Type 0} (takes : DType → DType → Type 0) (left : ScalarView A) (right : ScalarView B) : Type 0 where
+  pub left_type : DType
+  pub right_type : DType
+  pub taken : takes left_type right_type
+  pub left_is : IsViewOf left_type left
+  pub right_is : IsViewOf right_type right
+
+-- a view of a row of a type that has null or not
+abbrev pub IsViewIn : {A : Type 0} → (Nullability → DType) → ScalarView A → Type 0
+IsViewIn dtype_in view = (nullability : Nullability) × IsViewOf (dtype_in nullability) view
+
+-- a type is this one, with null or without
+abbrev pub IsOfKind : (Nullability → DType) → DType → Type 0
+IsOfKind dtype_in dtype = dtype ≡ dtype_in (nullability_of dtype)
 
 -- null, or an integer that the type has
 abbrev pub IsNumberOrNull : PType → Option Value → Type 0
@@ -89,3 +111,91 @@ truth_row truth = option_map (λ b. Single (Truth b)) truth
 -- the answer of an operator for two rows
 abbrev pub boolean_of : BooleanOperator → Option Value → Option Value → Option Value
 boolean_of operator left right = truth_row (connected operator (option_map truth_of left) (option_map truth_of right))
+
+-- the opposite of a boolean, null for null
+abbrev pub negated : Option Value → Option Value
+negated row = truth_row (option_map not (option_map truth_of row))
+
+-- whether a row is null
+abbrev pub null_test : Option Value → Option Value
+null_test row = Some (Single (Truth (not (is_some row))))
+
+-- whether a row is not null
+abbrev pub valid_test : Option Value → Option Value
+valid_test row = Some (Single (Truth (is_some row)))
+
+-- whether two rows are the same
+abbrev pub same_test : Option Value → Option Value → Option Value
+same_test left right = Some (Single (Truth (is_eq (row_cmp left right))))
+
+-- the first row, or the second where that is null
+abbrev pub first_valid : Option Value → Option Value → Option Value
+first_valid None right = right
+first_valid (Some left) right = Some left
+
+-- the lesser row, null where either is
+abbrev pub lesser : Option Value → Option Value → Option Value
+lesser None right = None
+lesser (Some left) None = None
+lesser (Some left) (Some right) = if is_le (value_cmp left right) then Some left else Some right
+
+-- the greater row, null where either is
+abbrev pub greater : Option Value → Option Value → Option Value
+greater None right = None
+greater (Some left) None = None
+greater (Some left) (Some right) = if is_ge (value_cmp left right) then Some left else Some right
+
+-- the row where the mask is this boolean, else null
+abbrev pub kept_where : Bool → Option Bool → Option Value → Option Value
+kept_where wanted None row = None
+kept_where true (Some mask) row = if mask then row else None
+kept_where false (Some mask) row = if mask then None else row
+
+-- the row where the mask is true, else null
+abbrev pub where_true : Option Value → Option Value → Option Value
+where_true mask row = kept_where true (option_map truth_of mask) row
+
+-- the row where the mask is false, else null
+abbrev pub where_false : Option Value → Option Value → Option Value
+where_false mask row = kept_where false (option_map truth_of mask) row
+
+-- the row that a rule picks of two
+abbrev pub picked : PickRule → Option Value → Option Value → Option Value
+picked FirstValid = first_valid
+picked Lesser = lesser
+picked Greater = greater
+picked WhereTrue = where_true
+picked WhereFalse = where_false
+
+-- the type of the left column that a rule takes next to a right one of this type: a mask is of any, else it is that one
+abbrev pub IsLeftOf : PickRule → (Nullability → DType) → DType → Type 0
+IsLeftOf FirstValid dtype_in left = IsOfKind dtype_in left
+IsLeftOf Lesser dtype_in left = IsOfKind dtype_in left
+IsLeftOf Greater dtype_in left = IsOfKind dtype_in left
+IsLeftOf WhereTrue dtype_in left = Unit {0}
+IsLeftOf WhereFalse dtype_in left = Unit {0}
+
+-- whether a type that has null only where both have it has null
+abbrev pub both_nullability : Nullability → Nullability → Nullability
+both_nullability NonNullable right = NonNullable
+both_nullability Nullable right = right
+
+-- the type of the first rows that are not null: it has null where both types have it
+abbrev pub first_valid_dtype : DType → DType → DType
+first_valid_dtype left right = with_nullability right (both_nullability (nullability_of left) (nullability_of right))
+
+-- the type of the lesser and the greater rows: it has null where either type has it
+abbrev pub extreme_dtype : DType → DType → DType
+extreme_dtype left right = with_nullability right (either_nullability (nullability_of left) (nullability_of right))
+
+-- the left row where the mask is true, the right one where it is false, else null
+abbrev pub chosen_by : Option Bool → Option Value → Option Value → Option Value
+chosen_by None left right = None
+chosen_by (Some mask) left right = if mask then left else right
+
+-- the rows that a mask chooses of two columns
+abbrev pub chosen_rows : List (Option Value) → List (Option Value) → List (Option Value) → List (Option Value)
+chosen_rows [] lefts rights = []
+chosen_rows (mask ∷ masks) [] rights = []
+chosen_rows (mask ∷ masks) (left ∷ lefts) [] = []
+chosen_rows (mask ∷ masks) (left ∷ lefts) (right ∷ rights) = chosen_by (option_map truth_of mask) left right ∷ chosen_rows masks lefts rights

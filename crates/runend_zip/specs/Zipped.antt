@@ -18,6 +18,10 @@ pub record IsFirstWithout (has : Option Value → Type 0) (answers : List (Optio
   pub lacks : ¬ has answer
   pub before : (k : ℕ) (earlier : Option Value) → k < row → slice_get answers k ≡ Some earlier → has earlier
 
+-- a type has every answer
+abbrev pub AllHave : (Option Value → Type 0) → List (Option Value) → Type 0
+AllHave has answers = (row : ℕ) (answer : Option Value) → slice_get answers row ≡ Some answer → has answer
+
 -- there are rows, and all are of one
 pub record IsOneRow (count : ℕ) (rows : List (Option Value)) : Type 0 where
   pub some : 0 < count

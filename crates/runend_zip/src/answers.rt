@@ -1,5 +1,5 @@
 //! Answers as they are made: runs of equal answers, of which the last is open.
-ghost use Rattle.std.specs.Prelude.{◌≡◌, ◌↔◌, ◌⊎◌, ◌++◌, [], ◌∷◌, false, is_some, length, map, IfOk, IsOkUnless, IsTrue, OnOk};
+ghost use Rattle.std.specs.Prelude.{◌≡◌, ◌<◌, ◌+◌, ◌↔◌, ◌⊎◌, ◌++◌, [], ◌∷◌, false, is_some, length, map, IfOk, IsOkUnless, IsTrue, OnOk};
 ghost use Rattle.column_core.specs.Optionals.{AreBlankAtNulls};
 ghost use Rattle.runend_zip.specs.Answers.{row_of, rows_of_items};
 
@@ -17,9 +17,11 @@ pub(crate) struct AnswerRuns<Z: Drop, A: Allocator> {
     /// Says whether each closed run shows an item.
     pub(crate) flags: BitBufferMut<A>,
     /// Holds what the open run shows, if a row was answered.
-    pub(crate) open: Option<Z>,
+    pub(crate) last: Option<Z>,
     /// Counts the rows that are answered.
     pub(crate) reached: usize,
+    /// Counts the stretches of rows that were answered at once.
+    pub(crate) steps: usize,
 }
 
 impl<Z: Copy + Drop, A: Allocator + Copy> AnswerRuns<Z, A> {
@@ -30,33 +32,38 @@ impl<Z: Copy + Drop, A: Allocator + Copy> AnswerRuns<Z, A> {
         ensures items { IfOk result (λ runs. runs.items.items ≡ []) }
         ensures flags { IfOk result (λ runs. runs.flags ≡ []) }
         ensures reached { IfOk result (λ runs. runs.reached ≡ 0) }
+        ensures steps { IfOk result (λ runs. runs.steps ≡ 0) }
     {
         Ok(AnswerRuns {
             ends: Vec::new(alloc),
             items: Vec::new(alloc),
             flags: BitBufferMut::with_capacity(alloc, 0)?,
-            open: None,
+            last: None,
             reached: 0,
+            steps: 0,
         })
     }
 
     /// Returns whether the next rows, which show `answer`, belong to the open run. The first rows open it.
     pub(crate) fn goes_on<K: Stored<Z>>(&self, answer: Option<Z>) -> bool
-        ensures { IsTrue result ↔ ((self.now.reached ≡ 0) ⊎ (row_of K.shown self.now.open ≡ row_of K.shown answer)) }
+        ensures { IsTrue result ↔ ((self.now.reached ≡ 0) ⊎ (row_of K.shown self.now.last ≡ row_of K.shown answer)) }
     {
-        self.reached == 0 || is_same_answer::<Z, K>(self.open, answer)
+        self.reached == 0 || is_same_answer::<Z, K>(self.last, answer)
     }
 
     /// Puts the rows up to `stop`, which show the same, to the open run, or opens the first run for them.
     pub(crate) fn go_on(&mut self, answer: Option<Z>, stop: usize)
+        requires { self.old.steps < usize.MAX }
         ensures ends { self.new.ends.items ≡ self.old.ends.items }
         ensures items { self.new.items.items ≡ self.old.items.items }
         ensures flags { self.new.flags ≡ self.old.flags }
-        ensures open { self.new.open ≡ answer }
+        ensures last { self.new.last ≡ answer }
         ensures reached { self.new.reached ≡ stop }
+        ensures steps { self.new.steps ≡ self.old.steps + 1 }
     {
-        self.open = answer;
+        self.last = answer;
         self.reached = stop;
+        self.steps += 1;
     }
 
     /// Closes the open run, and opens one for the rows up to `stop`. Refused as `OutOfMemory` only.
@@ -65,21 +72,24 @@ impl<Z: Copy + Drop, A: Allocator + Copy> AnswerRuns<Z, A> {
         answer: Option<Z>,
         stop: usize,
     ) -> VortexResult<()>
-        requires { length self.old.flags ≡ length self.old.items.items }
+        requires paired { length self.old.flags ≡ length self.old.items.items }
+        requires counted { self.old.steps < usize.MAX }
         ensures only { IsOkUnless result VortexError.OutOfMemory }
         ensures ends { OnOk result (self.new.ends.items ≡ self.old.ends.items ++ self.old.reached ∷ []) }
-        ensures flags { OnOk result (self.new.flags ≡ self.old.flags ++ is_some self.old.open ∷ []) }
+        ensures flags { OnOk result (self.new.flags ≡ self.old.flags ++ is_some self.old.last ∷ []) }
         ensures paired { OnOk result (length self.new.flags ≡ length self.new.items.items) }
         ensures items { OnOk result (rows_of_items K.shown self.new.items.items self.new.flags ≡
-            rows_of_items K.shown self.old.items.items self.old.flags ++ row_of K.shown self.old.open ∷ []) }
+            rows_of_items K.shown self.old.items.items self.old.flags ++ row_of K.shown self.old.last ∷ []) }
         ensures blank { OnOk result (AreBlankAtNulls K.blank_value (map K.shown self.old.items.items) self.old.flags →
             AreBlankAtNulls K.blank_value (map K.shown self.new.items.items) self.new.flags) }
-        ensures open { OnOk result (self.new.open ≡ answer) }
+        ensures last { OnOk result (self.new.last ≡ answer) }
         ensures reached { OnOk result (self.new.reached ≡ stop) }
+        ensures steps { OnOk result (self.new.steps ≡ self.old.steps + 1) }
     {
         self.close::<K>()?;
-        self.open = answer;
+        self.last = answer;
         self.reached = stop;
+        self.steps += 1;
         Ok(())
     }
 
@@ -88,18 +98,19 @@ impl<Z: Copy + Drop, A: Allocator + Copy> AnswerRuns<Z, A> {
         requires { length self.old.flags ≡ length self.old.items.items }
         ensures only { IsOkUnless result VortexError.OutOfMemory }
         ensures ends { OnOk result (self.new.ends.items ≡ self.old.ends.items ++ self.old.reached ∷ []) }
-        ensures flags { OnOk result (self.new.flags ≡ self.old.flags ++ is_some self.old.open ∷ []) }
+        ensures flags { OnOk result (self.new.flags ≡ self.old.flags ++ is_some self.old.last ∷ []) }
         ensures paired { OnOk result (length self.new.flags ≡ length self.new.items.items) }
         ensures items { OnOk result (rows_of_items K.shown self.new.items.items self.new.flags ≡
-            rows_of_items K.shown self.old.items.items self.old.flags ++ row_of K.shown self.old.open ∷ []) }
+            rows_of_items K.shown self.old.items.items self.old.flags ++ row_of K.shown self.old.last ∷ []) }
         ensures blank { OnOk result (AreBlankAtNulls K.blank_value (map K.shown self.old.items.items) self.old.flags →
             AreBlankAtNulls K.blank_value (map K.shown self.new.items.items) self.new.flags) }
-        ensures open { self.new.open ≡ self.old.open }
+        ensures last { self.new.last ≡ self.old.last }
         ensures reached { self.new.reached ≡ self.old.reached }
+        ensures steps { self.new.steps ≡ self.old.steps }
     {
         self.ends.push(self.reached as u64)?;
-        self.flags.append(self.open.is_some())?;
-        self.items.push(item_of::<Z, K>(self.open))?;
+        self.flags.append(self.last.is_some())?;
+        self.items.push(item_of::<Z, K>(self.last))?;
         Ok(())
     }
 }

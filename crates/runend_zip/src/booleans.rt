@@ -56,6 +56,8 @@ struct Connection {
 }
 
 impl Pairwise<bool, Truths> for Connection {
+    ghost takes = { λ connection left right. Unit {0} };
+
     ghost answer_of = { λ connection. boolean_of connection.operator };
 
     ghost has = { λ connection answer. Unit {0} };
@@ -87,8 +89,8 @@ impl BooleanOperator {
     }
 }
 
-// The boolean that a view shows, or null; false where it shows a value of another kind.
-fn truth_in<A: Allocator>(view: &ScalarView<'_, A>) -> Option<bool>
+/// Returns the boolean that a view shows, or null; false where it shows a value of another kind.
+pub(crate) fn truth_in<A: Allocator>(view: &ScalarView<'_, A>) -> Option<bool>
     ensures { result ≡ option_map truth_of (sees view.now) }
 {
     match view {

@@ -47,6 +47,8 @@ struct Comparing {
 }
 
 impl Pairwise<bool, Truths> for Comparing {
+    ghost takes = { λ comparing left right. Unit {0} };
+
     ghost answer_of = { λ comparing. compared comparing.operator };
 
     ghost has = { λ comparing answer. Unit {0} };

@@ -1,7 +1,7 @@
 //! Why answers are refused.
 ghost use Rattle.std.specs.Prelude.{◌≡◌, IfErr, IsOkUnless, Ok};
 ghost use Rattle.column_order.specs.CompareFault.{length_fault};
-ghost use Rattle.runend_zip.specs.Faults.{boolean_fault, is_truths, numeric_fault};
+ghost use Rattle.runend_zip.specs.Faults.{boolean_fault, choice_fault, is_picked, is_truths, numeric_fault, pick_fault, truth_fault};
 ghost use Rattle.runend_zip.specs.declared.fault.ZipError.TheVariants.{Refused};
 
 use column_core::{DType, VortexError, VortexResult, is_number_type, is_same_kind};
@@ -60,6 +60,62 @@ pub(crate) fn fault_of_boolean(
         return Some(VortexError::Unsupported);
     }
     fault_of_lengths(left_count, right_count)
+}
+
+/// Returns why rows are not picked of two columns of these types and numbers of rows: `Unsupported` where either is not
+/// of integers or of booleans, `TypeMismatch` where they are of two types, then `ColumnLength` where they differ in
+/// rows.
+pub(crate) fn fault_of_pick(
+    left: DType,
+    right: DType,
+    left_count: usize,
+    right_count: usize,
+) -> Option<VortexError>
+    ensures { result ≡ pick_fault left right left_count right_count }
+{
+    if !(is_picked_type(left) && is_picked_type(right)) {
+        return Some(VortexError::Unsupported);
+    }
+    if !is_same_kind(left, right) {
+        return Some(VortexError::TypeMismatch);
+    }
+    fault_of_lengths(left_count, right_count)
+}
+
+/// Returns why rows of two columns are not chosen by a mask, given the types and the numbers of rows of the mask, the
+/// left and the right column: `Unsupported` where the mask is not of booleans, then what `fault_of_pick` says of the
+/// columns, then `ColumnLength` where the mask and the left column differ in rows.
+pub(crate) fn fault_of_choice(
+    types: (DType, DType, DType),
+    counts: (usize, usize, usize),
+) -> Option<VortexError>
+    ensures { result ≡ choice_fault types.0 types.1 types.2 counts.0 counts.1 counts.2 }
+{
+    if !is_truth_type(types.0) {
+        return Some(VortexError::Unsupported);
+    }
+    if let Some(error) = fault_of_pick(types.1, types.2, counts.1, counts.2) {
+        return Some(error);
+    }
+    fault_of_lengths(counts.0, counts.1)
+}
+
+// Whether the type is one of integers or of booleans.
+fn is_picked_type(dtype: DType) -> bool
+    ensures { result ≡ is_picked dtype }
+{
+    is_number_type(dtype) || is_truth_type(dtype)
+}
+
+/// Returns `Unsupported` where a column is not of booleans.
+pub(crate) fn fault_of_truths(dtype: DType) -> Option<VortexError>
+    ensures { result ≡ truth_fault dtype }
+{
+    if is_truth_type(dtype) {
+        None
+    } else {
+        Some(VortexError::Unsupported)
+    }
 }
 
 // Whether the type is one of booleans.

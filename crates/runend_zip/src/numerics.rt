@@ -117,6 +117,8 @@ struct Calculation {
 }
 
 impl<T: NativePType> Pairwise<T, Integers> for Calculation {
+    ghost takes = { λ calculation left right. Unit {0} };
+
     ghost answer_of = { λ calculation. numeric_of calculation.operator };
 
     ghost has = { λ calculation. IsNumberOrNull T.PTYPE };

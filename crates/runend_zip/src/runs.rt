@@ -113,9 +113,13 @@ pub(crate) fn run_after(run: usize, stop: usize, row: usize) -> usize
     run + usize::from(stop == row)
 }
 
-// The row that a run ends before, counted from the row at position `offset`.
+/// Returns the row that a run ends before, counted from the row at position `offset`.
 #[tactic(auto, using(runend_windows::proofs::Ends::length_ends_of))]
-fn stop_in<A: Allocator + Copy>(ends: &PrimitiveArray<A>, run: usize, offset: usize) -> usize
+pub(crate) fn stop_in<A: Allocator + Copy>(
+    ends: &PrimitiveArray<A>,
+    run: usize,
+    offset: usize,
+) -> usize
     requires plain { IsEndsType (primitive_dtype ends.now) }
     requires there { run < length (ends_of ends.now) }
     ensures stop { result ≡ stop_of ends.now offset run }

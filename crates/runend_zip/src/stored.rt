@@ -9,11 +9,13 @@ ghost use Rattle.column_core.specs.FlatColumn.{leaf_of};
 ghost use Rattle.column_core.specs.Leaf.{leaf_dtype, single_rows};
 ghost use Rattle.column_core.specs.Optionals.{AreBlankAtNulls};
 ghost use Rattle.column_core.specs.Value.{FlatValue, Number, Truth};
-ghost use Rattle.runend_zip.specs.Answers.{rows_of_items};
+ghost use Rattle.column_core.specs.ScalarView.{sees};
+ghost use Rattle.runend_zip.specs.Answers.{row_of, rows_of_items};
+ghost use Rattle.runend_zip.specs.Operations.{IsViewIn};
 
 use column_core::{
     BitBuffer, BitBufferMut, BoolArray, FlatColumn, NativePType, Nullability, PrimitiveArray,
-    VortexError, VortexResult,
+    ScalarView, VortexError, VortexResult,
 };
 use runend_windows::validity_with;
 use std::alloc::Allocator;
@@ -36,6 +38,11 @@ pub(crate) trait Stored<Z: Copy + Drop> {
     /// Returns whether two items are of one value.
     fn is_same(left: Z, right: Z) -> bool
         ensures { IsTrue result ↔ (shown left ≡ shown right) };
+
+    /// Returns the item that a view of a row shows, or `None` for null.
+    fn of_view<A: Allocator>(view: &ScalarView<'_, A>) -> Option<Z>
+        requires { IsViewIn dtype_in view.now }
+        ensures { row_of shown result ≡ sees view.now };
 
     /// Returns the flat column of items, null where the flag is false. Refused as `OutOfMemory` only.
     fn column<A: Allocator + Copy>(
@@ -70,6 +77,18 @@ impl<T: NativePType> Stored<T> for Integers {
 
     fn is_same(left: T, right: T) -> bool {
         left == right
+    }
+
+    fn of_view<A: Allocator>(view: &ScalarView<'_, A>) -> Option<T>
+        requires { IsViewIn (λ nullability. column.Primitive T.PTYPE nullability) view.now }
+        ensures { row_of (λ item. Number (T.number item)) result ≡ sees view.now }
+    {
+        match view {
+            ScalarView::Null => None,
+            ScalarView::Unsigned(number) => T::narrow(i128::from(*number)),
+            ScalarView::Signed(number) => T::narrow(i128::from(*number)),
+            _ => unreachable!(),
+        }
     }
 
     fn column<A: Allocator + Copy>(
@@ -109,6 +128,17 @@ impl Stored<bool> for Truths {
 
     fn is_same(left: bool, right: bool) -> bool {
         left == right
+    }
+
+    fn of_view<A: Allocator>(view: &ScalarView<'_, A>) -> Option<bool>
+        requires { IsViewIn (λ nullability. column.Bool nullability) view.now }
+        ensures { row_of (λ item. Truth item) result ≡ sees view.now }
+    {
+        match view {
+            ScalarView::Null => None,
+            ScalarView::Bool(truth) => Some(*truth),
+            _ => unreachable!(),
+        }
     }
 
     fn column<A: Allocator + Copy>(
