@@ -244,6 +244,12 @@ public:
     std::pair<Column, Column> sum_by(const Column &values) const { return fold_by(values, Fold::sum); }
     // What the two rows at each place give; so do + - * & | and ~ (hivevigil_pairs.hpp).
     Column combine(Pairing by, const Column &right) const;
+    // Whether each row is null, or is not; the other boolean, as ~; of a mask the left row where it is true, else the
+    // right one, null where it is null.
+    Column is_null() const;
+    Column is_valid() const;
+    Column opposite() const;
+    Column choose(const Column &left, const Column &right) const;
     // Whether the rows compare so with those of a column, in runs, or with one value; null where either is null.
     template <class Right> Column equal_to(const Right &right) const { return compared(Operator::equal, right); }
     template <class Right> Column not_equal_to(const Right &right) const { return compared(Operator::not_equal, right); }
@@ -335,6 +341,13 @@ public:
         uint8_t truth = 0;
         detail::ask([&](auto *error) { return hv_is_sorted(&session, &handle, strict, &truth, error); });
         return truth != 0;
+    }
+
+    // A hash of the rows, the same for all columns with these rows, in whatever forms and of whatever types.
+    uint64_t hash_rows() const {
+        uint64_t hash = 0;
+        detail::ask([&](auto *error) { return hv_hash(&handle, &hash, error); });
+        return hash;
     }
 
     // Are type and rows the same, in whatever forms, null the same as null? Each run of both is read at most once; of

@@ -214,6 +214,31 @@ HV_ANSWER hv_combine(const hv_column *left, uint8_t operator_, const hv_column *
     hv_error ignored;
     return (hv_combine)(hv_lent(left), operator_, hv_lent(right), out, HV_FIELDS);
 }
+HV_ANSWER hv_not(const hv_column *column, hv_column *out, hv_error *error) {
+    hv_error ignored;
+    return (hv_not)(hv_lent(column), out, HV_FIELDS);
+}
+HV_ANSWER hv_is_null(const hv_column *column, hv_column *out, hv_error *error) {
+    hv_error ignored;
+    return (hv_is_null)(hv_lent(column), out, HV_FIELDS);
+}
+HV_ANSWER hv_is_valid(const hv_column *column, hv_column *out, hv_error *error) {
+    hv_error ignored;
+    return (hv_is_valid)(hv_lent(column), out, HV_FIELDS);
+}
+HV_ANSWER hv_if_else(const hv_column *mask, const hv_column *left, const hv_column *right, hv_column *out,
+                     hv_error *error) {
+    hv_error ignored;
+    return (hv_if_else)(hv_lent(mask), hv_lent(left), hv_lent(right), out, HV_FIELDS);
+}
+HV_ANSWER hv_equals(const hv_column *left, const hv_column *right, uint8_t *truth, hv_error *error) {
+    hv_error ignored;
+    return (hv_equals)(hv_lent(left), hv_lent(right), truth, HV_FIELDS);
+}
+HV_ANSWER hv_hash(const hv_column *column, uint64_t *hash, hv_error *error) {
+    hv_error ignored;
+    return (hv_hash)(hv_lent(column), hash, HV_FIELDS);
+}
 HV_ANSWER hv_fold_by(const hv_column *keys, const hv_column *values, uint8_t fold, hv_column *out_keys,
                      hv_column *out_answers, hv_error *error) {
     hv_error ignored;

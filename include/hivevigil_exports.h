@@ -88,6 +88,12 @@ HV_EXPORT int32_t hv_compare_scalar(const hv_settings *settings, hv_column *colu
 HV_EXPORT int32_t hv_fill(const hv_settings *settings, hv_column *column, const hv_value *value, const uint8_t *text,
                           size_t text_len, hv_column *out, hv_error *error);
 HV_EXPORT int32_t hv_combine(hv_column *left, uint8_t operator_, hv_column *right, hv_column *out, hv_error *error);
+HV_EXPORT int32_t hv_not(hv_column *column, hv_column *out, hv_error *error);
+HV_EXPORT int32_t hv_is_null(hv_column *column, hv_column *out, hv_error *error);
+HV_EXPORT int32_t hv_is_valid(hv_column *column, hv_column *out, hv_error *error);
+HV_EXPORT int32_t hv_if_else(hv_column *mask, hv_column *left, hv_column *right, hv_column *out, hv_error *error);
+HV_EXPORT int32_t hv_equals(hv_column *left, hv_column *right, uint8_t *truth, hv_error *error);
+HV_EXPORT int32_t hv_hash(hv_column *column, uint64_t *hash, hv_error *error);
 HV_EXPORT int32_t hv_fold_by(hv_column *keys, hv_column *values, uint8_t fold, hv_column *out_keys,
                              hv_column *out_answers, hv_error *error);
 
@@ -195,6 +201,12 @@ HV_EXPORT void hv_free(hv_column *column);
 #define hv_compare_scalar(...) hv_call_compare_scalar(__VA_ARGS__)
 #define hv_fill(...) hv_call_fill(__VA_ARGS__)
 #define hv_combine(...) hv_call_combine(__VA_ARGS__)
+#define hv_not(...) hv_call_not(__VA_ARGS__)
+#define hv_is_null(...) hv_call_is_null(__VA_ARGS__)
+#define hv_is_valid(...) hv_call_is_valid(__VA_ARGS__)
+#define hv_if_else(...) hv_call_if_else(__VA_ARGS__)
+#define hv_equals(...) hv_call_equals(__VA_ARGS__)
+#define hv_hash(...) hv_call_hash(__VA_ARGS__)
 #define hv_fold_by(...) hv_call_fold_by(__VA_ARGS__)
 #define hv_sum(...) hv_call_sum(__VA_ARGS__)
 #define hv_is_constant(...) hv_call_is_constant(__VA_ARGS__)

@@ -22,7 +22,9 @@ inline const char *done_by(Pairing by) {
     case Pairing::add: return "added";
     case Pairing::subtract: return "subtracted";
     case Pairing::multiply: return "multiplied";
-    default: return "connected";
+    case Pairing::both:
+    case Pairing::either: return "connected";
+    default: return "picked from";
     }
 }
 
@@ -34,12 +36,15 @@ inline std::string words_of_overflow(const Column &left, Pairing by, const Colum
            to_string(right.at(row)) + ", which does not fit " + to_string(not_nullable(left.kind()));
 }
 
+inline std::string words_of_types(const Column &left, const Column &right) {
+    return to_string(not_nullable(left.kind())) + " and " + to_string(not_nullable(right.kind()));
+}
+
 inline std::string words_of_pairing(const Column &left, Pairing by, const Column &right, int32_t answer,
                                     const hv_error &fields) {
     if (answer == HV_CAST_OUT_OF_RANGE) return words_of_overflow(left, by, right, fields);
-    const std::string types = to_string(not_nullable(left.kind())) + " and " + to_string(not_nullable(right.kind()));
-    if (answer == HV_UNSUPPORTED || answer == HV_TYPE_MISMATCH) return types + " are not " + done_by(by);
-    return "";
+    if (answer != HV_UNSUPPORTED && answer != HV_TYPE_MISMATCH) return "";
+    return words_of_types(left, right) + " are not " + done_by(by);
 }
 
 // The number in each row of a column next to this one, of its type.
@@ -61,6 +66,20 @@ inline Column Column::combine(Pairing by, const Column &right) const {
     throw words.empty() ? Error(answer, fields) : Error(answer, fields, words);
 }
 
+inline Column Column::opposite() const {
+    return made([&](auto *out, auto *error) { return hv_not(&handle, out, error); },
+                detail::words_of_type(kind(), " has no opposites"));
+}
+inline Column Column::is_null() const { return part(hv_call_is_null); }
+inline Column Column::is_valid() const { return part(hv_call_is_valid); }
+inline Column Column::choose(const Column &left, const Column &right) const {
+    if (&left == this || &left == &right) return choose(left.clone(), right);
+    if (&right == this) return choose(left, right.clone());
+    const std::string types = detail::words_of_types(left, right);
+    return made([&](auto *out, auto *error) { return hv_if_else(&handle, &left.handle, &right.handle, out, error); },
+                [&](int32_t answer) { return answer == HV_TYPE_MISMATCH ? types + " are not chosen from" : ""; });
+}
+
 inline Column Column::compared(Operator by, const Column &right) const {
     return beside(
         right,
@@ -76,7 +95,7 @@ inline Column operator*(const Column &left, const Column &right) { return left.c
 inline Column operator&(const Column &left, const Column &right) { return left.combine(Pairing::both, right); }
 inline Column operator|(const Column &left, const Column &right) { return left.combine(Pairing::either, right); }
 // The other boolean of each, null for null.
-inline Column operator~(const Column &column) { return column.compare(Operator::equal, Value(false)); }
+inline Column operator~(const Column &column) { return column.opposite(); }
 
 // The same with a number, which the column's type has.
 template <class T, class = detail::IfNumber<T>> Column operator+(const Column &left, const T &right) {

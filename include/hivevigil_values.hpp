@@ -85,13 +85,17 @@ enum class Operator : uint8_t {
     less_or_equal = HV_LE
 };
 
-// What the two rows at a place give, as hivevigil.h has it; `both` and `either` are those of booleans.
+// What the two rows at a place give, as hivevigil.h has it; `both` and `either` are those of booleans, the last three
+// pick one of the two: the first that is not null, the lesser, the greater.
 enum class Pairing : uint8_t {
     add = HV_ADD,
     subtract = HV_SUBTRACT,
     multiply = HV_MULTIPLY,
     both = HV_AND,
-    either = HV_OR
+    either = HV_OR,
+    coalesce = HV_COALESCE,
+    lesser = HV_LESSER,
+    greater = HV_GREATER
 };
 
 // What is answered of the values in a group, as hivevigil.h has it.

@@ -1,7 +1,7 @@
 /* The rows of two columns worked place by place: each operator against a loop over the rows, and each refusal. */
 #include "check.h"
 
-enum { MOST = 60, OPERATORS = HV_OR + 1, TRIALS = 300 };
+enum { MOST = 60, OPERATORS = HV_GREATER + 1, TRIALS = 300 };
 
 static hv_session session;
 static hv_error error;
@@ -117,10 +117,19 @@ static bool holds(int operator_, int64_t left, int64_t right) {
     }
 }
 
+/* one of the two rows: the first that is not null, the lesser, the greater */
+static answer picked(int operator_, const rows *left, const rows *right, size_t row) {
+    const bool both = left->valid[row] && right->valid[row];
+    const int64_t a = left->items[row], b = right->items[row];
+    if (operator_ == HV_COALESCE) return (answer){left->valid[row] ? a : b, !left->valid[row] && !right->valid[row], true};
+    return (answer){(operator_ == HV_LESSER) == (a < b) ? a : b, !both, true};
+}
+
 static answer answer_of(int operator_, const type *of, const rows *left, const rows *right, size_t row) {
     const bool both = left->valid[row] && right->valid[row];
     const int64_t a = left->items[row], b = right->items[row];
     answer it = {0, !both, true};
+    if (operator_ >= HV_COALESCE) return picked(operator_, left, right, row);
     if (operator_ == HV_AND || operator_ == HV_OR) {
         const bool decides = operator_ == HV_OR; /* the truth that one row is enough for */
         const bool is_decided = (left->valid[row] && (a == 1) == decides) || (right->valid[row] && (b == 1) == decides);
@@ -141,7 +150,7 @@ static answer answer_of(int operator_, const type *of, const rows *left, const r
 /* Writes the answers as text, as the loop has them, or returns the first row that the type does not have, and else the
  * number of rows. */
 static size_t write_due(int operator_, const type *of, const rows *left, const rows *right, char *due, size_t room) {
-    const bool of_truths = operator_ < HV_ADD || operator_ > HV_MULTIPLY;
+    const bool of_truths = operator_ < HV_ADD || operator_ == HV_AND || operator_ == HV_OR || of->number == HV_BOOL;
     size_t used = 0;
     due[0] = 0;
     for (size_t row = 0; row < left->count; row++) {
@@ -186,8 +195,60 @@ static void check_answers(int operator_, const type *of, const rows *left, const
     CHECK(are_constants || !hv_run_count(&found, &runs, &error));
     CHECK(runs == runs_of(operator_, of, left, right));
     const hv_kind kind = hv_kind_of(&found);
-    CHECK(kind.nullable == 1 && kind.number == (operator_ >= HV_ADD && operator_ <= HV_MULTIPLY ? of->number : HV_BOOL));
+    const bool keeps = (operator_ >= HV_ADD && operator_ <= HV_MULTIPLY) || operator_ >= HV_COALESCE;
+    CHECK(kind.nullable == 1 && kind.number == (keeps ? of->number : HV_BOOL));
     hv_free(&found);
+}
+
+static size_t put_truth(char *to, size_t room, bool is_first, const char *word) {
+    return (size_t)snprintf(to, room, "%s%s", is_first ? "" : " ", word);
+}
+
+/* Which rows are null, which are not, and the other booleans. */
+static void check_tests(const type *of, const rows *it, const hv_column *column) {
+    char nulls[1024] = "", valid[1024] = "", others[1024] = "";
+    size_t at = 0, of_valid = 0, of_others = 0;
+    for (size_t row = 0; row < it->count; row++) {
+        const bool is_valid = it->valid[row], is_true = it->items[row] == 1;
+        at += put_truth(nulls + at, sizeof nulls - at, !row, is_valid ? "false" : "true");
+        of_valid += put_truth(valid + of_valid, sizeof valid - of_valid, !row, is_valid ? "true" : "false");
+        of_others += put_truth(others + of_others, sizeof others - of_others, !row,
+                               !is_valid ? "null" : is_true ? "false" : "true");
+    }
+    hv_column found = HV_EMPTY;
+    CHECK(!hv_is_null(column, &found, &error));
+    CHECK_ROWS(&found, nulls);
+    CHECK(hv_kind_of(&found).number == HV_BOOL && hv_kind_of(&found).nullable == 0);
+    CHECK(hv_form(&found) == (hv_form(column) == FORM_CONSTANT ? FORM_CONSTANT : FORM_RUNS));
+    CHECK(!hv_is_valid(column, &found, &error));
+    CHECK_ROWS(&found, valid);
+    if (of->number == HV_BOOL) {
+        CHECK(!hv_not(column, &found, &error));
+        CHECK_ROWS(&found, others);
+    } else CHECK_REFUSED(hv_not(column, &found, &error), HV_UNSUPPORTED, 0, 0, 0);
+    hv_free(&found);
+}
+
+/* Rows of two columns by a mask, and whether two columns are equal. */
+static void check_choice(const type *of, const rows *left, const rows *right, const hv_column *columns) {
+    static const type truths = {HV_BOOL, 0, 1};
+    const rows flags = random_rows(&truths, left->count);
+    hv_column mask = column_of(HV_BOOL, &flags), found = HV_EMPTY, due = HV_EMPTY;
+    rows it = *left;
+    bool same = true;
+    for (size_t row = 0; row < it.count; row++) {
+        const rows *from = flags.items[row] == 1 ? left : right;
+        it.valid[row] = flags.valid[row] && from->valid[row];
+        it.items[row] = it.valid[row] ? from->items[row] : 1;
+        same = same && left->valid[row] == right->valid[row] && left->items[row] == right->items[row];
+    }
+    uint8_t truth;
+    due = flat_column(of->number, &it);
+    CHECK(!hv_if_else(&mask, &columns[0], &columns[1], &found, &error));
+    CHECK(!hv_equals(&found, &due, &truth, &error) && truth == 1);
+    CHECK(hv_kind_of(&found).number == of->number && hv_kind_of(&found).nullable == 1);
+    CHECK(!hv_equals(&columns[0], &columns[1], &truth, &error) && truth == same);
+    hv_free(&mask), hv_free(&found), hv_free(&due);
 }
 
 static void check_trial(void) {
@@ -198,11 +259,14 @@ static void check_trial(void) {
     const rows left = random_rows(of, count), right = random_rows(of, count);
     hv_column columns[2] = {column_of(of->number, &left), column_of(of->number, &right)};
     for (int operator_ = 0; operator_ < OPERATORS; operator_++) {
-        const bool is_served = operator_ < HV_ADD || of_truths == (operator_ >= HV_AND);
+        const bool is_served =
+            operator_ < HV_ADD || operator_ >= HV_COALESCE || of_truths == (operator_ >= HV_AND);
         if (is_served) check_answers(operator_, of, &left, &right, columns);
         else CHECK_REFUSED(hv_combine(&columns[0], (uint8_t)operator_, &columns[1], &answers, &error), HV_UNSUPPORTED, 0,
                            0, 0);
     }
+    check_tests(of, &left, &columns[0]);
+    check_choice(of, &left, &right, columns);
     hv_free(&columns[0]);
     hv_free(&columns[1]);
 }
@@ -274,6 +338,34 @@ static void check_kinds(void) {
     hv_free(&b);
 }
 
+/* Hashes are those of another program, of a column that is flat, and of its runs. */
+static void check_hash(const hv_column *flat, uint64_t due) {
+    hv_column runs = HV_EMPTY;
+    uint64_t hash = 0;
+    CHECK(!hv_hash(flat, &hash, &error) && hash == due);
+    CHECK(!hv_encode_rows(flat, &runs, &error) && !hv_hash(&runs, &hash, &error) && hash == due);
+    hv_free(&runs);
+}
+
+static void check_hashes(void) {
+    const int64_t numbers[4] = {4, 4, 0, -7};
+    const uint8_t valid[1] = {11}, truths[1] = {3}, known[1] = {7};
+    const int32_t offsets[4] = {0, 4, 8, 14};
+    hv_column it = HV_EMPTY;
+    CHECK(!hv_i64(numbers, 4, NULLS_BY(valid, 0), &it, &error));
+    check_hash(&it, UINT64_C(8325595506498645118));
+    CHECK(!hv_bools(truths, 1, 0, 4, NULLS_BY(known, 0), &it, &error));
+    check_hash(&it, UINT64_C(1476121092879757064));
+    CHECK(!hv_i64(numbers, 0, NOT_NULLABLE, &it, &error));
+    check_hash(&it, UINT64_C(15130871412783076140));
+    const uint64_t due[2] = {UINT64_C(15208884167202354170), UINT64_C(13569658018871057169)};
+    for (uint8_t binary = 0; binary < 2; binary++) {
+        CHECK(!hv_texts(binary, offsets, 4, (const uint8_t *)"OsloOsloBergen", 14, NOT_NULLABLE, &it, &error));
+        check_hash(&it, due[binary]);
+    }
+    hv_free(&it);
+}
+
 /* A call is refused with these fields, and leaves the handle that it would fill. */
 #define CHECK_KEPT(left, operator_, right, number, a, b) \
     do { \
@@ -286,11 +378,13 @@ static void check_refusals(void) {
     const uint16_t wide[3] = {1, 2, 3};
     const uint64_t starts[2] = {0, 1}, sizes[2] = {1, 1};
     hv_column a = HV_EMPTY, b = HV_EMPTY, longer = HV_EMPTY, lists = HV_EMPTY, truths = HV_EMPTY, none = HV_EMPTY;
-    hv_column three = HV_EMPTY;
+    hv_column three = HV_EMPTY, texts = HV_EMPTY;
+    const int32_t offsets[3] = {0, 1, 2};
     CHECK(!hv_u8(four, 2, NOT_NULLABLE, &a, &error) && !hv_u8(four, 2, NOT_NULLABLE, &b, &error));
     CHECK(!hv_u16(wide, 3, NOT_NULLABLE, &longer, &error) && !hv_bools(bits, 1, 0, 2, NOT_NULLABLE, &truths, &error));
     CHECK(!hv_lists(&a, starts, 2, sizes, 2, NOT_NULLABLE, &lists, &error));
     CHECK(!hv_bools(bits, 1, 0, 3, NOT_NULLABLE, &three, &error));
+    CHECK(!hv_texts(0, offsets, 3, (const uint8_t *)"ab", 2, NOT_NULLABLE, &texts, &error));
     CHECK(!hv_combine(&a, HV_ADD, &b, &answers, &error));
 
     for (int number = OPERATORS; number < 256; number++)
@@ -310,8 +404,38 @@ static void check_refusals(void) {
     CHECK_KEPT(&truths, HV_OR, &longer, HV_UNSUPPORTED, 0, 0);
     CHECK_KEPT(&truths, HV_OR, &three, HV_COLUMN_LENGTH, 2, 3);
     CHECK(hv_combine(&three, HV_AND, &truths, &answers, NULL) == HV_COLUMN_LENGTH);
+    CHECK_KEPT(&texts, HV_COALESCE, &longer, HV_UNSUPPORTED, 0, 0);
+    CHECK_KEPT(&longer, HV_LESSER, &truths, HV_TYPE_MISMATCH, 0, 0);
+    CHECK_KEPT(&truths, HV_GREATER, &three, HV_COLUMN_LENGTH, 2, 3);
 
-    hv_column *const all[] = {&a, &b, &longer, &lists, &truths, &three};
+    uint8_t truth = 7;
+    CHECK_REFUSED(hv_is_null(&lists, &answers, &error), HV_UNSUPPORTED, 0, 0, 0);
+    CHECK_REFUSED(hv_is_valid(&lists, &answers, &error), HV_UNSUPPORTED, 0, 0, 0);
+    CHECK_REFUSED(hv_not(&texts, &answers, &error), HV_UNSUPPORTED, 0, 0, 0);
+    CHECK_REFUSED(hv_if_else(&a, &b, &longer, &answers, &error), HV_UNSUPPORTED, 0, 0, 0);
+    CHECK_REFUSED(hv_if_else(&truths, &texts, &longer, &answers, &error), HV_UNSUPPORTED, 0, 0, 0);
+    CHECK_REFUSED(hv_if_else(&truths, &a, &longer, &answers, &error), HV_TYPE_MISMATCH, 0, 0, 0);
+    CHECK_REFUSED(hv_if_else(&three, &a, &b, &answers, &error), HV_COLUMN_LENGTH, 3, 2, 0);
+    CHECK(hv_not(&none, &answers, &error) == HV_NO_COLUMN && hv_is_null(&none, &answers, NULL) == HV_NO_COLUMN);
+    CHECK(hv_is_valid(&none, &answers, &error) == HV_NO_COLUMN);
+    CHECK(hv_if_else(&none, &a, &b, &answers, &error) == HV_NO_COLUMN);
+    CHECK(hv_if_else(&truths, &none, &b, &answers, &error) == HV_NO_COLUMN);
+    CHECK(hv_if_else(&truths, &a, &none, &answers, NULL) == HV_NO_COLUMN);
+    CHECK_ROWS(&answers, "8 8");
+    CHECK(hv_equals(&none, &a, &truth, &error) == HV_NO_COLUMN && hv_equals(&a, &none, &truth, NULL) == HV_NO_COLUMN);
+    hv_column more = HV_EMPTY;
+    CHECK(!hv_clone(&lists, &more, &error));
+    CHECK_REFUSED(hv_equals(&lists, &more, &truth, &error), HV_UNSUPPORTED, 0, 0, 0);
+    uint64_t hash = 9;
+    CHECK_REFUSED(hv_hash(&lists, &hash, &error), HV_UNSUPPORTED, 0, 0, 0);
+    CHECK(hv_hash(&none, &hash, &error) == HV_NO_COLUMN && hash == 9);
+    CHECK(!hv_equals(&lists, &a, &truth, &error) && truth == 0);
+    CHECK(!hv_equals(&three, &truths, &truth, &error) && truth == 0);
+    CHECK(!hv_equals(&longer, &truths, &truth, &error) && truth == 0);
+    CHECK(!hv_equals(&a, &b, &truth, &error) && truth == 1);
+    hv_free(&more);
+
+    hv_column *const all[] = {&a, &b, &longer, &lists, &truths, &three, &texts};
     for (size_t i = 0; i < COUNT(all); i++) hv_free(all[i]);
 }
 
@@ -321,6 +445,7 @@ int main(void) {
     check_ends();
     check_constants();
     check_kinds();
+    check_hashes();
     check_refusals();
     hv_free(&answers);
     printf("the rows of two columns are worked as a loop works them\n");

@@ -336,6 +336,20 @@ static int32_t sum_by_texts(void) { return summed(&texts); }
 static int32_t add_runs(void) { return hv_combine(&runs, HV_ADD, &flat, &out, &error); }
 static int32_t add_constants(void) { return hv_combine(&many, HV_ADD, &as_many, &out, &error); }
 static int32_t connect_runs(void) { return hv_combine(&truths, HV_OR, &truth_runs, &out, &error); }
+static int32_t pick_runs(void) { return hv_combine(&runs, HV_COALESCE, &flat, &out, &error); }
+static int32_t negate_runs(void) { return hv_not(&truth_runs, &out, &error); }
+static int32_t null_texts(void) { return hv_is_null(&texts, &out, &error); }
+static int32_t valid_runs(void) { return hv_is_valid(&runs, &out, &error); }
+static int32_t choose_runs(void) { return hv_if_else(&truths, &runs, &flat, &out, &error); }
+static int32_t equal_runs(void) {
+    uint8_t truth = 0;
+    const int32_t answer = hv_equals(&runs, &flat, &truth, &error);
+    CHECK(answer || truth == 1);
+    return answer;
+}
+static uint64_t hashed;
+static int32_t hash_runs(void) { return hv_hash(&runs, &hashed, &error); }
+static int32_t hash_texts(void) { return hv_hash(&texts, &hashed, &error); }
 static int32_t less_by_runs(void) { return hv_combine(&flat, HV_LT, &runs, &out, &error); }
 
 /* what is exported and imported again, as one step */
@@ -362,7 +376,8 @@ static const step steps[] = {
     NAMED(slice_runs), NAMED(slice_texts), NAMED(cast), NAMED(take), NAMED(take_texts), NAMED(filter),
     NAMED(filter_texts), NAMED(filter_by_runs), NAMED(take_by_runs), NAMED(take_from), NAMED(compare), NAMED(compare_scalar), NAMED(compare_text), NAMED(fill),
     NAMED(fill_text), NAMED(sum_by_runs), NAMED(sum_by_texts), NAMED(add_runs), NAMED(add_constants),
-    NAMED(connect_runs), NAMED(less_by_runs), NAMED(cast_constant), NAMED(compare_constants),
+    NAMED(connect_runs), NAMED(less_by_runs), NAMED(pick_runs), NAMED(negate_runs), NAMED(null_texts),
+    NAMED(valid_runs), NAMED(choose_runs), NAMED(equal_runs), NAMED(hash_runs), NAMED(hash_texts), NAMED(cast_constant), NAMED(compare_constants),
     NAMED(compare_constant), NAMED(fill_constant), NAMED(filter_constant), NAMED(sum), NAMED(is_constant),
     NAMED(is_sorted), NAMED(extreme), NAMED(extreme_text),
     NAMED(min_max_numbers),

@@ -307,6 +307,18 @@ static void check_pairs() {
     CHECK(are(a & b, Truths{false, false, false, false, true, none, false, none, none}));
     CHECK(are(a | b, Truths{false, true, none, true, true, true, none, true, none}));
     CHECK(rows_of(~a) == rows_of(Column::of(Truths{true, true, true, false, false, false, none, none, none})));
+    CHECK(are(left.combine(hv::Pairing::coalesce, right), Rows{4, 4, 1, 7, 7}));
+    CHECK(are(left.combine(hv::Pairing::lesser, right), Rows{1, 1, none, none, -9}));
+    CHECK(are(left.combine(hv::Pairing::greater, right), Rows{4, 4, none, none, 7}));
+    CHECK(are(left.is_null(), std::vector<bool>{false, false, true, false, false}));
+    CHECK(are(right.is_valid(), std::vector<bool>{true, true, true, false, true}));
+    CHECK(are(left.less_than(5).choose(left, right), Rows{4, 4, none, none, -9}));
+    CHECK(are(left.is_null().choose(right, left), Rows{4, 4, 1, 7, 7}));
+    check_refused(HV_UNSUPPORTED, "i16? has no opposites", [&] { (void)~left; });
+
+    // the SipHash-1-3 of another program
+    const Column hashed = Column::of(std::vector<std::optional<int64_t>>{4, 4, none, -7});
+    CHECK(hashed.hash_rows() == 8325595506498645118u && hashed.encode().hash_rows() == hashed.hash_rows());
     const Column many = Column::constant(hv::kinds::u8, 7, size_t{1} << 60);
     CHECK((many + many).form() == hv::Form::constant && (many + many).at(9) == Value(uint64_t{14}));
 

@@ -78,6 +78,12 @@ CALLS: dict[str, tuple[list[Any], Any]] = {
         POINTER(Session), POINTER(Handle), POINTER(Value), c_char_p, c_size_t, POINTER(Handle), POINTER(Fields),
     ], c_int32),
     "hv_combine": ([POINTER(Handle), c_uint8, POINTER(Handle), POINTER(Handle), POINTER(Fields)], c_int32),
+    "hv_not": ([POINTER(Handle), POINTER(Handle), POINTER(Fields)], c_int32),
+    "hv_is_null": ([POINTER(Handle), POINTER(Handle), POINTER(Fields)], c_int32),
+    "hv_is_valid": ([POINTER(Handle), POINTER(Handle), POINTER(Fields)], c_int32),
+    "hv_if_else": ([POINTER(Handle), POINTER(Handle), POINTER(Handle), POINTER(Handle), POINTER(Fields)], c_int32),
+    "hv_equals": ([POINTER(Handle), POINTER(Handle), POINTER(c_uint8), POINTER(Fields)], c_int32),
+    "hv_hash": ([POINTER(Handle), POINTER(c_uint64), POINTER(Fields)], c_int32),
     "hv_fold_by": ([
         POINTER(Handle), POINTER(Handle), c_uint8, POINTER(Handle), POINTER(Handle), POINTER(Fields),
     ], c_int32),

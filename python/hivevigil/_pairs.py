@@ -15,7 +15,10 @@ if TYPE_CHECKING:
     from .column import Column
 
 # each with its number in hivevigil.h, and what a sentence says was not done
-SIGNS = {"+": (6, "added"), "-": (7, "subtracted"), "*": (8, "multiplied"), "&": (9, "connected"), "|": (10, "connected")}
+SIGNS = {
+    "+": (6, "added"), "-": (7, "subtracted"), "*": (8, "multiplied"), "&": (9, "connected"), "|": (10, "connected"),
+    "coalesce": (11, "picked from"), "lesser": (12, "picked from"), "greater": (13, "picked from"),
+}
 
 
 class Pairs:
@@ -67,7 +70,7 @@ class Pairs:
         column: Any = self
         if not column.type.startswith("bool"):
             raise Unsupported().saying(f"~ is of booleans, not of {column.type}")
-        return column.eq(False)  # type: ignore[no-any-return]
+        return column._made(calls.hv_not, column)  # type: ignore[no-any-return]
 
 
 def worked(column: Any, sign: str, other: Any, is_left: bool = True) -> Column:

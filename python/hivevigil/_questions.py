@@ -58,6 +58,13 @@ def truth(column: Column, call: Any, *arguments: Any) -> bool:
     return bool(answer.value)
 
 
+def row_hash(column: Column) -> int:
+    """The hash of the rows."""
+    answer = ctypes.c_uint64()
+    ask(calls.hv_hash, column._there(), answer)
+    return answer.value
+
+
 def value_of(column: Column, call: Any, *arguments: Any) -> Scalar:
     """A value, asked for again with more room where its text has none."""
     room = 64

@@ -4,13 +4,14 @@ Each run is looked at once, so that time goes by runs; of a flat column its rows
 """
 from __future__ import annotations
 
+import ctypes
 from typing import TYPE_CHECKING, Any
 
 from . import _lists
 from ._indexing import mask_of
-from ._library import calls
+from ._library import ask, calls
 from ._making import listed
-from ._types import text_of
+from ._types import WHOLE_NUMBERS, text_of
 from ._values import is_missing, whole
 from .errors import MaskLength, TypeMismatch, Unsupported
 
@@ -19,10 +20,10 @@ if TYPE_CHECKING:
 
 
 def is_valid(column: Column) -> Column:
-    """Whether each row is not null: a row is equal to itself, or null."""
+    """Whether each row is not null."""
     if _lists.is_list(column):
         return column._made(calls.hv_list_validity, column if column.form == "lists" else column.decode())
-    return column.eq(column).fill(False)
+    return column._made(calls.hv_is_valid, column)
 
 
 def chosen(column: Column, mask: Any, other: Any) -> Column:
@@ -36,8 +37,20 @@ def chosen(column: Column, mask: Any, other: Any) -> Column:
         raise TypeMismatch().saying(f"where: {left} and {right} are two types; rows of one type are chosen from")
     kind = column._kind
     kind.nullable = kind.nullable or beside._kind.nullable
+    if left in (*WHOLE_NUMBERS, "bool"):
+        known = flags.fill(False) if flags.nullable else flags
+        picked = column._made(calls.hv_if_else, known, *_apart(known, column, beside))
+        return picked if kind.nullable else picked.cast(text_of(kind))
     sides = [each if bytes(each._kind) == bytes(kind) else each.cast(text_of(kind)) for each in (beside, column)]
     return _joined(text_of(kind), ((sides[value is True], start, stop) for start, stop, value in flags.runs()))
+
+
+def _apart(*columns: Column) -> list[Column]:
+    """The columns after the first, which one call is lent: each is another object than those before it."""
+    found: list[Column] = []
+    for place, column in enumerate(columns):
+        found.append(column.copy() if any(column is before for before in columns[:place]) else column)
+    return found[1:]
 
 
 def _joined(type: str, parts: Any) -> Column:
@@ -91,12 +104,14 @@ def shifted(column: Column, rows: Any) -> Column:
 
 
 def is_same(column: Column, other: Column) -> bool:
-    """Whether type and rows are the same, whatever the forms: the encodings of equal rows have the same bytes."""
+    """Whether type and rows are the same, whatever the forms, by the runs of both."""
     if column.type != other.type or column._length != other._length:
         return False
     if _lists.is_list(column):
         return column.to_list() == other.to_list()
-    return column.to_runs().to_bytes() == other.to_runs().to_bytes()
+    answer = ctypes.c_uint8()
+    ask(calls.hv_equals, column, column._beside(other), answer)
+    return bool(answer.value)
 
 
 def truths_of(column: Column, call: str) -> Column:

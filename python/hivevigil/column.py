@@ -295,7 +295,7 @@ class Column(_comparing.Comparisons, _pairs.Pairs):
 
     def is_null(self) -> Column:
         """Whether each row is null: a mask without null."""
-        return ~self.is_valid()
+        return ~self.is_valid() if _lists.is_list(self) else self._made(calls.hv_is_null, self)
 
     def is_valid(self) -> Column:
         """Whether each row is not null: a mask without null."""
@@ -309,6 +309,19 @@ class Column(_comparing.Comparisons, _pairs.Pairs):
         """The row where the mask is true, and else that of `other`, a column of the same type or one value; a null in
         the mask chooses the other."""
         return _rows.chosen(self, mask, other)
+
+    def coalesce(self, other: Any) -> Column:
+        """The row, or where it is null that of another column of integers or booleans, or one value."""
+        return _pairs.worked(self, "coalesce", other)
+
+    def lesser(self, other: Any) -> Column:
+        """The lesser of the row and that of another column of integers or booleans, or one value; null where either
+        is null. `min()` is the least of all rows."""
+        return _pairs.worked(self, "lesser", other)
+
+    def greater(self, other: Any) -> Column:
+        """The greater of the two, in the same way."""
+        return _pairs.worked(self, "greater", other)
 
     def isin(self, values: Any) -> Column:
         """Whether each row is one of some values: a mask without null. A null row is where None is among them."""
@@ -429,6 +442,10 @@ class Column(_comparing.Comparisons, _pairs.Pairs):
     def unique(self) -> Column:
         """Each value that a row has, null too, in the order of their first rows."""
         return _rows.counted(self)[0]
+
+    def hash_rows(self) -> int:
+        """A hash of the rows, 64 bits, the same for all columns with these rows, in whatever forms and types."""
+        return _questions.row_hash(self)
 
     def is_constant(self) -> bool:
         """Whether all rows are equal, null equal to null."""

@@ -1,6 +1,7 @@
 """Two columns worked place by place answer as Python has the rows; so do the methods that go by runs."""
 import operator
 from collections import Counter
+from decimal import Decimal
 
 import pytest
 from hivevigil import Column, errors
@@ -87,6 +88,86 @@ def test_booleans(sample):
         assert (left & value).to_list() == (value & left).to_list() == [BOTH.get((row, value)) for row in lefts]
         assert (left | value).to_list() == (value | left).to_list() == [EITHER.get((row, value)) for row in lefts]
     assert left.any() == (True in lefts) and left.all() == (False not in lefts)
+
+
+PICK = {
+    "coalesce": lambda a, b: b if a is None else a,
+    "lesser": lambda a, b: None if None in (a, b) else min(a, b),
+    "greater": lambda a, b: None if None in (a, b) else max(a, b),
+}  # fmt: skip
+
+
+@given(two((*BITS, "bool")), st.sampled_from(list(PICK)))
+def test_picked_rows(sample, name):
+    left, right, lefts, rights, type_of_rows = sample
+    found = getattr(left, name)(right)
+    assert found.to_list() == [PICK[name](*pair) for pair in zip(lefts, rights)]
+    assert found.type.rstrip("?") == type_of_rows and found.form in ("runs", "constant")
+    for value in {*rights, 1}:
+        if value is not None:
+            assert getattr(left, name)(bool(value) if type_of_rows == "bool" else value).to_list() == [
+                PICK[name](row, value) for row in lefts
+            ]
+
+
+WORD = 2**64 - 1
+
+
+def turned(word, bits):
+    return (word << bits | word >> 64 - bits) & WORD
+
+
+def mixed(a, b, c, d, rounds):
+    for _round in range(rounds):
+        a, c = a + b & WORD, c + d & WORD
+        b, d = turned(b, 13) ^ a, turned(d, 16) ^ c
+        a = turned(a, 32)
+        a, c = a + d & WORD, c + b & WORD
+        d, b = turned(d, 21) ^ a, turned(b, 17) ^ c
+        c = turned(c, 32)
+    return a, b, c, d
+
+
+def siphash(data):
+    """The SipHash-1-3 of bytes, with keys 0."""
+    state = tuple(int.from_bytes(word, "big") for word in (b"somepseu", b"dorandom", b"lygenera", b"tedbytes"))
+    padded = data + bytes(7 - len(data) % 8) + bytes([len(data) & 255])
+    for at in range(0, len(padded), 8):
+        word = int.from_bytes(padded[at : at + 8], "little")
+        a, b, c, d = mixed(*state[:3], state[3] ^ word, 1)
+        state = a ^ word, b, c, d
+    a, b, c, d = mixed(*state[:2], state[2] ^ 255, state[3], 3)
+    return a ^ b ^ c ^ d
+
+
+def bytes_of(row):
+    """The number of a kind, and the value."""
+    if row is None:
+        return b"\0"
+    if isinstance(row, bool):
+        return bytes([1, row])
+    if isinstance(row, int):
+        return b"\2" + row.to_bytes(16, "little", signed=True)
+    if isinstance(row, Decimal):
+        return b"\3" + int(row.scaleb(-row.as_tuple().exponent)).to_bytes(16, "little", signed=True)
+    if isinstance(row, str):
+        return b"\4" + row.encode() + b"\xff"
+    return b"\5" + len(row).to_bytes(8, "little") + row
+
+
+@given(samples())
+def test_hashes(sample):
+    column, rows = sample.column, sample.rows
+    stops = [stop for stop in range(1, len(rows) + 1) if stop == len(rows) or rows[stop] != rows[stop - 1]]
+    due = siphash(b"".join(stop.to_bytes(8, "little") + bytes_of(rows[stop - 1]) for stop in stops))
+    assert column.hash_rows() == due
+    assert column.to_runs().hash_rows() == column.decode().hash_rows() == due
+
+
+def test_hashes_of_many_rows():
+    assert Column.constant(7, 2**40, "u8").hash_rows() == siphash((2**40).to_bytes(8, "little") + bytes_of(7))
+    with pytest.raises(errors.Unsupported):
+        Column.from_lists([1, 2], [0, 1], [1, 1]).hash_rows()
 
 
 @given(samples())
@@ -176,6 +257,7 @@ def test_constants_of_many_rows():
         (lambda one: one - Column.of(["a"] * 3), errors.Unsupported, "i64 and utf8 are not subtracted"),
         (lambda one: one & one, errors.Unsupported, "i64 and i64 are not connected"),
         (lambda one: one | True, TypeError, "a value of type i64 is an integer, not True"),
+        (lambda one: Column.of(["a"]).coalesce("b"), errors.Unsupported, "utf8 and utf8 are not picked from"),
         (lambda one: ~one, errors.Unsupported, "~ is of booleans, not of i64"),
         (lambda one: one + 2**70, OverflowError, f"{2**70} does not fit i64"),
         (lambda one: 1.5 * one, TypeError, "a value of type i64 is an integer, not 1.5: floating-point numbers are not "

@@ -201,7 +201,7 @@ COLUMNS = [
 ]
 METHODS = (
     "eq", "lt", "fill", "take", "filter", "take_from", "cast", "at", "__getitem__", "__contains__", "blocks",
-    "to_numpy", "to_arrow", "__eq__", "__lt__", "__add__", "__rsub__", "__and__", "isin", "shift", "equals",
+    "to_numpy", "to_arrow", "__eq__", "__lt__", "__add__", "__rsub__", "__and__", "isin", "shift", "equals", "coalesce",
 )
 
 

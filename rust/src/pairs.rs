@@ -1,5 +1,7 @@
 //! The rows of two columns worked place by place.
+use crate::column::turn_of;
 use crate::{raw, Column, Error, ErrorKind, Operator, Value};
+use std::ptr;
 
 /// Says what the two rows at a place give, by the numbers of `hivevigil.h`.
 #[derive(Clone, Copy, PartialEq, Eq)]
@@ -9,6 +11,9 @@ enum Pairing {
     Multiply = 8,
     And = 9,
     Or = 10,
+    Coalesce = 11,
+    Lesser = 12,
+    Greater = 13,
 }
 
 impl Pairing {
@@ -19,6 +24,7 @@ impl Pairing {
             Pairing::Subtract => "are not subtracted",
             Pairing::Multiply => "are not multiplied",
             Pairing::And | Pairing::Or => "are not connected",
+            Pairing::Coalesce | Pairing::Lesser | Pairing::Greater => "are not picked from",
         }
     }
 
@@ -82,7 +88,72 @@ impl Column {
         self.paired(Pairing::Or, right)
     }
 
-    /// Returns the other boolean of each row, null for null. Refused as `TypeMismatch` unless the rows are booleans.
+    /// Returns the left row at each place, or the right one where that is null. Refused as `Unsupported` unless both
+    /// columns are of integers or of booleans, and as `TypeMismatch` for two types.
+    ///
+    /// ```
+    /// use hivevigil::Column;
+    /// let rows = Column::try_from([Some(4i64), None])?.coalesce(&Column::new(&[7i64, 9])?)?;
+    /// assert_eq!(rows.numbers::<i64>()?, [4, 9]);
+    /// # Ok::<(), hivevigil::Error>(())
+    /// ```
+    pub fn coalesce(&self, right: &Column) -> Result<Column, Error> {
+        self.paired(Pairing::Coalesce, right)
+    }
+
+    /// Returns the lesser row at each place, null where either is null; refused as [`Column::coalesce`].
+    pub fn lesser(&self, right: &Column) -> Result<Column, Error> {
+        self.paired(Pairing::Lesser, right)
+    }
+
+    /// Returns the greater row at each place, null where either is null; refused as [`Column::coalesce`].
+    pub fn greater(&self, right: &Column) -> Result<Column, Error> {
+        self.paired(Pairing::Greater, right)
+    }
+
+    /// Says whether each row is null, in booleans without null. Refused as `Unsupported` for lists.
+    pub fn is_null(&self) -> Result<Column, Error> {
+        self.part(|column, out, fields| unsafe { raw::hv_is_null(column, out, fields) })
+    }
+
+    /// Says whether each row is not null, in booleans without null. Refused as `Unsupported` for lists.
+    pub fn is_valid(&self) -> Result<Column, Error> {
+        self.part(|column, out, fields| unsafe { raw::hv_is_valid(column, out, fields) })
+    }
+
+    /// Returns the left row where this mask is true, the right one where it is false, and null where it is null.
+    /// Refused as `Unsupported` unless this column is of booleans and the others are of integers or of booleans, then as
+    /// `TypeMismatch` for two types, then as `ColumnLength`.
+    ///
+    /// ```
+    /// use hivevigil::{Column, Value};
+    /// let mask = Column::try_from([Some(true), Some(false), None])?;
+    /// let rows = mask.choose(&Column::new(&[1i64, 2, 3])?, &Column::new(&[7i64, 8, 9])?)?;
+    /// let due = [Value::Signed(1), Value::Signed(8), Value::Null];
+    /// assert_eq!(rows.rows().collect::<Result<Vec<_>, _>>()?, due);
+    /// # Ok::<(), hivevigil::Error>(())
+    /// ```
+    pub fn choose(&self, left: &Column, right: &Column) -> Result<Column, Error> {
+        if ptr::eq(left, self) || ptr::eq(left, right) {
+            return self.choose(&left.try_clone()?, right);
+        }
+        if ptr::eq(right, self) {
+            return self.choose(left, &right.try_clone()?);
+        }
+        let _turn = turn_of(&[self, left, right]);
+        Column::made(|out, fields| unsafe {
+            let (mask, left, right) = (self.handle.get(), left.handle.get(), right.handle.get());
+            raw::hv_if_else(mask, left, right, out, fields)
+        })
+        .map_err(|error| match error.kind() {
+            Some(ErrorKind::TypeMismatch) => {
+                error.of_pair(left.kind(), right.kind(), "are not chosen from")
+            }
+            _ => error,
+        })
+    }
+
+    /// Returns the other boolean of each row, null for null. Refused as `Unsupported` unless the rows are booleans.
     ///
     /// ```
     /// use hivevigil::{Column, Value};
@@ -91,7 +162,15 @@ impl Column {
     /// # Ok::<(), hivevigil::Error>(())
     /// ```
     pub fn not(&self) -> Result<Column, Error> {
-        self.compare_value(Operator::Equal, false)
+        self.part(|column, out, fields| unsafe { raw::hv_not(column, out, fields) })
+            .map_err(|error| {
+                error.about(
+                    ErrorKind::Unsupported,
+                    self.kind(),
+                    "has no opposites",
+                    None,
+                )
+            })
     }
 
     /// Says whether the two rows at each place are equal, null where either is null. Refused as `Unsupported` for lists

@@ -123,6 +123,20 @@ impl Column {
         Ok(truth != 0)
     }
 
+    /// Returns a hash of the rows, the same for all columns with these rows, in whatever forms and of whatever types.
+    /// Refused as `Unsupported` for lists.
+    ///
+    /// ```
+    /// let flat = hivevigil::Column::try_from([4i64, 4, 4, 9])?;
+    /// assert_eq!(flat.hash_rows()?, flat.encode()?.hash_rows()?);
+    /// # Ok::<(), hivevigil::Error>(())
+    /// ```
+    pub fn hash_rows(&self) -> Result<u64, Error> {
+        let mut hash = 0;
+        ask(|fields| unsafe { raw::hv_hash(self.handle.get(), &mut hash, fields) })?;
+        Ok(hash)
+    }
+
     /// Finds the least row that is not null; `Null` where there is none.
     pub fn least(&self) -> Result<Value, Error> {
         self.extreme(0)

@@ -287,6 +287,23 @@ extern "C" {
         out: *mut Handle,
         error: *mut Fields,
     ) -> i32;
+    pub fn hv_not(column: *mut Handle, out: *mut Handle, error: *mut Fields) -> i32;
+    pub fn hv_is_null(column: *mut Handle, out: *mut Handle, error: *mut Fields) -> i32;
+    pub fn hv_is_valid(column: *mut Handle, out: *mut Handle, error: *mut Fields) -> i32;
+    pub fn hv_if_else(
+        mask: *mut Handle,
+        left: *mut Handle,
+        right: *mut Handle,
+        out: *mut Handle,
+        error: *mut Fields,
+    ) -> i32;
+    pub fn hv_equals(
+        left: *mut Handle,
+        right: *mut Handle,
+        truth: *mut u8,
+        error: *mut Fields,
+    ) -> i32;
+    pub fn hv_hash(column: *mut Handle, hash: *mut u64, error: *mut Fields) -> i32;
     pub fn hv_fold_by(
         keys: *mut Handle,
         values: *mut Handle,

@@ -5,6 +5,7 @@ type Rows<T> = Vec<Option<T>>;
 type Call = fn(&Column, &Column) -> Result<Column, Error>;
 type Give = fn(i16, i16) -> i16;
 type Holds = fn(&str, &str) -> bool;
+type Pick = fn(Option<i8>, Option<i8>) -> Option<i8>;
 
 fn next(seed: &mut u64) -> u64 {
     *seed = seed
@@ -160,6 +161,47 @@ fn booleans_are_connected_where_null_is_unknown() -> Result<(), Error> {
 }
 
 #[test]
+fn rows_are_picked_as_a_loop_picks_them() -> Result<(), Error> {
+    let (mut seed, items) = (9, [0i8, 1, 2, 127, -128]);
+    let calls: [(Call, Pick); 3] = [
+        (Column::coalesce, |a, b| a.or(b)),
+        (Column::lesser, |a, b| Some(a?.min(b?))),
+        (Column::greater, |a, b| Some(a?.max(b?))),
+    ];
+    let shown_as = |row: Option<i8>| row.map_or(Value::Null, |n| Value::Signed(n.into()));
+    for trial in 0..100 {
+        let count = trial % 40;
+        let rows: [Rows<i8>; 2] = [(); 2].map(|()| random_rows(&mut seed, count, &items));
+        let flags = random_rows(&mut seed, count, &[true, false]);
+        let left = formed(&mut seed, Column::try_from(rows[0].clone())?)?;
+        let right = formed(&mut seed, Column::try_from(rows[1].clone())?)?;
+        for (call, pick) in calls {
+            let due = (0..count).map(|at| shown_as(pick(rows[0][at], rows[1][at])));
+            check_due(call, &left, &right, due.collect(), Kind::I8)?;
+        }
+        let mask = formed(&mut seed, Column::try_from(flags.clone())?)?;
+        let due: Vec<Value> = (0..count)
+            .map(|at| shown_as(flags[at].and_then(|flag| rows[usize::from(!flag)][at])))
+            .collect();
+        assert_eq!(shown(&mask.choose(&left, &right)?)?, due);
+        let nulls: Vec<Value> = rows[0]
+            .iter()
+            .map(|row| Value::Truth(row.is_none()))
+            .collect();
+        assert_eq!(
+            (shown(&left.is_null()?)?, left.is_null()?.kind()),
+            (nulls, Kind::BOOL)
+        );
+        let valid: Vec<Value> = rows[0]
+            .iter()
+            .map(|row| Value::Truth(row.is_some()))
+            .collect();
+        assert_eq!(shown(&left.is_valid()?)?, valid);
+    }
+    Ok(())
+}
+
+#[test]
 fn a_column_with_itself_and_constants() -> Result<(), Error> {
     let column = Column::new(&[3u8, 3, 15])?;
     let squares = column.checked_mul(&column)?;
@@ -207,6 +249,17 @@ fn refusals_are_in_words() -> Result<(), Error> {
             words("a length of 2 next to one of 1")
         )
     );
-    assert_eq!(said(numbers.not()).0, mismatch);
+    assert_eq!(
+        said(numbers.not()),
+        (unsupported, words("u8 has no opposites"))
+    );
+    assert_eq!(
+        said(numbers.coalesce(&Column::try_from(["a", "b"])?)),
+        (unsupported, words("u8 and utf8 are not picked from"))
+    );
+    assert_eq!(
+        said(truths.choose(&numbers, &wide)),
+        (mismatch, words("u8 and i64 are not chosen from"))
+    );
     Ok(())
 }

@@ -76,3 +76,17 @@ fn copies_and_iterators_make_columns() -> Result<(), Error> {
     );
     Ok(())
 }
+
+#[test]
+fn hashes_are_those_of_another_program() -> Result<(), Error> {
+    let numbers = Column::try_from([Some(4i64), Some(4), None, Some(-7)])?;
+    let texts = Column::try_from(["Oslo", "Oslo", "Bergen"])?;
+    for (column, hash) in [
+        (numbers, 8325595506498645118),
+        (texts, 15208884167202354170),
+    ] {
+        assert_eq!(column.hash_rows(), Ok(hash));
+        assert_eq!(column.encode_rows()?.hash_rows(), Ok(hash));
+    }
+    Ok(())
+}

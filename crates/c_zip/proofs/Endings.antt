@@ -9,7 +9,7 @@ use Rattle.runend_zip.specs.declared.fault.ZipError.TheVariants.{Refused, Overfl
 use Rattle.c_columns.specs.Ending.{EndsBy}
 use Rattle.c_columns.specs.declared.error_fields.ErrorFields.{ErrorFields}
 use Rattle.c_columns.proofs.Endings.{ends_refused}
-use Rattle.c_zip.specs.Combined.{pair_fault, row_without, EndsByRow, EndsOnPairs, IsPairRefusal, IsToldAs}
+use Rattle.c_zip.specs.Combined.{pair_fault, row_without, EndsOnPairs, IsPairRefusal, IsToldAs}
 use Rattle.c_zip.specs.declared.operators.PairOperator.{PairOperator}
 
 abbrev Held : Type 0

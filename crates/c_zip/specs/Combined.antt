@@ -9,8 +9,8 @@ use Rattle.column_order.specs.Comparing.{compare_dtype, compared}
 use Rattle.column_order.specs.declared.operator.CompareOperator.TheVariants.{Eq, NotEq, Gt, Gte, Lt, Lte}
 use Rattle.runend_array.specs.Array.{column_of, dtype_of, rows}
 use Rattle.runend_array.specs.declared.array_ref.ArrayRef.{ArrayRef}
-use Rattle.runend_zip.specs.Faults.{boolean_fault, numeric_fault}
-use Rattle.runend_zip.specs.Operations.{boolean_of, numeric_dtype, numeric_of, ptype_in, IsNumberOrNull}
+use Rattle.runend_zip.specs.Faults.{boolean_fault, numeric_fault, pick_fault}
+use Rattle.runend_zip.specs.Operations.{boolean_of, extreme_dtype, first_valid, first_valid_dtype, greater, lesser, numeric_dtype, numeric_of, ptype_in, IsNumberOrNull}
 use Rattle.runend_zip.specs.Zipped.{are_constant, zip_rows, IsAnswerColumn, IsFirstWithout}
 use Rattle.runend_zip.specs.declared.booleans.BooleanOperator.TheVariants.{And, Or}
 use Rattle.runend_zip.specs.declared.fault.ZipError.{ZipError}
@@ -20,9 +20,9 @@ use Rattle.c_columns.specs.Ending.{AreFields, EndsBy, IsRefusedAs}
 use Rattle.c_columns.specs.TwoColumns.{beside_fault}
 use Rattle.c_columns.specs.declared.error_fields.ErrorFields.{ErrorFields}
 use Rattle.c_zip.specs.declared.operators.PairOperator.{PairOperator}
-use Rattle.c_zip.specs.declared.operators.PairOperator.TheVariants.{Compare, Calculate, Connect}
+use Rattle.c_zip.specs.declared.operators.PairOperator.TheVariants.{Compare, Calculate, Connect, Coalesce, Least, Greatest}
 
--- the operator of a number, from 0 to 10: comparisons have the numbers that they have where they are all that is asked
+-- the operator of a number, from 0 to 13: comparisons have the numbers that they have where they are all that is asked
 abbrev pub operator_numbered : ℕ → Option PairOperator
 operator_numbered zero = Some (Compare Eq)
 operator_numbered (suc zero) = Some (Compare NotEq)
@@ -35,19 +35,28 @@ operator_numbered (suc (suc (suc (suc (suc (suc (suc zero))))))) = Some (Calcula
 operator_numbered (suc (suc (suc (suc (suc (suc (suc (suc zero)))))))) = Some (Calculate Multiply)
 operator_numbered (suc (suc (suc (suc (suc (suc (suc (suc (suc zero))))))))) = Some (Connect And)
 operator_numbered (suc (suc (suc (suc (suc (suc (suc (suc (suc (suc zero)))))))))) = Some (Connect Or)
-operator_numbered (suc (suc (suc (suc (suc (suc (suc (suc (suc (suc (suc k))))))))))) = None
+operator_numbered (suc (suc (suc (suc (suc (suc (suc (suc (suc (suc (suc zero))))))))))) = Some Coalesce
+operator_numbered (suc (suc (suc (suc (suc (suc (suc (suc (suc (suc (suc (suc zero)))))))))))) = Some Least
+operator_numbered (suc (suc (suc (suc (suc (suc (suc (suc (suc (suc (suc (suc (suc zero))))))))))))) = Some Greatest
+operator_numbered (suc (suc (suc (suc (suc (suc (suc (suc (suc (suc (suc (suc (suc (suc k)))))))))))))) = None
 
 -- the answer of two rows, of which either may be null
 abbrev pub pair_answer : PairOperator → Option Value → Option Value → Option Value
 pair_answer (Compare operator) = compared operator
 pair_answer (Calculate operator) = numeric_of operator
 pair_answer (Connect operator) = boolean_of operator
+pair_answer Coalesce = first_valid
+pair_answer Least = lesser
+pair_answer Greatest = greater
 
 -- the type of the answers
 abbrev pub pair_dtype : PairOperator → DType → DType → DType
 pair_dtype (Compare operator) = compare_dtype
 pair_dtype (Calculate operator) = numeric_dtype
 pair_dtype (Connect operator) = compare_dtype
+pair_dtype Coalesce = first_valid_dtype
+pair_dtype Least = extreme_dtype
+pair_dtype Greatest = extreme_dtype
 
 -- the answers for the rows of two columns, in runs, as few as possible, or in a constant where both are constants
 abbrev pub AreCombined : PairOperator → ArrayRef Global → ArrayRef Global → ArrayRef Global → Type 0
@@ -59,12 +68,12 @@ abbrev pub pair_fault : PairOperator → ArrayRef Global → ArrayRef Global →
 pair_fault (Compare operator) left right = beside_fault left right
 pair_fault (Calculate operator) left right = numeric_fault (dtype_of left) (dtype_of right) (length (rows left)) (length (rows right))
 pair_fault (Connect operator) left right = boolean_fault (dtype_of left) (dtype_of right) (length (rows left)) (length (rows right))
+pair_fault operator left right = pick_fault (dtype_of left) (dtype_of right) (length (rows left)) (length (rows right))
 
 -- the first row whose answer the type of the left column does not have: only an integer can be too large
 abbrev pub row_without : PairOperator → ArrayRef Global → ArrayRef Global → ℕ → Type 0
 row_without (Calculate operator) left right row = IsFirstWithout (IsNumberOrNull (ptype_in (dtype_of left))) (zip_rows (numeric_of operator) (rows left) (rows right)) row
-row_without (Compare operator) left right row = ⊥
-row_without (Connect operator) left right row = ⊥
+row_without operator left right row = ⊥
 
 -- refused by the fault where there is one, else by such a row where there is one, and else for memory only
 abbrev pub IsPairRefusal : Option VortexError → (ℕ → Type 0) → ZipError → Type 0

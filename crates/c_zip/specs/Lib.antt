@@ -1,1 +1,5 @@
 pub mod Combined
+pub mod Tested
+pub mod Equal
+pub mod Chosen
+pub mod Hashed

@@ -7,12 +7,11 @@ use c_columns::flat::{Boxed, boxed};
 use c_columns::sessions::plain_context;
 use column_core::VortexError;
 use runend_array::ArrayRef;
-use runend_zip::{ZipError, boolean, compare, numeric};
+use runend_zip::{ZipError, boolean, coalesce, compare, greatest_of, least_of, numeric};
 use std::alloc::Global;
 
 /// Returns what the operator answers of the two rows at each place: a constant where both columns are constants that
-/// have a row, else runs, as few as possible. Refused as `compare`, `numeric` and `boolean` of `runend_zip` refuse, and
-/// for memory.
+/// have a row, else runs, as few as possible. Refused as the operations of `runend_zip` refuse, and for memory.
 pub fn combine(
     alloc: Global,
     left: &ArrayRef<Global>,
@@ -56,6 +55,18 @@ fn answers_of(
         PairOperator::Connect(operator) => {
             let truths = boolean(left, operator, right, &mut ctx)?;
             Ok(truths)
+        }
+        PairOperator::Coalesce => {
+            let rows = coalesce(left, right, &mut ctx)?;
+            Ok(rows)
+        }
+        PairOperator::Least => {
+            let rows = least_of(left, right, &mut ctx)?;
+            Ok(rows)
+        }
+        PairOperator::Greatest => {
+            let rows = greatest_of(left, right, &mut ctx)?;
+            Ok(rows)
         }
     }
 }

@@ -14,9 +14,16 @@ pub enum PairOperator {
     Calculate(NumericOperator),
     /// Connects booleans, where null is unknown.
     Connect(BooleanOperator),
+    /// Picks the left row, or the right one where that is null.
+    Coalesce,
+    /// Picks the lesser row, null where either is.
+    Least,
+    /// Picks the greater row, null where either is.
+    Greatest,
 }
 
-/// Returns the operator of a number: 0 to 5 compare, 6 to 8 add, subtract and multiply, 9 and 10 are `And` and `Or`.
+/// Returns the operator of a number: 0 to 5 compare, 6 to 8 add, subtract and multiply, 9 and 10 are `And` and `Or`,
+/// 11 to 13 pick a row: the first that is not null, the lesser, the greater.
 pub fn pair_operator_by(number: u8) -> Option<PairOperator>
     ensures { result ≡ operator_numbered number }
 {
@@ -32,6 +39,9 @@ pub fn pair_operator_by(number: u8) -> Option<PairOperator>
         8 => Some(PairOperator::Calculate(NumericOperator::Multiply)),
         9 => Some(PairOperator::Connect(BooleanOperator::And)),
         10 => Some(PairOperator::Connect(BooleanOperator::Or)),
+        11 => Some(PairOperator::Coalesce),
+        12 => Some(PairOperator::Least),
+        13 => Some(PairOperator::Greatest),
         _ => None,
     }
 }
