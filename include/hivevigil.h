@@ -349,6 +349,34 @@ HV_CALL size_t hv_offset(const hv_column *column);     /* for runs: how many row
  * memory. */
 HV_CALL size_t hv_bytes_used(const hv_column *column);
 
+/* ---- Floats ----
+ * Floats of 16, 32 and 64 bits are columns of their keys, in i16, i32 and i64: a key is the place of a float in the
+ * total order of IEEE 754, counted from 0.0, so slices, filters, fills, bytes and so on of these integers are those of
+ * the floats. Bits are the patterns of floats, in u16, u32 and u64, as memcpy makes them of a float. In calls that take
+ * is_ieee, 1 compares numbers by IEEE 754, so that 0.0 equals -0.0, and NaN differs from every number, itself too; 0
+ * takes the total order, in which only equal bits are equal, -0.0 is below 0.0, and NaNs lie below and above all
+ * numbers, by their signs. */
+/* the floats with these bits, in as few runs as possible: as they are, or, where is_canonical is not 0, with one zero
+ * and one NaN in place of all; 12 unless the bits are u16, u32 or u64, which takes no memory, 21 */
+HV_ANSWER hv_float_encode(const hv_column *bits, uint8_t is_canonical, hv_column *out, hv_error *error);
+/* their bits, flat, null where the row is; 12 unless the column is of i16, i32 or i64, which takes no memory, 21 */
+HV_ANSWER hv_float_decode(const hv_column *floats, hv_column *out, hv_error *error);
+/* row by row whether `float operator constant`, null where the row is; the constant is given by its bits, of the width
+ * of the column. 12 as above, then 14 for a constant with more bits, both of which take no memory, 21; 23 for no
+ * operator */
+HV_ANSWER hv_float_compare(const hv_column *floats, uint8_t operator_, uint64_t constant, uint8_t is_ieee,
+                           hv_column *out, hv_error *error);
+/* row `row`, which takes no memory: 1 and its bits, or 0 twice for null; 12 as above, then 8 (row, length) */
+HV_ANSWER hv_float_at(const hv_column *floats, size_t row, uint8_t *is_valid, uint64_t *bits, hv_error *error);
+/* the least and the greatest float that is not null, with is_ieee only of numbers, where -0.0 is below 0.0: 1 and the
+ * bits of both, or 0 three times where there is none; 12 as above, 21 */
+HV_ANSWER hv_float_min_max(const hv_column *floats, uint8_t is_ieee, uint8_t *is_found, uint64_t *least,
+                           uint64_t *greatest, hv_error *error);
+/* how many rows are not null, and the bits of their exact sum, rounded once to the nearest float: a NaN where a row is
+ * one or both infinities are rows, an infinity past the finite floats, -0.0 where there are rows and all are -0.0. Only
+ * of floats of 64 bits: 12 unless the column is of i64, which takes no memory, 21 */
+HV_ANSWER hv_float_sum(const hv_column *floats, uint64_t *count, uint64_t *bits, hv_error *error);
+
 /* ---- Reading many rows ----
  * These calls read columns in any form. Reading a flat column takes no memory, and what is stored under null is read as
  * it is. In any other form only these rows are written flat first, which may be refused as 21; under null there may be

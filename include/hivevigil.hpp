@@ -18,6 +18,7 @@ namespace hv {
 
 class Runs;
 enum class SplitBy { rows, runs };
+template <class T> class Floats;
 
 class Column {
 public:
@@ -427,6 +428,8 @@ public:
     hv_column *raw() const { return &handle; }
 
 private:
+    template <class T> friend class Floats;
+
     mutable hv_column handle = HV_EMPTY; // a call that reads takes the column out and puts it back
 
     template <class Call, class... Words> static Column made(Call call, Words... words) {
@@ -502,4 +505,5 @@ private:
 #include "hivevigil_spans.hpp"
 #include "hivevigil_builder.hpp"
 #include "hivevigil_pairs.hpp"
+#include "hivevigil_floats.hpp"
 #endif

@@ -16,10 +16,10 @@
  * DECIMALS are not tested against their precision, here as in every call of hivevigil.h: 123.45 in an array of
  * "d:4,2", which Arrow does not allow, comes in and goes out as the number that it is.
  *
- * FLOATING-POINT numbers are not values of this library. Only hv_arrow_import_bits takes them, as integers without sign
- * of the same bits, and hv_arrow_export_bits gives them back: equal bits are equal rows (so 0.0 and -0.0 differ, and a
- * NaN equals the same NaN), while sums, order, least and greatest of such a column are those of the integers and say
- * nothing of the floats.
+ * FLOATING-POINT numbers come in by hv_arrow_import_bits, as integers without sign of the same bits, and go out by
+ * hv_arrow_export_bits: equal bits are equal rows (so 0.0 and -0.0 differ, and a NaN equals the same NaN), while sums,
+ * order, least and greatest of such a column are those of the integers and say nothing of the floats. hv_float_encode
+ * makes a column of floats of the bits, and hv_float_decode bits again.
  *
  * Columns that are lent in an array may be lent by copies of their handles, which are not used after the call.
  *

@@ -295,6 +295,34 @@ HV_CALL size_t hv_bytes_used(const hv_column *column) {
     return (hv_bytes_used)(hv_lent(column));
 }
 
+/* Floats */
+HV_ANSWER hv_float_encode(const hv_column *bits, uint8_t is_canonical, hv_column *out, hv_error *error) {
+    hv_error ignored;
+    return (hv_float_encode)(hv_lent(bits), is_canonical, out, HV_FIELDS);
+}
+HV_ANSWER hv_float_decode(const hv_column *floats, hv_column *out, hv_error *error) {
+    hv_error ignored;
+    return (hv_float_decode)(hv_lent(floats), out, HV_FIELDS);
+}
+HV_ANSWER hv_float_compare(const hv_column *floats, uint8_t operator_, uint64_t constant, uint8_t is_ieee,
+                           hv_column *out, hv_error *error) {
+    hv_error ignored;
+    return (hv_float_compare)(hv_lent(floats), operator_, constant, is_ieee, out, HV_FIELDS);
+}
+HV_ANSWER hv_float_at(const hv_column *floats, size_t row, uint8_t *is_valid, uint64_t *bits, hv_error *error) {
+    hv_error ignored;
+    return (hv_float_at)(hv_lent(floats), row, is_valid, bits, HV_FIELDS);
+}
+HV_ANSWER hv_float_min_max(const hv_column *floats, uint8_t is_ieee, uint8_t *is_found, uint64_t *least,
+                           uint64_t *greatest, hv_error *error) {
+    hv_error ignored;
+    return (hv_float_min_max)(hv_lent(floats), is_ieee, is_found, least, greatest, HV_FIELDS);
+}
+HV_ANSWER hv_float_sum(const hv_column *floats, uint64_t *count, uint64_t *bits, hv_error *error) {
+    hv_error ignored;
+    return (hv_float_sum)(hv_lent(floats), count, bits, HV_FIELDS);
+}
+
 /* Reading many rows */
 HV_ANSWER hv_read_u8(const hv_column *column, size_t start, uint8_t *items, size_t len, hv_error *error) {
     hv_error ignored;

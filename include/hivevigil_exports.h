@@ -115,6 +115,16 @@ HV_EXPORT uint8_t hv_form(hv_column *column);
 HV_EXPORT size_t hv_offset(hv_column *column);
 HV_EXPORT size_t hv_bytes_used(hv_column *column);
 
+/* Floats */
+HV_EXPORT int32_t hv_float_encode(hv_column *bits, uint8_t is_canonical, hv_column *out, hv_error *error);
+HV_EXPORT int32_t hv_float_decode(hv_column *floats, hv_column *out, hv_error *error);
+HV_EXPORT int32_t hv_float_compare(hv_column *floats, uint8_t operator_, uint64_t constant, uint8_t is_ieee,
+                                   hv_column *out, hv_error *error);
+HV_EXPORT int32_t hv_float_at(hv_column *floats, size_t row, uint8_t *is_valid, uint64_t *bits, hv_error *error);
+HV_EXPORT int32_t hv_float_min_max(hv_column *floats, uint8_t is_ieee, uint8_t *is_found, uint64_t *least,
+                                   uint64_t *greatest, hv_error *error);
+HV_EXPORT int32_t hv_float_sum(hv_column *floats, uint64_t *count, uint64_t *bits, hv_error *error);
+
 /* Reading many rows */
 HV_EXPORT int32_t hv_read_u8(hv_column *column, size_t start, uint8_t *items, size_t len, hv_error *error);
 HV_EXPORT int32_t hv_read_u16(hv_column *column, size_t start, uint16_t *items, size_t len, hv_error *error);
@@ -219,6 +229,12 @@ HV_EXPORT void hv_free(hv_column *column);
 #define hv_form(...) hv_call_form(__VA_ARGS__)
 #define hv_offset(...) hv_call_offset(__VA_ARGS__)
 #define hv_bytes_used(...) hv_call_bytes_used(__VA_ARGS__)
+#define hv_float_encode(...) hv_call_float_encode(__VA_ARGS__)
+#define hv_float_decode(...) hv_call_float_decode(__VA_ARGS__)
+#define hv_float_compare(...) hv_call_float_compare(__VA_ARGS__)
+#define hv_float_at(...) hv_call_float_at(__VA_ARGS__)
+#define hv_float_min_max(...) hv_call_float_min_max(__VA_ARGS__)
+#define hv_float_sum(...) hv_call_float_sum(__VA_ARGS__)
 #define hv_read_u8(...) hv_call_read_u8(__VA_ARGS__)
 #define hv_read_u16(...) hv_call_read_u16(__VA_ARGS__)
 #define hv_read_u32(...) hv_call_read_u32(__VA_ARGS__)

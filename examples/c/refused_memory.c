@@ -180,6 +180,16 @@ STEP(compare_scalar, hv_compare_scalar(&session, &runs, HV_GT, &five, NO_TEXT, &
 STEP(compare_text, hv_compare_scalar(&session, &texts, HV_GT, &letter, letters, 1, &out, &error))
 STEP(fill, hv_fill(&session, &runs, &five, NO_TEXT, &out, &error))
 STEP(fill_text, hv_fill(&session, &texts, &letter, letters, 1, &out, &error))
+/* the places are bits of floats of 16 bits, and the numbers are keys of floats of 64 */
+STEP(make_floats, hv_float_encode(&places, 1, &out, &error))
+STEP(make_floats_of_runs, hv_float_encode(&place_runs, 0, &out, &error))
+STEP(decode_floats, hv_float_decode(&runs, &out, &error))
+STEP(compare_floats, hv_float_compare(&runs, HV_LT, 7, 1, &out, &error))
+STEP(order_floats, hv_float_compare(&part, HV_LT, 7, 0, &out, &error))
+STEP(least_float, hv_float_min_max(&part, 1, &truth, words, words + 1, &error))
+STEP(first_float, hv_float_min_max(&flat, 0, &truth, words, words + 1, &error))
+STEP(sum_floats, hv_float_sum(&part, words, words + 1, &error))
+STEP(read_float, hv_float_at(&runs, 3, &truth, words, &error))
 STEP(cast_constant, hv_cast(&session, &many, &i32_type, &out, &error))
 STEP(compare_constants, hv_compare(&session, &many, HV_LE, &as_many, &out, &error))
 STEP(compare_constant, hv_compare_scalar(&session, &many_texts, HV_GT, &letter, letters, 1, &out, &error))
@@ -377,7 +387,9 @@ static const step steps[] = {
     NAMED(filter_texts), NAMED(filter_by_runs), NAMED(take_by_runs), NAMED(take_from), NAMED(compare), NAMED(compare_scalar), NAMED(compare_text), NAMED(fill),
     NAMED(fill_text), NAMED(sum_by_runs), NAMED(sum_by_texts), NAMED(add_runs), NAMED(add_constants),
     NAMED(connect_runs), NAMED(less_by_runs), NAMED(pick_runs), NAMED(negate_runs), NAMED(null_texts),
-    NAMED(valid_runs), NAMED(choose_runs), NAMED(equal_runs), NAMED(hash_runs), NAMED(hash_texts), NAMED(cast_constant), NAMED(compare_constants),
+    NAMED(valid_runs), NAMED(choose_runs), NAMED(equal_runs), NAMED(hash_runs), NAMED(hash_texts), NAMED(make_floats),
+    NAMED(make_floats_of_runs), NAMED(decode_floats), NAMED(compare_floats), NAMED(order_floats), NAMED(least_float),
+    NAMED(first_float), NAMED(sum_floats), NAMED(read_float), NAMED(cast_constant), NAMED(compare_constants),
     NAMED(compare_constant), NAMED(fill_constant), NAMED(filter_constant), NAMED(sum), NAMED(is_constant),
     NAMED(is_sorted), NAMED(extreme), NAMED(extreme_text),
     NAMED(min_max_numbers),

@@ -335,7 +335,54 @@ static void check_pairs() {
     check_refused(HV_TYPE_MISMATCH, "i16? is not compared with u8", [&] { (void)left.equal_to(bytes); });
 }
 
+// ---- Floats ----
+
+// Rows of T by T's own comparisons; a NaN, both zeros, an infinity and null among them.
+template <class T> static void check_floats() {
+    const T nan = std::numeric_limits<T>::quiet_NaN(), infinity = std::numeric_limits<T>::infinity();
+    const std::vector<std::optional<T>> rows{T(1.5), T(1.5), std::nullopt, nan, T(-0.0), T(0.0), -infinity, T(2)};
+    const auto floats = hv::Floats<T>::of(rows);
+    CHECK(floats.size() == rows.size() && floats.keys().form() == hv::Form::runs);
+    const auto found = floats.optionals();
+    for (size_t row = 0; row < rows.size(); row++) {
+        CHECK(found[row].has_value() == rows[row].has_value() && floats.at(row).has_value() == rows[row].has_value());
+        if (rows[row]) CHECK(std::memcmp(&*found[row], &*rows[row], sizeof(T)) == 0);
+        const auto one = floats.at(row);
+        if (rows[row]) CHECK(std::memcmp(&*one, &*rows[row], sizeof(T)) == 0);
+    }
+    for (const T right : {T(0), nan, T(1.5), infinity}) {
+        const auto equal = floats.compare(Operator::equal, right).template optionals<bool>();
+        const auto less = floats.compare(Operator::less, right).template optionals<bool>();
+        for (size_t row = 0; row < rows.size(); row++) {
+            CHECK(equal[row].has_value() == rows[row].has_value() && less[row].has_value() == rows[row].has_value());
+            if (rows[row]) CHECK(*equal[row] == (*rows[row] == right) && *less[row] == (*rows[row] < right));
+        }
+    }
+    const auto numbers = floats.least_and_greatest(), all = floats.least_and_greatest(hv::FloatOrder::total);
+    CHECK(numbers && numbers->first == -infinity && numbers->second == T(2) && all && all->second != all->second);
+    CHECK(floats.compare(Operator::equal, T(0), hv::FloatOrder::total).at(4) == Value(false));
+    CHECK(!hv::Floats<T>::of({nan}).least_and_greatest() && hv::Floats<T>::of({}).size() == 0);
+    const auto sum = hv::Floats<T>::of({T(16777216), T(1), T(-0.5)}).sum();
+    CHECK(sum.total == 16777216.5 && sum.rows == 3 && floats.sum().total != floats.sum().total);
+    CHECK(hv::Floats<T>(floats.keys().slice(0, 2)).sum().total == 3);
+    check_refused(HV_OUT_OF_BOUNDS, "row 8 is not among 8 rows", [&] { floats.at(8); });
+}
+
+static void check_float_sums() {
+    CHECK(hv::Floats<double>::of({1e100, 1.0, -1e100}).sum().total == 1);
+    CHECK(hv::Floats<double>::of({1.7e308, 1.7e308}).sum().total == std::numeric_limits<double>::infinity());
+    try {
+        hv::Floats<double> wrong(Column::of({1, 2}));
+        CHECK(false);
+    } catch (const hv::Error &error) {
+        CHECK(error.number == HV_TYPE_MISMATCH);
+    }
+}
+
 int main() {
+    check_floats<float>();
+    check_floats<double>();
+    check_float_sums();
     check_same();
     check_types();
     check_decimals();

@@ -11,9 +11,10 @@ from collections.abc import Iterator, Mapping
 from ctypes import byref, c_char_p, c_void_p, py_object
 from typing import TYPE_CHECKING, Any, NamedTuple, Optional
 
+from . import _float_columns, _floats
 from ._arrow_structs import ArrowArray, ArrowArrayStream, ArrowSchema
 from ._library import ArrowOptions, Fields, Handle, ask, calls, calls_without_lock, session
-from ._values import NOT_FLOAT, checked_text
+from ._values import checked_text
 from .errors import ArrowStreamFailed, HivevigilError, TypeMismatch, Unsupported, in_words, refusal
 from .logical import LogicalType
 
@@ -21,9 +22,10 @@ if TYPE_CHECKING:
     from .column import Column
 
 _AS_IT_IS, _AS_RUNS, _AS_FLAT = range(3)
+_READ, _READ_BITS = 0, 2
 _RUNS, _BATCH = b"+r", b"+s"
 _DEPTH = 65  # of runs and dictionaries, as hivevigil_arrow.h has it
-_NOT_SERVED = re.compile(r"[efgn]|\+[smwuv].*|d:.*,256|ti[Dn]|.* within a list", re.DOTALL)
+_NOT_SERVED = re.compile(r"n|\+[smwuv].*|d:.*,256|ti[Dn]|.* within a list", re.DOTALL)
 _WORDS = 512  # bytes of what a stream says of its failure
 
 
@@ -97,47 +99,62 @@ def _text(value: Any, what: str) -> bytes:
 
 def export(column: Column, name: str, format: Optional[str], dictionary: Optional[Column]) -> Exported:
     options = ArrowOptions()
-    logical = getattr(column if dictionary is None else dictionary, "_logical", None)
-    if format is None and isinstance(logical, LogicalType):
-        format = logical.format
+    values = column._there() if dictionary is None else column._beside(dictionary)
+    lent = _lent(values)
+    if format is None and lent is not values:
+        options.bits_of_float = 1
+    elif format is None and isinstance(values._logical, LogicalType):
+        format = values._logical.format
     options.format = None if format is None else _text(format, "a format")
-    values = None if dictionary is None else column._beside(dictionary)
-    if values is not None:
-        options.dictionary = values._as_parameter_
-    exported = Exported()
+    if dictionary is not None:
+        options.dictionary = lent._as_parameter_
+    out, exported = lent if dictionary is None else column, Exported()
     try:
-        ask(calls.hv_export_with, session, column, _text(name, "a name"), options, exported.schema, exported.array)
+        ask(calls.hv_export_with, session, out, _text(name, "a name"), options, exported.schema, exported.array)
     except TypeMismatch as refused:
         no_codes, no_format = f"codes are integers, not of {column.type}", f"{column.type} has no format {format!r}"
-        raise refused.saying(f"to_arrow: {no_format if values is None else no_codes}") from None
+        raise refused.saying(f"to_arrow: {no_format if dictionary is None else no_codes}") from None
     return exported
+
+
+def _lent(column: Column) -> Column:
+    """What goes out: the column itself, of floats their bits."""
+    return _float_columns.bits(column) if _floats.is_float(column._logical) else column
 
 
 def _options(column: Column, requested: Any) -> Iterator[Any]:
     """What is tried in turn: the form and format that a consumer asks for, only the form, the column as it is. A column
     with a logical type goes out in the format of the type, and a consumer casts what it wants otherwise."""
-    own = None if column._logical is None else column._logical.format.encode()
+    own = _own_format(column, None if column._logical is None else column._logical.format)
     if requested is not None:
         yield from _asked_options(_held(requested, ArrowSchema), own)
-    yield ArrowOptions(format=own)
+    yield ArrowOptions(**own)
 
 
-def _asked_options(schema: Any, own: Optional[bytes]) -> list[ArrowOptions]:
+def _own_format(column: Column, format: Optional[str]) -> dict[str, Any]:
+    """The options that give a column its format, none where it has none: floats go out as such by their bits."""
+    if _floats.is_float(column._logical):
+        return {"bits_of_float": 1}
+    return {} if format is None else {"format": _text(format, "a format")}
+
+
+def _asked_options(schema: Any, own: dict[str, Any]) -> list[ArrowOptions]:
     """The form and format of a schema that is asked for, then only the form; in a format of its own that a column has
     only this one."""
     is_runs = schema.format == _RUNS and schema.n_children == 2
     values = schema.children[1].contents if is_runs else schema
     form = _AS_RUNS if is_runs else _AS_FLAT
-    asked = [ArrowOptions(form=form, format=values.format)] if own is None else []
-    return [*asked, ArrowOptions(form=form, format=own)]
+    asked = [] if own else [ArrowOptions(form=form, format=values.format)]
+    return [*asked, ArrowOptions(form=form, **own)]
 
 
 def array_capsules(column: Column, requested: Any) -> tuple[Any, Any]:
     schema_capsule, schema = _new(ArrowSchema)
     array_capsule, items = _new(ArrowArray)
+    lent = _lent(column)
     for options in _options(column, requested):
         try:
-            ask(calls.hv_export_with, session, column, b"", options, schema, items)
+            ask(calls.hv_export_with, session, lent, b"", options, schema, items)
             return schema_capsule, array_capsule
         except TypeMismatch:
             continue
@@ -151,9 +168,10 @@ def schema_capsule(column: Column) -> Any:
 def stream_capsule(column: Column, requested: Any) -> Any:
     """A stream of arrays with one chunk: all rows."""
     capsule, stream = _new(ArrowArrayStream)
+    lent = _lent(column)
     for options in _options(column, requested):
         try:
-            ask(calls.hv_export_stream, session, column, None, 1, 0, options, stream)
+            ask(calls.hv_export_stream, session, lent, None, 1, 0, options, stream)
             return capsule
         except TypeMismatch:
             continue
@@ -182,8 +200,9 @@ def struct_stream_capsule(columns: Mapping[str, Column], formats: Mapping[str, s
     asked = _children_of(requested, len(columns))
     count = len(columns)
     handles, names, options = (Handle * count)(), (c_char_p * count)(), (ArrowOptions * count)()
+    lent = [_lent(column._there()) for column in columns.values()]
     for place, (name, column) in enumerate(columns.items()):
-        handles[place], names[place] = column._there()._handle, _name(name)
+        handles[place], names[place] = lent[place]._handle, _name(name)
         options[place] = _settled(name, column, formats.get(name), asked[place])
     capsule, stream = _new(ArrowArrayStream)
     ask(calls.hv_export_stream, session, handles, names, count, 0, options, stream)
@@ -207,9 +226,9 @@ def _children_of(requested: Any, count: int) -> list[Any]:
 
 def _settled(name: str, column: Column, format: Optional[str], asked: Any) -> ArrowOptions:
     """How a column goes out: as it is asked for where that can be, else in its logical type."""
-    own = None if format is None else _text(format, "a format")
-    none = column.slice(0, 0)
-    for options in [*([] if asked is None else _asked_options(asked, own)), ArrowOptions(format=own)]:
+    own = _own_format(column, format)
+    none = _lent(column.slice(0, 0))
+    for options in [*([] if asked is None else _asked_options(asked, own)), ArrowOptions(**own)]:
         with Exported() as (schema, items):
             try:
                 ask(calls.hv_export_with, session, none, b"", options, schema, items)
@@ -230,8 +249,9 @@ class Imported(NamedTuple):
     formats: list[str]
 
     def logical_types(self) -> dict[str, str]:
-        """The formats by name that say what integers are: dates, times and so on."""
-        return {name: format for name, format in zip(self.names or [], self.formats) if format.startswith("t")}
+        """The formats by name that say what integers are: dates, times and so on, and floats."""
+        formats = zip(self.names or [], self.formats)
+        return {name: format for name, format in formats if format[:1] in ("t", "e", "f", "g")}
 
 
 def import_columns(source: Any, kind: type[Column]) -> dict[str, Column]:
@@ -302,17 +322,33 @@ def _of_array(capsules: Any, kind: type[Column]) -> Imported:
     formats = _formats_of(schema)
     try:
         if names is None:
-            column = kind._made(calls.hv_import_array, session, byref(schema), byref(items))
-            return Imported(None, [column._meaning(logical_of(schema))], formats)
+            return Imported(None, [of_structs(kind, byref(schema), byref(items), logical_of(schema))], formats)
         columns = [
-            kind._made(calls.hv_import_child, session, byref(schema), byref(items), child)._meaning(
-                logical_of(schema, child)
-            )
+            of_structs(kind, byref(schema), byref(items), logical_of(schema, child), child)
             for child in range(len(names))
         ]
         return Imported(names, columns, formats)
     except (TypeMismatch, Unsupported) as refused:
         raise _in_words(refused, _not_served(schema, names)) from None
+
+
+def of_structs(
+    kind: type[Column], schema: Any, items: Any, logical: Optional[LogicalType], child: Optional[int] = None
+) -> Column:
+    """A copy of an array, or of a child of a batch, with what its integers mean. Floats come in by their bits."""
+    is_float = _floats.is_float(logical)
+    if child is None:
+        call = calls.hv_import_bits if is_float else calls.hv_import_array
+        return _meaning(kind._made(call, session, schema, items), logical)
+    call = calls.hv_import_child_bits if is_float else calls.hv_import_child
+    return _meaning(kind._made(call, session, schema, items, child), logical)
+
+
+def _meaning(column: Column, logical: Optional[LogicalType]) -> Column:
+    """What came in, with what it means."""
+    if logical is not None and _floats.is_float(logical):
+        return _float_columns.of_bits(column, logical)
+    return column._meaning(logical)
 
 
 def _in_words(refused: HivevigilError, not_served: str) -> HivevigilError:
@@ -329,7 +365,7 @@ def _not_served(schema: Any, names: Optional[list[str]]) -> str:
     }
     for whose, column in columns.items():
         for format in filter(_NOT_SERVED.fullmatch, _formats(column)):
-            why = f": {NOT_FLOAT}" if format in ("e", "f", "g") else ""
+            why = ": lists of floats are not among the types" if format[:1] in ("e", "f", "g") else ""
             return f"{whose}Arrow's format {format!r}, which is not served{why}" if whose else (
                 f"Arrow's format {format!r} is not served{why}"
             )
@@ -337,10 +373,12 @@ def _not_served(schema: Any, names: Optional[list[str]]) -> str:
 
 
 def _formats(schema: Any, is_within_list: bool = False) -> Iterator[str]:
-    """The formats of a schema and of what is in it; lists in lists are marked, since they are not served."""
+    """The formats of a schema and of what is in it; lists and floats in lists are marked, since they are not
+    served."""
     format = (schema.format or b"").decode(errors="replace")
     is_list = format in ("+l", "+L")
-    yield f"{format} within a list" if is_list and is_within_list else format
+    is_odd = is_list or format in ("e", "f", "g")
+    yield f"{format} within a list" if is_odd and is_within_list else format
     for child in range(schema.n_children):
         yield from _formats(schema.children[child].contents, is_list)
     if schema.dictionary:
@@ -354,14 +392,15 @@ def _of_stream(capsule: Any, kind: type[Column]) -> Imported:
     names, formats, not_served = _described(stream)
     count = 1 if names is None else len(names)
     handles, words, fields = (Handle * max(1, count))(), ctypes.create_string_buffer(_WORDS), Fields()
-    number = calls_without_lock.hv_import_stream(session, byref(stream), handles, count, None, words, _WORDS, fields)
+    logical = [LogicalType.of_format(format) for format in formats]
+    how = bytes(_READ_BITS if _floats.is_float(sort) else _READ for sort in logical)
+    number = calls_without_lock.hv_import_stream(session, byref(stream), handles, count, how, words, _WORDS, fields)
     if number == ArrowStreamFailed.number:
         raise ArrowStreamFailed(fields.first, words=words.value.decode(errors="replace"))
     if number:
         raise _in_words(refusal(number, fields.first, fields.second, fields.third), not_served)
-    logical = map(LogicalType.of_format, formats)
-    columns = [kind._owning(Handle(handle.at), sort) for handle, sort in zip(handles[:count], logical)]
-    return Imported(names, columns, formats)
+    made = [kind._owning(Handle(handle.at)) for handle in handles[:count]]
+    return Imported(names, [_meaning(column, sort) for column, sort in zip(made, logical)], formats)
 
 
 def _described(stream: Any) -> tuple[Optional[list[str]], list[str], str]:

@@ -3,7 +3,7 @@ from __future__ import annotations
 
 from typing import TYPE_CHECKING, Any, Optional
 
-from . import _runs
+from . import _float_columns, _floats, _runs
 from ._library import Kind, calls, session
 from ._types import TYPES, WHOLE_NUMBERS, range_of, text_of
 from .errors import CastOutOfRange, NullNotAllowed, TypeMismatch, Unsupported
@@ -28,6 +28,8 @@ def recounted(column: Column, kind: Kind, logical: Optional[LogicalType], call: 
     """The rows as values of a logical type, or as the integers of one. Integers mean what the type says; times are
     counted anew, exactly, once for each run, and are refused at the first row that has no such count."""
     before = column._logical
+    if _floats.is_float(before) or _floats.is_float(logical):
+        return _float_columns.converted(column, kind, logical, call)
     if before is None or logical is None or (before.sort, before.unit) == (logical.sort, logical.unit):
         if before is not None and logical is not None:
             _checked_kinds(before, logical, call)

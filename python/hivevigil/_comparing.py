@@ -11,7 +11,7 @@ from fractions import Fraction
 from numbers import Real
 from typing import TYPE_CHECKING, Any, Optional
 
-from . import _times
+from . import _float_columns, _floats, _times
 from ._library import calls, session
 from ._making import is_array
 from ._types import TYPES, WHOLE_NUMBERS, range_of
@@ -80,11 +80,13 @@ class Comparisons:
 def with_value(column: Column, sign: str, value: Any) -> Column:
     """Row by row whether `row sign value`; null where the row or the value is null."""
     operator_of(sign)
+    if _floats.is_float(column._logical) and not is_missing(value) and not _has_rows(value):
+        return _float_columns.with_value(column, sign, _float_columns.checked_number(column._logical, value))
     if column._logical is not None:
         if not is_missing(value):
             value = _times.exact(column._logical, value)
         return with_value(column.storage(), sign, value)
-    if isinstance(value, (list, tuple, range)) or is_array(value) and getattr(value, "ndim", 1) > 0:
+    if _has_rows(value):
         made = f"Column.of(..) makes one of {in_words(value)}"
         raise TypeError(f"a column is compared with a column or one value: {made}")
     name, number = TYPES[column._kind.number], None
@@ -93,6 +95,10 @@ def with_value(column: Column, sign: str, value: Any) -> Column:
         sign, number = _decided(sign, *_place(value, column._kind.scale), fits)
     parts = passed(column._kind, value) if number is None else stored(name, number)
     return column._made(calls.hv_compare_scalar, session, column, operator_of(sign), *parts)
+
+
+def _has_rows(value: Any) -> bool:
+    return isinstance(value, (list, tuple, range)) or is_array(value) and getattr(value, "ndim", 1) > 0
 
 
 def are_compared(left: Optional[LogicalType], right: Optional[LogicalType]) -> bool:
@@ -140,11 +146,13 @@ def _decided(sign: str, floor: int, exact: bool, fits: range) -> tuple[str, int]
 def with_column(column: Column, sign: str, right: Column) -> Column:
     """Row by row whether `row sign other`, for the rows of a column of the same type: by the runs of both, unless both
     are flat."""
+    if _floats.is_float(column._logical) and _floats.is_float(right._logical):
+        return _float_columns.with_column(column, sign, right)
     number, beside = operator_of(sign), column._beside(right)
     if not are_compared(column._logical, right._logical):
         left, other = (each._logical or each.type.rstrip("?") for each in (column, right))
         hint = "rows of one type are compared"
-        if column._logical and right._logical:
+        if column._logical and right._logical and not any(map(_floats.is_float, (column._logical, right._logical))):
             hint = f"column.cast('{other}') counts the same times in it, exactly"
         raise TypeMismatch().saying(f"compare: {left} and {other} are two types; {hint}")
     try:

@@ -6,7 +6,7 @@ import pickle
 import sys
 from typing import TYPE_CHECKING, Any
 
-from . import _time_arrays
+from . import _float_columns, _floats, _time_arrays
 from ._types import LETTERS, TYPES
 from ._values import is_whole
 from .errors import Unsupported
@@ -51,6 +51,8 @@ def dtype(column: Column) -> Any:
         import numpy
     except ImportError:
         raise AttributeError("the dtype of a column is one of NumPy, which is not installed") from None
+    if _floats.is_float(column._logical):
+        return _float_columns.dtype(column._logical)
     if column._logical is not None:
         return _time_arrays.dtype(column._logical)
     if not _has_dtype(column):
@@ -66,6 +68,8 @@ def _has_dtype(column: Column) -> bool:
 def to_numpy(column: Column, null: Any) -> Any:
     import numpy
 
+    if _floats.is_float(column._logical):
+        return _float_columns.to_numpy(column, null)
     if column._logical is not None and column._logical.sort != "time":
         filled = column.fill(null) if null is not None and column.nullable else column
         return _time_arrays.to_numpy(filled, column._logical)
@@ -86,7 +90,9 @@ def as_numpy(column: Column, asked: Any) -> Any:
     """The rows as an implicit conversion has them: objects where a row is null. pandas 1.5 makes floats of integers
     next to None, and 2**53 + 1 is not among these, but keeps them next to its own NA: where it is loaded, null is
     that."""
-    if column._logical is not None:
+    if _floats.is_float(column._logical):
+        items = _float_columns.as_numpy(column)
+    elif column._logical is not None:
         items = to_numpy(column, None)
     elif _has_dtype(column) and not column.null_count:
         items = _stored(column._flat())[0]
@@ -101,6 +107,8 @@ def as_numpy(column: Column, asked: Any) -> Any:
 def to_pandas(column: Column) -> Any:
     import pandas
 
+    if _floats.is_float(column._logical):
+        return _float_columns.to_pandas(column)
     if column._logical is not None:
         return _time_arrays.to_pandas(column, column._logical)
     if not _has_dtype(column):

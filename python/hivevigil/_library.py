@@ -37,6 +37,8 @@ NUMBERS = {
 _HANDLE, _FIELDS, _SESSION = POINTER(Handle), POINTER(Fields), POINTER(Session)
 _ARROW_CALLS: dict[str, tuple[list[Any], Any]] = {
     "hv_import_array": ([_SESSION, c_void_p, c_void_p, _HANDLE, _FIELDS], c_int32),
+    "hv_import_bits": ([_SESSION, c_void_p, c_void_p, _HANDLE, _FIELDS], c_int32),
+    "hv_import_child_bits": ([_SESSION, c_void_p, c_void_p, c_int64, _HANDLE, _FIELDS], c_int32),
     "hv_import_child": ([_SESSION, c_void_p, c_void_p, c_int64, _HANDLE, _FIELDS], c_int32),
     "hv_concat_columns": ([_SESSION, _HANDLE, c_size_t, _HANDLE, _FIELDS], c_int32),
     "hv_export_with": ([

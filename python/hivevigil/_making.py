@@ -118,9 +118,9 @@ def _misfit(rows: Sequence[Any]) -> str:
         if row is not None and sort is None:
             hint = "; Column.from_lists makes lists" if isinstance(row, (list, tuple)) else why_not(row)
             return f"row {number} is {in_words(row)}, of class {type(row).__name__}, which no column has{hint}"
-        if first and sort and {sort, first[2]} not in ({sort}, {"whole", "decimal"}):
+        if first and sort and {sort, first[2]} not in ({sort}, {"whole", "decimal"}, {"whole", "float"}):
             return f"row {first[0]} is {in_words(first[1])} and row {number} is {in_words(row)}: a column has one type"
-        first = (number, row, sort) if sort and (not first or sort == "decimal") else first
+        first = (number, row, sort) if sort and (not first or sort in ("decimal", "float")) else first
     return "the rows are of several types"
 
 
@@ -342,8 +342,6 @@ def of_pandas(items: Any) -> Made:
     missing = numpy.asarray(items.isna())
     valid = ~missing if missing.any() else None
     native = getattr(items.dtype, "numpy_dtype", items.dtype)
-    if getattr(native, "kind", "O") == "f":
-        raise TypeError(f"no column has items of dtype {items.dtype}: {NOT_FLOAT}, .astype('Int64') are integers")
     if getattr(native, "kind", "O") not in "iub":
         return of_numpy(numpy.asarray(items.astype(object)), valid)
     if native is items.dtype:

@@ -6,6 +6,7 @@ from __future__ import annotations
 
 from typing import TYPE_CHECKING, Any
 
+from . import _floats
 from ._library import calls
 from ._making import is_array
 from ._rows import constant_of
@@ -78,6 +79,8 @@ def worked(column: Any, sign: str, other: Any, is_left: bool = True) -> Column:
     beside = other if isinstance(other, Pairs) else _constant(column, other)
     left, right = (column, beside) if is_left else (beside, column)
     number, done = SIGNS[sign]
+    if any(_floats.is_float(each._logical) for each in (left, right)):  # keys are not to be added
+        raise TypeMismatch().saying(f"{_type_of(left)} and {_type_of(right)} are not {done}")
     try:
         return column._made(calls.hv_combine, left, number, left._beside(right))  # type: ignore[no-any-return]
     except CastOutOfRange as past:
@@ -89,7 +92,7 @@ def worked(column: Any, sign: str, other: Any, is_left: bool = True) -> Column:
 
 
 def _type_of(column: Any) -> str:
-    return str(column.type.rstrip("?"))
+    return str(column._logical) if _floats.is_float(column._logical) else str(column.type.rstrip("?"))
 
 
 def _constant(column: Any, value: Any) -> Column:
@@ -97,4 +100,6 @@ def _constant(column: Any, value: Any) -> Column:
     if isinstance(value, (list, tuple, range)) or is_array(value) and getattr(value, "ndim", 1) > 0:
         made = f"Column.of(..) makes one of {in_words(value)}"
         raise TypeError(f"a column is worked with a column or one value: {made}")
+    if column._logical is not None and not _floats.is_float(column._logical):  # work is on the integers
+        column = column.storage()
     return constant_of(column, value)

@@ -3,9 +3,9 @@ from __future__ import annotations
 
 import ctypes
 from decimal import Decimal
-from typing import TYPE_CHECKING, Any
+from typing import TYPE_CHECKING, Any, Optional
 
-from . import _runs, _times
+from . import _comparing, _float_columns, _floats, _runs, _times
 from ._library import Total, Value, ask, calls, session
 from ._making import is_array
 from ._types import TYPES, WHOLE_NUMBERS, range_of
@@ -24,6 +24,8 @@ _CLASSES: dict[str, Any] = {
 def total(column: Column) -> Any:
     """The sum of the rows that are not null; an OverflowError where it leaves 64 bits on the way from row to row."""
     logical = column._there()._logical
+    if _floats.is_float(logical):
+        return _float_columns.total(column)[0]
     if logical is not None:
         if logical.sort != "duration":
             hint = "column.storage().sum() is that of their integers"
@@ -36,6 +38,18 @@ def total(column: Column) -> Any:
     name = "u64" if TYPES[column._kind.number][0] == "u" else "i64"
     row, value, before = _overflow(column, range_of(name))
     raise OverflowError(f"sum: it leaves {name} at row {row}, which is {value}: the rows before it make {before}")
+
+
+def mean(column: Column) -> Optional[float]:
+    """The sum of the rows that are not null, by how many they are; None of no rows."""
+    logical = column._there()._logical
+    if _floats.is_float(logical):
+        found, count = _float_columns.total(column)
+    elif logical is not None:
+        raise TypeError(f"mean: rows of type {logical} have none; column.storage().mean() is that of their integers")
+    else:
+        found, count = total(column), column._length - column.null_count
+    return found / count if count else None
 
 
 def _overflow(column: Column, fits: range) -> tuple[int, int, int]:
@@ -102,6 +116,8 @@ def has(column: Column, value: Any) -> bool:
     if column.form == "runs":
         shown = _runs.span(column)
         return has(column.values().slice(shown.start, shown.stop), value)
+    if _floats.is_float(column._logical):
+        return _comparing.is_number(value) and _is_true_anywhere(column.eq(value))
     if column._logical is not None:
         return _has_time(column, column._logical, value)
     name = TYPES[column._kind.number]

@@ -6,7 +6,7 @@ import ctypes
 from collections.abc import Iterator
 from typing import TYPE_CHECKING, Any
 
-from . import _times
+from . import _floats, _times
 from ._library import NUMBERS, Pair, ask, calls
 from ._types import LETTERS, TYPES, WIDTHS
 from ._values import Scalar, decimal_of
@@ -55,6 +55,13 @@ def numbers(column: Column, start: int, stop: int) -> array.array[int]:
     return items
 
 
+def floats(column: Column, start: int, stop: int) -> list[Any]:
+    """The floats of rows; a null row may have any."""
+    logical: Any = column._logical
+    words = column._made(calls.hv_float_decode, column.slice(start, stop))
+    return _floats.values_of_bits(logical.unit, numbers(words, 0, stop - start))
+
+
 def decimals(column: Column, start: int, stop: int) -> bytes:
     """The decimals of rows, 16 bytes each."""
     rows = stop - start
@@ -86,11 +93,12 @@ def _split(offsets: array.array[int], data: bytes, is_text: bool) -> list[Any]:
 
 def window(column: Column, start: int, stop: int) -> list[Scalar]:
     """The rows from `start` to `stop` - 1."""
-    stored = _stored(column, start, stop)
+    is_float = _floats.is_float(column._logical)
+    stored = floats(column, start, stop) if is_float else _stored(column, start, stop)
     if column.nullable:
         flags = flags_of(validity(column, start, stop), stop - start)
         stored = stored if 0 not in flags else [item if flag else None for item, flag in zip(stored, flags)]
-    return _times.values_of(column._logical, stored)
+    return stored if is_float else _times.values_of(column._logical, stored)
 
 
 def _stored(column: Column, start: int, stop: int) -> list[Any]:

@@ -9,7 +9,7 @@ from typing import TYPE_CHECKING, Any
 
 from . import _lists
 from ._indexing import mask_of
-from ._library import ask, calls
+from ._library import Kind, ask, calls
 from ._making import listed
 from ._types import WHOLE_NUMBERS, text_of
 from ._values import is_missing, whole
@@ -32,7 +32,7 @@ def chosen(column: Column, mask: Any, other: Any) -> Column:
     if flags._length != column._length:
         raise MaskLength(flags._length, column._length)
     beside = other if isinstance(other, type(column)) else constant_of(column, other)
-    left, right = (each.type.rstrip("?") for each in (column, beside))
+    left, right = (each._logical or each.type.rstrip("?") for each in (column, beside))
     if left != right:
         raise TypeMismatch().saying(f"where: {left} and {right} are two types; rows of one type are chosen from")
     kind = column._kind
@@ -41,8 +41,9 @@ def chosen(column: Column, mask: Any, other: Any) -> Column:
         known = flags.fill(False) if flags.nullable else flags
         picked = column._made(calls.hv_if_else, known, *_apart(known, column, beside))
         return picked if kind.nullable else picked.cast(text_of(kind))
-    sides = [each if bytes(each._kind) == bytes(kind) else each.cast(text_of(kind)) for each in (beside, column)]
-    return _joined(text_of(kind), ((sides[value is True], start, stop) for start, stop, value in flags.runs()))
+    type_of_both = named(column, kind)
+    sides = [each if bytes(each._kind) == bytes(kind) else each.cast(type_of_both) for each in (beside, column)]
+    return _joined(type_of_both, ((sides[value is True], start, stop) for start, stop, value in flags.runs()))
 
 
 def _apart(*columns: Column) -> list[Column]:
@@ -67,7 +68,12 @@ def constant_of(column: Column, value: Any) -> Column:
     """A value in each row of a column, of its type, which has null only where the value is null."""
     kind = column._kind
     kind.nullable = is_missing(value)
-    return column.constant(value, column._length, text_of(kind))
+    return column.constant(value, column._length, named(column, kind))
+
+
+def named(column: Column, kind: Kind) -> str:
+    """The name of a type of integers, or of what those of a column mean."""
+    return text_of(kind) if column._logical is None else f"{column._logical}{'?' * kind.nullable}"
 
 
 def is_among(column: Column, values: Any) -> Column:
@@ -85,16 +91,18 @@ def is_among(column: Column, values: Any) -> Column:
 def counted(column: Column) -> tuple[Column, Column]:
     """Each value that a row has, null too, in the order of their first rows, and how many rows have it."""
     counts: dict[Any, int] = {}
-    for start, stop, value in column.runs():
+    stored = column if column._logical is None else column.storage()
+    for start, stop, value in stored.runs():
         counts[value] = counts.get(value, 0) + stop - start
-    return column.of(list(counts), column.type), column.of(list(counts.values()), "u64")
+    values = column.of(list(counts), column.type)._meaning(column._logical)
+    return values, column.of(list(counts.values()), "u64")
 
 
 def shifted(column: Column, rows: Any) -> Column:
     """Each row as the one that is this number of rows before it, null where there is none."""
     by, length, kind = whole(rows, "the number of rows"), column._length, column._kind
     kind.nullable = True
-    type, past = text_of(kind), min(abs(by), length)
+    type, past = named(column, kind), min(abs(by), length)
     if _lists.is_list(column):
         raise Unsupported().about("shift", column)
     shown = column.slice(0, length - past) if by > 0 else column.slice(past, length)
@@ -105,7 +113,7 @@ def shifted(column: Column, rows: Any) -> Column:
 
 def is_same(column: Column, other: Column) -> bool:
     """Whether type and rows are the same, whatever the forms, by the runs of both."""
-    if column.type != other.type or column._length != other._length:
+    if (column.type, column._logical, column._length) != (other.type, other._logical, other._length):
         return False
     if _lists.is_list(column):
         return column.to_list() == other.to_list()

@@ -9,6 +9,7 @@ from fractions import Fraction
 from itertools import groupby, repeat
 from typing import Any, Optional, Union
 
+from . import _floats
 from ._types import range_of
 from ._values import is_missing, is_missing_class
 from .errors import in_words
@@ -82,6 +83,8 @@ def _of_numpy(value: Any) -> Union[int, Fraction]:
 
 def stored(logical: LogicalType, value: Any) -> int:
     """The integer of a value, which the type has; nothing is rounded."""
+    if _floats.is_float(logical):
+        return _floats.stored(logical, value)
     count = exact(logical, value)
     if not isinstance(count, int):
         raise ValueError(f"{in_words(value)} is finer than {logical}, and nothing is rounded")
@@ -97,6 +100,8 @@ def number_of(logical: Optional[LogicalType], value: Any) -> Any:
 
 def stored_rows(logical: LogicalType, rows: Sequence[Any]) -> list[Optional[int]]:
     """The integers of rows, None of each null."""
+    if _floats.is_float(logical):
+        return _floats.stored_rows(logical, rows)
     found: list[Optional[int]] = []
     try:
         for row in rows:
@@ -107,9 +112,12 @@ def stored_rows(logical: LogicalType, rows: Sequence[Any]) -> list[Optional[int]
 
 
 def inferred(rows: Sequence[Any]) -> Optional[LogicalType]:
-    """The type of rows that are dates, times, timestamps or durations, in microseconds, or nanoseconds where a library
-    has them; None where a row is of another sort."""
-    sorts = {sort_of_class(kind) for kind in set(map(type, rows)) if not is_missing_class(kind)}
+    """The type of rows that are floats, or dates, times, timestamps or durations, in microseconds, or nanoseconds where a
+    library has them; None where a row is of another sort."""
+    kinds = {kind for kind in set(map(type, rows)) if not is_missing_class(kind)}
+    sorts = set(map(sort_of_class, kinds))
+    if "float" in sorts:
+        return _floats.inferred(kinds)
     if len(sorts) != 1 or None in sorts:
         return None
     (sort,) = sorts
@@ -152,6 +160,8 @@ def values_of(logical: Optional[LogicalType], rows: list[Any]) -> list[Any]:
 
 def shown(logical: LogicalType, number: int) -> Any:
     """The value of an integer. ValueError or OverflowError where Python has none."""
+    if _floats.is_float(logical):
+        return _floats.shown(logical, number)
     if logical.sort == "date":
         return _date(logical, number)
     if logical.sort == "time":

@@ -12,14 +12,14 @@ from ._library import Kind, Value
 from ._types import OPERATORS, TYPES, WHOLE_NUMBERS, range_of, text_of
 from .errors import OutOfBounds, in_words
 
-Scalar = Union[int, bool, Decimal, str, bytes, date, time, timedelta, None]
+Scalar = Union[int, float, bool, Decimal, str, bytes, date, time, timedelta, None]
 _UNSIGNED, _SIGNED, _TRUTH, _DECIMAL, _TEXT, _BYTES = range(1, 7)
 _LOW = 2**64 - 1
 _SORTS = {
     **dict.fromkeys(WHOLE_NUMBERS, "an integer"), "bool": "a boolean", "utf8": "a text", "binary": "bytes",
     "list": "a list, which no call takes",
 }
-NOT_FLOAT = "floating-point numbers are not values of this library"
+NOT_FLOAT = "floats are values of float64, float32 and float16"
 
 
 def is_truth(value: Any) -> bool:
@@ -121,7 +121,7 @@ def unscaled(value: Any, precision: int, scale: int) -> int:
 
 
 def why_not(value: Any) -> str:
-    """What a sentence about a refused value says more: why floats are refused."""
+    """What a sentence about a refused value says more: which types have floats."""
     return f": {NOT_FLOAT}" if isinstance(value, Real) and not isinstance(value, Rational) else ""
 
 

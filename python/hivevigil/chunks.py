@@ -20,7 +20,7 @@ from dataclasses import dataclass, replace
 from itertools import accumulate
 from typing import Any, NamedTuple, Optional
 
-from . import _runs, _times
+from . import _floats, _runs, _times
 from ._types import WHOLE_NUMBERS, range_of, text_of
 from ._values import Scalar
 from .column import Column
@@ -92,6 +92,8 @@ class Partial:
         if column.type.startswith("list"):
             raise Unsupported().about("Partial.of", column)
         logical = column.logical_type
+        if _floats.is_float(logical):
+            raise TypeError(f"Partial.of does not serve {logical}: a sum of floats is rounded once, of the whole column")
         name = column.type if logical is None else f"{logical}{'?' * column.nullable}"
         if not column._length:
             return cls.empty(name)

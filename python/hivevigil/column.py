@@ -8,8 +8,8 @@ from collections.abc import Iterator
 from typing import Any, Optional
 
 from . import (
-    _arrow, _casting, _comparing, _copying, _files, _indexing, _lists, _making, _pairs, _questions, _reading, _rows,
-    _runs, _showing, _times,
+    _arrow, _casting, _comparing, _copying, _files, _float_columns, _floats, _indexing, _lists, _making, _pairs,
+    _questions, _reading, _rows, _runs, _showing, _times,
 )
 from ._library import Handle, Kind, ask, calls, session
 from ._runs import Run
@@ -119,8 +119,9 @@ class Column(_comparing.Comparisons, _pairs.Pairs):
 
         The type is inferred where none is given: integers are i64 (u64 where one needs it) or as the array has
         them, decimal.Decimal a decimal of 38 digits with the places that the rows need, then bool, utf8 and binary;
-        dates, times, datetimes and timedeltas have a `logical_type`. A type is given as 'i32', 'decimal(10, 2)',
-        'timestamp[us, UTC]', int, str or a dtype, and may be null where a row is; 'i32?' always.
+        floats, dates, times, datetimes and timedeltas have a `logical_type`. A type is given as 'i32', 'float64',
+        'decimal(10, 2)', 'timestamp[us, UTC]', int, str or a dtype, and may be null where a row is; 'i32?' always. A
+        NaN is a row like any other, but where pandas calls it missing.
         """
         asked, logical = (None, None) if type is None else asked_type(type)
         if isinstance(rows, str):
@@ -139,6 +140,9 @@ class Column(_comparing.Comparisons, _pairs.Pairs):
     def _of_array(cls, rows: Any) -> Column:
         if isinstance(rows, Column):
             return rows.copy()
+        floats = _float_columns.of_array(cls, rows)
+        if floats is not None:
+            return floats
         timed = _making.of_timed(rows)
         if timed is not None:
             return cls._made(*timed[0])._meaning(timed[1])
@@ -240,9 +244,7 @@ class Column(_comparing.Comparisons, _pairs.Pairs):
         producer's; with `child`, of that column of a batch."""
         structs = (session, _address(schema), _address(items))
         logical = _arrow.logical_of(schema, child)
-        if child is None:
-            return cls._made(calls.hv_import_array, *structs)._meaning(logical)
-        return cls._made(calls.hv_import_child, *structs, size_of(child, "the child"))._meaning(logical)
+        return _arrow.of_structs(cls, *structs[1:], logical, None if child is None else size_of(child, "the child"))
 
     # ---- Commands ----
 
@@ -268,7 +270,8 @@ class Column(_comparing.Comparisons, _pairs.Pairs):
     def cast(self, type: Any, nullable: Optional[bool] = None) -> Column:
         """Each row as the same value of a type: refused at the first row that does not fit, or that is null where the
         type has no null. 'i8' has none, 'i8?' has, and so has each type with `nullable`. A cast of integers to
-        'timestamp[us]' says what they count; one of timestamps counts the same times, exactly, in another unit."""
+        'timestamp[us]' says what they count; one of timestamps counts the same times, exactly, in another unit. Floats
+        are cast to floats and integers, and integers to floats, exactly."""
         kind, logical = asked_type(type)
         kind.nullable = kind.nullable if nullable is None else nullable
         if logical is not None or self._logical is not None:
@@ -415,8 +418,13 @@ class Column(_comparing.Comparisons, _pairs.Pairs):
 
     def sum(self) -> Any:
         """The sum of the rows that are not null, 0 where there is none; a duration of durations, and of no other times.
-        OverflowError where it leaves 64 bits on the way from row to row, which names the row."""
+        OverflowError where it leaves 64 bits on the way from row to row, which names the row. A sum of floats is exact and
+        rounded once, an infinity past the finite floats, and NaN where a row is or both infinities are."""
         return _questions.total(self)
+
+    def mean(self) -> Optional[float]:
+        """The sum by the number of rows that are not null, of integers and floats. None where there is none."""
+        return _questions.mean(self)
 
     def group_by(self, keys: Any) -> Groups:
         """The rows of this column by runs of equal neighbouring rows of another, a column or what `Column.of` takes:
@@ -455,16 +463,24 @@ class Column(_comparing.Comparisons, _pairs.Pairs):
         """Whether no row is above the next (strict: whether each is below it), null below all else."""
         return _questions.truth(self, calls.hv_is_sorted, bool(strict))
 
-    def min(self) -> Scalar:
-        """The least row that is not null. None where there is none."""
+    def min(self, skip_nan: bool = True) -> Scalar:
+        """The least row that is not null. None where there is none. NaNs are left out, or, without `skip_nan`, the answer
+        is NaN where a row is."""
+        if _floats.is_float(self._logical):
+            return self.min_max(skip_nan)[0]
         return _questions.value_of(self, calls.hv_extreme, session, self, 0)
 
-    def max(self) -> Scalar:
-        """The greatest row that is not null. None where there is none."""
+    def max(self, skip_nan: bool = True) -> Scalar:
+        """The greatest row that is not null. None where there is none. NaNs are left out, or, without `skip_nan`, the
+        answer is NaN where a row is."""
+        if _floats.is_float(self._logical):
+            return self.min_max(skip_nan)[1]
         return _questions.value_of(self, calls.hv_extreme, session, self, 1)
 
-    def min_max(self) -> tuple[Scalar, Scalar]:
+    def min_max(self, skip_nan: bool = True) -> tuple[Scalar, Scalar]:
         """Both at once."""
+        if _floats.is_float(self._logical):
+            return _float_columns.least_and_greatest(self, skip_nan)
         return _questions.least_and_greatest(self)
 
     def __getitem__(self, key: Any) -> Any:
@@ -522,11 +538,13 @@ class Column(_comparing.Comparisons, _pairs.Pairs):
         """The rows as a pandas.Series, of a dtype with a mask (Int64, boolean) where they may be null."""
         return _copying.to_pandas(self)
 
-    def to_array(self) -> array.array[int]:
+    def to_array(self) -> array.array[Any]:
         """The numbers of a column of integers in any form, which NumPy reads without a copy; a null row may have any
-        number."""
+        number. It has the floats of a column of floats of 32 or 64 bits."""
         if TYPES[self._kind.number] not in LETTERS:
             raise Unsupported().about("to_array", self)
+        if _floats.is_float(self._logical):
+            return _float_columns.to_array(self)
         return _reading.numbers(self, 0, len(self))
 
     def validity(self) -> bytes:

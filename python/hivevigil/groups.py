@@ -3,6 +3,7 @@ from __future__ import annotations
 
 from typing import TYPE_CHECKING
 
+from . import _float_columns, _floats
 from ._library import Handle, ask, calls
 from ._types import TYPES
 from .errors import CastOutOfRange
@@ -32,6 +33,8 @@ class Groups:
         """The sum of each group, 'i64?' or 'u64?', or the duration of durations. OverflowError, with the group counted
         from 0 in its first field, where one does not fit 64 bits."""
         logical = self._values._logical
+        if _floats.is_float(logical):
+            raise TypeError(f"sum: groups of {logical} have no sum: each is to be rounded once, which no call does so far")
         if logical is not None and logical.sort != "duration":
             raise TypeError(f"sum: rows of type {logical} have no sum; values.storage() are their integers")
         try:
@@ -50,10 +53,12 @@ class Groups:
 
     def min(self) -> tuple[Column, Column]:
         """The least value of each group."""
+        self._without_nan("min")
         return self._folded("least")
 
     def max(self) -> tuple[Column, Column]:
         """The greatest value of each group."""
+        self._without_nan("max")
         return self._folded("greatest")
 
     def first(self) -> tuple[Column, Column]:
@@ -63,6 +68,11 @@ class Groups:
     def last(self) -> tuple[Column, Column]:
         """The last value of each group that is not null."""
         return self._folded("last")
+
+    def _without_nan(self, call: str) -> None:
+        """Refuses NaNs, which the order of keys has next to all numbers."""
+        if _floats.is_float(self._values._logical) and _float_columns.has_nan(self._values):
+            raise TypeError(f"{call}: a row is NaN, which has no place among the numbers of its group")
 
     def _folded(self, fold: str) -> tuple[Column, Column]:
         kind = type(self._values)

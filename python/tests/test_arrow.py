@@ -162,18 +162,22 @@ def texts(*rows):
     return Made("u", buffers, len(rows))
 
 
-FLOATS = "floating-point numbers are not values of this library"
+FLOATS = "lists of floats are not among the types"
+
+
+def lists_of_floats(name=b""):
+    offsets = ctypes.create_string_buffer(bytes(4) + b"\1\0\0\0")
+    return Made("+l", [None, offsets], 1, name=name, children=[floats(b"item")])
 
 
 @pytest.mark.parametrize(
     "source, kind, said",
     [
-        (lambda: floats(), errors.Unsupported, f"Arrow's format 'g' is not served: {FLOATS}"),
-        (lambda: MadeStream([floats()]), errors.Unsupported, f"Arrow's format 'g' is not served: {FLOATS}"),
-        (lambda: Made("+s", [None], 1, children=[numbers([1], name=b"a"), floats(b"b")]), errors.Unsupported,
-         f"column 'b' has Arrow's format 'g', which is not served: {FLOATS}"),
-        (lambda: MadeStream([Made("+s", [None], 1, children=[numbers([1], name=b"a"), floats(b"b")])]),
-         errors.Unsupported, f"column 'b' has Arrow's format 'g', which is not served: {FLOATS}"),
+        (lambda: lists_of_floats(), errors.Unsupported, f"Arrow's format 'g within a list' is not served: {FLOATS}"),
+        (lambda: MadeStream([lists_of_floats()]), errors.Unsupported,
+         f"Arrow's format 'g within a list' is not served: {FLOATS}"),
+        (lambda: Made("+s", [None], 1, children=[numbers([1], name=b"a"), lists_of_floats(b"b")]), errors.Unsupported,
+         f"column 'b' has Arrow's format 'g within a list', which is not served: {FLOATS}"),
         (lambda: Made("tin", [None, ctypes.create_string_buffer(16)], 1), errors.Unsupported,
          "Arrow's format 'tin' is not served"),
         (lambda: texts(b"a", b"b", b"\xff"), errors.TypeMismatch, "the text in row 2 of an array is not UTF-8"),

@@ -46,8 +46,8 @@ def test_types_that_are_inferred(rows, type):
         ([None, None], ValueError),
         ([2**64], OverflowError),
         ([-1, 2**63], OverflowError),
-        ([1.5], TypeError),
-        ([float("nan")], TypeError),
+        ([1.5, Decimal(1)], TypeError),
+        ([float("nan"), "a"], TypeError),
         ([True, 2], TypeError),
         (["a", b"b"], TypeError),
         ([1, "1"], TypeError),
@@ -101,7 +101,7 @@ def test_integers_that_no_type_has(rows, said):
         ([True], "decimal(3, 1)", TypeError),
         ([1], "i65", TypeError),
         ([1], "f64", TypeError),
-        ([1], float, TypeError),
+        ([1], complex, TypeError),
         ([1], "list", TypeError),
         ([1], "decimal", TypeError),
         ([1], "i8(3)", TypeError),
@@ -162,7 +162,7 @@ def test_other_arrays():
     assert Column.of(numpy.array(["a", None], dtype=object)).to_list() == ["a", None]
     assert Column.of(numpy.array([], dtype="U")).type == "utf8"
     assert Column.of(numpy.array([1, 2]), "i8?").type == "i8?"
-    for refused in (numpy.array([1.5]), numpy.array([1], "m8"), numpy.array([1j])):
+    for refused in (numpy.array([1.5], "longdouble"), numpy.array([1], "m8"), numpy.array([1j])):
         with pytest.raises(TypeError):
             Column.of(refused)
     with pytest.raises(ValueError):
@@ -180,9 +180,10 @@ def test_buffers():
     assert column.to_list() == [1, 2]
     with pytest.raises(ValueError):
         Column.from_buffer(array.array("B", [1, 2]), [True])
-    for refused in (array.array("d", [1.0]), memoryview(bytes(4)).cast("B", (2, 2))):
-        with pytest.raises(TypeError):
-            Column.of(refused)
+    with pytest.raises(TypeError):
+        Column.of(memoryview(bytes(4)).cast("B", (2, 2)))
+    with pytest.raises(TypeError):
+        Column.from_buffer(array.array("d", [1.0]))
 
 
 @pytest.mark.parametrize(
@@ -215,11 +216,6 @@ def test_to_pandas():
     texts = Column.of(["a", None]).to_pandas()
     assert str(texts.dtype) == "string" and texts[0] == "a" and texts.isna()[1]
     assert Column.of([b"a", None]).to_pandas().tolist() == [b"a", None]
-
-
-def test_pandas_refuses_floats():
-    with pytest.raises(TypeError):
-        Column.of(pandas.Series([1.0, None]))
 
 
 def test_runs_by_their_ends():

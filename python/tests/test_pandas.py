@@ -215,7 +215,7 @@ def test_rows_of_every_sort(given, dtype, due):
 
 
 @pytest.mark.parametrize("call, kind, said", [
-    (lambda: RunEndArray([1.5]), TypeError, "row 0 is 1.5, of class float, which no column has"),
+    (lambda: RunEndArray([1.5]), TypeError, "RunEndArray does not serve float64"),
     (lambda: RunEndArray([300], "u8"), OverflowError, "row 0 is 300, which does not fit u8"),
     (lambda: RunEndArray(3), TypeError, "RunEndArray takes rows or a Column, not 3"),
     (lambda: RunEndArray([None]), ValueError, r"no row shows a type: name one, as RunEndArray\(rows, 'i64'\)"),

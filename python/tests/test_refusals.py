@@ -187,7 +187,7 @@ def test_constants_that_are_none():
     due = [
         (lambda: Column.constant(300, 2, "u8"), OverflowError),
         (lambda: Column.constant("a", 2, "u8"), TypeError),
-        (lambda: Column.constant(1.5, 2), TypeError),
+        (lambda: Column.constant(1.5, 2, "i8"), TypeError),
         (lambda: Column.constant(1, -2), ValueError),
         (lambda: Column.constant(1, 2**64), OverflowError),
         (lambda: Column.constant(None, 2), ValueError),

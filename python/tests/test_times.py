@@ -78,7 +78,7 @@ def test_types_are_those_of_arrow_s_formats(name):
 
 @pytest.mark.parametrize("format", [
     "", "l", "td", "tdX", "tdDD", "tts:", "ttx", "ts", "tss", "tsx:", "tss;", "tD", "tDx", "tDs:", "tiM", "+r", "u",
-    "e", "d:5,2", "Tss:", "tss UTC",
+    "d:5,2", "Tss:", "tss UTC",
 ])
 def test_other_formats_are_of_no_logical_type(format):
     assert LogicalType.of_format(format) is None

@@ -364,6 +364,42 @@ extern "C" {
     pub fn hv_form(column: *mut Handle) -> u8;
     pub fn hv_offset(column: *mut Handle) -> usize;
     pub fn hv_bytes_used(column: *mut Handle) -> usize;
+    pub fn hv_float_encode(
+        bits: *mut Handle,
+        is_canonical: u8,
+        out: *mut Handle,
+        error: *mut Fields,
+    ) -> i32;
+    pub fn hv_float_decode(floats: *mut Handle, out: *mut Handle, error: *mut Fields) -> i32;
+    pub fn hv_float_compare(
+        floats: *mut Handle,
+        operator: u8,
+        constant: u64,
+        is_ieee: u8,
+        out: *mut Handle,
+        error: *mut Fields,
+    ) -> i32;
+    pub fn hv_float_at(
+        floats: *mut Handle,
+        row: usize,
+        is_valid: *mut u8,
+        bits: *mut u64,
+        error: *mut Fields,
+    ) -> i32;
+    pub fn hv_float_min_max(
+        floats: *mut Handle,
+        is_ieee: u8,
+        is_found: *mut u8,
+        least: *mut u64,
+        greatest: *mut u64,
+        error: *mut Fields,
+    ) -> i32;
+    pub fn hv_float_sum(
+        floats: *mut Handle,
+        count: *mut u64,
+        bits: *mut u64,
+        error: *mut Fields,
+    ) -> i32;
     pub fn hv_read_u8(
         column: *mut Handle,
         start: usize,

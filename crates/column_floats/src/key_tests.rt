@@ -3,6 +3,7 @@ ghost use Rattle.std.specs.Prelude.{◌≡◌, ◌↔◌, ℕ, ℤ, Bool, IsTrue
 ghost use Rattle.std.specs.Ordering.{int_cmp};
 ghost use Rattle.column_order.specs.Comparing.{holds_of};
 ghost use Rattle.float_bits.specs.Format.{IsPattern};
+ghost use Rattle.float_bits.specs.Number.{IsNan};
 ghost use Rattle.float_bits.specs.TotalOrder.{total_key as key_of};
 ghost use Rattle.column_floats.specs.Comparisons.{HoldsInTotalOrder, HoldsOfNumbers, is_in_range, is_on_side};
 
@@ -85,6 +86,15 @@ impl KeyRange {
             CompareOperator::Lt => KeyRange::inside(keys_below(format, bits)),
             CompareOperator::Lte => KeyRange::inside(keys_at_most(format, bits)),
         }
+    }
+
+    /// Returns the test that a key is not one of a NaN.
+    pub fn of_numbers(format: FloatFormat) -> KeyRange
+        ensures { (other : ℕ) → IsPattern format other →
+            IsTrue (is_on_side result.within (is_in_range result.low result.past (key_of format other))) ↔
+            ¬ IsNan format other }
+    {
+        KeyRange::with(CompareOperator::Lte, format, format.infinity())
     }
 
     // The test that a key is in the range.

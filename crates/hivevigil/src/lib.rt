@@ -7,6 +7,7 @@ mod commands;
 mod constants;
 mod encodings;
 mod flat;
+mod floats;
 mod groups;
 mod lists;
 mod messages;

@@ -1,2 +1,3 @@
 pub mod CoveredRows
 pub mod TestedRows
+pub mod RunSums

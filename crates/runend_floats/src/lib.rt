@@ -4,9 +4,15 @@
 mod comparisons;
 mod decoding;
 mod encoding;
+mod ends;
+mod extremes;
+mod sums;
 
 pub use column_floats::{FloatFormat, FloatPatterns, bits_type, float_format, key_type};
 pub use column_order::CompareOperator;
 pub use comparisons::{compare_numbers, compare_total};
 pub use decoding::{decode_floats, float_at};
 pub use encoding::encode_floats;
+pub use extremes::{min_max_numbers, min_max_total};
+pub use float_sums::FloatSum;
+pub use sums::sum_floats;

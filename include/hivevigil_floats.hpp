@@ -1,0 +1,135 @@
+// Columns of floats, over hivevigil.hpp: each float is stored by its key, the place of its bits in the total order of
+// IEEE 754, in a column of i32 (float) or i64 (double). Slices, takes, filters and bytes of the keys are those of the
+// floats.
+//
+//     const auto prices = hv::Floats<double>::of({1.5, 1.5, std::nan("")});
+//     prices.sum(), prices.at(0), prices.compare(hv::Operator::greater, 1.0);
+#ifndef HIVEVIGIL_FLOATS_HPP
+#define HIVEVIGIL_FLOATS_HPP
+#include "hivevigil.hpp"
+#include <cstring>
+
+namespace hv {
+
+// Which floats an extreme or a comparison looks at: numbers by IEEE 754, or all by their place in the total order, in
+// which only equal bits are equal, -0.0 is below 0.0, and NaNs lie outside of all numbers, by their signs.
+enum class FloatOrder : uint8_t { total = 0, ieee = 1 };
+
+// The exact sum of rows, rounded once, and how many they are.
+struct FloatSum {
+    double total;
+    uint64_t rows;
+};
+
+template <class T> class Floats {
+    static_assert(std::is_same_v<T, float> || std::is_same_v<T, double>, "floats are of 32 or of 64 bits");
+    using Bits = std::conditional_t<sizeof(T) == 4, uint32_t, uint64_t>;
+    using Key = std::conditional_t<sizeof(T) == 4, int32_t, int64_t>;
+
+public:
+    // ---- Made of rows, in as few runs as possible, bit by bit ----
+
+    static Floats of(View<T> rows) { return of_bits(bits_of(rows), nullptr); }
+    static Floats of(std::initializer_list<T> rows) { return of(View<T>(rows.begin(), rows.size())); }
+    // null where the flag is false
+    static Floats of(View<T> rows, const std::vector<bool> &valid) { return of_bits(bits_of(rows), &valid); }
+    // null where there is none
+    static Floats of(const std::vector<std::optional<T>> &rows) {
+        std::vector<T> items;
+        std::vector<bool> valid;
+        for (const auto &row : rows) items.push_back(row.value_or(T{})), valid.push_back(row.has_value());
+        return of(View<T>(items.data(), items.size()), valid);
+    }
+    // The floats that have these keys. Refused as HV_TYPE_MISMATCH unless the column has integers of T's width.
+    explicit Floats(Column keys) : stored(std::move(keys)) {
+        if (stored.kind().number != detail::Native<Key>::kind.number) throw Error(HV_TYPE_MISMATCH, {});
+    }
+
+    // ---- Read ----
+
+    // The keys, whose commands are those of the floats.
+    const Column &keys() const { return stored; }
+    size_t size() const { return stored.size(); }
+    // Row `row`, none where it is null; refused as HV_OUT_OF_BOUNDS past the end.
+    std::optional<T> at(size_t row) const {
+        uint8_t is_valid = 0;
+        uint64_t bits = 0;
+        detail::ask([&](auto *error) { return hv_float_at(&stored.handle, row, &is_valid, &bits, error); });
+        return is_valid ? std::optional<T>(float_of(bits)) : std::nullopt;
+    }
+    // All rows, none where a row is null.
+    std::vector<std::optional<T>> optionals() const {
+        std::vector<std::optional<T>> rows;
+        for (const auto &bits : decoded().template optionals<Bits>())
+            rows.push_back(bits ? std::optional<T>(float_of(*bits)) : std::nullopt);
+        return rows;
+    }
+
+    // ---- Asked ----
+
+    // Row by row whether `row by right`, null where the row is: as numbers, unless the total order is asked for.
+    Column compare(Operator by, T right, FloatOrder order = FloatOrder::ieee) const {
+        return Column::made([&](auto *out, auto *error) {
+            return hv_float_compare(&stored.handle, static_cast<uint8_t>(by), bits_of(right),
+                                    static_cast<uint8_t>(order), out, error);
+        });
+    }
+    // The least and the greatest row that is not null, none where there is none: of numbers, unless the total order is
+    // asked for.
+    std::optional<std::pair<T, T>> least_and_greatest(FloatOrder order = FloatOrder::ieee) const {
+        uint8_t is_found = 0;
+        uint64_t least = 0, greatest = 0;
+        detail::ask([&](auto *error) {
+            return hv_float_min_max(&stored.handle, static_cast<uint8_t>(order), &is_found, &least, &greatest, error);
+        });
+        if (!is_found) return std::nullopt;
+        return std::pair<T, T>(float_of(least), float_of(greatest));
+    }
+    // The exact sum of the rows that are not null, rounded once to a double: an infinity past the finite ones, NaN where
+    // a row is or both infinities are.
+    FloatSum sum() const {
+        if constexpr (sizeof(T) == 4) return widened().sum();
+        FloatSum found{};
+        uint64_t bits = 0;
+        detail::ask([&](auto *error) { return hv_float_sum(&stored.handle, &found.rows, &bits, error); });
+        std::memcpy(&found.total, &bits, sizeof bits);
+        return found;
+    }
+
+private:
+    Column stored;
+
+    static Bits bits_of(T number) {
+        Bits bits;
+        std::memcpy(&bits, &number, sizeof bits);
+        return bits;
+    }
+    static std::vector<Bits> bits_of(View<T> rows) {
+        std::vector<Bits> bits;
+        for (const T &row : rows) bits.push_back(bits_of(row));
+        return bits;
+    }
+    static T float_of(uint64_t bits) {
+        const Bits narrow = static_cast<Bits>(bits);
+        T number;
+        std::memcpy(&number, &narrow, sizeof narrow);
+        return number;
+    }
+    static Floats of_bits(const std::vector<Bits> &bits, const std::vector<bool> *valid) {
+        const Column flat = valid ? Column::of(bits, *valid) : Column::of(bits);
+        return Floats(
+            Column::made([&](auto *out, auto *error) { return hv_float_encode(&flat.handle, 0, out, error); }));
+    }
+    Column decoded() const {
+        return Column::made([&](auto *out, auto *error) { return hv_float_decode(&stored.handle, out, error); });
+    }
+    // The same numbers as doubles, which have them all.
+    Floats<double> widened() const {
+        std::vector<std::optional<double>> rows;
+        for (const auto &row : optionals()) rows.push_back(row ? std::optional<double>(*row) : std::nullopt);
+        return Floats<double>::of(rows);
+    }
+};
+
+} // namespace hv
+#endif

@@ -1,0 +1,296 @@
+"""Columns of floats: made of arrays and of bits, as arrays, compared, summed, converted."""
+from __future__ import annotations
+
+import array
+import ctypes
+from typing import TYPE_CHECKING, Any, Callable, Optional
+
+from . import _floats, _reading, _runs
+from ._library import Kind, ask, calls, session
+from ._making import numbers_of, validity_of
+from ._types import TYPES, WHOLE_NUMBERS, range_of, text_of
+from ._values import NOT_FLOAT, is_missing, operator_of
+from .errors import CastOutOfRange, TypeMismatch, in_words
+from .logical import LogicalType, storage_of
+
+if TYPE_CHECKING:
+    from .column import Column
+
+_IEEE, _TOTAL = 1, 0
+_AS_THEY_ARE, _CANONICAL = 0, 1
+_WIDE = LogicalType("float", "64")
+
+
+# ---- Bits ----
+
+
+def bits(column: Column) -> Column:
+    """The bits of the floats, as integers without sign in the form of the column."""
+    rows = column._length
+    if column.form == "constant" and rows:
+        one = column._made(calls.hv_float_decode, column.slice(0, 1))
+        return column.constant(one[0], rows, one.type)
+    if column.form == "runs":
+        values = column._made(calls.hv_float_decode, column.values())
+        return column.from_runs(column.ends(), values, column.offset, rows)
+    return column._made(calls.hv_float_decode, column)
+
+
+def of_bits(words: Column, logical: LogicalType) -> Column:
+    """The floats with these bits: flat of a flat column, else runs."""
+    made = words._made(calls.hv_float_encode, words, _AS_THEY_ARE)._meaning(logical)
+    return made.decode() if words.form == "flat" else made
+
+
+def _one_pattern_each(column: Column) -> Column:
+    """The keys of the same numbers, with one zero and one NaN, which is above all else."""
+    return column._made(calls.hv_float_encode, bits(column), _CANONICAL)
+
+
+# ---- Arrays ----
+
+
+def of_array(kind: type[Column], items: Any) -> Optional[Column]:
+    """The column of a buffer or an array of floats of NumPy or pandas; what is masked, or what pandas calls missing, is
+    null. None of an array of other items."""
+    if isinstance(items, (array.array, memoryview)):
+        return _of_buffer(kind, memoryview(items))
+    native: Any = getattr(getattr(items, "dtype", None), "numpy_dtype", getattr(items, "dtype", None))
+    if getattr(native, "kind", "") != "f":
+        return None
+    if getattr(items, "ndim", 1) != 1:
+        raise ValueError(f"a column has one dimension, and the array has {items.ndim}")
+    if native.itemsize > 8:
+        raise TypeError(f"no column has items of dtype {items.dtype}: {NOT_FLOAT}")
+    import numpy
+
+    floats, valid = _parts_of_pandas(items, native) if hasattr(items, "isna") else _parts_of_numpy(items)
+    words = numpy.ascontiguousarray(floats, native.newbyteorder("=")).view(f"u{native.itemsize}")
+    made = kind._made(*numbers_of(words, validity_of(valid, len(words))))
+    return of_bits(made, LogicalType("float", str(8 * native.itemsize)))
+
+
+def _of_buffer(kind: type[Column], view: memoryview) -> Optional[Column]:
+    letter = view.format.lstrip("@=<")
+    if letter not in ("e", "f", "d") or view.ndim != 1:
+        return None
+    unit = str(8 * view.itemsize)
+    words = memoryview(view.tobytes()).cast(_floats.WORDS[unit])
+    return of_bits(kind._made(*numbers_of(words, validity_of(None, len(words)))), LogicalType("float", unit))
+
+
+def _parts_of_numpy(items: Any) -> tuple[Any, Optional[Any]]:
+    import numpy
+
+    masks: Any = numpy.ma
+    if isinstance(items, numpy.ma.MaskedArray):
+        return items.data, ~masks.getmaskarray(items)
+    return items, None
+
+
+def _parts_of_pandas(items: Any, native: Any) -> tuple[Any, Optional[Any]]:
+    import numpy
+
+    missing = numpy.asarray(items.isna())
+    if native is items.dtype:
+        return numpy.asarray(items), ~missing if missing.any() else None
+    return items.to_numpy(dtype=native, na_value=native.type("nan")), ~missing
+
+
+def dtype(logical: Any) -> Any:
+    """The dtype of NumPy of a type of floats."""
+    import numpy
+
+    return numpy.dtype(str(logical))
+
+
+def to_array(column: Column) -> array.array[float]:
+    """The floats, of 32 or 64 bits; a null row may have any."""
+    logical: Any = column._logical
+    if logical.unit == "16":
+        raise TypeError("to_array: array.array has no floats of 16 bits; column.cast('float32') has")
+    words = _words(column)
+    return array.array("f" if logical.unit == "32" else "d", words.tobytes())
+
+
+def _words(column: Column) -> array.array[int]:
+    flat = column._made(calls.hv_float_decode, column)
+    return _reading.numbers(flat, 0, flat._length)
+
+
+def _items_and_missing(column: Column) -> tuple[Any, Optional[Any]]:
+    """An array of the floats, and flags of those that are null, None where the type has no null."""
+    import numpy
+
+    logical: Any = column._logical
+    items = numpy.frombuffer(_words(column), f"u{int(logical.unit) // 8}").view(dtype(logical))
+    if not column.nullable:
+        return items, None
+    flags = numpy.frombuffer(column.validity(), numpy.uint8)
+    return items, ~numpy.unpackbits(flags, count=len(items), bitorder="little").astype(bool)
+
+
+def to_numpy(column: Column, null: Any) -> Any:
+    """The rows as an array of floats, masked where they may be null, or with a value in place of null."""
+    import numpy
+
+    masks: Any = numpy.ma
+    items, missing = _items_and_missing(column.fill(null) if null is not None and column.nullable else column)
+    return items if missing is None else masks.MaskedArray(items, missing)
+
+
+def as_numpy(column: Column) -> Any:
+    """The rows as an array of floats in which null is NaN."""
+    items, missing = _items_and_missing(column)
+    if missing is not None:
+        items = items.copy()
+        items[missing] = items.dtype.type("nan")
+    return items
+
+
+def to_pandas(column: Column) -> Any:
+    """The rows as a Series: of Float32 or Float64 where they may be null, and of 16 bits with NaN for null."""
+    import pandas
+
+    items, missing = _items_and_missing(column)
+    if missing is None:
+        return pandas.Series(items)
+    if items.dtype.itemsize == 2:
+        return pandas.Series(as_numpy(column))
+    return pandas.Series(pandas.arrays.FloatingArray(items.copy(), missing))
+
+
+# ---- Questions ----
+
+
+def total(column: Column) -> tuple[float, int]:
+    """The exact sum of the rows that are not null, rounded once to a float of 64 bits, and how many they are."""
+    wide = column if column._logical == _WIDE else converted(column, storage_of(_WIDE, True), _WIDE, "sum")
+    count, found = ctypes.c_uint64(), ctypes.c_uint64()
+    ask(calls.hv_float_sum, wide, count, found)
+    return _floats.value_of_bits("64", found.value), count.value
+
+
+def least_and_greatest(column: Column, skip_nan: bool) -> tuple[Optional[float], Optional[float]]:
+    """The least and the greatest number, None twice where there is none. Without `skip_nan` both are NaN where a row
+    is: NaNs are the first or the last in the total order."""
+    logical: Any = column._logical
+    is_found, least, greatest = ctypes.c_uint8(), ctypes.c_uint64(), ctypes.c_uint64()
+    ask(calls.hv_float_min_max, column, _IEEE if skip_nan else _TOTAL, is_found, least, greatest)
+    if not is_found.value:
+        return None, None
+    ends = [_floats.value_of_bits(logical.unit, each.value) for each in (least, greatest)]
+    return (float("nan"), float("nan")) if _floats.any_nan(ends) else (ends[0], ends[1])
+
+
+def has_nan(column: Column) -> bool:
+    """Whether a row is a NaN."""
+    return _floats.any_nan(end for end in least_and_greatest(column, False) if end is not None)
+
+
+# ---- Comparisons ----
+
+
+def with_value(column: Column, sign: str, value: Any) -> Column:
+    """Row by row whether `row sign value`, as numbers by IEEE 754, for a number of any kind, exactly."""
+    logical: Any = column._logical
+    decided, constant = _floats.decided(logical, sign, value)
+    return column._made(calls.hv_float_compare, column, operator_of(decided), constant, _IEEE)
+
+
+def with_column(column: Column, sign: str, right: Column) -> Column:
+    """Row by row whether `row sign other`, as numbers by IEEE 754. Keys of one pattern for each value compare as numbers
+    do, but those of a NaN, which is above all else."""
+    if column._logical != right._logical:
+        column, right = (converted(each, storage_of(_WIDE, True), _WIDE, "compare") for each in (column, right))
+    if sign == "!=":
+        return _flipped(with_column(column, "==", right))
+    left_keys, right_keys = _one_pattern_each(column), _one_pattern_each(right)
+    holds = column._made(calls.hv_compare, session, left_keys, operator_of(sign), left_keys._beside(right_keys))
+    bounded = right if sign in ("<", "<=") else column
+    return holds.gt(_flipped(with_value(bounded, "<=", float("inf"))))  # both: where a NaN is bounded, it holds of none
+
+
+def _flipped(mask: Column) -> Column:
+    """The mask of the other rows."""
+    return mask.eq(False)
+
+
+# ---- Conversions ----
+
+
+def converted(column: Column, kind: Kind, logical: Optional[LogicalType], call: str) -> Column:
+    """The same numbers as floats of a width, or as integers: exactly, once for each run, or refused at the first row that
+    the type does not have."""
+    if column._logical == logical:
+        return _recast(column.storage(), kind, logical, call)
+    name = str(logical) if logical is not None else TYPES[kind.number]
+    convert = _conversion(column, kind, logical)
+    if convert is None:
+        before = column._logical or column.type.rstrip("?")
+        raise TypeMismatch().saying(
+            f"{call}: {before} is not cast to {name}; floats are cast to floats and integers, and integers to floats"
+        )
+    starts, values, remade = _each(column)
+    found: list[Any] = []
+    for start, value in zip(starts, values):
+        number = None if value is None else convert(value)
+        if number is None and value is not None:
+            raise CastOutOfRange().saying(f"{call}: row {start} is {in_words(value)}, which is not a value of {name}")
+        found.append(number)
+    made = remade(column.of(found, name))
+    return _recast(made.storage(), kind, logical, call)
+
+
+def _recast(storage: Column, kind: Kind, logical: Optional[LogicalType], call: str) -> Column:
+    from ._casting import cast
+
+    return cast(storage, kind, call)._meaning(logical)
+
+
+def _conversion(column: Column, kind: Kind, logical: Optional[LogicalType]) -> Optional[Callable[[Any], Any]]:
+    """What makes a number of the type of a row, None where there is none; None for types without a conversion."""
+    if logical is not None:
+        is_number = column._logical is None and column.type.rstrip("?") in WHOLE_NUMBERS
+        if logical.sort != "float" or not (is_number or _floats.is_float(column._logical)):
+            return None
+        floats = logical
+        return lambda value: value if _floats.is_exact(floats, value) else None
+    name = TYPES[kind.number]
+    if name not in WHOLE_NUMBERS:
+        return None
+    fits = range_of(name)
+
+    def whole(value: float) -> Optional[int]:
+        number = _floats.whole_of(value)
+        return number if number is not None and number in fits else None
+
+    return whole
+
+
+def _each(column: Column) -> tuple[list[int], list[Any], Callable[[Column], Column]]:
+    """Where each run starts, and its value, and what makes a column of this form of other values; of a flat column each
+    row."""
+    rows = column._length
+    if column.form == "runs":
+        shown = _runs.visible(column)
+        ends = column.of(shown.stops, "u64")
+        return [0, *shown.stops], shown.values.to_list(), lambda values: values.from_runs(ends, values)
+    if column.form == "constant" and rows:
+        first = column.slice(0, 1).to_list()
+        return [0], first, lambda values: values.constant(values[0], rows, _type_of(values))
+    values = column.to_list()
+    return list(range(len(values))), values, lambda values: values
+
+
+def _type_of(column: Column) -> str:
+    return text_of(column._kind) if column._logical is None else f"{column._logical}{'?' * column.nullable}"
+
+
+def checked_number(logical: Any, value: Any) -> Any:
+    """A number, with which rows are compared."""
+    from ._comparing import is_number
+
+    if not is_missing(value) and not is_number(value):
+        raise TypeError(f"a value of type {logical} is a number, not {in_words(value)}")
+    return value
