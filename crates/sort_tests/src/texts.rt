@@ -1,38 +1,71 @@
 //! Texts, and lists, which are refused.
+use bytes::Bytes;
 use column_core::{
-    DType, FlatColumn, NativePType, Nullability, PrimitiveArray, Scalar, Validity, VortexError,
-    VortexResult,
+    BitBufferMut, FlatColumn, NativePType, PrimitiveArray, Validity, VarBinKind, VarBinViewArray,
+    View, VortexError, VortexResult,
 };
 use runend_array::{ArrayRef, ExecutionCtx, ListViewArray, RowValidity, ScalarView, VortexSession};
-use runend_builder::RunBuilder;
 use runend_sorts::{reverse, sort, value_counts};
 use std::alloc::{Allocator, Global};
 use std::rc::Rc;
 use std::test::Fail;
 
-// Puts rows of one text, or of null, after the others.
-fn append<A: Allocator + Copy>(
+// Where each text lies in the bytes of "éz": "é" twice, "", a null row, "z", "" twice.
+fn views<A: Allocator + Copy>(alloc: A) -> VortexResult<Vec<View, A>> {
+    let view = |start, size| View {
+        buffer: 0,
+        start,
+        size,
+    };
+    let empty = view(0, 0);
+    let two = view(0, 2);
+    Ok(Vec::from_slice(alloc, &[two, two, empty, empty, view(2, 1), empty, empty])?)
+}
+
+// One buffer, of the bytes of "éz".
+fn buffers<A: Allocator + Copy>(alloc: A) -> VortexResult<Vec<Bytes<A>, A>> {
+    let mut buffers = Vec::with_capacity(alloc, 1)?;
+    let bytes = Bytes::copy_from_slice(alloc, "éz".as_bytes())?;
+    buffers.push_reserved(bytes);
+    Ok(buffers)
+}
+
+// All rows but the fourth are valid.
+fn validity<A: Allocator + Copy>(alloc: A) -> VortexResult<Validity<A>> {
+    let mut flags = BitBufferMut::with_capacity(alloc, 7)?;
+    for row in 0..7 {
+        flags.append(row != 3)?;
+    }
+    Ok(Validity::Bits(flags.freeze()))
+}
+
+// The texts, where their parts were made.
+fn joined<A: Allocator + Copy>(
+    views: Vec<View, A>,
+    buffers: Vec<Bytes<A>, A>,
     alloc: A,
-    builder: &mut RunBuilder<A>,
-    text: ScalarView<'_, A>,
-    count: usize,
-) -> VortexResult<()> {
-    let dtype = DType::Utf8(Nullability::Nullable);
-    let scalar = Scalar::of_view(alloc, dtype, text)?;
-    builder.append_value(&scalar, count)
+) -> VortexResult<VarBinViewArray<A>> {
+    match validity(alloc) {
+        Ok(flags) => VarBinViewArray::try_new(views, buffers, VarBinKind::Utf8, flags),
+        Err(error) => {
+            drop(views);
+            drop(buffers);
+            Err(error)
+        }
+    }
 }
 
 // The texts "é" "é" "" null "z" "" "".
-fn texts<A: Allocator + Copy>(ctx: &mut ExecutionCtx<A>) -> VortexResult<ArrayRef<A>> {
-    let alloc = *ctx.allocator();
-    let mut builder = RunBuilder::new(alloc, DType::Utf8(Nullability::Nullable))?;
-    append(alloc, &mut builder, ScalarView::Utf8("é"), 2)?;
-    append(alloc, &mut builder, ScalarView::Utf8(""), 1)?;
-    append(alloc, &mut builder, ScalarView::Null, 1)?;
-    append(alloc, &mut builder, ScalarView::Utf8("z"), 1)?;
-    append(alloc, &mut builder, ScalarView::Utf8(""), 2)?;
-    let runs = builder.finish(ctx)?;
-    ArrayRef::of_runs(alloc, runs)
+fn texts<A: Allocator + Copy>(alloc: A) -> VortexResult<ArrayRef<A>> {
+    let buffers = buffers(alloc)?;
+    let texts = match views(alloc) {
+        Ok(views) => joined(views, buffers, alloc)?,
+        Err(error) => {
+            drop(buffers);
+            return Err(error);
+        }
+    };
+    Ok(ArrayRef::VarBinView(texts))
 }
 
 // Is a row this text?
@@ -47,20 +80,24 @@ fn is_null<A: Allocator + Copy>(array: &ArrayRef<A>, row: usize) -> bool {
 
 fn are_texts_reversed(alloc: Global) -> VortexResult<bool> {
     let mut ctx = ExecutionCtx::new(VortexSession::empty(), alloc);
-    let texts = texts(&mut ctx)?;
+    let texts = texts(alloc)?;
     let reversed = reverse(&texts, &mut ctx)?;
     Ok(is_text(&reversed, 1, "") && is_text(&reversed, 2, "z") && is_null(&reversed, 3))
 }
 
 fn are_texts_sorted(alloc: Global) -> VortexResult<bool> {
     let mut ctx = ExecutionCtx::new(VortexSession::empty(), alloc);
-    let texts = texts(&mut ctx)?;
+    let texts = texts(alloc)?;
     let sorted = sort(&texts, &mut ctx)?;
+    Ok(is_null(&sorted, 0) && is_text(&sorted, 3, "") && is_text(&sorted, 4, "z"))
+}
+
+fn are_texts_counted(alloc: Global) -> VortexResult<bool> {
+    let mut ctx = ExecutionCtx::new(VortexSession::empty(), alloc);
+    let texts = texts(alloc)?;
     let counted = value_counts(&texts, &mut ctx)?;
-    let is_sorted = is_null(&sorted, 0) && is_text(&sorted, 3, "") && is_text(&sorted, 4, "z");
-    let values = &counted.values;
     let three = matches!(counted.counts.scalar_at(1), Ok(ScalarView::Unsigned(3)));
-    Ok(is_sorted && is_text(values, 1, "") && is_text(values, 3, "é") && three)
+    Ok(is_text(&counted.values, 1, "") && is_text(&counted.values, 3, "é") && three)
 }
 
 // One list of two integers.
@@ -103,6 +140,12 @@ fn texts_are_reversed(rt: HostRuntime) -> Result<(), Fail> {
 #[test]
 fn texts_are_in_the_order_of_their_bytes(rt: HostRuntime) -> Result<(), Fail> {
     assert!(rt; matches!(are_texts_sorted(rt.alloc()), Ok(true)));
+    Ok(())
+}
+
+#[test]
+fn equal_texts_are_counted(rt: HostRuntime) -> Result<(), Fail> {
+    assert!(rt; matches!(are_texts_counted(rt.alloc()), Ok(true)));
     Ok(())
 }
 
