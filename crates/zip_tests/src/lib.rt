@@ -4,14 +4,8 @@
 #[cfg(test)]
 mod dice;
 #[cfg(test)]
-mod equal;
-#[cfg(test)]
-mod picked;
-#[cfg(test)]
 mod plain;
 #[cfg(test)]
 mod refused;
-#[cfg(test)]
-mod single;
 #[cfg(test)]
 mod trials;

@@ -5,10 +5,7 @@ use column_core::VortexResult;
 use column_order::CompareOperator;
 use refusing::{Calls, are_answered_in_turn};
 use runend_array::{ArrayRef, ExecutionCtx, ScalarView, VortexSession};
-use runend_zip::{
-    BooleanOperator, NumericOperator, ZipError, boolean, coalesce, compare, equals, hash, if_else,
-    is_null, not, numeric,
-};
+use runend_zip::{BooleanOperator, NumericOperator, ZipError, boolean, compare, numeric};
 use std::alloc::Allocator;
 use std::test::Fail;
 
@@ -90,102 +87,6 @@ impl Calls for Connections {
         drop(truths);
         Ok(is_due)
     }
-}
-
-struct NullTests {}
-
-impl Calls for NullTests {
-    fn are_answered<A: Allocator + Copy>(alloc: A) -> VortexResult<bool> {
-        let mut ctx = ExecutionCtx::new(VortexSession::empty(), alloc);
-        let (left, right) = columns(&mut ctx)?;
-        drop(right);
-        let nulls = is_null(&left, &mut ctx);
-        drop(left);
-        let nulls = nulls?;
-        let valid = not(&nulls, &mut ctx);
-        drop(nulls);
-        let valid = valid?;
-        let is_due = matches!(valid.scalar_at(2), Ok(ScalarView::Bool(false)))
-            && matches!(valid.scalar_at(3), Ok(ScalarView::Bool(true)));
-        drop(valid);
-        Ok(is_due)
-    }
-}
-
-struct Picks {}
-
-impl Calls for Picks {
-    fn are_answered<A: Allocator + Copy>(alloc: A) -> VortexResult<bool> {
-        let mut ctx = ExecutionCtx::new(VortexSession::empty(), alloc);
-        let (left, right) = columns(&mut ctx)?;
-        let first = coalesce(&left, &right, &mut ctx);
-        drop(left);
-        drop(right);
-        let first = first?;
-        let is_due = matches!(first.scalar_at(2), Ok(ScalarView::Signed(3))) && ends_in(&first, 4);
-        drop(first);
-        Ok(is_due)
-    }
-}
-
-struct Choices {}
-
-impl Calls for Choices {
-    fn are_answered<A: Allocator + Copy>(alloc: A) -> VortexResult<bool> {
-        let mut ctx = ExecutionCtx::new(VortexSession::empty(), alloc);
-        let (left, right) = columns(&mut ctx)?;
-        let mask = compare(&left, CompareOperator::Gt, &right, &mut ctx)?;
-        let chosen = if_else(&mask, &left, &right, &mut ctx);
-        drop(mask);
-        drop(left);
-        drop(right);
-        let chosen = chosen?;
-        let is_due = matches!(chosen.scalar_at(0), Ok(ScalarView::Signed(2)))
-            && matches!(chosen.scalar_at(2), Ok(ScalarView::Null))
-            && ends_in(&chosen, 4);
-        drop(chosen);
-        Ok(is_due)
-    }
-}
-
-struct Equalities {}
-
-impl Calls for Equalities {
-    fn are_answered<A: Allocator + Copy>(alloc: A) -> VortexResult<bool> {
-        let mut ctx = ExecutionCtx::new(VortexSession::empty(), alloc);
-        let (left, right) = columns(&mut ctx)?;
-        let same = equals(&left, &left, &mut ctx);
-        let other = equals(&left, &right, &mut ctx);
-        let hashed = hash(&right, &mut ctx);
-        drop(left);
-        drop(right);
-        let _hash = hashed?;
-        Ok(same? && !other?)
-    }
-}
-
-#[test]
-fn single_columns_are_refused_for_memory(rt: HostRuntime) -> Result<(), Fail> {
-    assert!(rt; are_answered_in_turn::<NullTests>(rt.alloc()));
-    Ok(())
-}
-
-#[test]
-fn picks_are_refused_for_memory(rt: HostRuntime) -> Result<(), Fail> {
-    assert!(rt; are_answered_in_turn::<Picks>(rt.alloc()));
-    Ok(())
-}
-
-#[test]
-fn choices_are_refused_for_memory(rt: HostRuntime) -> Result<(), Fail> {
-    assert!(rt; are_answered_in_turn::<Choices>(rt.alloc()));
-    Ok(())
-}
-
-#[test]
-fn equalities_are_refused_for_memory(rt: HostRuntime) -> Result<(), Fail> {
-    assert!(rt; are_answered_in_turn::<Equalities>(rt.alloc()));
-    Ok(())
 }
 
 #[test]

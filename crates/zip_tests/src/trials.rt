@@ -9,18 +9,18 @@ use std::alloc::{Allocator, Global};
 use std::test::Fail;
 
 /// Holds the answer of a row as a number: 1 for true, 0 for false.
-pub(crate) type Row = Option<i128>;
+type Row = Option<i128>;
 
-/// Holds rows and a column of them, in a form.
+// Rows and a column of them, in a form.
 #[derive(Drop)]
-pub(crate) struct Column<A: Allocator> {
-    pub(crate) rows: Vec<Option<i64>, A>,
-    pub(crate) form: Form,
-    pub(crate) array: ArrayRef<A>,
+struct Column<A: Allocator> {
+    rows: Vec<Option<i64>, A>,
+    form: Form,
+    array: ArrayRef<A>,
 }
 
-/// Returns a random column of `count` rows of a kind.
-pub(crate) fn random_column<K: Kind, A: Allocator + Copy>(
+// A random column of `count` rows of a kind.
+fn random_column<K: Kind, A: Allocator + Copy>(
     ctx: &mut ExecutionCtx<A>,
     dice: &mut Dice,
     count: usize,
@@ -60,12 +60,8 @@ fn shown<A: Allocator + Copy>(array: &ArrayRef<A>, row: usize) -> Option<Row> {
     }
 }
 
-/// Returns whether the array shows these rows, in as few runs as can be, or as a constant where that is due.
-pub(crate) fn is_due<A: Allocator + Copy>(
-    array: &ArrayRef<A>,
-    rows: &[Row],
-    constant: bool,
-) -> bool {
+// Does the array show these rows, in as few runs as can be, or as a constant where that is due?
+fn is_due<A: Allocator + Copy>(array: &ArrayRef<A>, rows: &[Row], constant: bool) -> bool {
     let mut runs = 0usize;
     for row in 0..rows.len() {
         if shown(array, row) != Some(rows[row]) {
