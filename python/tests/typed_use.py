@@ -9,7 +9,7 @@ from hivevigil.dask import Answer, ChunkedColumn
 from hivevigil.dask_tables import ChunkedTable
 from hivevigil.pandas import RunEndArray, RunEndDtype
 
-Row = Union[int, bool, Decimal, str, bytes, date, time, timedelta, None]
+Row = Union[int, float, bool, Decimal, str, bytes, date, time, timedelta, None]
 
 column: Column = Column.of([1, None], "i64?").to_runs()
 rows: list[Row] = column.tolist()

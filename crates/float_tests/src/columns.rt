@@ -140,6 +140,19 @@ pub(crate) fn compares<A: Allocator + Copy>(alloc: A, floats: &Floats) -> Vortex
     are_due
 }
 
+/// Returns whether one comparison holds where it has to.
+pub(crate) fn compares_once<A: Allocator + Copy>(
+    alloc: A,
+    floats: &Floats,
+    case: Compared,
+) -> VortexResult<bool> {
+    let mut ctx = ExecutionCtx::new(VortexSession::empty(), alloc);
+    let column = column_of(alloc, floats.format, floats.rows)?;
+    let is_due = holds(&column, floats.rows, case, &mut ctx);
+    drop(column);
+    is_due
+}
+
 /// Returns whether these are the least and the greatest number.
 pub(crate) fn bounds_numbers<A: Allocator + Copy>(alloc: A, floats: &Floats) -> VortexResult<bool> {
     let mut ctx = ExecutionCtx::new(VortexSession::empty(), alloc);

@@ -1,5 +1,5 @@
 //! Calls on columns of floats with each request for memory refused in turn, and calls that are refused.
-use crate::columns::{bounds_all, bounds_numbers, compares, decodes, encodes, looks_up};
+use crate::columns::{bounds_all, bounds_numbers, compares_once, decodes, encodes, looks_up};
 use crate::made::{bits_of, column_of};
 use crate::tables::floats_of;
 use column_core::{VortexError, VortexResult};
@@ -58,13 +58,30 @@ struct Comparison {}
 
 impl Calls for Comparison {
     fn are_answered<A: Allocator + Copy>(alloc: A) -> VortexResult<bool> {
-        compares(alloc, &floats_of(FloatFormat::F32))
+        let floats = floats_of(FloatFormat::F32);
+        match floats.compared.first() {
+            Some(case) => compares_once(alloc, &floats, *case),
+            None => Ok(false),
+        }
+    }
+}
+
+struct TotalComparison {}
+
+impl Calls for TotalComparison {
+    fn are_answered<A: Allocator + Copy>(alloc: A) -> VortexResult<bool> {
+        let floats = floats_of(FloatFormat::F32);
+        match floats.compared.last() {
+            Some(case) => compares_once(alloc, &floats, *case),
+            None => Ok(false),
+        }
     }
 }
 
 #[test]
 fn comparisons_are_refused_for_memory(rt: HostRuntime) -> Result<(), Fail> {
     assert!(rt; are_answered_in_turn::<Comparison>(rt.alloc()));
+    assert!(rt; are_answered_in_turn::<TotalComparison>(rt.alloc()));
     Ok(())
 }
 
