@@ -24,3 +24,7 @@ pub mod VisibleRuns
 pub mod VisibleLaws
 pub mod ValidRuns
 pub mod Steps
+pub mod Starts
+pub mod ChangedItems
+pub mod ChangedRows
+pub mod ChangedNumbers

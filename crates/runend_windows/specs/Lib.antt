@@ -7,3 +7,4 @@ pub mod Decoding
 pub mod RunEnds
 pub mod Trimmed
 pub mod Visible
+pub mod Starts

@@ -1,5 +1,6 @@
-//! The encoder: rows are walked once, with the run of the last row open.
-ghost use Rattle.std.specs.Prelude.{◌≡◌, ◌+◌, ◌<◌, ◌≤◌, ◌++◌, ◌↔◌, true, [], ◌∷◌, All, IfOk, OnOk, IsOkUnless, IsSome, IsTrue, is_some, length, map, option_map, replicate};
+//! The encoder: where runs end is found 64 rows at a time, and then what each shows is taken from its first row.
+ghost use Rattle.std.specs.Prelude.{◌≡◌, ◌<◌, ◌++◌, ◌↔◌, true, [], ◌∷◌, All, IfOk, None, OnOk, IsOkUnless, IsTrue, Some, is_some, length, map, option_map, replicate, slice_get};
+ghost use Rattle.column_base.specs.Bits.{set_indices_of};
 ghost use Rattle.column_base.specs.declared.dtype.Nullability.TheVariants.{NonNullable};
 ghost use Rattle.column_base.specs.ValidityForm.{NeverNull, HasLength, IsNormal, flags, nullability_in};
 ghost use Rattle.column_base.specs.Validity.{form_of};
@@ -7,7 +8,9 @@ ghost use Rattle.column_core.specs.Computed.{HasRowIfAllNull};
 ghost use Rattle.column_core.specs.PrimitiveForm.{AreZeroAtNulls, optionals, primitive_with};
 ghost use Rattle.runend_windows.specs.Cover.{IsTightCover};
 ghost use Rattle.runend_windows.specs.Encoding.{IsAllInvalid, IsFlatEncoding};
+ghost use Rattle.runend_windows.specs.Starts.{items_at, starts_from};
 
+use crate::changes::changes_of;
 use crate::narrow::narrowed;
 use crate::shown::shown_at;
 use column_base::match_each_native;
@@ -112,17 +115,17 @@ struct Encoder<T: Drop, A: Allocator> {
 }
 
 impl<T: NativePType, A: Allocator + Copy> Encoder<T, A> {
-    // No runs.
-    fn new(alloc: A) -> VortexResult<Self>
+    // No runs, and room for `count`.
+    fn with_capacity(alloc: A, count: usize) -> VortexResult<Self>
         ensures only { IsOkUnless result VortexError.OutOfMemory }
         ensures ends { IfOk result (λ runs. runs.ends.items ≡ []) }
         ensures values { IfOk result (λ runs. runs.values.items ≡ []) }
         ensures flags { IfOk result (λ runs. runs.flags ≡ []) }
     {
         Ok(Encoder {
-            ends: Vec::new(alloc),
-            values: Vec::new(alloc),
-            flags: BitBufferMut::with_capacity(alloc, 0)?,
+            ends: Vec::with_capacity(alloc, count)?,
+            values: Vec::with_capacity(alloc, count)?,
+            flags: BitBufferMut::with_capacity(alloc, count)?,
         })
     }
 
@@ -176,23 +179,39 @@ fn valid_runs<T: NativePType, A: Allocator + Copy>(
     ensures cover { IfOk result (λ runs. IsTightCover (map T.number items.now) runs.0.items
         (map T.number runs.1.items)) }
 {
-    let mut ends = Vec::new(alloc);
-    let mut values = Vec::new(alloc);
     let total = items.len();
     if total == 0 {
-        return Ok((ends, values));
+        return Ok((Vec::new(alloc), Vec::new(alloc)));
     }
-    let mut open = items[0];
-    for row in 1..total {
-        let item = items[row];
-        if item != open {
-            ends.push(row as u64)?;
-            values.push(open)?;
-            open = item;
-        }
+    let changes = changes_of(alloc, items, &Validity::NonNullable)?;
+    let (ends, values) = first_items(alloc, items, &changes)?;
+    Ok((ends, values))
+}
+
+// The row that each run ends before, and the item of its first row. Each run but the first starts where a bit is true.
+fn first_items<T: NativePType, A: Allocator + Copy>(
+    alloc: A,
+    items: &[T],
+    changes: &BitBuffer<A>,
+) -> VortexResult<(Vec<u64, A>, Vec<T, A>)>
+    requires some { 0 < length items.now }
+    requires long { length changes.now ≡ length items.now }
+    ensures only { IsOkUnless result VortexError.OutOfMemory }
+    ensures ends { IfOk result (λ runs. runs.0.items ≡ set_indices_of changes.now ++ length items.now ∷ []) }
+    ensures values { IfOk result (λ runs. map (λ item. Some item) runs.1.items
+        ≡ map (slice_get items.now) (starts_from 0 runs.0.items)) }
+{
+    let count = changes.true_count().saturating_add(1);
+    let mut ends = Vec::with_capacity(alloc, count)?;
+    let mut values = Vec::with_capacity(alloc, count)?;
+    let mut start = 0;
+    for end in changes.set_indices() {
+        ends.push(end as u64)?;
+        values.push(items[start])?;
+        start = end;
     }
-    ends.push(total as u64)?;
-    values.push(open)?;
+    ends.push(items.len() as u64)?;
+    values.push(items[start])?;
     Ok((ends, values))
 }
 
@@ -210,19 +229,40 @@ fn encode_nullable<T: NativePType, A: Allocator + Copy>(
     ensures paired { IfOk result (λ runs. length runs.flags ≡ length runs.values.items) }
     ensures zeroed { IfOk result (λ runs. AreZeroAtNulls (map T.number runs.values.items) runs.flags) }
 {
-    let mut runs = Encoder::new(alloc)?;
-    let count = items.len();
-    if count == 0 {
-        return Ok(runs);
+    let total = items.len();
+    if total == 0 {
+        let none = Encoder::with_capacity(alloc, 0)?;
+        return Ok(none);
     }
-    let mut open = shown_at(items, validity, 0);
-    for row in 1..count {
-        let shown = shown_at(items, validity, row);
-        if shown != open {
-            runs.close(open, row as u64)?;
-            open = shown;
-        }
+    let changes = changes_of(alloc, items, validity)?;
+    let runs = first_rows(alloc, items, validity, &changes)?;
+    Ok(runs)
+}
+
+// The row that each run ends before, and its first row. Each run but the first starts where a bit is true.
+fn first_rows<T: NativePType, A: Allocator + Copy>(
+    alloc: A,
+    items: &[T],
+    validity: &Validity<A>,
+    changes: &BitBuffer<A>,
+) -> VortexResult<Encoder<T, A>>
+    requires fits { HasLength (form_of validity.now) (length items.now) }
+    requires some { 0 < length items.now }
+    requires long { length changes.now ≡ length items.now }
+    ensures only { IsOkUnless result VortexError.OutOfMemory }
+    ensures ends { IfOk result (λ runs. runs.ends.items ≡ set_indices_of changes.now ++ length items.now ∷ []) }
+    ensures values { IfOk result (λ runs. optionals (map T.number runs.values.items) runs.flags ≡ items_at None
+        (optionals (map T.number items.now) (flags (form_of validity.now) (length items.now)))
+        (starts_from 0 runs.ends.items)) }
+    ensures paired { IfOk result (λ runs. length runs.flags ≡ length runs.values.items) }
+    ensures zeroed { IfOk result (λ runs. AreZeroAtNulls (map T.number runs.values.items) runs.flags) }
+{
+    let mut runs = Encoder::with_capacity(alloc, changes.true_count().saturating_add(1))?;
+    let mut start = 0;
+    for end in changes.set_indices() {
+        runs.close(shown_at(items, validity, start), end as u64)?;
+        start = end;
     }
-    runs.close(open, count as u64)?;
+    runs.close(shown_at(items, validity, start), items.len() as u64)?;
     Ok(runs)
 }
