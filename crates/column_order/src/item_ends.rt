@@ -1,5 +1,6 @@
 //! The least and the greatest of the items of a flat column.
-ghost use Rattle.std.specs.Prelude.{◌≡◌, ◌/◌, ◌<◌, ◌≤◌, ℕ, All, IfNone, IfSome, None, length, slice_range, MatchOption};
+ghost use Rattle.std.specs.Prelude.{◌≡◌, ◌≢◌, ◌+◌, ◌/◌, ◌%◌, ◌<◌, ◌≤◌, ℕ, All, IfNone, IfSome, None, length, slice_index, slice_range, MatchOption};
+ghost use Rattle.std.specs.Int.{bit_at};
 ghost use Rattle.column_base.specs.ValidityForm.{HasLength, flags};
 ghost use Rattle.column_base.specs.Validity.{form_of};
 ghost use Rattle.column_base.specs.declared.dtype.DecimalDType.{DecimalDType};
@@ -139,10 +140,94 @@ fn word_end(row: usize, stop: usize) -> usize
     row + (64 - row % 64).min(stop - row)
 }
 
-// The least and the greatest of the items before some rows and of those rows, whose flags stand in one word. In the
-// place of a null the first item that is none is looked at once more, so that each row takes the same steps.
+// The least and the greatest of the items before some rows and of those rows, whose flags stand in one word.
 #[inline(always)]
 fn ends_in_word<T: FlatItem, A: Allocator>(
+    items: &[T],
+    flags: &BitBuffer<A>,
+    range: Range<usize>,
+    first: T,
+    ends: (T, T),
+) -> (T, T)
+    requires fits { length flags.now ≡ length items.now }
+    requires ordered { range.start < range.end }
+    requires in_bounds { range.end ≤ length items.now }
+    requires one_word { (k : ℕ) → range.start ≤ k → k < range.end → k / 64 ≡ range.start / 64 }
+    ensures { (start : ℕ) → start ≤ range.start
+        → AreEndsSoFar (slice_range (flagged_rows T.value items.now flags.now) start range.start)
+        (item_row T.value first) (item_row T.value ends.0) (item_row T.value ends.1)
+        → AreEndsSoFar (slice_range (flagged_rows T.value items.now flags.now) start range.end)
+        (item_row T.value first) (item_row T.value result.0) (item_row T.value result.1) }
+{
+    let count = range.end - range.start;
+    if count == 64 {
+        ends_in_whole_word(items, flags, range.start, first, ends)
+    } else {
+        ends_in_part(items, flags, range, first, ends)
+    }
+}
+
+// The same of the 64 rows from `from` on. A byte for each flag says which are nulls, so no row waits for a flag, and
+// as many rows are compared at once as a vector has.
+#[inline(always)]
+fn ends_in_whole_word<T: FlatItem, A: Allocator>(
+    items: &[T],
+    flags: &BitBuffer<A>,
+    from: usize,
+    first: T,
+    ends: (T, T),
+) -> (T, T)
+    requires fits { length flags.now ≡ length items.now }
+    requires in_bounds { from + 64 ≤ length items.now }
+    requires first_of_word { from % 64 ≡ 0 }
+    ensures { (start : ℕ) → start ≤ from
+        → AreEndsSoFar (slice_range (flagged_rows T.value items.now flags.now) start from)
+        (item_row T.value first) (item_row T.value ends.0) (item_row T.value ends.1)
+        → AreEndsSoFar (slice_range (flagged_rows T.value items.now flags.now) start (from + 64))
+        (item_row T.value first) (item_row T.value result.0) (item_row T.value result.1) }
+{
+    let marks = bytes_of_bits(flags.words()[from / 64]);
+    let (mut least, mut greatest) = ends;
+    for lane in 0..64usize {
+        let row = from + lane;
+        let item = items[row];
+        let is_valid = marks[lane] == 1;
+        let shown = if is_valid { item } else { first };
+        least = least.min(shown);
+        greatest = greatest.max(shown);
+    }
+    (least, greatest)
+}
+
+// Each bit of a word, the lowest first, as a byte of its own.
+#[inline(always)]
+fn bytes_of_bits(word: u64) -> [u8; 64]
+    ensures { (lane : ℕ) → lane < 64 → slice_index result lane ≡ bit_at word lane }
+{
+    let mut bytes = [0u8; 64];
+    for eight in 0..8usize {
+        put_eight(&mut bytes, word, eight);
+    }
+    bytes
+}
+
+// The same of eight bits, from bit `eight` * 8 on.
+#[inline(always)]
+fn put_eight(bytes: &mut [u8; 64], word: u64, eight: usize)
+    requires { eight < 8 }
+    ensures own { (lane : ℕ) → lane / 8 ≡ eight → slice_index bytes.new lane ≡ bit_at word lane }
+    ensures others { (lane : ℕ) → lane / 8 ≢ eight → slice_index bytes.new lane ≡ slice_index bytes.old lane }
+{
+    let byte = ((word >> (eight * 8)) & 255) as u8;
+    for lane in 0..8usize {
+        bytes[eight * 8 + lane] = (byte >> lane) & 1;
+    }
+}
+
+// The same of fewer rows than a word has flags, or of such that begin within a word. In the place of a null the first
+// item that is none is looked at once more, so that each row takes the same steps.
+#[inline(always)]
+fn ends_in_part<T: FlatItem, A: Allocator>(
     items: &[T],
     flags: &BitBuffer<A>,
     range: Range<usize>,

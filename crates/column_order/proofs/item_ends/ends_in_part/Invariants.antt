@@ -2,7 +2,7 @@ use Rattle.std.proofs.Common.{ℕ, ◌≤◌}
 use Rattle.std.specs.Prelude.{slice_range}
 use Rattle.column_order.specs.Items.{flagged_rows, item_row}
 use Rattle.column_order.specs.Steps.{AreEndsSoFar}
-use Rattle.column_order.proofs.item_ends.ends_in_word.Given as goal
+use Rattle.column_order.proofs.item_ends.ends_in_part.Given as goal
 
 abbrev pub invariant-loop-row : goal.invariant-loop-row
 invariant-loop-row g l =
