@@ -1,5 +1,5 @@
 -- Numbers that differ from the number before, and rows of them.
-use Rattle.std.proofs.Common.{◌≡◌, ◌≢◌, ◌∙◌, ◌+◌, ◌-◌, ◌%◌, ◌^◌, ◌≤◌, ◌<◌, ℕ, ℤ, zero, suc, eqb, w8, take, pos, List, [], ◌∷◌, Bool, true, false, not, cond, Option, Some, None, length, map, replicate, get_or, refl, sym, ap, subst, arith}
+use Rattle.std.proofs.Common.{◌≡◌, ◌≢◌, ◌∙◌, ◌-◌, ◌%◌, ◌^◌, ◌<◌, ℕ, ℤ, zero, suc, eqb, w8, take, pos, List, [], ◌∷◌, Bool, true, false, not, cond, Option, Some, None, length, map, replicate, get_or, refl, sym, ap, subst, arith}
 use Rattle.std.specs.Prelude.{◌↔◌, option_map, slice_get}
 use Rattle.std.specs.Int.{bit_at}
 use Rattle.std.specs.declared.cmp.Ordering.{Ordering}

@@ -1,5 +1,5 @@
-use Rattle.std.proofs.Common.{◌≡◌, ◌∙◌, ◌++◌, ◌∷◌, [], None, length, map, refl, sym, ap, arith}
-use Rattle.std.specs.Prelude.{option_map, slice_get, slice_index_or}
+use Rattle.std.proofs.Common.{None, length, map, sym, arith}
+use Rattle.std.specs.Prelude.{option_map, slice_index_or}
 use Rattle.std.proofs.lemmas.Option.{get_or_from_slice_get}
 use Rattle.column_base.specs.ValidityForm.{flags}
 use Rattle.column_base.specs.Validity.{form_of}

@@ -5,7 +5,6 @@ use Rattle.runend_windows.specs.Cover.{IsTightCover}
 use Rattle.runend_windows.specs.Starts.{items_at, starts_from}
 use Rattle.runend_windows.proofs.ChangedNumbers.{AreChanges-of_valid, numbers-taken}
 use Rattle.runend_windows.proofs.ChangedRows.{IsTightCover-of_changes}
-use Rattle.runend_windows.proofs.Grow.{IsTightCover-of_none}
 use Rattle.runend_windows.proofs.encode.valid_runs.Goals as goal
 
 pub returns-clause-cover : goal.returns-clause-cover

@@ -1,11 +1,9 @@
-use Rattle.std.proofs.Common.{◌≡◌, ◌≢◌, ◌∙◌, ◌+◌, ◌-◌, ◌<◌, ℕ, Bool, Some, length, map, set, get_or, refl, sym, subst, arith, ⊎_elim}
-use Rattle.std.specs.Prelude.{◌↔◌, slice_get}
+use Rattle.std.proofs.Common.{◌≡◌, ◌≢◌, ◌∙◌, ◌+◌, ◌-◌, ℕ, length, map, refl, arith, ⊎_elim}
 use Rattle.std.proofs.lemmas.Bool.{cases_eq}
 use Rattle.std.proofs.lemmas.List.{get_or-set_other, get_or-set_same, length-replicate, length-set}
 use Rattle.std.proofs.lemmas.Option.{slice_get_read}
 use Rattle.std.proofs.lemmas.Simd.{get_or-replicate}
 use Rattle.column_base.proofs.WordGrowth.{one_if-byte}
-use Rattle.runend_windows.specs.Starts.{GoesOn}
 use Rattle.runend_windows.proofs.ChangedNumbers.{first-goes_on, number-goes_on}
 use Rattle.runend_windows.proofs.item_changes.differing.Goals as goal
 
