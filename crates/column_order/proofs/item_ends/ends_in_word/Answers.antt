@@ -1,4 +1,4 @@
-use Rattle.std.proofs.Common.{◌≡◌, ◌+◌, ◌/◌, ◌%◌, ◌-◌, arith}
+use Rattle.std.proofs.Common.{◌≡◌, ◌+◌, arith}
 use Rattle.column_order.proofs.item_ends.ends_in_word.Goals as goal
 
 pub ends_in_whole_word-requires-clause-first_of_word : goal.ends_in_whole_word-requires-clause-first_of_word
