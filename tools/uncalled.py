@@ -18,7 +18,7 @@ PUBLIC = re.compile(r"^\s*pub (?:const )?fn (\w+)", re.M)
 REASONS = {
     "crates/vortex_runend/src/laws.rt": "laws: their contracts are what they are for",
     "crates/column_bytes/src/laws.rt": "laws: their contracts are what they are for",
-    "crates/chunk_laws/src/lib.rt": "laws: their contracts are what they are for",
+    "crates/runend_builder/src/laws.rt": "laws: their contracts are what they are for",
     "crates/shared_buffer/src/buffer.rt": "into_shared shares a buffer that was made of a vector of one's own",
     "crates/runend_array/src/array/encoding.rt": "names of the Rust crate's encoding",
     "crates/runend_column/src/data.rt": "names of the Rust crate's data",

@@ -11,8 +11,8 @@ use Rattle.column_base.specs.declared.mask.Mask.TheVariants.{Values}
 use Rattle.column_core.specs.Refusal.{IsErrorFor}
 use Rattle.column_core.specs.Value.{FlatValue, Single}
 use Rattle.column_ops.specs.Filter.{filter_fault}
-use Rattle.array_rowwise.proofs.ConstantRows.{selected-constant}
-use Rattle.array_rowwise.proofs.FilterFaults.{fault_here, no_fault}
+use Rattle.runend_column.proofs.ConstantRows.{selected-constant}
+use Rattle.runend_column.proofs.FilterFaults.{fault_here, no_fault}
 use Rattle.runend_array.specs.Array.{dtype_of, rows}
 use Rattle.runend_array.specs.Column.{Constant, repeated}
 use Rattle.runend_array.specs.SessionForm.{SessionForm}

@@ -6,11 +6,11 @@ use Rattle.column_base.specs.declared.error.VortexError.{VortexError}
 use Rattle.column_base.specs.declared.error.VortexError.TheVariants.{OutOfMemory, TypeMismatch}
 use Rattle.column_base.specs.Error.{number_of}
 use Rattle.column_core.specs.Refusal.{IsErrorFor}
-use Rattle.column_order.specs.OrderFacts as order
+use Rattle.column_ops.specs.OrderFacts as order
 use Rattle.runend_array.specs.Array.{dtype_of, rows}
 use Rattle.runend_array.specs.declared.array_ref.ArrayRef.{ArrayRef}
 use Rattle.runend_commands.specs.declared.command.Command.{Command}
-use Rattle.column_order.specs.declared.operator.CompareOperator.{CompareOperator}
+use Rattle.column_ops.specs.declared.operator.CompareOperator.{CompareOperator}
 use Rattle.runend_commands.specs.Refusal.{refusal}
 use Rattle.runend_commands.specs.Meaning.{plain}
 use Rattle.c_columns.specs.Calls.{IsPassedBuilt, Leaves, compare_with_passed, fill_with_passed}

@@ -9,8 +9,8 @@ use Rattle.column_core.specs.Refusal.{range_fault}
 use Rattle.column_ops.specs.Fill.{fill_dtype}
 use Rattle.column_ops.specs.Nullable.{take_dtype}
 use Rattle.column_ops.specs.Take.{take_fault, take_rows}
-use Rattle.column_order.specs.OrderFacts as order
-use Rattle.array_rowwise.specs.Parts.{IsPlainPart}
+use Rattle.column_ops.specs.OrderFacts as order
+use Rattle.runend_column.specs.Parts.{IsPlainPart}
 use Rattle.column_base.specs.Mask.{mask_bits}
 use Rattle.column_base.specs.declared.error.VortexError.TheVariants.{OutOfMemory}
 use Rattle.column_base.specs.declared.mask.Mask.{Mask}

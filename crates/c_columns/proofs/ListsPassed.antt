@@ -8,7 +8,7 @@ use Rattle.column_base.specs.ValidityForm.{ValidityForm}
 use Rattle.column_core.specs.Refusal.{IsErrorFor}
 use Rattle.runend_array.specs.Array.{column_of}
 use Rattle.runend_array.specs.declared.array_ref.ArrayRef.{ArrayRef}
-use Rattle.array_parts.specs.ListParts.{ListsOverFault}
+use Rattle.runend_column.specs.ListParts.{ListsOverFault}
 use Rattle.c_columns.specs.Bits.{validity_by, validity_fault}
 use Rattle.c_columns.specs.Ending.{IsShortOr}
 use Rattle.c_columns.specs.Lists.{PassedListsFault}

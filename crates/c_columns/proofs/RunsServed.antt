@@ -13,10 +13,10 @@ use Rattle.runend_array.specs.Column.{AreParts, Column, OfConstant, OfLeaf, OfLi
 use Rattle.runend_array.specs.Fault.{PartsFault}
 use Rattle.runend_array.specs.declared.array_ref.ArrayRef.{ArrayRef}
 use Rattle.runend_column.specs.Fault.{AreRecorded, AreStatedSlots, IsRecordedColumn, RecordFault, SlotsFault}
-use Rattle.runend_metadata.proofs.Records.{Means-same, Spells-same}
-use Rattle.runend_metadata.proofs.Writing.{one_form}
-use Rattle.runend_metadata.specs.Fields.{Field, last_value}
-use Rattle.runend_metadata.specs.declared.metadata.RunEndMetadata.{RunEndMetadata}
+use Rattle.column_fields.proofs.Records.{Means-same, Spells-same}
+use Rattle.column_fields.proofs.RecordWriting.{one_form}
+use Rattle.column_fields.specs.RecordFields.{Field, last_value}
+use Rattle.column_fields.specs.declared.metadata.RunEndMetadata.{RunEndMetadata}
 use Rattle.c_columns.specs.Ending.{IsShortOr}
 use Rattle.c_columns.specs.Makers.{IsCopyOf}
 use Rattle.c_columns.specs.RunParts.{IsFaultOver, IsRecordAtFront, RecordedFault, RunsFault, SerializeFault, UnwrittenFault, most_levels}

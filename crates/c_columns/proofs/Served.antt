@@ -15,7 +15,7 @@ use Rattle.runend_array.specs.Column.{Column, OfConstant, OfLeaf, OfLists, OfRun
 use Rattle.runend_array.specs.Fault.{ListsFault}
 use Rattle.runend_array.specs.Lists.{AreLists}
 use Rattle.runend_array.specs.declared.array_ref.ArrayRef.{ArrayRef}
-use Rattle.array_parts.specs.ListParts.{AreListsOver, ListsOverFault, lists_of_parts}
+use Rattle.runend_column.specs.ListParts.{AreListsOver, ListsOverFault, lists_of_parts}
 use Rattle.c_columns.specs.Bits.{validity_by, validity_fault}
 use Rattle.c_columns.specs.Lists.{PassedListsFault}
 use Rattle.c_columns.specs.Makers.{AreCuts, CutsFault, IsRowCut, TextsFault}

@@ -8,7 +8,7 @@ use Rattle.std.proofs.lemmas.List.Folds.{length-flat_map-take}
 use Rattle.std.proofs.lemmas.Option.{slice_get-get_or}
 use Rattle.std.proofs.Math.Seq.{take-append-add, take-append_seam}
 use Rattle.column_base.proofs.Ranges.{get_or-slice_range, length-slice_range}
-use Rattle.column_order.proofs.RowRanges.{slice_range-next}
+use Rattle.column_ops.proofs.RowRanges.{slice_range-next}
 use Rattle.column_core.specs.Value.{Value}
 use Rattle.c_columns.specs.Reads.{bytes_of, bytes_of_rows}
 

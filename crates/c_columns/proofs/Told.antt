@@ -14,7 +14,7 @@ use Rattle.column_core.specs.declared.view.ScalarView.{ScalarView}
 use Rattle.column_core.specs.declared.view.ScalarView.TheVariants as view
 use Rattle.runend_array.specs.Array.{dtype_of, rows}
 use Rattle.runend_array.specs.declared.array_ref.ArrayRef.{ArrayRef}
-use Rattle.column_order.specs.OrderFacts as order
+use Rattle.column_ops.specs.OrderFacts as order
 use Rattle.runend_commands.specs.Extremes.{AreExtremes, shown}
 use Rattle.runend_commands.specs.Refusal.{refusal}
 use Rattle.runend_commands.specs.declared.command.Command.TheVariants.{MinMax}

@@ -17,8 +17,8 @@ use Rattle.column_ops.specs.Codes.{code_numbers, code_rows}
 use Rattle.column_ops.specs.Filter.{filter_fault, filter_rows}
 use Rattle.column_ops.specs.Nullable.{take_dtype}
 use Rattle.column_ops.specs.Take.{take_rows}
-use Rattle.column_order.specs.Comparing.{compare_dtype, compare_rows}
-use Rattle.column_order.specs.declared.operator.CompareOperator.{CompareOperator}
+use Rattle.column_ops.specs.Comparing.{compare_dtype, compare_rows}
+use Rattle.column_ops.specs.declared.operator.CompareOperator.{CompareOperator}
 use Rattle.runend_array.specs.Array.{column_of, dtype_of, rows}
 use Rattle.runend_array.specs.Column.{IsFlat}
 use Rattle.runend_array.specs.SessionForm.{SessionForm}

@@ -7,8 +7,8 @@ use Rattle.column_base.specs.declared.dtype.Nullability.TheVariants.{NonNullable
 use Rattle.column_base.specs.declared.dtype.DecimalDType.{DecimalDType}
 use Rattle.column_base.specs.declared.dtype.DType.{DType}
 use Rattle.column_base.specs.declared.dtype.DType.TheVariants as column
-use Rattle.column_order.specs.declared.operator.CompareOperator.{CompareOperator}
-use Rattle.column_order.specs.declared.operator.CompareOperator.TheVariants.{Eq, NotEq, Gt, Gte, Lt, Lte}
+use Rattle.column_ops.specs.declared.operator.CompareOperator.{CompareOperator}
+use Rattle.column_ops.specs.declared.operator.CompareOperator.TheVariants.{Eq, NotEq, Gt, Gte, Lt, Lte}
 use Rattle.column_core.specs.declared.varbinview.VarBinKind.{VarBinKind}
 use Rattle.column_core.specs.declared.varbinview.VarBinKind.TheVariants.{Utf8, Binary}
 use Rattle.c_columns.specs.declared.kinds.Kind.{Kind}

@@ -5,7 +5,7 @@ use Rattle.column_base.specs.declared.error.VortexError.{VortexError}
 use Rattle.column_base.specs.ValidityForm.{ValidityForm}
 use Rattle.runend_array.specs.Array.{column_of}
 use Rattle.runend_array.specs.declared.array_ref.ArrayRef.{ArrayRef}
-use Rattle.array_parts.specs.ListParts.{AreListsOver, ListsOverFault}
+use Rattle.runend_column.specs.ListParts.{AreListsOver, ListsOverFault}
 use Rattle.c_columns.specs.Bits.{validity_by, validity_fault}
 
 -- lists over the elements of a column

@@ -11,8 +11,8 @@ use Rattle.runend_array.specs.Fault.{PartsFault}
 use Rattle.runend_array.specs.declared.array_ref.ArrayRef.{ArrayRef}
 use Rattle.runend_column.specs.Fault.{RecordFault}
 use Rattle.runend_column.specs.Record.{record_of}
-use Rattle.runend_metadata.specs.Fields.{Means}
-use Rattle.runend_metadata.specs.Written.{IsWritten}
+use Rattle.column_fields.specs.RecordFields.{Means}
+use Rattle.column_fields.specs.WrittenRecord.{IsWritten}
 
 -- how many levels of runs a column that C makes has at most
 abbrev pub most_levels : ℕ

@@ -13,9 +13,9 @@ use Rattle.column_core.specs.Value.{PlainColumn, Value, Single, Truth}
 use Rattle.column_ops.specs.Codes.{code_fault, code_rows}
 use Rattle.column_ops.specs.Filter.{filter_fault, filter_rows}
 use Rattle.column_ops.specs.Nullable.{take_dtype}
-use Rattle.column_order.specs.CompareFault.{compare_column_fault}
-use Rattle.column_order.specs.Comparing.{compare_dtype, compare_rows}
-use Rattle.column_order.specs.declared.operator.CompareOperator.{CompareOperator}
+use Rattle.column_ops.specs.CompareFault.{compare_column_fault}
+use Rattle.column_ops.specs.Comparing.{compare_dtype, compare_rows}
+use Rattle.column_ops.specs.declared.operator.CompareOperator.{CompareOperator}
 use Rattle.runend_array.specs.Array.{column_of, dtype_of, rows}
 use Rattle.runend_array.specs.Column.{Column, OfLeaf, Runs, column_rows}
 use Rattle.runend_array.specs.declared.array_ref.ArrayRef.{ArrayRef}

@@ -13,7 +13,7 @@ use Rattle.column_core.specs.Value.{PlainColumn, Value, Single, Items, FlatValue
 use Rattle.column_core.specs.ScalarForm.{ScalarForm}
 use Rattle.column_core.specs.ScalarView.{IsViewOf, sees}
 use Rattle.column_core.specs.declared.view.ScalarView.{ScalarView}
-use Rattle.column_order.specs.OrderFacts.{IsLeast, IsGreatest}
+use Rattle.column_ops.specs.OrderFacts.{IsLeast, IsGreatest}
 use Rattle.runend_array.specs.Array.{dtype_of, rows}
 use Rattle.runend_array.specs.declared.array_ref.ArrayRef.{ArrayRef}
 use Rattle.c_columns.specs.Flags.{byte_of, flag_of}

@@ -5,7 +5,7 @@ ghost use Rattle.c_columns.specs.Calls.{IsPassedBuilt, compare_with_passed, fill
 
 use crate::row_value::{RowValue, scalar_of};
 use column_core::VortexResult;
-use column_order::CompareOperator;
+use column_ops::CompareOperator;
 use runend_array::ArrayRef;
 use runend_commands::Command;
 use std::alloc::Global;

@@ -4,7 +4,7 @@ ghost use Rattle.c_columns.specs.Flags.{flag_of};
 ghost use Rattle.c_columns.specs.Kinds.{IsKindOf, dtype_by, nullability_by as nullability_by_flag, operator_by as operator_by_number, ptype_by as ptype_by_number, ptype_number, nullable_byte, varbin_kind_by};
 
 use column_core::{DType, DecimalDType, Nullability, PType, VarBinKind};
-use column_order::CompareOperator;
+use column_ops::CompareOperator;
 
 /// A type: 0 to 7 are u8, u16, u32, u64, i8, i16, i32 and i64; 8 booleans, 9 decimals, 10 texts, 11 bytes,
 /// 12 lists. Precision and scale are of decimals alone. `nullable` is 0 where the type has no null.

@@ -2,7 +2,7 @@
 ghost use Rattle.std.specs.Prelude.{length, IfErr, IfOk, OnOk};
 ghost use Rattle.column_core.specs.Refusal.{IsRefusedBy};
 ghost use Rattle.runend_array.specs.Array.{column_of};
-ghost use Rattle.array_parts.specs.ListParts.{AreElementsOf, AreFlagsOf, AreOffsetsOf, AreSizesOf, no_lists_fault};
+ghost use Rattle.runend_column.specs.ListParts.{AreElementsOf, AreFlagsOf, AreOffsetsOf, AreSizesOf, no_lists_fault};
 ghost use Rattle.c_columns.specs.Bits.{validity_by};
 ghost use Rattle.c_columns.specs.Ending.{IsShortOr};
 ghost use Rattle.c_columns.specs.Lists.{ArePassedLists, PassedListsFault};
@@ -10,9 +10,9 @@ ghost use Rattle.c_columns.specs.Lists.{ArePassedLists, PassedListsFault};
 use crate::bits::validity_of;
 use crate::flat::{Boxed, boxed};
 use crate::sessions::plain_context;
-use array_parts::{list_elements, list_offsets, list_sizes, list_validity, lists_over};
 use column_core::{VortexError, VortexResult};
 use runend_array::ArrayRef;
+use runend_column::{list_elements, list_offsets, list_sizes, list_validity, lists_over};
 use std::alloc::Global;
 
 /// The lists of which row i has `sizes[i]` of the elements, from `offsets[i]` on. Refused as the bits of its validity

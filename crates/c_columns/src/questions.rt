@@ -2,7 +2,7 @@
 ghost use Rattle.std.specs.Prelude.{◌≡◌, ◌≢◌, ◌⊎◌, false, true, length, None, Some, Err, IfOk, IfErr};
 ghost use Rattle.std.specs.Global.{Global};
 ghost use Rattle.column_core.specs.Refusal.{IsErrorFor, IsRefusedBy};
-ghost use Rattle.column_order.specs.OrderFacts as order;
+ghost use Rattle.column_ops.specs.OrderFacts as order;
 ghost use Rattle.runend_array.specs.Array.{column_of, dtype_of, rows};
 ghost use Rattle.runend_array.specs.declared.session.Kernel.TheVariants as kernel;
 ghost use Rattle.runend_commands.specs.declared.command.Command.TheVariants.{At, MinMax, Sum, IsConstant, IsSorted};

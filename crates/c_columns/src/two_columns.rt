@@ -17,7 +17,7 @@ use crate::masks::mask_of;
 use crate::sessions::{Session, context};
 use crate::true_counts::true_count;
 use column_core::{Mask, PrimitiveArray, VortexError, VortexResult};
-use column_order::CompareOperator;
+use column_ops::CompareOperator;
 use runend_array::{ArrayRef, ConstantArray};
 use runend_commands::compute;
 use std::alloc::Global;

@@ -5,7 +5,7 @@ use Rattle.std.specs.Global.{Global}
 use Rattle.std.specs.List.{AllZip}
 use Rattle.column_base.specs.declared.dtype.DType.TheVariants as column
 use Rattle.column_base.specs.Types.{nullability_of}
-use Rattle.column_order.specs.declared.operator.CompareOperator.{CompareOperator}
+use Rattle.column_ops.specs.declared.operator.CompareOperator.{CompareOperator}
 use Rattle.column_floats.specs.Comparisons.{IsTruthOf}
 use Rattle.runend_array.specs.Encoding.{IsDecodedForm}
 use Rattle.column_base.specs.declared.dtype.DType.{DType}

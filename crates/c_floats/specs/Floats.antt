@@ -11,12 +11,12 @@ use Rattle.column_base.specs.declared.error.VortexError.TheVariants.{OutOfMemory
 use Rattle.column_core.specs.Leaf.{OfNumbers, single_rows}
 use Rattle.column_core.specs.PrimitiveForm.{PrimitiveForm, primitive_dtype}
 use Rattle.column_core.specs.Refusal.{row_fault}
-use Rattle.column_order.specs.declared.operator.CompareOperator.{CompareOperator}
+use Rattle.column_ops.specs.declared.operator.CompareOperator.{CompareOperator}
 use Rattle.column_sums.specs.SumAnswer.{number_in}
 use Rattle.float_bits.specs.declared.formats.FloatFormat.{FloatFormat}
 use Rattle.float_bits.specs.Number.{IsNan}
-use Rattle.float_sums.specs.Sum.{IsRoundedSum}
-use Rattle.float_sums.specs.Tally.{Tally, tally_of}
+use Rattle.float_bits.specs.Sum.{IsRoundedSum}
+use Rattle.float_bits.specs.Tally.{Tally, tally_of}
 use Rattle.column_floats.specs.Comparisons.{HoldsInTotalOrder, HoldsOfNumbers, IsTruthOf}
 use Rattle.column_floats.specs.Extremes.{AreExtremes, NoneCounts}
 use Rattle.column_floats.specs.FloatRows.{bits_row, doubles_of, floats_of, key_row}

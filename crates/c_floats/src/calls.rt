@@ -13,7 +13,7 @@ use c_columns::commands::answer;
 use c_columns::error_fields::{BAD_NUMBER, ErrorFields, NO_COLUMN};
 use c_columns::handle::Handle;
 use c_columns::kinds::{is_set, operator_by};
-use column_order::CompareOperator;
+use column_ops::CompareOperator;
 use std::alloc::Global;
 
 /// Puts the floats with the bits that the rows of a column are into a handle, as the run column of their keys, and

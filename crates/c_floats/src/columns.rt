@@ -8,7 +8,7 @@ ghost use Rattle.c_floats.specs.Floats.{AreBitsOf, AreComparedBy, AreFloatsOf, p
 use c_columns::flat::{Boxed, boxed};
 use c_columns::sessions::plain_context;
 use column_core::{VortexError, VortexResult};
-use column_order::CompareOperator;
+use column_ops::CompareOperator;
 use runend_array::ArrayRef;
 use runend_floats::{FloatPatterns, compare_numbers, compare_total, decode_floats, encode_floats};
 use std::alloc::Global;

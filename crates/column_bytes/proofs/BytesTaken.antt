@@ -15,7 +15,7 @@ use Rattle.column_core.specs.BoolForm.{bool_with}
 use Rattle.column_core.specs.Leaf.{Leaf, OfNumbers, OfTruths, OfDecimals, OfVarBins, leaf_dtype, single_rows}
 use Rattle.column_core.specs.Value.{FlatValue, Truth, Number, DecimalNumber, Text, Bytes, Value, Single, Items, IsRowOf}
 use Rattle.column_core.specs.VarBinForm.{varbin_dtype}
-use Rattle.varints.specs.Varint.{varint, varint_within}
+use Rattle.column_fields.specs.Varint.{varint, varint_within}
 use Rattle.column_fields.specs.Field.{number_field, bytes_field}
 use Rattle.column_fields.specs.Header.{header_bytes}
 use Rattle.column_fields.specs.Lengths.{lengths_bytes}
@@ -32,7 +32,7 @@ use Rattle.column_bytes.specs.Texts.{shown_row, sizes_bytes, text_bytes, text_fi
 use Rattle.column_bytes.proofs.TextPacking.{count-sizes}
 use Rattle.column_bytes.proofs.TextSizes.{sizes_cons}
 use Rattle.column_bytes.proofs.TextLaws.{text_fields_long}
-use Rattle.array_parts.specs.BytesUsed as used
+use Rattle.runend_column.specs.BytesUsed as used
 use Rattle.runend_array.specs.Lists.{Index, PlainIndex, RunIndex, RowValidityForm, ByRows, ByRuns, Lists}
 use Rattle.runend_array.specs.Column.{Column, OfLeaf, OfConstant, OfLists, OfRuns, column_dtype}
 use Rattle.column_bytes.specs.Bytes.{column_body, column_bytes, column_count, column_header, form_number, index_form, index_message, kind_number, leaf_message, leaf_runs_message, lists_body, row_validity_field}

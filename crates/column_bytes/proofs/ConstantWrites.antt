@@ -10,7 +10,7 @@ use Rattle.column_base.specs.Types.{HasNumber, nullability_of}
 use Rattle.column_base.specs.ValidityForm.{ValidityForm, AllNull}
 use Rattle.column_core.specs.ScalarForm.{ScalarForm}
 use Rattle.column_core.specs.Value.{Number}
-use Rattle.varints.specs.Varint.{varint}
+use Rattle.column_fields.specs.Varint.{varint}
 use Rattle.column_fields.specs.DecimalBytes.{decimal_bytes}
 use Rattle.column_fields.specs.Field.{number_field, bytes_field}
 use Rattle.column_fields.specs.FlatFields.{flat_fields}

@@ -11,7 +11,7 @@ use Rattle.column_base.specs.declared.error.VortexError.{VortexError}
 use Rattle.column_base.specs.ValidityForm.{ValidityForm, NeverNull, HasLength}
 use Rattle.column_core.specs.BoolForm.{bool_with}
 use Rattle.column_core.specs.Leaf.{Leaf, OfNumbers, OfTruths}
-use Rattle.varints.specs.Varint.{varint}
+use Rattle.column_fields.specs.Varint.{varint}
 use Rattle.column_fields.specs.Field.{number_field, bytes_field, HasNoBytesField, HasNoConstantField}
 use Rattle.column_fields.specs.Header.{header_bytes, HasNoHeader}
 use Rattle.column_fields.specs.RunFields.{run_fields, AreNoRunFields}

@@ -19,7 +19,7 @@ use Rattle.column_core.specs.VarBinForm.{VarBinForm, kind_dtype, varbin_dtype}
 use Rattle.column_core.specs.declared.varbinview.VarBinKind.{VarBinKind}
 use Rattle.column_core.specs.declared.varbinview.VarBinKind.TheVariants.{Utf8, Binary}
 use Rattle.column_bytes.specs.TextReading.{AreTextsOf, AreNoTextsOf}
-use Rattle.varints.specs.Varint.{varint}
+use Rattle.column_fields.specs.Varint.{varint}
 use Rattle.column_fields.specs.Field.{bytes_field}
 use Rattle.column_fields.specs.Validity.{validity_field}
 use Rattle.column_fields.specs.NumberBytes.{numbers_bytes, size_of}

@@ -18,7 +18,7 @@ use Rattle.column_core.specs.VarBinForm.{kind_dtype}
 use Rattle.column_core.specs.PrimitiveForm.{primitive_with}
 use Rattle.column_core.specs.BoolForm.{bool_with}
 use Rattle.column_core.specs.Leaf.{Leaf, OfNumbers, OfTruths, OfDecimals, OfVarBins}
-use Rattle.varints.specs.Varint.{varint}
+use Rattle.column_fields.specs.Varint.{varint}
 use Rattle.column_fields.specs.Field.{number_field, bytes_field}
 use Rattle.column_fields.specs.Header.{header_bytes}
 use Rattle.column_fields.specs.ListFields.{list_fields}

@@ -16,7 +16,7 @@ use Rattle.column_core.specs.Leaf.{OfNumbers, OfTruths, OfDecimals, OfVarBins}
 use Rattle.column_core.specs.PrimitiveForm.{PrimitiveForm}
 use Rattle.column_core.specs.ScalarForm.{ScalarForm}
 use Rattle.column_core.specs.VarBinForm.{VarBinForm, varbin_dtype}
-use Rattle.varints.specs.Varint.{varint}
+use Rattle.column_fields.specs.Varint.{varint}
 use Rattle.column_fields.specs.BitBytes.{bit_bytes}
 use Rattle.column_fields.specs.DecimalBytes.{decimals_bytes}
 use Rattle.column_fields.specs.DecimalFields.{decimal_fields, decimal_items, decimal_type}

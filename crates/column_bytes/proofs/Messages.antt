@@ -7,7 +7,7 @@ use Rattle.column_base.specs.declared.dtype.DType.TheVariants as dtype
 use Rattle.column_base.specs.ValidityForm.{ValidityForm, NeverNull, HasLength, nullability_in}
 use Rattle.column_core.specs.BoolForm.{bool_with}
 use Rattle.column_core.specs.Leaf.{Leaf, OfNumbers, OfTruths, OfDecimals, OfVarBins}
-use Rattle.varints.specs.Varint.{varint}
+use Rattle.column_fields.specs.Varint.{varint}
 use Rattle.column_fields.specs.Field.{number_field, bytes_field}
 use Rattle.column_fields.specs.Header.{header_bytes, HasNoHeader}
 use Rattle.column_fields.specs.Lengths.{lengths_bytes, AreEndsOf, HasNoEndsOf}

@@ -3,8 +3,8 @@ use Rattle.std.proofs.Common.{◌≡◌, ℕ, suc, ◌+◌, ◌-◌, ◌^◌, �
 use Rattle.std.specs.Prelude.{slice_index}
 use Rattle.std.proofs.lemmas.Bool.{cases_lt}
 use Rattle.std.proofs.Math.Seq.{drop-cons}
-use Rattle.varints.specs.Varint.{varint, BeginsWithNoShortest}
-use Rattle.varints.proofs.Forms.{varint_same}
+use Rattle.column_fields.specs.Varint.{varint, BeginsWithNoShortest}
+use Rattle.column_fields.proofs.VarintForms.{varint_same}
 use Rattle.column_fields.specs.Lengths.{lengths_bytes, Rises}
 use Rattle.column_fields.proofs.LengthLaws.{lengths_cons}
 use Rattle.runend_windows.specs.Window.{IsWindow, IsRunAt, last_end, run_at}

@@ -9,7 +9,7 @@ use Rattle.column_base.proofs.ValidityRows.{flags-at, length-flags}
 use Rattle.column_core.specs.declared.varbinview.View.{View}
 use Rattle.column_core.specs.declared.varbinview.VarBinKind.{VarBinKind}
 use Rattle.column_core.specs.VarBinForm.{VarBinForm, AreVarBins, IsOfKind, IsWithinBuffer, varbin_with, view_bytes, zero_view}
-use Rattle.varints.specs.Varint.{varint, BeginsWithNoShortest}
+use Rattle.column_fields.specs.Varint.{varint, BeginsWithNoShortest}
 use Rattle.column_bytes.specs.Texts.{sizes_in, views_from}
 use Rattle.column_bytes.specs.TextReading.{AreNoTextsIn, AreRowsOf, AreTextsIn, FitsRow}
 use Rattle.column_bytes.proofs.TextNulls.{all_blank, blank_of, size_at}

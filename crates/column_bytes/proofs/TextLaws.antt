@@ -6,7 +6,7 @@ use Rattle.column_core.specs.declared.varbinview.View.{View}
 use Rattle.column_core.specs.declared.varbinview.VarBinKind.{VarBinKind}
 use Rattle.column_core.specs.Optionals.{AreBlankAtNulls}
 use Rattle.column_core.specs.VarBinForm.{VarBinForm, AreVarBins, varbin_with}
-use Rattle.varints.specs.Varint.{varint}
+use Rattle.column_fields.specs.Varint.{varint}
 use Rattle.column_fields.specs.Field.{bytes_field, HasNoBytesField, IsNoBytesField}
 use Rattle.column_fields.specs.Validity.{validity_field, HasNoValidity}
 use Rattle.column_fields.proofs.FieldLaws.{bytes_field_same}

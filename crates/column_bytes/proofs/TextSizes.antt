@@ -2,8 +2,8 @@
 use Rattle.std.proofs.Common.{◌≡◌, ℕ, ◌+◌, ◌^◌, ◌<◌, ◌≤◌, List, [], ◌∷◌, ◌++◌, length, sum, refl, sym, ap, ◌∙◌, arith, append_assoc}
 use Rattle.std.proofs.lemmas.List.{append-nil, length-append, length-map, map-append, nil_from_length}
 use Rattle.column_core.specs.declared.varbinview.View.{View}
-use Rattle.varints.specs.Varint.{varint, BeginsWithNoShortest}
-use Rattle.varints.proofs.Forms.{varint_same, varint_some}
+use Rattle.column_fields.specs.Varint.{varint, BeginsWithNoShortest}
+use Rattle.column_fields.proofs.VarintForms.{varint_same, varint_some}
 use Rattle.column_bytes.specs.Texts.{sizes_bytes, sizes_in, views_from}
 use Rattle.column_bytes.specs.TextReading.{AreViewsOf, AreNoViewsOf}
 use Rattle.column_bytes.proofs.TextPieces.{sum-cons}

@@ -5,7 +5,7 @@ use Rattle.std.proofs.lemmas.List.{append-nil, drop_all, drop_more, length-appen
 use Rattle.std.specs.Prelude.{option_map}
 use Rattle.column_core.specs.Value.{Single}
 use Rattle.column_core.specs.VarBinForm.{VarBinForm, varbin_rows}
-use Rattle.varints.specs.Varint.{varint}
+use Rattle.column_fields.specs.Varint.{varint}
 use Rattle.column_bytes.specs.Texts.{shown_row, shown_rows, sizes_bytes, text_sizes}
 use Rattle.column_bytes.proofs.TextPieces.{sum-cons}
 use Rattle.column_bytes.proofs.TextSizes.{sizes_none, sizes_cons}

@@ -12,7 +12,7 @@ use Rattle.column_core.specs.DecimalForm.{DecimalForm}
 use Rattle.column_core.specs.Leaf.{OfNumbers, OfTruths, OfDecimals, OfVarBins}
 use Rattle.column_core.specs.VarBinForm.{VarBinForm, varbin_dtype}
 use Rattle.column_bytes.specs.Texts.{text_bytes, text_fields, text_sizes}
-use Rattle.varints.specs.Varint.{varint}
+use Rattle.column_fields.specs.Varint.{varint}
 use Rattle.column_fields.specs.BitBytes.{bit_bytes}
 use Rattle.column_fields.specs.DecimalBytes.{decimals_bytes}
 use Rattle.column_fields.specs.DecimalFields.{IsDecimalType, decimal_type, decimal_fields}

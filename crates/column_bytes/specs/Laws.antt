@@ -1,6 +1,6 @@
 -- The laws of columns as bytes.
 use Rattle.std.specs.Prelude.{◌≡◌, ℕ, ◌*◌, ◌^◌, ◌<◌, ◌≤◌, List, Option, length}
-use Rattle.array_parts.specs.BytesUsed as used
+use Rattle.runend_column.specs.BytesUsed as used
 use Rattle.column_base.specs.declared.dtype.DType.{DType}
 use Rattle.column_base.specs.Types.{IsLeastFor}
 use Rattle.column_core.specs.Value.{IsLists, Value}

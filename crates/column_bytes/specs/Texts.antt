@@ -9,7 +9,7 @@ use Rattle.column_core.specs.Value.{Value, Single, Text, Bytes}
 use Rattle.column_core.specs.VarBinForm.{VarBinForm, AreVarBins, varbin_with}
 use Rattle.column_fields.specs.Field.{bytes_field}
 use Rattle.column_fields.specs.Validity.{validity_field}
-use Rattle.varints.specs.Varint.{varint}
+use Rattle.column_fields.specs.Varint.{varint}
 
 -- the bytes that a row shows: of null none
 abbrev pub shown_row : Option Value → List ℕ

@@ -3,7 +3,7 @@ ghost use Rattle.std.specs.Prelude.{◌≡◌, ◌+◌, ◌*◌, ◌≤◌, ◌+
 ghost use Rattle.column_base.specs.Types.{nullability_of};
 ghost use Rattle.column_core.specs.Value.{Number, Single, IsRowOf};
 ghost use Rattle.runend_array.specs.Column.{OfConstant};
-ghost use Rattle.varints.specs.Varint.{varint};
+ghost use Rattle.column_fields.specs.Varint.{varint};
 ghost use Rattle.column_fields.specs.ElementFields.{element_type, numbered_type, nullability_number, IsElementType};
 ghost use Rattle.column_fields.specs.Field.{number_field};
 ghost use Rattle.column_fields.specs.FlatFields.{flat_fields};

@@ -3,7 +3,7 @@ ghost use Rattle.std.specs.Prelude.{◌≡◌, ◌+◌, ◌*◌, ◌^◌, ◌≤
 ghost use Rattle.column_base.specs.Validity.{form_of};
 ghost use Rattle.column_core.specs.Leaf.{OfNumbers, OfTruths, OfDecimals, OfVarBins};
 ghost use Rattle.runend_array.specs.Column.{OfLeaf};
-ghost use Rattle.varints.specs.Varint.{varint};
+ghost use Rattle.column_fields.specs.Varint.{varint};
 ghost use Rattle.column_fields.specs.Header.{header_bytes};
 ghost use Rattle.column_fields.specs.Sizes.{IsPast};
 ghost use Rattle.column_fields.specs.Validity.{validity_field};

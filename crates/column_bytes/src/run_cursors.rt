@@ -4,7 +4,7 @@ ghost use Rattle.column_fields.specs.Lengths.{lengths_bytes, Rises};
 ghost use Rattle.runend_windows.specs.Window.{last_end, IsRunAt};
 ghost use Rattle.column_bytes.specs.ListViews.{IsReadTo};
 
-use varints::read_shortest;
+use column_fields::read_shortest;
 
 /// How far run lengths are read: how many runs, the end of the last of them, or 0 before the first, and the bytes of
 /// the lengths after it.

@@ -6,9 +6,8 @@ ghost use Rattle.column_bytes.specs.TextReading.{AreNoTextsIn, AreNoTextsOf, Are
 
 use crate::text_reading::read_text_items;
 use column_core::VarBinKind;
-use column_fields::{ValidityView, view_validity};
+use column_fields::{ValidityView, read_shortest, view_validity};
 use std::str;
-use varints::read_shortest;
 
 /// Returns whether the bytes are the fields of a flat column of that number of rows of texts, or of bytes, which is
 /// packed. Takes no memory.

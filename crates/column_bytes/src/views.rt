@@ -10,8 +10,8 @@ ghost use Rattle.column_bytes.specs.Texts.{sizes_in};
 
 use column_base::{Validity, VortexError, VortexResult};
 use column_core::View;
+use column_fields::read_shortest;
 use std::alloc::Allocator;
-use varints::read_shortest;
 
 /// The views of rows that stand one behind the other, where these are the bytes of their sizes, which are so many bytes
 /// together; a null row has none. Refused as `BadMetadata` exactly where there are no such rows, else as `OutOfMemory`

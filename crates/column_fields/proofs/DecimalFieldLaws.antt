@@ -6,7 +6,7 @@ use Rattle.std.proofs.lemmas.Int.{ints}
 use Rattle.std.proofs.lemmas.List.{append-nil, nil_from_length}
 use Rattle.column_base.specs.declared.dtype.DecimalDType.{DecimalDType}
 use Rattle.column_base.specs.ValidityForm.{ValidityForm, HasLength}
-use Rattle.varints.specs.Varint.{varint}
+use Rattle.column_fields.specs.Varint.{varint}
 use Rattle.column_fields.specs.Field.{number_field, bytes_field, HasNoNumberField, HasNoBytesField}
 use Rattle.column_fields.specs.Validity.{validity_field, HasNoValidity}
 use Rattle.column_fields.specs.DecimalFields.{scale_number, HasNoScale, IsDecimalType, decimal_type, BeginsWithNoDecimalType, decimal_items, AreNoDecimalItems, decimal_fields, AreNoDecimalFields}

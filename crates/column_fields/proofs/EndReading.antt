@@ -2,11 +2,11 @@
 use Rattle.std.proofs.Common.{◌≡◌, ℕ, ◌+◌, ◌-◌, ◌^◌, ◌<◌, ◌≤◌, Bool, true, false, List, [], ◌∷◌, ◌++◌, length, get_or, map, pos, refl, sym, ap, subst, ◌∙◌, arith, append_assoc}
 use Rattle.std.proofs.lemmas.List.{append-nil, length-append, get_or-append_right}
 use Rattle.std.proofs.lemmas.List.Elements.{All-get_or}
-use Rattle.varints.specs.Varint.{varint, BeginsWithNoShortest}
+use Rattle.column_fields.specs.Varint.{varint, BeginsWithNoShortest}
 use Rattle.column_base.specs.declared.dtype.PType.{PType}
 use Rattle.column_base.specs.Types.{HasNumber}
 use Rattle.column_fields.specs.Lengths.{lengths_bytes, Rises, HasNoEndsOf}
-use Rattle.varints.proofs.Forms.{varint_same, varint_some}
+use Rattle.column_fields.proofs.VarintForms.{varint_same, varint_some}
 use Rattle.column_fields.proofs.EightLaws.{eight_of}
 use Rattle.column_fields.proofs.LengthLaws.{lengths_cons, lengths_none}
 

@@ -1,9 +1,9 @@
 -- Fields are read as they are written, and in no other way.
 use Rattle.std.proofs.Common.{◌≡◌, ℕ, ◌+◌, ◌*◌, ◌^◌, ◌<◌, List, ◌++◌, length, take, drop, refl, sym, ap, ◌∙◌, arith, append_assoc}
 use Rattle.std.proofs.lemmas.List.{length-append, append_cancel_left, take-append-drop, take_at, drop_at}
-use Rattle.varints.specs.Varint.{varint, BeginsWithNoShortest}
+use Rattle.column_fields.specs.Varint.{varint, BeginsWithNoShortest}
 use Rattle.column_fields.specs.Field.{number_field, bytes_field, HasNoNumberField, HasNoConstantField, HasNoBytesField}
-use Rattle.varints.proofs.Forms.{varint_same}
+use Rattle.column_fields.proofs.VarintForms.{varint_same}
 
 pub number_field_parts : (field n : ℕ) (rest : List ℕ) → number_field field n ++ rest ≡ varint (field * 8) ++ (varint n ++ rest)
 unfolding number_field

@@ -2,7 +2,7 @@
 use Rattle.std.proofs.Common.{◌≡◌, ℕ, ◌*◌, ◌+◌, ◌^◌, ◌<◌, List, [], ◌++◌, length, refl, sym, ap, ◌∙◌, arith, append_assoc}
 use Rattle.std.proofs.lemmas.List.{append-nil, nil_from_length}
 use Rattle.column_base.specs.ValidityForm.{ValidityForm, HasLength}
-use Rattle.varints.specs.Varint.{varint}
+use Rattle.column_fields.specs.Varint.{varint}
 use Rattle.column_fields.specs.Field.{bytes_field, HasNoBytesField, IsNoBytesField}
 use Rattle.column_fields.specs.Validity.{validity_field, HasNoValidity}
 use Rattle.column_fields.specs.FlatFields.{flat_fields, AreNoFlatFields}

@@ -3,7 +3,7 @@ use Rattle.std.proofs.Common.{◌≡◌, ℕ, suc, ◌+◌, ◌-◌, ◌*◌, �
 use Rattle.std.proofs.lemmas.Bool.{cases_lt, le-leb, le-ltb, lt-leb, lt-ltb}
 use Rattle.std.proofs.Math.Dec.{leb}
 use Rattle.std.specs.Int.{from_bool}
-use Rattle.varints.specs.Varint.{varint, varint_within}
+use Rattle.column_fields.specs.Varint.{varint, varint_within}
 
 within_one : (k n : ℕ) → n < 128 → varint_within (suc k) n ≡ n ∷ []
 unfolding varint_within

@@ -3,7 +3,7 @@ use Rattle.std.proofs.Common.{◌≡◌, ℕ, suc, ◌+◌, ◌-◌, ◌*◌, �
 use Rattle.std.specs.Prelude.{unsigned_abs}
 use Rattle.std.proofs.lemmas.List.{append-nil, drop_all, length-append}
 use Rattle.std.proofs.Math.Seq.{drop-cons}
-use Rattle.varints.specs.Varint.{varint}
+use Rattle.column_fields.specs.Varint.{varint}
 use Rattle.column_fields.specs.Field.{bytes_field}
 use Rattle.column_fields.specs.Lengths.{lengths_from, lengths_bytes}
 

@@ -1,3 +1,7 @@
+pub mod Varints
+pub mod VarintReading
+pub mod ShortestVarints
+pub mod VarintForms
 pub mod FieldLaws
 pub mod KeptLaws
 pub mod RoomLaws
@@ -27,3 +31,6 @@ pub mod DecimalFieldLaws
 pub mod ElementFieldLaws
 pub mod HeldNumbers
 pub mod SpanReading
+pub mod Payloads
+pub mod Records
+pub mod RecordWriting

@@ -1,7 +1,7 @@
 -- The fields of lists are read as they are written, and in no other way.
 use Rattle.std.proofs.Common.{◌≡◌, ℕ, ◌+◌, ◌*◌, ◌^◌, ◌<◌, List, ◌++◌, length, refl, sym, ap, ◌∙◌, arith, append_assoc}
 use Rattle.std.proofs.lemmas.List.{length-append}
-use Rattle.varints.specs.Varint.{varint}
+use Rattle.column_fields.specs.Varint.{varint}
 use Rattle.column_fields.specs.Field.{bytes_field, HasNoBytesField, IsNoBytesField}
 use Rattle.column_fields.specs.ListFields.{list_fields, AreNoListFields}
 use Rattle.column_fields.proofs.FieldLaws.{bytes_field_same}

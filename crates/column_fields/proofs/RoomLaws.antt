@@ -4,10 +4,10 @@ use Rattle.std.specs.Prelude.{Result, Ok, Err, IsErr, IsErrAnd}
 use Rattle.std.specs.List.{flat_map}
 use Rattle.std.proofs.lemmas.List.{length-append, length-map}
 use Rattle.std.proofs.lemmas.Result.{MatchResult-from_err}
-use Rattle.varints.specs.Varint.{varint}
-use Rattle.varints.proofs.Forms.{varint_compact, varint_is, varint_shortest}
-use Rattle.varints.proofs.Shortest.{IsCompact, shortest}
-use Rattle.varints.proofs.Varints.{StandsFor-long}
+use Rattle.column_fields.specs.Varint.{varint}
+use Rattle.column_fields.proofs.VarintForms.{varint_compact, varint_is, varint_shortest}
+use Rattle.column_fields.proofs.ShortestVarints.{IsCompact, shortest}
+use Rattle.column_fields.proofs.Varints.{StandsFor-long}
 use Rattle.column_base.specs.Words.{Packs}
 use Rattle.column_base.specs.declared.dtype.PType.{PType}
 use Rattle.column_base.specs.declared.error.VortexError.{VortexError}

@@ -2,7 +2,7 @@
 use Rattle.std.proofs.Common.{◌≡◌, ℕ, ◌+◌, ◌*◌, ◌^◌, ◌<◌, List, ◌++◌, length, refl, sym, ap, ◌∙◌, arith, append_assoc}
 use Rattle.std.proofs.lemmas.List.{length-append}
 use Rattle.column_base.specs.declared.dtype.PType.{PType}
-use Rattle.varints.specs.Varint.{varint}
+use Rattle.column_fields.specs.Varint.{varint}
 use Rattle.column_fields.specs.Field.{number_field, bytes_field, HasNoNumberField, HasNoBytesField, IsNoBytesField}
 use Rattle.column_fields.specs.Types.{type_number, HasNoType}
 use Rattle.column_fields.specs.RunFields.{run_fields, AreNoRunFields}

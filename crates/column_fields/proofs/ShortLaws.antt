@@ -12,7 +12,7 @@ use Rattle.column_base.specs.declared.dtype.PType.{PType}
 use Rattle.column_base.specs.declared.dtype.PType.TheVariants.{U8, U16, U32, U64, I8, I16, I32, I64}
 use Rattle.column_base.specs.Types.{HasNumber}
 use Rattle.column_fields.specs.Lengths.{lengths_bytes, lengths_from, Rises}
-use Rattle.varints.specs.Varint.{varint}
+use Rattle.column_fields.specs.Varint.{varint}
 use Rattle.column_fields.proofs.EightLaws.{cut_items, eight_of}
 use Rattle.column_fields.proofs.EndReading.{rises_cons, rises_none}
 use Rattle.column_fields.proofs.LengthBytes.{varint_one}

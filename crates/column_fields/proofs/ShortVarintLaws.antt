@@ -2,7 +2,7 @@
 use Rattle.std.proofs.Common.{◌≡◌, ℕ, ◌+◌, ◌/◌, ◌%◌, ◌<◌, ◌≤◌, List, [], ◌∷◌, ◌++◌, length, get_or, set, take, sym, ap, ◌∙◌, arith, append_assoc, append-nil}
 use Rattle.std.specs.List.{flat_map}
 use Rattle.std.proofs.lemmas.List.{length-set, take-set-le, take_more_set}
-use Rattle.varints.specs.Varint.{varint}
+use Rattle.column_fields.specs.Varint.{varint}
 use Rattle.column_fields.proofs.LengthBytes.{varint_one, varint_two}
 use Rattle.column_fields.proofs.EightLaws.{eight_of}
 

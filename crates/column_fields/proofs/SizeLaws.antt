@@ -5,7 +5,7 @@ use Rattle.std.proofs.lemmas.List.{length-append}
 use Rattle.std.proofs.lemmas.Nat.{leading_length, pow-add, pow_pos}
 use Rattle.std.proofs.Math.Nat.{pow-le-pow_right}
 use Rattle.std.specs.Int.{w64, leading_zeros}
-use Rattle.varints.specs.Varint.{varint, varint_within}
+use Rattle.column_fields.specs.Varint.{varint, varint_within}
 use Rattle.column_base.specs.declared.dtype.DecimalDType.{DecimalDType}
 use Rattle.column_base.specs.ValidityForm.{ByBits}
 use Rattle.column_fields.specs.BitBytes.{bit_bytes}

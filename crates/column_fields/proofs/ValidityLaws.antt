@@ -2,7 +2,7 @@
 use Rattle.std.proofs.Common.{◌≡◌, ℕ, ◌+◌, ◌*◌, ◌/◌, ◌^◌, ◌<◌, Bool, List, [], ◌++◌, length, refl, sym, ap, ◌∙◌, arith, append_assoc}
 use mir.Val.{bits}
 use Rattle.column_base.specs.ValidityForm.{ValidityForm, NeverNull, NoneNull, AllNull, ByBits, HasLength}
-use Rattle.varints.specs.Varint.{varint}
+use Rattle.column_fields.specs.Varint.{varint}
 use Rattle.column_fields.specs.Field.{number_field, bytes_field, HasNoNumberField, HasNoBytesField}
 use Rattle.column_fields.specs.BitBytes.{bit_bytes, HasNoBits}
 use Rattle.column_fields.specs.Validity.{validity_field, HasNoValidity}

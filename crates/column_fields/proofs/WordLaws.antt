@@ -6,7 +6,7 @@ use Rattle.std.proofs.lemmas.List.{append-nil, drop-drop, get_or-take, length-ta
 use Rattle.std.proofs.lemmas.List.Elements.{All-from_recursion}
 use Rattle.column_base.specs.declared.dtype.PType.{PType}
 use Rattle.column_base.specs.Types.{HasNumber}
-use Rattle.varints.specs.Varint.{varint}
+use Rattle.column_fields.specs.Varint.{varint}
 use Rattle.column_fields.specs.Lengths.{lengths_bytes, Rises, BeginsWithLength}
 use Rattle.column_fields.proofs.EightLaws.{cut_items, eight_of}
 use Rattle.column_fields.proofs.EndReading.{rises_cons, rises_none}

@@ -1,6 +1,6 @@
 -- Fields of a message of the Protocol Buffers encoding, each in its one canonical spelling.
 use Rattle.std.specs.Prelude.{◌≡◌, ℕ, ◌+◌, ◌*◌, ◌^◌, ◌<◌, List, ◌++◌, length}
-use Rattle.varints.specs.Varint.{varint}
+use Rattle.column_fields.specs.Varint.{varint}
 
 -- a number: a key of wire type 0, and the number
 unfoldable pub number_field : ℕ → ℕ → List ℕ

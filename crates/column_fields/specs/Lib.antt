@@ -1,3 +1,5 @@
+pub mod Spelling
+pub mod Varint
 pub mod Field
 pub mod Sizes
 pub mod Kept
@@ -18,3 +20,7 @@ pub mod ElementFields
 pub mod Held
 pub mod ValidityViews
 pub mod Spans
+pub mod EndsType
+pub mod RecordFields
+pub mod WrittenRecord
+pub mod RecordLaws

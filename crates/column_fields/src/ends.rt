@@ -5,12 +5,12 @@ ghost use Rattle.column_base.specs.Numbers.{numbers, ptype_of};
 ghost use Rattle.column_base.specs.Types.{HasNumber};
 ghost use Rattle.column_fields.specs.Lengths.{lengths_bytes, lengths_from, Rises, AreEndsOf, HasNoEndsOf, BeginsWithLength};
 ghost use Rattle.column_fields.specs.Refusal.{IsBadOrMemory};
-ghost use Rattle.varints.specs.Varint.{varint, BeginsWithNoShortest};
+ghost use Rattle.column_fields.specs.Varint.{varint, BeginsWithNoShortest};
 
 use crate::stored::StoredEnd;
+use crate::varint::read_shortest;
 use column_base::{PType, PrimitiveValues, VortexError, VortexResult};
 use std::alloc::Allocator;
-use varints::read_shortest;
 
 // The highest bit of each byte of a word, and all others.
 const HIGH_BITS: u64 = 0x8080_8080_8080_8080;

@@ -1,13 +1,13 @@
 //! Fields of a message, in their one spelling.
 ghost use Rattle.std.specs.Prelude.{◌≡◌, ◌≢◌, ◌+◌, ◌*◌, ◌^◌, ◌<◌, ◌≤◌, ◌++◌, length, IfSome, IfNone, OnOk, IsOkUnless};
-ghost use Rattle.varints.specs.Varint.{varint};
+ghost use Rattle.column_fields.specs.Varint.{varint};
 ghost use Rattle.column_fields.specs.Field.{number_field, bytes_field, HasNoNumberField, HasNoConstantField, HasNoBytesField, IsNoBytesField};
 ghost use Rattle.column_fields.specs.Kept.{StaysInFront};
 ghost use Rattle.column_fields.specs.Room.{UsesRoom};
 
+use crate::varint::read_shortest;
 use bytes::BufMut;
 use column_base::{VortexError, VortexResult};
-use varints::read_shortest;
 
 /// Writes the shortest varint of a number at the end. Refused as `OutOfMemory` alone.
 #[inline(always)]

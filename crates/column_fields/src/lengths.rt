@@ -6,7 +6,7 @@ ghost use Rattle.column_fields.specs.Field.{bytes_field};
 ghost use Rattle.column_fields.specs.Kept.{StaysInFront};
 ghost use Rattle.column_fields.specs.Room.{UsesRoom, UsesCountedRoom};
 ghost use Rattle.column_fields.specs.Lengths.{lengths_bytes, lengths_from, AreEndsOf};
-ghost use Rattle.varints.specs.Varint.{varint};
+ghost use Rattle.column_fields.specs.Varint.{varint};
 
 use crate::fields::{put_bytes_key, put_varint};
 use crate::length_sizes::lengths_size;

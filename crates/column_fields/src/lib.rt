@@ -1,6 +1,6 @@
-//! The fields of a message that holds a column, each in its one spelling: numbers, bytes, native numbers, bits,
-//! decimals, run lengths, and which rows are null. What stands in a buffer stays in front of what a writer puts at its
-//! end, also where the writer is refused.
+//! The fields of a message that holds a column, each in its one spelling, from varints up; and the metadata record of a
+//! run column. Earlier content of a buffer stays in front of what a writer puts at its end, also where the writer is
+//! refused.
 #![tactic(auto)]
 
 mod bit_bytes;
@@ -17,7 +17,10 @@ mod held;
 mod length_sizes;
 mod lengths;
 mod list_fields;
+mod metadata;
 mod numbers;
+mod record_fields;
+pub mod record_laws;
 mod run_fields;
 mod short_varints;
 mod sizes;
@@ -26,6 +29,7 @@ mod stored;
 mod types;
 mod validity;
 mod validity_views;
+mod varint;
 
 pub use bit_bytes::{bytes_for, load_bits, put_bits};
 pub use column_base::{VortexError, VortexResult};
@@ -45,6 +49,7 @@ pub use held::{holds_bits, holds_decimals, holds_values};
 pub use length_sizes::lengths_size;
 pub use lengths::put_lengths_field;
 pub use list_fields::{ListFields, list_fields_size, read_list_fields};
+pub use metadata::RunEndMetadata;
 pub use numbers::{load_value, load_values, put_value, put_values, size_of_type};
 pub use run_fields::{RunFields, put_run_fields, read_run_fields, run_fields_size};
 pub use sizes::{
@@ -55,3 +60,4 @@ pub use spans::{EndsSpan, span_of_lengths};
 pub use types::{number_of_type, type_of_number};
 pub use validity::{put_bit_validity, put_validity, read_validity};
 pub use validity_views::{ValidityView, view_validity};
+pub use varint::{push_varint, read_shortest, read_varint, varint_len};

@@ -1,7 +1,7 @@
 //! The varints of eight numbers in one step, where none has more than two bytes.
 ghost use Rattle.std.specs.Prelude.{◌≡◌, ◌++◌, ◌+◌, ◌<◌, ◌≤◌, take, IfSome};
 ghost use Rattle.std.specs.List.{flat_map};
-ghost use Rattle.varints.specs.Varint.{varint};
+ghost use Rattle.column_fields.specs.Varint.{varint};
 
 /// The varints of eight numbers, where each is one byte: none has a bit of 128 or more.
 #[inline(always)]

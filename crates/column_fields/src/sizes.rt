@@ -7,7 +7,7 @@ ghost use Rattle.column_fields.specs.Field.{number_field};
 ghost use Rattle.column_fields.specs.Header.{header_bytes};
 ghost use Rattle.column_fields.specs.Sizes.{IsPast};
 ghost use Rattle.column_fields.specs.Validity.{validity_field};
-ghost use Rattle.varints.specs.Varint.{varint};
+ghost use Rattle.column_fields.specs.Varint.{varint};
 
 use crate::bit_bytes::bytes_for;
 use crate::decimal_fields::number_of_scale;

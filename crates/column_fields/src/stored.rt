@@ -5,7 +5,7 @@ ghost use Rattle.column_fields.specs.Room.{UsesRoom};
 ghost use Rattle.column_fields.specs.NumberBytes.{number_bytes, numbers_bytes, size_of};
 ghost use Rattle.column_base.specs.Number.{Narrows};
 ghost use Rattle.column_base.specs.Types.{HasNumber};
-ghost use Rattle.varints.specs.Varint.{varint};
+ghost use Rattle.column_fields.specs.Varint.{varint};
 
 use bytes::BufMut;
 use column_base::{NativePType, UnsignedPType, VortexError, VortexResult};

@@ -7,9 +7,9 @@ use Rattle.std.specs.declared.cmp.Ordering.TheVariants.{Less, Equal, Greater}
 use Rattle.std.specs.Cmp.{int_ranks}
 use Rattle.std.proofs.lemmas.Bool.{cases_lt}
 use Rattle.std.proofs.lemmas.Int.{ints}
-use Rattle.column_order.specs.Comparing.{holds_of}
-use Rattle.column_order.specs.declared.operator.CompareOperator.{CompareOperator}
-use Rattle.column_order.specs.declared.operator.CompareOperator.TheVariants.{Eq, NotEq, Gt, Gte, Lt, Lte}
+use Rattle.column_ops.specs.Comparing.{holds_of}
+use Rattle.column_ops.specs.declared.operator.CompareOperator.{CompareOperator}
+use Rattle.column_ops.specs.declared.operator.CompareOperator.TheVariants.{Eq, NotEq, Gt, Gte, Lt, Lte}
 use Rattle.float_bits.specs.declared.formats.FloatFormat.{FloatFormat}
 use Rattle.float_bits.specs.declared.formats.FloatFormat.TheVariants.{F16, F32, F64}
 use Rattle.float_bits.specs.Format.{IsPattern, infinity, magnitude, sign_bit}

@@ -11,7 +11,7 @@ use Rattle.column_core.specs.Optionals.{optionals}
 use Rattle.column_core.specs.PrimitiveForm.{PrimitiveForm, optional_numbers}
 use Rattle.column_core.specs.Value.{FlatValue, Single, Truth, Value}
 use Rattle.column_core.proofs.OptionalRows.{length-optionals}
-use Rattle.column_order.specs.Comparing.{is_held}
+use Rattle.column_ops.specs.Comparing.{is_held}
 use Rattle.float_bits.specs.declared.formats.FloatFormat.{FloatFormat}
 use Rattle.float_bits.specs.Format.{IsPattern}
 use Rattle.float_bits.specs.TotalOrder.{total_key}

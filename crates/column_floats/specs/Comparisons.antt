@@ -1,8 +1,8 @@
 -- What comparisons of floats with a constant mean: by IEEE 754, and by its total order.
 use Rattle.std.specs.Prelude.{◌≡◌, ◌↔◌, ◌&&◌, ℕ, ℤ, int_le, int_lt, Bool, true, false, not, IsTrue, Option, Some, None, option_map}
 use Rattle.column_core.specs.Value.{Single, Truth, Value}
-use Rattle.column_order.specs.declared.operator.CompareOperator.{CompareOperator}
-use Rattle.column_order.specs.declared.operator.CompareOperator.TheVariants.{Eq, NotEq, Gt, Gte, Lt, Lte}
+use Rattle.column_ops.specs.declared.operator.CompareOperator.{CompareOperator}
+use Rattle.column_ops.specs.declared.operator.CompareOperator.TheVariants.{Eq, NotEq, Gt, Gte, Lt, Lte}
 use Rattle.float_bits.specs.declared.formats.FloatFormat.{FloatFormat}
 use Rattle.float_bits.specs.Format.{IsPattern}
 use Rattle.float_bits.specs.Number.{IsAtMost, IsEqual, IsLess}

@@ -1,13 +1,13 @@
 //! Tests that decide comparisons of floats by their keys.
 ghost use Rattle.std.specs.Prelude.{◌≡◌, ◌↔◌, ℕ, ℤ, Bool, IsTrue, false, true};
 ghost use Rattle.std.specs.Ordering.{int_cmp};
-ghost use Rattle.column_order.specs.Comparing.{holds_of};
+ghost use Rattle.column_ops.specs.Comparing.{holds_of};
 ghost use Rattle.float_bits.specs.Format.{IsPattern};
 ghost use Rattle.float_bits.specs.Number.{IsNan};
 ghost use Rattle.float_bits.specs.TotalOrder.{total_key as key_of};
 ghost use Rattle.column_floats.specs.Comparisons.{HoldsInTotalOrder, HoldsOfNumbers, is_in_range, is_on_side};
 
-use column_order::CompareOperator;
+use column_ops::CompareOperator;
 use float_bits::{
     FloatFormat, keys_above, keys_at_least, keys_at_most, keys_below, keys_equal, total_key,
 };

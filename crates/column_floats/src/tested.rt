@@ -5,7 +5,7 @@ ghost use Rattle.column_base.specs.ValidityForm.{nullability_in};
 ghost use Rattle.column_core.specs.BoolForm.{bool_dtype};
 ghost use Rattle.column_core.specs.Leaf.{OfTruths, single_rows};
 ghost use Rattle.column_core.specs.PrimitiveForm.{optional_numbers};
-ghost use Rattle.column_order.specs.Comparing.{is_held};
+ghost use Rattle.column_ops.specs.Comparing.{is_held};
 ghost use Rattle.column_floats.specs.Comparisons.{tested_row};
 ghost use Rattle.column_floats.specs.Formats.{holds_keys};
 

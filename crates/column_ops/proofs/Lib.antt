@@ -18,3 +18,14 @@ pub mod BitItems
 pub mod Lowest
 pub mod NoFaults
 pub mod WrittenBits
+pub mod AnswerWords
+pub mod OrderLaws
+pub mod RowRanges
+pub mod BestRows
+pub mod WrittenTruths
+pub mod ConstantBits
+pub mod ItemRows
+pub mod WordFlags
+pub mod ItemEnds
+pub mod ItemOrder
+pub mod ItemColumns

@@ -8,3 +8,9 @@ pub mod Fill
 pub mod Cast
 pub mod Codes
 pub mod WrittenBits
+pub mod Order
+pub mod OrderFacts
+pub mod Steps
+pub mod Comparing
+pub mod CompareFault
+pub mod Items

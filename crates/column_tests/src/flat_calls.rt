@@ -4,8 +4,7 @@ use column_core::{
     BoolArray, DType, FlatColumn, Mask, Nullability, PType, Scalar, ScalarValue, ScalarView,
     Validity, VortexResult,
 };
-use column_ops::ColumnOps;
-use column_order::{CompareOperator, FlatOrder};
+use column_ops::{ColumnOps, CompareOperator, FlatOrder};
 use refusing::{Calls, are_answered_in_turn};
 use std::alloc::Allocator;
 use std::test::Fail;

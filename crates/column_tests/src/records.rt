@@ -1,8 +1,8 @@
 //! Metadata records that no line of vectors holds: those that a program builds, and long ones.
 use column_base::{PType, VortexError, VortexResult};
+use column_fields::RunEndMetadata;
+use column_fields::record_laws::write_then_read;
 use refusing::{Calls, are_answered_in_turn};
-use runend_metadata::RunEndMetadata;
-use runend_metadata::laws::write_then_read;
 use std::alloc::{Allocator, Global};
 use std::test::Fail;
 

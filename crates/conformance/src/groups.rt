@@ -2,7 +2,7 @@
 use crate::columns::{both, full_context, nullable, required, run_column};
 use crate::parts::nullable_truths;
 use refusing::{Calls, are_answered_in_turn};
-use runend_groups::{GroupError, GroupFold, Groups, fold_by, sum_by};
+use runend_pairs::{GroupError, GroupFold, Groups, fold_by, sum_by};
 use std::alloc::Allocator;
 use std::test::Fail;
 use vortex_runend::arrays::{encode, slice};

@@ -1,5 +1,5 @@
-//! Tests of the library as a program calls it: the lines that the pages show, and the calls that no line of vectors can
-//! make.
+//! Tests of the library as a program calls it: the lines that the pages show, calls that no line of vectors can make,
+//! scripts that end early, and the report of vectors.
 #![tactic(auto)]
 
 #[cfg(test)]
@@ -8,6 +8,8 @@ mod columns;
 mod constants;
 #[cfg(test)]
 mod decoders;
+#[cfg(test)]
+mod fakes;
 #[cfg(test)]
 mod functions;
 #[cfg(test)]
@@ -22,6 +24,10 @@ mod many_runs;
 mod names;
 #[cfg(test)]
 mod parts;
+#[cfg(test)]
+mod reports;
+#[cfg(test)]
+mod scripts;
 #[cfg(test)]
 mod shared;
 #[cfg(test)]

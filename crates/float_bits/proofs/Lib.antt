@@ -4,3 +4,12 @@ pub mod Magnitudes
 pub mod Sizes
 pub mod Tests
 pub mod TotalKeys
+pub mod Borrows
+pub mod Cuts
+pub mod Neighbours
+pub mod PlaceValues
+pub mod Products
+pub mod Results
+pub mod Roundings
+pub mod PatternSizes
+pub mod Tallies

@@ -3,3 +3,10 @@ pub mod KeyRanges
 pub mod Laws
 pub mod Number
 pub mod TotalOrder
+pub mod Held
+pub mod SumLaws
+pub mod Nearest
+pub mod Places
+pub mod Sum
+pub mod Tally
+pub mod Window

@@ -1,17 +1,24 @@
-//! Floating-point numbers by their bits: their total order, their comparisons, one pattern for each value, and casts
-//! that lose nothing.
+//! Floating-point numbers by their bits: their total order, their comparisons, one pattern for each value, casts that
+//! lose nothing, and exact sums over runs, rounded once.
 #![tactic(auto)]
 
+mod bins;
 mod comparisons;
+mod float_sum;
 mod formats;
 mod key_ranges;
 mod laws;
 mod one_pattern;
+mod rounding;
+mod sum_laws;
 mod total_order;
+mod wide_natural;
 
 pub use comparisons::{is_equal, is_less, is_nan};
+pub use float_sum::FloatSum;
 pub use formats::FloatFormat;
 pub use key_ranges::{keys_above, keys_at_least, keys_at_most, keys_below, keys_equal};
 pub use laws::{canonical_patterns_tell_values, total_keys_are_ordered};
 pub use one_pattern::canonical;
+pub use sum_laws::tallies_add_up;
 pub use total_order::{compare_total, from_total_key, total_key};

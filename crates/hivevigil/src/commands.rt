@@ -15,7 +15,7 @@ use c_columns::row_value::RowValue;
 use c_columns::sessions::Session;
 use c_columns::slices::slice;
 use c_columns::two_columns;
-use column_order::CompareOperator;
+use column_ops::CompareOperator;
 use runend_commands::Command;
 use std::alloc::Global;
 

@@ -1,7 +1,7 @@
 //! Calls that make columns of lists and take them apart.
 ghost use Rattle.std.specs.Prelude.{◌≡◌, ◌≢◌, length, pos};
 ghost use Rattle.runend_array.specs.Array.{column_of};
-ghost use Rattle.array_parts.specs.ListParts.{AreElementsOf, AreFlagsOf, AreOffsetsOf, AreSizesOf, no_lists_fault};
+ghost use Rattle.runend_column.specs.ListParts.{AreElementsOf, AreFlagsOf, AreOffsetsOf, AreSizesOf, no_lists_fault};
 ghost use Rattle.c_columns.specs.Bits.{validity_by};
 ghost use Rattle.c_columns.specs.Ending.{EndsOnHeldUnless, WhereBoth};
 ghost use Rattle.c_columns.specs.Lists.{ArePassedLists, PassedListsFault};

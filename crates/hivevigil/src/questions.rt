@@ -1,6 +1,6 @@
 //! Calls that ask about a column.
 ghost use Rattle.std.specs.Prelude.{◌≡◌, false, true, IsSomeAnd, MatchOption, length, pos, Some};
-ghost use Rattle.column_order.specs.OrderFacts as order;
+ghost use Rattle.column_ops.specs.OrderFacts as order;
 ghost use Rattle.runend_array.specs.Array.{column_of, dtype_of, rows};
 ghost use Rattle.runend_array.specs.declared.session.Kernel.TheVariants as kernel;
 ghost use Rattle.runend_commands.specs.declared.command.Command.TheVariants.{Sum, IsConstant, IsSorted};

@@ -1,10 +1,10 @@
 //! The call that tells how much memory a column takes.
 ghost use Rattle.std.specs.Prelude.{◌≡◌, MatchOption};
 ghost use Rattle.runend_array.specs.Array.{column_of};
-ghost use Rattle.array_parts.specs.BytesUsed.{column_bytes, in_usize};
+ghost use Rattle.runend_column.specs.BytesUsed.{column_bytes, in_usize};
 
-use array_parts::bytes_used;
 use c_columns::handle::Handle;
+use runend_column::bytes_used;
 use std::alloc::Global;
 
 /// How many bytes the buffers of the column take, as `bytes_used` counts them; 0 of no column.

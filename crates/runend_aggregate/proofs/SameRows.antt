@@ -12,9 +12,9 @@ use Rattle.column_core.specs.ScalarView.{sees}
 use Rattle.column_core.specs.Value.{Value}
 use Rattle.column_core.specs.declared.view.ScalarView.{ScalarView}
 use Rattle.column_core.specs.declared.view.ScalarView.TheVariants as view
-use Rattle.column_order.specs.Order.{row_cmp}
-use Rattle.column_order.specs.OrderFacts.{IsConstant, IsFurthest, IsSorted}
-use Rattle.column_order.proofs.OrderLaws.{row_total}
+use Rattle.column_ops.specs.Order.{row_cmp}
+use Rattle.column_ops.specs.OrderFacts.{IsConstant, IsFurthest, IsSorted}
+use Rattle.column_ops.proofs.OrderLaws.{row_total}
 
 -- each of them is the row
 the_row : (row other : Option Value) (count : ℕ) → Contains (replicate count row) other → other ≡ row

@@ -12,9 +12,9 @@ use Rattle.column_core.specs.ScalarView.{sees, IsViewOf}
 use Rattle.column_core.specs.declared.view.ScalarView.{ScalarView}
 use Rattle.column_core.specs.declared.view.ScalarView.TheVariants as view
 use Rattle.column_core.specs.Kinds.{is_list}
-use Rattle.column_order.specs.Order.{row_cmp}
-use Rattle.column_order.proofs.OrderLaws.{row_equal}
-use Rattle.column_order.proofs.RowRanges.{AreSame}
+use Rattle.column_ops.specs.Order.{row_cmp}
+use Rattle.column_ops.proofs.OrderLaws.{row_equal}
+use Rattle.column_ops.proofs.RowRanges.{AreSame}
 
 abbrev single : Option FlatValue → Option Value
 single = option_map (λ (v : FlatValue). Single v)

@@ -6,8 +6,8 @@ use Rattle.std.specs.Ordering.{is_le, is_lt}
 use Rattle.std.specs.declared.cmp.Ordering.{Ordering}
 use Rattle.column_base.proofs.Ranges.{length-slice_range}
 use Rattle.column_core.specs.Value.{Value}
-use Rattle.column_order.specs.Order.{row_cmp}
-use Rattle.column_order.specs.OrderFacts.{IsConstant, IsSorted, IsFurthest}
+use Rattle.column_ops.specs.Order.{row_cmp}
+use Rattle.column_ops.specs.OrderFacts.{IsConstant, IsSorted, IsFurthest}
 use Rattle.runend_windows.specs.Visible.{visible}
 use Rattle.runend_windows.proofs.RunRows.{length-run_rows}
 use Rattle.runend_windows.proofs.SlicedRuns.{slice_range-none}

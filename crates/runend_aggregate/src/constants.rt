@@ -2,7 +2,7 @@
 ghost use Rattle.std.specs.Prelude.{◌≡◌, ◌≢◌, ◌↔◌, All, Err, IfNone, IfOk, IfSome, IsTrue, None};
 ghost use Rattle.column_core.specs.Refusal.{IsRefusedBy};
 ghost use Rattle.column_core.specs.ScalarView.{sees, IsViewOf};
-ghost use Rattle.column_order.specs.OrderFacts.{IsConstant, IsFurthest, IsGreatest, IsLeast, IsSorted};
+ghost use Rattle.column_ops.specs.OrderFacts.{IsConstant, IsFurthest, IsGreatest, IsLeast, IsSorted};
 ghost use Rattle.runend_array.specs.Column.{OfConstant, column_rows};
 ghost use Rattle.column_core.specs.Kinds.{list_fault};
 

@@ -2,7 +2,7 @@
 ghost use Rattle.std.specs.Prelude.{◌≡◌, ◌≢◌, ◌≤◌, All, Err, IfNone, IfOk, IfSome, None, length, option_map, slice_range};
 ghost use Rattle.column_core.specs.Refusal.{IsRefusedBy};
 ghost use Rattle.column_core.specs.ScalarView.{sees, IsViewOf};
-ghost use Rattle.column_order.specs.OrderFacts.{IsFurthest, IsGreatest, IsLeast};
+ghost use Rattle.column_ops.specs.OrderFacts.{IsFurthest, IsGreatest, IsLeast};
 ghost use Rattle.runend_array.specs.Array.{dtype_of, rows};
 ghost use Rattle.runend_array.specs.Column.{column_dtype, column_of_runs, column_rows};
 ghost use Rattle.column_core.specs.Kinds.{list_fault};
@@ -103,7 +103,7 @@ fn ends_of<A: Allocator + Copy>(
     ensures greatest_of_type { IfSome result (λ ends. IsViewOf (dtype_of values.now) ends.1) }
 {
     match values.flat_view() {
-        Some(flat) => column_order::min_max(flat, range),
+        Some(flat) => column_ops::min_max(flat, range),
         None => looked_up_ends(values, range),
     }
 }

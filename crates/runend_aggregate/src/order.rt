@@ -2,8 +2,8 @@
 ghost use Rattle.std.specs.Prelude.{◌≡◌, ◌≢◌, ◌≤◌, ◌↔◌, Err, IfOk, IsTrue, false, length, slice_range};
 ghost use Rattle.column_core.specs.Refusal.{IsRefusedBy};
 ghost use Rattle.column_core.specs.Kinds.{is_list};
-ghost use Rattle.column_order.specs.OrderFacts.{IsConstant, IsSorted};
-ghost use Rattle.column_order.specs.Steps.{is_step_of};
+ghost use Rattle.column_ops.specs.OrderFacts.{IsConstant, IsSorted};
+ghost use Rattle.column_ops.specs.Steps.{is_step_of};
 ghost use Rattle.runend_array.specs.Array.{dtype_of, rows};
 ghost use Rattle.runend_array.specs.Column.{column_dtype, column_of_runs, column_rows};
 ghost use Rattle.column_core.specs.Kinds.{list_fault};
@@ -81,7 +81,7 @@ fn are_equal<A: Allocator + Copy>(values: &ArrayRef<A>, range: Range<usize>) -> 
     ensures { IsTrue result ↔ IsConstant (slice_range (rows values.now) range.start range.end) }
 {
     match values.flat_view() {
-        Some(flat) => column_order::is_constant(flat, range),
+        Some(flat) => column_ops::is_constant(flat, range),
         None => are_looked_up_equal(values, range),
     }
 }
@@ -125,7 +125,7 @@ fn are_sorted<A: Allocator + Copy>(values: &ArrayRef<A>, range: Range<usize>, st
     ensures { IsTrue result ↔ IsSorted strict (slice_range (rows values.now) range.start range.end) }
 {
     match values.flat_view() {
-        Some(flat) => column_order::is_sorted(flat, range, strict),
+        Some(flat) => column_ops::is_sorted(flat, range, strict),
         None => are_looked_up_sorted(values, range, strict),
     }
 }

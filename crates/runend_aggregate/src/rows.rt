@@ -2,11 +2,11 @@
 ghost use Rattle.std.specs.Prelude.{◌≡◌, ◌<◌, Some, false, length, option_map, slice_get};
 ghost use Rattle.column_core.specs.ScalarView.{sees, IsViewOf};
 ghost use Rattle.column_core.specs.Kinds.{is_list};
-ghost use Rattle.column_order.specs.Steps.{HasOrderAt, is_past};
+ghost use Rattle.column_ops.specs.Steps.{HasOrderAt, is_past};
 ghost use Rattle.runend_array.specs.Array.{dtype_of, rows};
 
 use column_core::ScalarView;
-use column_order::compare_views;
+use column_ops::compare_views;
 use runend_array::ArrayRef;
 use std::alloc::Allocator;
 use std::cmp::Ordering;

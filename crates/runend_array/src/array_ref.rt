@@ -21,7 +21,7 @@ use column_core::{
     BoolArray, DType, DecimalArray, FlatColumn, FlatView, PrimitiveArray, ScalarView,
     VarBinViewArray, VortexError, VortexResult,
 };
-use runend_decode::decode_flat;
+use runend_windows::decode_flat;
 use std::alloc::Allocator;
 use std::sync::Arc;
 

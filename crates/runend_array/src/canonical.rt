@@ -13,7 +13,7 @@ ghost use Rattle.runend_array.specs.Canonical.{canonical_column};
 use crate::array_ref::{ArrayRef, of_lists};
 use crate::lists::ListViewArray;
 use column_core::{FlatColumn, PrimitiveArray, VortexError, VortexResult};
-use runend_decode::decode_flat;
+use runend_windows::decode_flat;
 use std::alloc::Allocator;
 
 /// An array in a flat form: rows that are stored one by one, or lists.

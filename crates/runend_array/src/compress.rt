@@ -25,8 +25,9 @@ use column_core::{
     DecimalArray, FlatColumn, Mask, NativePType, Nullability, PrimitiveArray, PrimitiveValues,
     Validity, VarBinViewArray, VortexError, VortexResult,
 };
-use runend_decode::{decode_flat, decode_typed_numbers, has_nulls_alone};
-use runend_windows::{encode_plain, is_all_null};
+use runend_windows::{
+    decode_flat, decode_typed_numbers, encode_plain, has_nulls_alone, is_all_null,
+};
 use std::alloc::Allocator;
 
 /// The ends and the values of the runs of a column: a run for each longest stretch of equal rows,

@@ -31,7 +31,7 @@ use column_core::{
     NativePType, Nullability, PType, PrimitiveArray, PrimitiveValues, Scalar, ScalarView, Validity,
     VarBinKind, VarBinViewArray, View, VortexError, VortexResult,
 };
-use runend_decode::{no_null, repeated_items};
+use runend_windows::{no_null, repeated_items};
 use std::alloc::Allocator;
 use std::rc::Rc;
 

@@ -5,7 +5,7 @@ use Rattle.std.proofs.lemmas.List.{length-append}
 use Rattle.column_base.specs.declared.dtype.DType.{DType}
 use Rattle.column_core.specs.ScalarForm.{ScalarForm}
 use Rattle.column_core.specs.Value.{IsLists, PlainColumn, Value}
-use Rattle.chunk_laws.specs.Encodings.{behind, without_last}
+use Rattle.runend_builder.specs.Encodings.{behind, without_last}
 use Rattle.runend_windows.specs.Cover.{IsTightCover}
 use Rattle.runend_windows.specs.Window.{last_end, run_rows}
 use Rattle.runend_windows.proofs.Grow.{IsTightCover-of_none}

@@ -1,3 +1,15 @@
+pub mod JoinedRows
+pub mod JoinedSums
+pub mod JoinedOrders
+pub mod JoinedRuns
+pub mod ExtremeSums
+pub mod Lists
+pub mod Cuts
+pub mod Moved
+pub mod Rows
+pub mod Grown
+pub mod OneRow
+pub mod Packed
 pub mod Parts
 pub mod Constants
 pub mod Pushed

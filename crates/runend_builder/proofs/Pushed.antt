@@ -1,7 +1,7 @@
 -- One end more.
 use Rattle.std.proofs.Common.{◌≡◌, ◌∙◌, ◌+◌, ◌<◌, ℕ, zero, suc, List, [], ◌∷◌, ◌++◌, length, map, take, refl, sym, ap, append_assoc, arith, get_or}
 use Rattle.std.proofs.lemmas.List.{map-append, take_more}
-use Rattle.chunk_laws.specs.Encodings.{behind}
+use Rattle.runend_builder.specs.Encodings.{behind}
 
 -- the end that is stored at a place
 pub mapped_at : {X : Type 0} (f : X → ℕ) (xs : List X) (k : ℕ) (x : X) → k < length xs → x ≡ get_or xs k x → get_or (map f xs) k 0 ≡ f x

@@ -3,8 +3,8 @@ use Rattle.std.proofs.Common.{◌≡◌, ◌≢◌, ◌∙◌, ◌+◌, ◌-◌,
 use Rattle.std.specs.Prelude.{◌↔◌, IfOk, IsTrue, Result, Ok, Err, option_map, slice_get}
 use Rattle.std.proofs.lemmas.List.{drop_more, take_all, take_more}
 use Rattle.std.proofs.lemmas.Option.{get_or_from_slice_get, slice_get_within}
-use Rattle.chunk_laws.specs.Encodings.{AtSeam, behind, without_last}
-use Rattle.chunk_laws.proofs.JoinedRuns.{encoding_of_joined}
+use Rattle.runend_builder.specs.Encodings.{AtSeam, behind, without_last}
+use Rattle.runend_builder.proofs.JoinedRuns.{encoding_of_joined}
 use Rattle.column_base.specs.declared.dtype.DType.{DType}
 use Rattle.column_core.specs.ScalarForm.{ScalarForm}
 use Rattle.column_core.specs.Value.{FlatValue, Single, Value}

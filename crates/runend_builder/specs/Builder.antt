@@ -1,6 +1,6 @@
 -- What a builder holds, and what it refuses.
 use Rattle.std.specs.Prelude.{◌≡◌, ◌≢◌, ◌+◌, ◌-◌, ◌^◌, ◌<◌, ◌++◌, ℕ, List, Bool, true, false, Option, Some, None, cond, length, nat_lt, option_map, slice_get}
-use Rattle.chunk_laws.specs.Encodings.{AtSeam}
+use Rattle.runend_builder.specs.Encodings.{AtSeam}
 use Rattle.column_base.specs.contracts.dtype.DTypePartialEq.TheImpl as dtype_eq
 use Rattle.column_base.specs.declared.dtype.DType.{DType}
 use Rattle.column_base.specs.declared.error.VortexError.{VortexError}

@@ -1,2 +1,10 @@
+pub mod Rows
+pub mod Sums
+pub mod Orders
+pub mod Encodings
+pub mod Items
+pub mod OneRow
+pub mod Spans
+pub mod Texts
 pub mod Encoded
 pub mod Builder

@@ -10,12 +10,12 @@ ghost use Rattle.runend_encode.specs.Encoding.{IsRowEncoding};
 ghost use Rattle.runend_builder.specs.Encoded.{IsEncodedRows};
 ghost use Rattle.runend_builder.specs.Builder.{HasRuns, append_fault, built_with, part_rows, scalar_row};
 
+use crate::column_builder::FlatBuilder;
 use crate::encode::row_runs;
 use crate::seam::{extend_last, goes_on, is_same_value, last_of, push_run, push_runs, row_scalar};
 use column_core::{
     DType, FlatColumn, PrimitiveArray, Scalar, VortexError, VortexResult, fault_of_lists,
 };
-use flat_builder::FlatBuilder;
 use runend_array::{ArrayRef, ExecutionCtx, RunEnd, RunEndArray, array_of};
 use runend_encode::least_ends;
 use std::alloc::Allocator;

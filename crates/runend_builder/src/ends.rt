@@ -1,6 +1,6 @@
 //! The ends of a part, put behind others.
 ghost use Rattle.std.specs.Prelude.{◌≡◌, ◌+◌, ◌^◌, ◌<◌, ◌≤◌, ◌++◌, All, length, map, vec_capacity, vec_len};
-ghost use Rattle.chunk_laws.specs.Encodings.{behind};
+ghost use Rattle.runend_builder.specs.Encodings.{behind};
 ghost use Rattle.column_core.specs.PrimitiveForm.{primitive_dtype};
 ghost use Rattle.runend_windows.specs.Ends.{IsEndsType, ends_of};
 

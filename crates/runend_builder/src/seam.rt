@@ -1,6 +1,6 @@
 //! Runs joined at the seam of two parts.
 ghost use Rattle.std.specs.Prelude.{◌≡◌, ◌↔◌, ◌+◌, ◌^◌, ◌<◌, ◌≤◌, ◌++◌, ◌∷◌, [], All, IfOk, IsOkUnless, IsTrue, List, OnErr, OnOk, Option, Some, cond, drop, length, map, slice_get, vec_capacity, vec_len};
-ghost use Rattle.chunk_laws.specs.Encodings.{behind, without_last};
+ghost use Rattle.runend_builder.specs.Encodings.{behind, without_last};
 ghost use Rattle.column_core.specs.Computed.{IsComputedLeaf};
 ghost use Rattle.column_core.specs.FlatView.{leaf_in};
 ghost use Rattle.column_core.specs.Leaf.{leaf_dtype, leaf_rows, single_rows};
@@ -10,9 +10,9 @@ ghost use Rattle.runend_windows.specs.Ends.{IsEndsType, ends_of};
 ghost use Rattle.runend_windows.specs.Window.{last_end};
 ghost use Rattle.runend_builder.specs.Builder.{IsLastOf, IsSeam, scalar_row};
 
+use crate::column_builder::FlatBuilder;
 use crate::ends::push_ends;
 use column_core::{FlatView, PrimitiveArray, Scalar, VortexError, VortexResult};
-use flat_builder::FlatBuilder;
 use std::alloc::Allocator;
 
 /// Is the first row of a column equal to the last value, null being equal to null, so that their runs are one? Refused

@@ -5,8 +5,8 @@ use Rattle.column_base.specs.Error.{number_of}
 use Rattle.column_base.specs.declared.dtype.DType.{DType}
 use Rattle.column_base.specs.declared.error.VortexError.{VortexError}
 use Rattle.column_base.specs.declared.error.VortexError.TheVariants.{BadMetadata, EndsTypeNumber, OutOfMemory, RunCount, TypeMismatch}
-use Rattle.runend_metadata.specs.Fields.{IsRecord, Means, StatesUnknownEndsType, last_value, meaning}
-use Rattle.runend_metadata.specs.declared.metadata.RunEndMetadata.{RunEndMetadata}
+use Rattle.column_fields.specs.RecordFields.{IsRecord, Means, StatesUnknownEndsType, last_value, meaning}
+use Rattle.column_fields.specs.declared.metadata.RunEndMetadata.{RunEndMetadata}
 use Rattle.runend_array.specs.Column.{Column}
 use Rattle.runend_array.specs.Fault.{PartsFault}
 use Rattle.runend_column.specs.Fault.{AreStatedSlots, RecordFault, SlotsFault}

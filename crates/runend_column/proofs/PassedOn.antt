@@ -1,19 +1,21 @@
--- What is known of an answer that is passed on, and of a column's rows.
-use Rattle.std.proofs.Common.{◌≡◌, ℕ, zero, suc, refl}
-use Rattle.std.specs.Prelude.{Result, Ok, Err, IfOk, IsErr}
-use Rattle.runend_column.specs.VisibleForm.{window_start}
-
--- what follows for a value that is answered
-pub if_ok : {T E : Type 0} {P Q : T → Type 0} (result : Result T E) → ((value : T) → P value → Q value) → IfOk result P → IfOk result Q
-if_ok (Ok value) f answered = f value answered
-if_ok (Err error) f answered = answered
+-- Refusals that are passed on.
+use Rattle.std.proofs.Common.{◌≡◌, ◌∙◌, Option, None, inl}
+use Rattle.std.specs.Prelude.{Result, Ok, Err, IfOk, IsErr, IsErrAnd, IsOkUnless}
+use Rattle.column_base.specs.declared.error.VortexError.{VortexError}
+use Rattle.column_base.specs.declared.error.VortexError.TheVariants.{OutOfMemory}
+use Rattle.column_core.specs.Refusal.{IsRefusedBy}
 
 -- nothing is asked of the value of a refusal
 pub no_value : {T E : Type 0} (P : T → Type 0) (result : Result T E) → IsErr result → IfOk result P
 no_value P (Ok value) refused = cc
 no_value P (Err error) refused = tt
 
--- the window over visible runs begins where it began, unless it has no rows
-pub start_of_rows : (count offset : ℕ) → ¬ (count ≡ 0) → offset ≡ window_start count offset
-start_of_rows zero offset some = absurd (some refl)
-start_of_rows (suc n) offset some = refl
+-- the one error that there can be
+pub only_error : {T E : Type 0} (result : Result T E) (error one : E) → IsErrAnd result (λ e. e ≡ error) → error ≡ one → IsOkUnless result one
+only_error (Ok value) error one passed same = tt
+only_error (Err other) error one passed same = passed ∙ same
+
+-- where there is no fault, memory alone can be refused
+pub refused_by_none : {T : Type 0} (fault : Option VortexError) (result : Result T VortexError) → fault ≡ None → IsOkUnless result OutOfMemory → IsRefusedBy fault result
+refused_by_none fault (Ok value) none only = none
+refused_by_none fault (Err error) none only = inl only

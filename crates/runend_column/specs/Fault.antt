@@ -3,8 +3,8 @@ use Rattle.std.specs.Prelude.{◌≡◌, ◌≢◌, ◌⊎◌, ℕ, List, length
 use Rattle.column_base.specs.declared.dtype.DType.{DType}
 use Rattle.column_base.specs.declared.error.VortexError.{VortexError}
 use Rattle.column_base.specs.declared.error.VortexError.TheVariants.{TypeMismatch, BadMetadata, EndsTypeNumber, RunCount}
-use Rattle.runend_metadata.specs.Fields.{IsRecord, Means, StatesUnknownEndsType}
-use Rattle.runend_metadata.specs.declared.metadata.RunEndMetadata.{RunEndMetadata}
+use Rattle.column_fields.specs.RecordFields.{IsRecord, Means, StatesUnknownEndsType}
+use Rattle.column_fields.specs.declared.metadata.RunEndMetadata.{RunEndMetadata}
 use Rattle.runend_array.specs.Column.{AreParts, Column, Runs, column_dtype, end_numbers, runs_of}
 use Rattle.runend_array.specs.Fault.{PartsFault}
 use Rattle.runend_column.specs.Record.{AreStatedEnds, HasStatedType}

@@ -4,3 +4,7 @@ pub mod Data
 pub mod Fault
 pub mod Record
 pub mod SliceForm
+pub mod BytesUsed
+pub mod ListParts
+pub mod Computed
+pub mod Parts

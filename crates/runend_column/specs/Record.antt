@@ -1,7 +1,7 @@
 -- The record of a run column.
 use Rattle.std.specs.Prelude.{◌≡◌, pos, length, unwrap_or, Some}
-use Rattle.runend_metadata.specs.EndsType.{ends_type_number}
-use Rattle.runend_metadata.specs.declared.metadata.RunEndMetadata.{RunEndMetadata}
+use Rattle.column_fields.specs.EndsType.{ends_type_number}
+use Rattle.column_fields.specs.declared.metadata.RunEndMetadata.{RunEndMetadata}
 use Rattle.runend_array.specs.Column.{Column, Runs, IsPlainEnds, end_numbers, end_ptype}
 
 -- the number of the type of the ends, the number of runs, and the offset; the ends of a run column are of a type that

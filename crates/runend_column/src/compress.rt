@@ -21,7 +21,7 @@ use column_core::{
 };
 use runend_array::compress::decode_column;
 use runend_array::{ArrayRef, ExecutionCtx, ListViewArray};
-use runend_decode::decode_typed_numbers;
+use runend_windows::decode_typed_numbers;
 use std::alloc::Allocator;
 
 /// The rows that runs show, from row `offset` on, `length` many. A constant null where there is a run

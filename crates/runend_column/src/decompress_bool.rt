@@ -16,7 +16,7 @@ use column_core::{
     VortexResult,
 };
 use runend_array::{ArrayRef, ExecutionCtx, null_constant};
-use runend_decode::{decode_typed_bits, masks_all};
+use runend_windows::{decode_typed_bits, masks_all};
 use std::alloc::Allocator;
 
 /// The rows that runs of booleans show, from row `offset` on, `length` many. A constant null where

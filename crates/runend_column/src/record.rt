@@ -1,19 +1,19 @@
 //! A run column and its record.
 ghost use Rattle.std.specs.Prelude.{◌≡◌, ◌≢◌, ◌↔◌, length, IfOk, IsOkUnless, IsTrue, MatchOption, MatchResult};
-ghost use Rattle.runend_metadata.specs.EndsType.{IsEndsTypeNumber};
-ghost use Rattle.runend_metadata.specs.Fields.{Means};
-ghost use Rattle.runend_metadata.specs.Written.{IsWritten};
+ghost use Rattle.column_fields.specs.EndsType.{IsEndsTypeNumber};
+ghost use Rattle.column_fields.specs.RecordFields.{Means};
+ghost use Rattle.column_fields.specs.WrittenRecord.{IsWritten};
 ghost use Rattle.runend_array.specs.Array.{column_of};
 ghost use Rattle.runend_array.specs.Column.{column_dtype, end_numbers};
 ghost use Rattle.runend_column.specs.Record.{HasStatedType, record_of};
 ghost use Rattle.runend_column.specs.Fault.{AreRecorded, AreStatedSlots, IsRecordedColumn, RecordFault, SlotsFault};
 
 use column_core::{DType, Nullability, VortexError, VortexResult};
+use column_fields::RunEndMetadata;
 use runend_array::{
     ArrayRef, ExecutionCtx, RunEnd, RunEndArray, RunEndArrayExt, RunEndArraySlotsExt,
     validate_parts,
 };
-use runend_metadata::RunEndMetadata;
 use std::alloc::Allocator;
 
 /// The bytes of the record of a run column: the number of the type of its ends, its number of runs and

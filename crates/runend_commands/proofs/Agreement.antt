@@ -9,9 +9,9 @@ use Rattle.column_base.specs.declared.dtype.DType.TheVariants as column
 use Rattle.column_base.specs.declared.error.VortexError.TheVariants.{OutOfMemory}
 use Rattle.column_core.specs.ScalarForm.{ScalarForm}
 use Rattle.column_core.specs.Value.{FlatValue, PlainColumn, Single, Value}
-use Rattle.column_order.specs.OrderFacts as order
-use Rattle.column_order.proofs.BestRows.{IsFurthest-tied}
-use Rattle.column_order.proofs.OrderLaws.{row_equal}
+use Rattle.column_ops.specs.OrderFacts as order
+use Rattle.column_ops.proofs.BestRows.{IsFurthest-tied}
+use Rattle.column_ops.proofs.OrderLaws.{row_equal}
 use Rattle.column_sums.specs.SumAnswer.{IsSumAnswer}
 use Rattle.column_sums.specs.declared.answer.SumAnswer.{SumAnswer}
 use Rattle.runend_array.specs.declared.array_ref.ArrayRef.{ArrayRef}

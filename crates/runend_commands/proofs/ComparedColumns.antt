@@ -12,10 +12,10 @@ use Rattle.column_core.specs.Leaf.{Leaf, leaf_dtype, leaf_rows, single_rows}
 use Rattle.column_core.specs.Refusal.{IsRefusedBy}
 use Rattle.column_core.specs.ScalarForm.{ScalarForm}
 use Rattle.column_core.specs.Value.{FlatValue, IsLists, Single, Value}
-use Rattle.column_order.specs.CompareFault.{compare_column_fault, compare_scalar_fault}
-use Rattle.column_order.specs.Comparing.{compare_rows, compare_with}
-use Rattle.column_order.specs.declared.operator.CompareOperator.{CompareOperator}
-use Rattle.column_order.proofs.RowRanges.{length-single_rows}
+use Rattle.column_ops.specs.CompareFault.{compare_column_fault, compare_scalar_fault}
+use Rattle.column_ops.specs.Comparing.{compare_rows, compare_with}
+use Rattle.column_ops.specs.declared.operator.CompareOperator.{CompareOperator}
+use Rattle.column_ops.proofs.RowRanges.{length-single_rows}
 use Rattle.column_core.specs.Kinds.{list_fault}
 use Rattle.runend_windows.proofs.RunRows.{length-run_rows}
 use Rattle.runend_array.specs.Column.{Constant, OfConstant, Runs, column_dtype, column_of_runs, column_rows}

@@ -13,10 +13,10 @@ use Rattle.column_core.specs.ScalarForm.{ScalarForm}
 use Rattle.column_core.specs.Value.{FlatValue, IsLists, PlainColumn, Single, Value}
 use Rattle.column_ops.specs.Cast.{can_cast, cast_fault, cast_row_fault}
 use Rattle.column_ops.specs.Fill.{fill_dtype, fill_fault}
-use Rattle.column_order.specs.Comparing.{compare_with, compared}
-use Rattle.column_order.specs.declared.operator.CompareOperator.{CompareOperator}
+use Rattle.column_ops.specs.Comparing.{compare_with, compared}
+use Rattle.column_ops.specs.declared.operator.CompareOperator.{CompareOperator}
 use Rattle.runend_array.specs.Column.{Constant, OfConstant, plain_of, repeated}
-use Rattle.array_rowwise.proofs.FilledRows.{lists_refused}
+use Rattle.runend_column.proofs.FilledRows.{lists_refused}
 use Rattle.runend_commands.specs.Meaning.{rows_filled}
 
 no_fault_repeated : {B : Type 0} (fault : B → Option VortexError) (x : B) (n : ℕ) → fault x ≡ None → first_fault fault (replicate n x) ≡ None

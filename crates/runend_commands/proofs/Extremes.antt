@@ -14,7 +14,7 @@ use Rattle.column_core.specs.VarBinForm.{kind_dtype}
 use Rattle.column_core.specs.declared.varbinview.VarBinKind.{VarBinKind}
 use Rattle.column_core.specs.declared.varbinview.VarBinKind.TheVariants.{Utf8, Binary}
 use Rattle.column_core.specs.declared.view.ScalarView.{ScalarView}
-use Rattle.column_order.specs.OrderFacts.{IsGreatest, IsLeast}
+use Rattle.column_ops.specs.OrderFacts.{IsGreatest, IsLeast}
 use Rattle.column_core.specs.Kinds.{list_fault}
 use Rattle.runend_commands.specs.Extremes.{AreCopiesOf, AreExtremesIfAny}
 

@@ -9,7 +9,7 @@ use Rattle.column_core.specs.Value.{Single, Value}
 use Rattle.column_ops.specs.Fill.{fill_fault, fill_rows}
 use Rattle.runend_array.specs.Array.{rows}
 use Rattle.runend_array.specs.declared.array_ref.ArrayRef.{ArrayRef}
-use Rattle.array_rowwise.proofs.FilledRows.{filling}
+use Rattle.runend_column.proofs.FilledRows.{filling}
 use Rattle.runend_commands.specs.Meaning.{rows_filled}
 
 -- a scalar that is not refused has a value, which is the one that fills

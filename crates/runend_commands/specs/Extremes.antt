@@ -6,7 +6,7 @@ use Rattle.column_core.specs.ScalarForm.{ScalarForm}
 use Rattle.column_core.specs.ScalarView.{sees}
 use Rattle.column_core.specs.Value.{PlainColumn, Single, Value}
 use Rattle.column_core.specs.declared.view.ScalarView.{ScalarView}
-use Rattle.column_order.specs.OrderFacts.{IsGreatest, IsLeast}
+use Rattle.column_ops.specs.OrderFacts.{IsGreatest, IsLeast}
 
 -- a type of texts or of bytes: a copy of such a value takes memory, and one of any other value takes none
 abbrev pub HasBytes : DType → Type 0

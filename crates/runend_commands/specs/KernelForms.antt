@@ -24,7 +24,7 @@ use Rattle.runend_commands.specs.declared.command.Command.TheVariants.{Slice, Fi
 use Rattle.runend_commands.specs.declared.command.Answer.{Answer}
 use Rattle.runend_commands.specs.declared.command.Answer.TheVariants.{Done, Refused}
 use Rattle.runend_commands.specs.Extremes.{HasBytes}
-use Rattle.array_rowwise.specs.Parts.{IsPlainPart}
+use Rattle.runend_column.specs.Parts.{IsPlainPart}
 use Rattle.runend_commands.specs.Step.{IsChain, IsStep}
 
 -- a run column whose kernel is registered

@@ -12,8 +12,8 @@ use Rattle.column_ops.specs.Fill.{fill_dtype, fill_rows}
 use Rattle.column_ops.specs.Filter.{filter_rows}
 use Rattle.column_ops.specs.Nullable.{take_dtype}
 use Rattle.column_ops.specs.Take.{take_rows}
-use Rattle.column_order.specs.Comparing.{compare_dtype, compare_rows, compare_with}
-use Rattle.column_order.specs.OrderFacts as order
+use Rattle.column_ops.specs.Comparing.{compare_dtype, compare_rows, compare_with}
+use Rattle.column_ops.specs.OrderFacts as order
 use Rattle.column_sums.specs.SumAnswer.{IsSumAnswer}
 use Rattle.runend_array.specs.Array.{column_of, dtype_of, rows}
 use Rattle.runend_array.specs.Column.{Column, OfLeaf, OfConstant, OfLists, OfRuns, column_rows, plain_of, IsFlat}

@@ -14,7 +14,7 @@ use Rattle.column_ops.specs.Codes.{code_fault}
 use Rattle.column_ops.specs.Fill.{fill_fault}
 use Rattle.column_ops.specs.Filter.{filter_fault}
 use Rattle.column_ops.specs.Take.{take_fault}
-use Rattle.column_order.specs.CompareFault.{compare_column_fault, compare_scalar_fault}
+use Rattle.column_ops.specs.CompareFault.{compare_column_fault, compare_scalar_fault}
 use Rattle.column_sums.specs.SumAnswer.{sum_fault}
 use Rattle.column_core.specs.Kinds.{list_fault}
 use Rattle.runend_array.specs.Array.{dtype_of, rows}

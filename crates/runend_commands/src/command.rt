@@ -1,6 +1,6 @@
 //! Commands, and what they are answered.
 use column_core::{DType, Mask, PrimitiveArray, Scalar, VortexError};
-use column_order::CompareOperator;
+use column_ops::CompareOperator;
 use column_sums::SumAnswer;
 use runend_array::ArrayRef;
 use std::alloc::Allocator;

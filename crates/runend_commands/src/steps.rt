@@ -9,7 +9,7 @@ ghost use Rattle.runend_commands.specs.declared.command.Command.TheVariants.{At,
 use crate::command::{Answer, Command};
 use crate::compute::{self, has_constant_form};
 use column_core::{DType, Mask, PrimitiveArray, Scalar, VortexResult, fault_of_lists};
-use column_order::CompareOperator;
+use column_ops::CompareOperator;
 use runend_array::{ArrayRef, ExecutionCtx};
 use std::alloc::Allocator;
 use std::ops::Range;

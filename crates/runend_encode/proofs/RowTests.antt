@@ -12,8 +12,8 @@ use Rattle.column_core.specs.Optionals.{optionals}
 use Rattle.column_core.specs.VarBinForm.{VarBinForm, varbin_rows, varbin_value, view_bytes, zero_view}
 use Rattle.column_core.specs.Value.{FlatValue, Single, Value}
 use Rattle.column_core.proofs.OptionalRows.{null-row_of, valid-row_of}
-use Rattle.column_order.specs.Order.{row_cmp}
-use Rattle.column_order.proofs.OrderLaws.{row_equal, row_total}
+use Rattle.column_ops.specs.Order.{row_cmp}
+use Rattle.column_ops.proofs.OrderLaws.{row_equal, row_total}
 use Rattle.runend_encode.specs.Starts.{GoesOn}
 
 -- what stands as it stands in reverse is level

@@ -5,8 +5,7 @@ ghost use Rattle.column_core.specs.ScalarView.{sees};
 ghost use Rattle.column_core.specs.Value.{FlatValue, Single};
 
 use column_core::{PrimitiveArray, ScalarView, VarBinViewArray, View};
-use column_ops::ColumnOps;
-use column_order::compare_views;
+use column_ops::{ColumnOps, compare_views};
 use std::alloc::Allocator;
 
 /// A flat column of one kind whose rows are compared one by one.

@@ -4,12 +4,12 @@ use Rattle.std.specs.Prelude.{if◌then◌else◌, ◌==◌, option_map, slice_g
 use Rattle.std.proofs.lemmas.List.{take_all}
 use Rattle.std.proofs.lemmas.List.Elements.{filter_map-append}
 use Rattle.column_base.proofs.Ranges.{length-slice_range}
-use Rattle.column_order.proofs.RowRanges.{slice_range-next}
+use Rattle.column_ops.proofs.RowRanges.{slice_range-next}
 use Rattle.float_bits.specs.declared.formats.FloatFormat.TheVariants.{F64}
 use Rattle.float_bits.specs.Format.{infinity, magnitude, sign_bit}
 use Rattle.float_bits.specs.Number.{size}
-use Rattle.float_sums.specs.Tally.{Tally, joined, no_rows, row_of, tally, tally_of, times}
-use Rattle.float_sums.proofs.Tallies.{chunks_joined, joined_none, joined_swapped, run_rows as run_tally}
+use Rattle.float_bits.specs.Tally.{Tally, joined, no_rows, row_of, tally, tally_of, times}
+use Rattle.float_bits.proofs.Tallies.{chunks_joined, joined_none, joined_swapped, run_rows as run_tally}
 use Rattle.runend_windows.specs.Window.{IsWindow, last_end, run_at, run_rows}
 use Rattle.runend_windows.proofs.RunRows.{length-run_rows, slice_get-run_rows_of_window}
 use Rattle.column_floats.specs.FloatRows.{bits_of_key, doubles_of}

@@ -16,7 +16,7 @@ ghost use Rattle.column_floats.specs.Formats.{constant_fault, format_of, holds_k
 
 use column_core::{FlatColumn, PrimitiveArray, VortexError, VortexResult};
 use column_floats::{KeyComparison, KeyRange, KeyTest, format_of_constant, tested_keys};
-use column_order::CompareOperator;
+use column_ops::CompareOperator;
 use runend_array::{ArrayRef, ExecutionCtx};
 use runend_builder::row_runs;
 use runend_column::decompress_bool::runend_decode_bools;

@@ -8,11 +8,11 @@ ghost use Rattle.std.specs.Option.{option_or};
 ghost use Rattle.column_floats.specs.FloatRows.{bits_row, floats_of};
 ghost use Rattle.column_floats.specs.Formats.{IsRefusedOnlyBy, bits_dtype, floats_fault, is_floats};
 
-use array_rowwise::flat_rows;
 use column_core::{FlatColumn, PrimitiveArray, ScalarView, VortexError, VortexResult};
 use column_floats::{bits_of, format_of_column};
 use float_bits::from_total_key;
 use runend_array::{ArrayRef, ExecutionCtx};
+use runend_column::flat_rows;
 use std::alloc::Allocator;
 
 /// Returns the bits of the floats of a column of any form, which stores them by their keys, as a flat column of `u16`,

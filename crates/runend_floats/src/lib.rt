@@ -9,10 +9,10 @@ mod extremes;
 mod sums;
 
 pub use column_floats::{FloatFormat, FloatPatterns, bits_type, float_format, key_type};
-pub use column_order::CompareOperator;
+pub use column_ops::CompareOperator;
 pub use comparisons::{compare_numbers, compare_total};
 pub use decoding::{decode_floats, float_at};
 pub use encoding::encode_floats;
 pub use extremes::{min_max_numbers, min_max_total};
-pub use float_sums::FloatSum;
+pub use float_bits::FloatSum;
 pub use sums::sum_floats;

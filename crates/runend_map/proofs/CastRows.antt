@@ -8,7 +8,7 @@ use Rattle.column_core.specs.Value.{FlatValue, Single, Value}
 use Rattle.column_core.specs.Leaf.{Leaf, leaf_dtype, leaf_rows, plain_leaf, single_rows}
 use Rattle.column_ops.specs.Cast.{can_cast, cast_fault, cast_row_fault}
 use Rattle.column_ops.specs.Fault.{first_fault}
-use Rattle.column_order.proofs.RowRanges.{length-single_rows}
+use Rattle.column_ops.proofs.RowRanges.{length-single_rows}
 use Rattle.runend_windows.specs.Window.{run_rows}
 use Rattle.runend_array.specs.Column.{AreRuns, Runs, column_dtype, column_of_runs, column_rows, plain_of}
 use Rattle.runend_column.specs.VisibleForm.{visible_ends, visible_values, window_start}

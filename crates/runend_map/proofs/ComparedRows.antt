@@ -11,11 +11,11 @@ use Rattle.column_core.specs.Computed.{IsComputedLeaf}
 use Rattle.column_core.specs.Refusal.{IsRefusedBy}
 use Rattle.column_core.specs.Leaf.{Leaf, OfTruths, leaf_dtype, leaf_rows, single_rows}
 use Rattle.column_core.specs.Value.{FlatValue, Single, Value}
-use Rattle.column_order.specs.CompareFault.{compare_column_fault}
-use Rattle.column_order.proofs.RowRanges.{length-single_rows}
-use Rattle.column_order.specs.Comparing.{IsStoredComparison, compare_rows, compare_with, compared}
-use Rattle.column_order.specs.declared.operator.CompareOperator.{CompareOperator}
-use Rattle.column_order.proofs.WrittenTruths.{compare_rows-copies}
+use Rattle.column_ops.specs.CompareFault.{compare_column_fault}
+use Rattle.column_ops.proofs.RowRanges.{length-single_rows}
+use Rattle.column_ops.specs.Comparing.{IsStoredComparison, compare_rows, compare_with, compared}
+use Rattle.column_ops.specs.declared.operator.CompareOperator.{CompareOperator}
+use Rattle.column_ops.proofs.WrittenTruths.{compare_rows-copies}
 use Rattle.runend_windows.specs.Encoding.{HasNullsAlone}
 use Rattle.runend_windows.specs.Visible.{visible}
 use Rattle.runend_windows.specs.Window.{run_rows, IsWindow}

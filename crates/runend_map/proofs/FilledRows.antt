@@ -7,11 +7,11 @@ use Rattle.column_core.specs.Leaf.{Leaf, leaf_dtype, leaf_rows, single_rows}
 use Rattle.column_core.specs.ScalarForm.{ScalarForm}
 use Rattle.column_ops.specs.Computed.{IsMade}
 use Rattle.column_ops.specs.Fill.{fill_dtype, fill_fault, fill_rows}
-use Rattle.column_order.proofs.RowRanges.{length-single_rows}
+use Rattle.column_ops.proofs.RowRanges.{length-single_rows}
 use Rattle.runend_windows.specs.Window.{run_rows}
 use Rattle.runend_array.specs.Column.{AreRuns, Runs, column_dtype, column_of_runs, column_rows}
 use Rattle.runend_column.specs.VisibleForm.{visible_ends, visible_values, window_start}
-use Rattle.array_rowwise.proofs.FilledRows.{filling, single-filled}
+use Rattle.runend_column.proofs.FilledRows.{filling, single-filled}
 use Rattle.runend_map.proofs.KeptRows.{mapped_rows}
 
 module _ (r : Runs) (values filled : Leaf) (scalar : ScalarForm) (none : fill_fault (leaf_dtype values) scalar ≡ None)

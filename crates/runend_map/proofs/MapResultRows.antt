@@ -17,7 +17,7 @@ use Rattle.column_core.specs.Computed.{AreComputed}
 use Rattle.column_core.specs.Optionals.{AreBlankAtNulls, optionals}
 use Rattle.column_core.specs.Value.{FlatValue, IsLists, Number, Single, Value}
 use Rattle.column_core.specs.Leaf.{Leaf, leaf_rows, single_rows}
-use Rattle.column_order.proofs.RowRanges.{get_or-read, length-single_rows}
+use Rattle.column_ops.proofs.RowRanges.{get_or-read, length-single_rows}
 use Rattle.runend_windows.specs.Window.{run_at, run_rows, IsWindow}
 use Rattle.runend_windows.proofs.RunAt.{run_of_row_within}
 use Rattle.runend_windows.proofs.RunRows.{length-run_rows}

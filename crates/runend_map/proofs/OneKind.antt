@@ -14,8 +14,8 @@ use Rattle.column_core.specs.Refusal.{IsErrorFor, IsRefusedBy}
 use Rattle.column_core.specs.Value.{IsLists, MayBeNull}
 use Rattle.column_core.specs.SameType.{same_dtype-decides}
 use Rattle.column_core.specs.Kinds.{is_list, is_numbers, same_kind}
-use Rattle.column_order.specs.CompareFault.{compare_column_fault, compare_scalar_fault, length_fault}
-use Rattle.column_order.specs.Comparing.{compare_dtype, either_nullability}
+use Rattle.column_ops.specs.CompareFault.{compare_column_fault, compare_scalar_fault, length_fault}
+use Rattle.column_ops.specs.Comparing.{compare_dtype, either_nullability}
 
 -- what can be refused for want of memory alone, where there is no fault
 pub no_fault : {T : Type 0} (fault : Option VortexError) (result : Result T VortexError) → fault ≡ None → IsOkUnless result OutOfMemory → IsRefusedBy fault result

@@ -8,10 +8,10 @@ use Rattle.std.specs.List.Sorted.{IsStrictlyIncreasing}
 use Rattle.column_base.specs.declared.dtype.Nullability.{Nullability}
 use Rattle.column_base.specs.declared.dtype.Nullability.TheVariants.{NonNullable}
 use Rattle.column_core.specs.Value.{Value}
-use Rattle.column_order.specs.Comparing.{compare_rows, compared}
-use Rattle.column_order.specs.declared.operator.CompareOperator.{CompareOperator}
-use Rattle.column_order.proofs.RowRanges.{get_or-read}
-use Rattle.column_order.proofs.WrittenTruths.{AreWritten, AreWritten-more, AreWritten-none, compare_rows-at, truth_value}
+use Rattle.column_ops.specs.Comparing.{compare_rows, compared}
+use Rattle.column_ops.specs.declared.operator.CompareOperator.{CompareOperator}
+use Rattle.column_ops.proofs.RowRanges.{get_or-read}
+use Rattle.column_ops.proofs.WrittenTruths.{AreWritten, AreWritten-more, AreWritten-none, compare_rows-at, truth_value}
 use Rattle.runend_encode.specs.Joined.{AllHaveRows}
 use Rattle.runend_windows.specs.Window.{IsWindow, run_at, run_rows}
 use Rattle.runend_windows.proofs.RunAt.{ended_before, ends_past, run_at-le, run_at-le-length, run_at-le-run_at, run_at_is, run_of_row_within}

@@ -10,8 +10,8 @@ ghost use Rattle.column_core.specs.FlatColumn.{leaf_of};
 ghost use Rattle.column_core.specs.Leaf.{OfTruths, leaf_dtype, leaf_rows, single_rows};
 ghost use Rattle.column_core.specs.Refusal.{IsRefusedBy};
 ghost use Rattle.column_core.specs.Value.{IsLists, MayBeNull, Single};
-ghost use Rattle.column_order.specs.CompareFault.{compare_column_fault, compare_scalar_fault};
-ghost use Rattle.column_order.specs.Comparing.{compare_dtype, compare_rows, compare_with};
+ghost use Rattle.column_ops.specs.CompareFault.{compare_column_fault, compare_scalar_fault};
+ghost use Rattle.column_ops.specs.Comparing.{compare_dtype, compare_rows, compare_with};
 ghost use Rattle.runend_array.specs.Array.{column_of, dtype_of, rows};
 ghost use Rattle.runend_array.specs.Column.{OfConstant, column_dtype, column_of_runs, column_rows};
 ghost use Rattle.runend_array.specs.Encoding.{IsComputedFlat, IsDecodedForm};
@@ -19,13 +19,12 @@ ghost use Rattle.runend_map.specs.ComparisonForm.{IsComparisonForm, IsNullConsta
 
 use crate::pairs::compare_runs;
 use crate::visible::{shown_rows, shown_truths};
-use array_rowwise::flat_rows;
 use column_core::{
     BoolArray, DType, FlatColumn, Nullability, Scalar, ScalarView, VortexError, VortexResult,
 };
-use column_order::{CompareOperator, FlatOrder, column_fault};
+use column_ops::{CompareOperator, FlatOrder, column_fault};
 use runend_array::{ArrayRef, ConstantArray, ExecutionCtx, RunEndArray, RunEndArrayExt};
-use runend_column::visible_values;
+use runend_column::{flat_rows, visible_values};
 use std::alloc::Allocator;
 
 /// Does the operator hold of each row and the row of `right` beside it? Null where either row is null. The

@@ -16,13 +16,12 @@ ghost use Rattle.runend_column.specs.VisibleForm.{visible_values as values_of_vi
 
 use crate::codes::{take_from_flat, visible_codes};
 use crate::visible::shown_values;
-use array_rowwise::{flat_rows, take_rows};
 use column_core::{
     FlatColumn, NativePType, PrimitiveArray, Validity, VortexError, VortexResult, is_list_type,
     is_number_type,
 };
 use runend_array::{ArrayRef, ConstantArray, ExecutionCtx, RunEnd, RunEndArray, RunEndArrayExt};
-use runend_column::borrowed_values;
+use runend_column::{borrowed_values, flat_rows, take_rows};
 use std::alloc::Allocator;
 
 /// The dictionary's row for each code, null for null, in a type with null where the dictionary's or the codes'

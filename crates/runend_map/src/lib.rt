@@ -14,10 +14,10 @@ mod scalar_fn;
 mod shown_runs;
 mod visible;
 
-pub use array_rowwise::{cast_rows, fill_rows};
 pub use casts::cast;
-pub use column_order::CompareOperator;
+pub use column_ops::CompareOperator;
 pub use comparisons::compare;
 pub use dictionary::{take_from, take_from_rows};
 pub use fill::fill_null;
+pub use runend_column::{cast_rows, fill_rows};
 pub use scalar_fn::{map_rows, map_rows_bool};

@@ -10,8 +10,8 @@ ghost use Rattle.column_core.specs.Leaf.{OfTruths, leaf_dtype, single_rows};
 ghost use Rattle.column_core.specs.Optionals.{optionals, AreBlankAtNulls};
 ghost use Rattle.column_core.specs.ScalarView.{sees};
 ghost use Rattle.column_core.specs.Value.{Single, Truth};
-ghost use Rattle.column_order.specs.CompareFault.{compare_column_fault};
-ghost use Rattle.column_order.specs.Comparing.{compare_dtype, compare_rows, compared, either_nullability, IsStoredComparison};
+ghost use Rattle.column_ops.specs.CompareFault.{compare_column_fault};
+ghost use Rattle.column_ops.specs.Comparing.{compare_dtype, compare_rows, compared, either_nullability, IsStoredComparison};
 ghost use Rattle.runend_array.specs.Array.{column_of, dtype_of, rows};
 ghost use Rattle.runend_array.specs.Column.{column_dtype, column_of_runs, column_rows};
 ghost use Rattle.runend_array.specs.Encoding.{IsComputedFlat};
@@ -21,7 +21,7 @@ use crate::shown_runs::ShownRuns;
 use column_core::{
     BitBufferMut, BoolArray, DType, Nullability, ScalarView, Validity, VortexError, VortexResult,
 };
-use column_order::{CompareOperator, compare_views};
+use column_ops::{CompareOperator, compare_views};
 use runend_array::{ArrayRef, ExecutionCtx, RunEndArray, RunEndArrayExt};
 use std::alloc::Allocator;
 

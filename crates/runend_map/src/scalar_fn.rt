@@ -14,10 +14,9 @@ ghost use Rattle.runend_map.specs.MapResult.{IsMappedForm, IsOwed, MayAsk, is_na
 
 use crate::answers::{answers, column_of_numbers, column_of_truths};
 use crate::visible::shown_rows;
-use array_rowwise::flat_rows;
 use column_core::{DType, FlatColumn, NativePType, VortexError, VortexResult};
 use runend_array::{ArrayRef, ExecutionCtx, Kernel, array_of};
-use runend_column::{over_visible_runs, visible_values};
+use runend_column::{flat_rows, over_visible_runs, visible_values};
 use std::alloc::Allocator;
 
 /// What the function answers to each row, in a type with null: of a run column, where scalar functions are

@@ -14,7 +14,7 @@ use column_core::{BoolArray, FlatColumn, VortexError, VortexResult};
 use runend_array::{ArrayRef, ExecutionCtx, RunEnd, RunEndArray, RunEndArrayExt};
 use runend_column::decompress_bool::runend_decode_bools;
 use runend_column::{ends_of_visible, visible_offset};
-use runend_decode::decode_flat;
+use runend_windows::decode_flat;
 use std::alloc::Allocator;
 
 /// The rows that the visible runs show over these values, one for each, as a flat column. Of booleans, the

@@ -1,7 +1,7 @@
 //! The lines of metadata records.
 ghost use Rattle.std.specs.Prelude.{◌≡◌, IfOk, IsOkUnless};
 ghost use Rattle.std.specs.String.{string_bytes};
-ghost use Rattle.runend_metadata.specs.EndsType.{IsEndsTypeNumber};
+ghost use Rattle.column_fields.specs.EndsType.{IsEndsTypeNumber};
 ghost use Rattle.runend_script.specs.Messages.{bytes_text};
 
 use crate::words::Words;

@@ -16,7 +16,7 @@ use Rattle.column_ops.specs.Nullable.{either_nullable}
 use Rattle.column_ops.specs.Take.{take_rows}
 use Rattle.runend_array.specs.Column.{Column, OfLeaf, OfConstant, OfLists, OfRuns}
 use Rattle.runend_array.specs.Encoding.{IsComputedFlat}
-use Rattle.runend_indices.specs.Indices.{optional_indices}
+use Rattle.runend_select.specs.Indices.{optional_indices}
 use Rattle.runend_select.proofs.CheckedIndices.{length-indices}
 use Rattle.runend_select.specs.TakeForm.{AreAllNull, TakeLeaves}
 

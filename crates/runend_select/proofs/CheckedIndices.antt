@@ -18,8 +18,8 @@ use Rattle.column_core.proofs.OptionalRows.{null-at, optionals-at}
 use Rattle.column_core.specs.PrimitiveForm.{PrimitiveForm, optional_numbers, primitive_with}
 use Rattle.column_ops.specs.Fault.{first_fault}
 use Rattle.column_ops.specs.Take.{index_fault, take_fault}
-use Rattle.runend_indices.specs.Indices.{AreInBounds, optional_indices}
-use Rattle.array_rowwise.proofs.SetPlaces.{within-places}
+use Rattle.runend_select.specs.Indices.{AreInBounds, optional_indices}
+use Rattle.runend_column.proofs.SetPlaces.{within-places}
 
 -- one index for each flag
 pub length-indices : (xs : List ℤ) (bits : List Bool) → length bits ≡ length xs → length (optionals xs bits) ≡ length xs

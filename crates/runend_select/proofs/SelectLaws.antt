@@ -4,7 +4,7 @@ use Rattle.column_base.specs.Bits.{set_indices_of}
 use Rattle.column_core.specs.Optionals.{optionals}
 use Rattle.column_ops.specs.Filter.{filter_rows}
 use Rattle.column_ops.specs.Take.{take_rows}
-use Rattle.array_rowwise.proofs.SetPlaces.{take_rows-places}
+use Rattle.runend_column.proofs.SetPlaces.{take_rows-places}
 
 valid-places : (places : List ℕ) → map (λ (place : ℕ). Some (pos place)) places ≡ optionals (map (λ (n : ℕ). pos n) places) (replicate (length places) true)
 valid-places [] = refl

@@ -11,7 +11,7 @@ use Rattle.runend_windows.specs.Window.{IsWindow, run_at, run_rows}
 use Rattle.runend_windows.proofs.RunAt.{run_of_row_within}
 use Rattle.column_base.specs.ValidityForm.{ValidityForm, HasLength, flags}
 use Rattle.column_base.proofs.ValidityRows.{length-flags}
-use Rattle.runend_indices.specs.Indices.{AreInBounds, optional_indices, runs_of}
+use Rattle.runend_select.specs.Indices.{AreInBounds, optional_indices, runs_of}
 use Rattle.runend_select.specs.RunsOf.{AreRunsOf}
 
 -- the row of an index is the value of its run

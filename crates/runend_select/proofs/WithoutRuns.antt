@@ -3,7 +3,7 @@ use Rattle.std.proofs.Common.{◌≡◌, ◌∙◌, ℕ, List, [], Bool, false, 
 use Rattle.column_ops.specs.Filter.{filter_rows}
 use Rattle.runend_array.specs.Column.{Column, OfLeaf, OfConstant, OfLists, OfRuns, Runs, column_rows}
 use Rattle.runend_windows.specs.Window.{run_rows}
-use Rattle.array_rowwise.proofs.FilterFaults.{none_selected}
+use Rattle.runend_column.proofs.FilterFaults.{none_selected}
 use Rattle.runend_select.specs.FilterForm.{HasNoRuns}
 
 no_rows : (whole : Runs) (column : Column) → HasNoRuns whole column → column_rows column ≡ []

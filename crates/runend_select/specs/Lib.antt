@@ -1,3 +1,8 @@
+pub mod Indices
+pub mod Placed
+pub mod Pick
+pub mod StrategyLaws
+pub mod Ranks
 pub mod WordRanks
 pub mod KeptRuns
 pub mod LeastSelected

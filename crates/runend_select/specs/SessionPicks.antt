@@ -1,6 +1,6 @@
 -- By what a session picks the strategy that finds the runs of indices.
 use Rattle.runend_array.specs.declared.session.Thresholds.{Thresholds}
-use Rattle.runend_indices.specs.declared.strategy.TakeThresholds.{TakeThresholds}
+use Rattle.runend_select.specs.declared.strategy.TakeThresholds.{TakeThresholds}
 
 -- the thresholds of the strategies, among those of a session
 abbrev pub picks_of : Thresholds → TakeThresholds

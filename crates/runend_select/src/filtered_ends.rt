@@ -17,7 +17,7 @@ use column_core::{
 };
 use column_ops::BitWriter;
 use runend_array::ExecutionCtx;
-use runend_decode::reach_of;
+use runend_windows::reach_of;
 use std::alloc::Allocator;
 
 /// Which runs have a row that the mask selects, and the ends of these runs among the selected rows:

@@ -11,17 +11,16 @@ ghost use Rattle.runend_array.specs.Column.{AreParts, AreRuns, IsFlat, OfLeaf, c
 ghost use Rattle.runend_windows.specs.Ends.{IsEndsType, ends_of};
 ghost use Rattle.runend_windows.specs.Window.{run_rows};
 ghost use Rattle.runend_encode.specs.Joined.{AllHaveRows};
-ghost use Rattle.array_rowwise.specs.Computed.{IsComputedAs};
+ghost use Rattle.runend_column.specs.Computed.{IsComputedAs};
 ghost use Rattle.runend_select.specs.FilterForm.{AreLeftRuns, AreSelectedRuns};
 ghost use Rattle.runend_column.specs.MinimalForm.{AreMinimalRuns, IsMinimalForm};
 ghost use Rattle.runend_column.specs.VisibleForm.{visible_values as values_of_visible};
 
 use crate::filtered_ends::filter_ends;
 use crate::least_selected::least_selected;
-use array_rowwise::{select_values, selected_by};
 use column_core::{BitBuffer, Mask, PrimitiveArray, VortexError, VortexResult, is_number_type};
 use runend_array::{ArrayRef, RunEnd, RunEndArray, RunEndArrayExt, RunEndArraySlotsExt, array_of};
-use runend_column::{minimal_runs, visible_values, with_minimal_runs};
+use runend_column::{minimal_runs, select_values, selected_by, visible_values, with_minimal_runs};
 use std::alloc::Allocator;
 
 /// The runs with a selected row: of integers in minimal form, of other types as they are. Refused as

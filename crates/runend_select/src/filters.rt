@@ -9,17 +9,17 @@ ghost use Rattle.runend_array.specs.Array.{column_of, dtype_of, rows};
 ghost use Rattle.runend_array.specs.Canonical.{canonical_column};
 ghost use Rattle.runend_array.specs.Column.{column_dtype, column_of_runs, column_rows};
 ghost use Rattle.runend_array.specs.Encoding.{IsComputedFlat};
-ghost use Rattle.array_rowwise.specs.Computed.{IsComputedAs};
+ghost use Rattle.runend_column.specs.Computed.{IsComputedAs};
 ghost use Rattle.runend_select.specs.FilterForm.{HasNoRuns, IsFilterForm, IsSelectedForm, IsWholeForm, TakesDirectly};
 
 use crate::filtered_runs::{minimal_column, selected_runs};
 use crate::taken_runs::taken_rows;
-use array_rowwise::set_bit_indices;
 use column_core::{BitBuffer, Mask, Validity, VortexError, VortexResult, is_number_type};
 use runend_array::{
     ArrayRef, Canonical, ExecutionCtx, RunEnd, RunEndArray, RunEndArrayExt, RunEndArraySlotsExt,
     Thresholds,
 };
+use runend_column::set_bit_indices;
 use std::alloc::Allocator;
 
 /// The rows at which the mask is true, in order. Runs of integers are left in minimal form: as few as

@@ -1,19 +1,35 @@
-//! Rows of run columns that a mask selects or that indices name, found by runs.
+//! Rows of run columns that a mask selects or that indices name, found by runs; and which run each index is in, by
+//! every strategy, with the number of tests counted.
 #![tactic(auto)]
 
+mod binary_search;
+mod by_rank;
 mod filtered_ends;
 mod filtered_runs;
 mod filters;
 pub mod laws;
 mod least_selected;
+mod linear_scan;
 mod one_pass;
+mod picked;
 mod positions;
 mod rank;
+mod ranks;
+mod rows;
+mod strategy;
+pub mod strategy_laws;
+mod table;
 mod taken_runs;
 mod takes;
 
-pub use array_rowwise::{filter_rows, take_rows};
+pub use binary_search::physical_indices_binary;
 pub use filtered_ends::filter_run_end_primitive;
 pub use filters::filter;
+pub use linear_scan::{physical_indices_linear_sorted, physical_indices_linear_unsorted};
+pub use picked::picked_strategy;
 pub use positions::physical_indices;
+pub use rows::{are_sorted, indexed_row};
+pub use runend_column::{filter_rows, take_rows};
+pub use strategy::{Strategy, TakeThresholds};
+pub use table::{physical_indices_table, run_index_table};
 pub use takes::{take, take_indices_unchecked};

@@ -13,7 +13,7 @@ use crate::least_selected::LeastRuns;
 use crate::rank::{rank_of, word_ranks};
 use column_core::{BitBuffer, BitBufferMut, NativePType, UnsignedPType, VortexError, VortexResult};
 use column_ops::BitWriter;
-use runend_decode::reach_of;
+use runend_windows::reach_of;
 use std::alloc::Allocator;
 
 /// Returns the ends and the numbers of the runs, where none is null. Refused only as `OutOfMemory`.

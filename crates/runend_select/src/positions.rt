@@ -2,14 +2,14 @@
 ghost use Rattle.std.specs.Prelude.{◌≡◌, ◌+◌, ◌<◌, ◌≤◌, IfOk, IsOkUnless, OnErr, length as item_count};
 ghost use Rattle.column_base.specs.Mask.{mask_bits};
 ghost use Rattle.runend_windows.specs.Window.{IsWindow};
-ghost use Rattle.runend_indices.specs.declared.strategy.Strategy.{Strategy};
-ghost use Rattle.runend_indices.specs.Indices.{AreInBounds, optional_indices, valid_count};
-ghost use Rattle.runend_indices.specs.Pick.{IsPicked, answer_of, most_tests};
+ghost use Rattle.runend_select.specs.declared.strategy.Strategy.{Strategy};
+ghost use Rattle.runend_select.specs.Indices.{AreInBounds, optional_indices, valid_count};
+ghost use Rattle.runend_select.specs.Pick.{IsPicked, answer_of, most_tests};
 ghost use Rattle.runend_select.specs.SessionPicks.{picks_of};
 
+use crate::strategy::TakeThresholds;
 use column_core::{CountedEnds, Mask, NativePType, UnsignedPType, VortexError, VortexResult};
 use runend_array::{ExecutionCtx, Thresholds};
-use runend_indices::TakeThresholds;
 use std::alloc::Allocator;
 
 /// Returns the run of each valid index among `length` rows, where `offset` is the position of row 0, by
@@ -40,7 +40,7 @@ pub fn physical_indices<E: UnsignedPType, T: NativePType, A: Allocator + Copy>(
 {
     let alloc = *ctx.allocator();
     let picks = take_thresholds(ctx.session().thresholds());
-    runend_indices::physical_indices(alloc, ends, offset, length, indices, mask, picks)
+    crate::picked::physical_indices(alloc, ends, offset, length, indices, mask, picks)
 }
 
 // The thresholds by which a strategy is picked.

@@ -10,12 +10,12 @@ ghost use Rattle.column_ops.specs.Take.{take_rows};
 ghost use Rattle.runend_array.specs.Canonical.{canonical_column};
 ghost use Rattle.runend_array.specs.Column.{column_dtype, column_of_runs, column_rows};
 ghost use Rattle.runend_windows.specs.Window.{IsWindow};
-ghost use Rattle.runend_indices.specs.Indices.{AreInBounds, AreSorted, optional_indices};
+ghost use Rattle.runend_select.specs.Indices.{AreInBounds, AreSorted, optional_indices};
 ghost use Rattle.runend_select.specs.RunsOf.{AreRunsOf};
-ghost use Rattle.array_rowwise.specs.Computed.{IsComputedAs};
+ghost use Rattle.runend_column.specs.Computed.{IsComputedAs};
 
+use crate::linear_scan::physical_indices_linear_sorted;
 use crate::positions::physical_indices;
-use array_rowwise::take_values;
 use column_base::match_each_unsigned;
 use column_core::{
     CountedEnds, Mask, NativePType, PrimitiveValues, UnsignedPType, Validity, VortexError,
@@ -24,8 +24,8 @@ use column_core::{
 use runend_array::{
     ArrayRef, Canonical, ExecutionCtx, RunEndArray, RunEndArrayExt, RunEndArraySlotsExt,
 };
-use runend_decode::repeated_items;
-use runend_indices::physical_indices_linear_sorted;
+use runend_column::take_values;
+use runend_windows::repeated_items;
 use std::alloc::Allocator;
 
 /// The rows at the indices, null for null, in a flat form. `sorted` may say that no valid index is below a valid one

@@ -11,7 +11,7 @@ ghost use Rattle.column_ops.specs.Nullable.{either_nullable, take_dtype};
 ghost use Rattle.column_ops.specs.Take.{index_fault, take_fault, take_rows};
 ghost use Rattle.runend_array.specs.Array.{column_of, dtype_of, rows};
 ghost use Rattle.runend_array.specs.Column.{column_dtype, column_of_runs, column_rows};
-ghost use Rattle.runend_indices.specs.Indices.{AreInBounds, AreSorted, optional_indices};
+ghost use Rattle.runend_select.specs.Indices.{AreInBounds, AreSorted, optional_indices};
 ghost use Rattle.runend_select.specs.TakeForm.{TakeLeaves};
 ghost use Rattle.runend_select.specs.Told.{IsRefusedExactlyBy};
 

@@ -22,10 +22,10 @@ use Rattle.column_base.specs.ValidityForm.{NeverNull}
 use Rattle.column_core.specs.Leaf.{Leaf, OfNumbers, single_rows}
 use Rattle.column_core.specs.PrimitiveForm.{PrimitiveForm, primitive_dtype, primitive_with}
 use Rattle.column_core.specs.Value.{Value}
-use Rattle.column_order.specs.Order.{row_cmp}
-use Rattle.column_order.specs.OrderFacts.{IsInOrder, IsInStrictOrder}
-use Rattle.column_order.proofs.OrderLaws.{row_total}
-use Rattle.column_order.proofs.RowRanges.{length-single_rows}
+use Rattle.column_ops.specs.Order.{row_cmp}
+use Rattle.column_ops.specs.OrderFacts.{IsInOrder, IsInStrictOrder}
+use Rattle.column_ops.proofs.OrderLaws.{row_total}
+use Rattle.column_ops.proofs.RowRanges.{length-single_rows}
 use Rattle.runend_windows.proofs.Lists.{equal_by_slice_get}
 use Rattle.runend_array.specs.Column.{Column, OfLeaf}
 use Rattle.runend_sorts.specs.Counts.{AreCounts, count_of, count_row}

@@ -6,8 +6,8 @@ use Rattle.column_base.specs.declared.dtype.DType.TheVariants as column
 use Rattle.column_base.specs.declared.dtype.Nullability.TheVariants.{NonNullable}
 use Rattle.column_base.specs.declared.dtype.PType.TheVariants.{U64}
 use Rattle.column_core.specs.Value.{Number, Single, Value}
-use Rattle.column_order.specs.Order.{row_cmp}
-use Rattle.column_order.specs.OrderFacts.{IsInStrictOrder}
+use Rattle.column_ops.specs.Order.{row_cmp}
+use Rattle.column_ops.specs.OrderFacts.{IsInStrictOrder}
 use Rattle.runend_array.specs.Column.{Column, IsLeaf, column_dtype, column_rows}
 
 -- how many rows are equal to this one, null equal to null

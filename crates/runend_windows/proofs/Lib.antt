@@ -28,3 +28,10 @@ pub mod Starts
 pub mod ChangedItems
 pub mod ChangedRows
 pub mod ChangedNumbers
+pub mod RunEnds
+pub mod TrimmedItems
+pub mod Blocks
+pub mod Marked
+pub mod BitRuns
+pub mod Lowest
+pub mod FilledRows

@@ -8,3 +8,6 @@ pub mod RunEnds
 pub mod Trimmed
 pub mod Visible
 pub mod Starts
+pub mod BitRunsForm
+pub mod Blocks
+pub mod RunWriterForm

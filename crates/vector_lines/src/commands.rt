@@ -3,7 +3,7 @@ use crate::names::{only, only_count, read_name};
 use crate::request::VectorCommand;
 use crate::types::read_type;
 use crate::values::read_value;
-use column_order::CompareOperator;
+use column_ops::CompareOperator;
 use column_words::parse_count;
 
 /// The command of these words, of which the first is its verb.

@@ -1,4 +1,5 @@
-//! The calls that lines of vectors ask for: what they are given, what comes of them, and the session they run in.
+//! The calls that lines of vectors ask for: what they are given, what comes of them, and the session they run in; and
+//! the report of how many lines are answered as they expect.
 #![tactic(auto)]
 
 mod arguments;
@@ -6,12 +7,14 @@ mod calls;
 mod columns;
 mod commands;
 mod flats;
+mod line;
 mod line_error;
 mod lists;
 mod makers;
 mod names;
 mod printer;
 mod reader;
+mod report;
 pub mod request;
 mod session;
 mod session_words;
@@ -23,7 +26,9 @@ pub use arguments::{prepare, prepare_list, read_validity};
 pub use calls::{Call, CallResult, ListReply, Maker, Reply, Task};
 pub use columns::Columns;
 pub use flats::{flat_column, invalid_column, raw_column, scalar_of};
+pub use line::{Line, read_line};
 pub use line_error::{LineError, LineResult};
 pub use printer::{push_dtype, push_form, push_refusal, push_rows, push_stored};
 pub use reader::read_request;
+pub use report::Report;
 pub use session::{copy_session, crate_session, set_kernels, set_thresholds};

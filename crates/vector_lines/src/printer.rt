@@ -1,6 +1,6 @@
 //! Values, types and forms as words. Each call puts its words behind a text, separated by spaces.
 ghost use Rattle.std.specs.Prelude.{IsOkUnless};
-ghost use Rattle.runend_metadata.specs.EndsType.{IsEndsTypeNumber};
+ghost use Rattle.column_fields.specs.EndsType.{IsEndsTypeNumber};
 
 use crate::types::push_type;
 use column_base::{VortexError, VortexResult};

@@ -1,6 +1,6 @@
 //! What a line of vectors may ask.
 use crate::values::Value;
-use column_order::CompareOperator;
+use column_ops::CompareOperator;
 use runend_array::{DType, Thresholds, VarBinKind};
 
 /// The word between a command of a list and the next, and between the parts that a builder is given.

@@ -8,11 +8,10 @@ use column_base::VortexResult;
 use std::alloc::Allocator;
 use vector_lines::request::{self, Look, Plain, Request};
 use vector_lines::{
-    CallResult, Columns, LineError, LineResult, Reply, flat_column, invalid_column, prepare,
-    push_dtype, push_form, push_refusal, push_rows, push_stored, raw_column, read_request,
-    read_validity, scalar_of, set_kernels, set_thresholds,
+    CallResult, Columns, Line, LineError, LineResult, Reply, Report, flat_column, invalid_column,
+    prepare, push_dtype, push_form, push_refusal, push_rows, push_stored, raw_column, read_line,
+    read_request, read_validity, scalar_of, set_kernels, set_thresholds,
 };
-use vector_report::{Line, Report, read_line};
 use vortex_runend::{
     ArrayRef, ConstantArray, ExecutionCtx, RunEndArraySlotsExt, VortexError, default_thresholds,
 };

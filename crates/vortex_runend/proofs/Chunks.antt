@@ -13,10 +13,10 @@ use Rattle.column_ops.specs.Codes.{code_fault, code_rows}
 use Rattle.column_ops.specs.Fill.{fill_dtype, fill_fault}
 use Rattle.column_ops.specs.Filter.{filter_fault, filter_rows}
 use Rattle.column_ops.specs.Nullable.{take_dtype}
-use Rattle.column_order.specs.Comparing.{compare_dtype, compare_with}
-use Rattle.column_order.specs.CompareFault.{compare_scalar_fault}
-use Rattle.chunk_laws.specs.Rows.{column_with}
-use Rattle.chunk_laws.proofs.JoinedRows.{cast_of_joined, codes_of_joined, comparison_of_joined, fill_of_joined, filter_of_joined}
+use Rattle.column_ops.specs.Comparing.{compare_dtype, compare_with}
+use Rattle.column_ops.specs.CompareFault.{compare_scalar_fault}
+use Rattle.runend_builder.specs.Rows.{column_with}
+use Rattle.runend_builder.proofs.JoinedRows.{cast_of_joined, codes_of_joined, comparison_of_joined, fill_of_joined, filter_of_joined}
 use Rattle.runend_array.specs.Array.{dtype_of, rows}
 use Rattle.runend_array.specs.declared.array_ref.ArrayRef.{ArrayRef}
 use Rattle.runend_commands.specs.declared.command.Command.{Command}

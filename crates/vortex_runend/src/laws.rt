@@ -15,25 +15,25 @@ ghost use Rattle.runend_array.specs.Encoding.{IsPlainNumbers};
 ghost use Rattle.vortex_runend.specs.Chunks.{ChunksAgree};
 ghost use Rattle.vortex_runend.specs.Laws.{DecodingAnEncoding, EqualListsEqualEncodings, NeighboursDiffer, NoCoverIsShorter, SliceOfSlice, TakeOfTake, FillThenSlice, TightCoverIsUnique, EqualDataHashEqually, ReadRunsAsWritten};
 
-pub use chunk_laws::{
+pub use column_bytes::laws::{
+    equal_bytes_equal_rows, equal_rows_equal_bytes, read_takes_few_bytes, written_is_a_message,
+};
+pub use column_fields::record_laws::{spelling_is_unique, write_then_read};
+pub use runend_aggregate::laws::{sum_in_four_runs, sum_of_four_runs};
+pub use runend_aggregate::{sum_signed_runs, sum_unsigned_runs};
+use runend_array::{ArrayRef, ExecutionCtx, NativePType, RunEnd, VortexError, VortexResult};
+pub use runend_builder::laws::{
     cast_of_joined, codes_of_joined, comparison_of_joined, constant_of_joined, encoding_of_joined,
     extremes_of_joined, fill_of_joined, filter_of_joined, slice_of_joined, sorted_of_joined,
     sum_from_any_sum, sum_from_three_numbers, sum_of_joined, sum_of_joined_naturals, take_of_parts,
     three_numbers_of_joined,
 };
-pub use column_bytes::laws::{
-    equal_bytes_equal_rows, equal_rows_equal_bytes, read_takes_few_bytes, written_is_a_message,
-};
-pub use runend_aggregate::laws::{sum_in_four_runs, sum_of_four_runs};
-pub use runend_aggregate::{sum_signed_runs, sum_unsigned_runs};
-use runend_array::{ArrayRef, ExecutionCtx, NativePType, RunEnd, VortexError, VortexResult};
 pub use runend_commands::laws::runs_agree;
-pub use runend_indices::laws::{
+pub use runend_select::laws::filter_is_take;
+pub use runend_select::strategy_laws::{
     merge_of_six_indices, physical_indices_by_halves, physical_indices_by_table,
     search_of_four_indices, search_of_six_indices, sort_of_four_indices, strategies_agree,
 };
-pub use runend_metadata::laws::{spelling_is_unique, write_then_read};
-pub use runend_select::laws::filter_is_take;
 pub use runend_windows::laws::{
     first_past_of_524288_runs, first_past_of_four_runs, first_past_of_one_run,
 };

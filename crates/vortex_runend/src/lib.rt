@@ -7,8 +7,8 @@ pub mod compute;
 pub mod laws;
 mod strategies;
 
-pub use column_ops::ColumnOps;
-pub use column_order::FlatOrder;
+pub use column_fields::RunEndMetadata;
+pub use column_ops::{ColumnOps, FlatOrder};
 pub use runend_aggregate::{SignedSum, SumAnswer, SumValue, UnsignedSum};
 pub use runend_array::{
     ArrayRef, BitBuffer, BitBufferMut, BoolArray, Buffer, Canonical, ConstantArray, CountedEnds,
@@ -25,4 +25,3 @@ pub use runend_column::{
 pub use runend_commands::{
     Answer, Command, KERNELS, default_thresholds, execute, execute_one, initialize,
 };
-pub use runend_metadata::RunEndMetadata;

@@ -3,7 +3,7 @@ ghost use Rattle.std.specs.Prelude.{◌≡◌, ◌+◌, ◌-◌, ◌*◌, ◌<�
 ghost use Rattle.column_base.specs.Mask.{mask_bits};
 ghost use Rattle.column_core.specs.Digits.{digits};
 ghost use Rattle.runend_windows.specs.Window.{IsWindow};
-ghost use Rattle.runend_indices.specs.Indices.{AreInBounds, AreInWindow, AreSorted, item_of, optional_indices, runs_of, runs_of_rows, valid_count};
+ghost use Rattle.runend_select.specs.Indices.{AreInBounds, AreInWindow, AreSorted, item_of, optional_indices, runs_of, runs_of_rows, valid_count};
 
 use runend_array::{
     CountedEnds, ExecutionCtx, Mask, NativePType, UnsignedPType, VortexError, VortexResult,
@@ -31,7 +31,7 @@ pub fn physical_indices_binary<E: UnsignedPType, T: NativePType, A: Allocator + 
     ensures untested { OnErr result (ends.new.tests ≡ ends.old.tests) }
     ensures session { ctx.new ≡ ctx.old }
 {
-    runend_indices::physical_indices_binary(*ctx.allocator(), ends, offset, indices, mask)
+    runend_select::physical_indices_binary(*ctx.allocator(), ends, offset, indices, mask)
 }
 
 /// The run of each valid index, and 0 for a null one, where `offset` is the position of row 0 and no
@@ -56,7 +56,7 @@ pub fn physical_indices_linear_sorted<E: UnsignedPType, T: NativePType, A: Alloc
     ensures untested { OnErr result (ends.new.tests ≡ ends.old.tests) }
     ensures session { ctx.new ≡ ctx.old }
 {
-    runend_indices::physical_indices_linear_sorted(*ctx.allocator(), ends, offset, indices, mask)
+    runend_select::physical_indices_linear_sorted(*ctx.allocator(), ends, offset, indices, mask)
 }
 
 /// The run of each valid index, and 0 for a null one, where `offset` is the position of row 0. The
@@ -80,7 +80,7 @@ pub fn physical_indices_linear_unsorted<E: UnsignedPType, T: NativePType, A: All
     ensures untested { OnErr result (ends.new.tests ≡ ends.old.tests) }
     ensures session { ctx.new ≡ ctx.old }
 {
-    runend_indices::physical_indices_linear_unsorted(*ctx.allocator(), ends, offset, indices, mask)
+    runend_select::physical_indices_linear_unsorted(*ctx.allocator(), ends, offset, indices, mask)
 }
 
 /// The run of each of `length` rows, from position `offset` on. It tests an end for each row and one
@@ -99,7 +99,7 @@ pub fn run_index_table<E: UnsignedPType, A: Allocator + Copy>(
     ensures untested { OnErr result (ends.new.tests ≡ ends.old.tests) }
     ensures session { ctx.new ≡ ctx.old }
 {
-    runend_indices::run_index_table(*ctx.allocator(), ends, offset, length)
+    runend_select::run_index_table(*ctx.allocator(), ends, offset, length)
 }
 
 /// The table's item at each valid index, and its first item at a null one. No end is tested, since
@@ -119,5 +119,5 @@ pub fn physical_indices_table<T: NativePType, A: Allocator + Copy>(
         map (item_of table.now) (optional_indices T.number indices.now (mask_bits mask.now))) }
     ensures session { ctx.new ≡ ctx.old }
 {
-    runend_indices::physical_indices_table(*ctx.allocator(), table, indices, mask)
+    runend_select::physical_indices_table(*ctx.allocator(), table, indices, mask)
 }

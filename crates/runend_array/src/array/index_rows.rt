@@ -10,7 +10,7 @@ use super::RunEndArray;
 use crate::lists::{Stretch, is_plain_index, is_plain_truths, plain_number_at, plain_truth_at};
 use crate::ops;
 use column_core::{BitBuffer, BitBufferMut, VortexError, VortexResult};
-use runend_decode::RunWriter;
+use runend_windows::RunWriter;
 use std::alloc::Allocator;
 
 impl<A: Allocator + Copy> RunEndArray<A> {

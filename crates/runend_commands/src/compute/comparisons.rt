@@ -3,8 +3,8 @@ ghost use Rattle.std.specs.Prelude.{◌≡◌, None, length, IfOk, IsOkUnless};
 ghost use Rattle.column_core.specs.FlatColumn.{leaf_of};
 ghost use Rattle.column_core.specs.Leaf.{leaf_dtype, single_rows};
 ghost use Rattle.column_core.specs.Refusal.{IsRefusedBy};
-ghost use Rattle.column_order.specs.CompareFault.{compare_column_fault};
-ghost use Rattle.column_order.specs.Comparing.{compare_dtype, compare_rows};
+ghost use Rattle.column_ops.specs.CompareFault.{compare_column_fault};
+ghost use Rattle.column_ops.specs.Comparing.{compare_dtype, compare_rows};
 ghost use Rattle.runend_array.specs.Array.{column_of, dtype_of, rows};
 ghost use Rattle.runend_array.specs.Column.{IsFlat, OfConstant, column_rows};
 ghost use Rattle.runend_array.specs.declared.session.Kernel.TheVariants.{Compare as compare_kernel};
@@ -15,10 +15,10 @@ ghost use Rattle.runend_commands.specs.KernelForms.{HasKernel};
 
 use crate::compute::compare_scalar;
 use crate::compute::kernel_runs::runs_for;
-use array_rowwise::flat_rows;
 use column_core::{FlatColumn, VortexError, VortexResult};
-use column_order::{CompareOperator, FlatOrder, column_fault};
+use column_ops::{CompareOperator, FlatOrder, column_fault};
 use runend_array::{ArrayRef, ConstantArray, ExecutionCtx, Kernel};
+use runend_column::flat_rows;
 use std::alloc::Allocator;
 
 /// Compares each row with the row of `right` at its place: whether the operator holds, null where either is. Two

@@ -3,17 +3,17 @@ ghost use Rattle.std.specs.Prelude.{◌≡◌, ◌≢◌, ◌↔◌, Err, IfOk, 
 ghost use Rattle.column_core.specs.FlatView.{leaf_in};
 ghost use Rattle.column_core.specs.Leaf.{single_rows};
 ghost use Rattle.column_core.specs.Refusal.{IsRefusedBy};
-ghost use Rattle.column_order.specs.OrderFacts as order;
+ghost use Rattle.column_ops.specs.OrderFacts as order;
 ghost use Rattle.column_core.specs.Kinds.{list_fault};
 ghost use Rattle.runend_array.specs.Array.{column_of, dtype_of, rows};
 ghost use Rattle.runend_array.specs.declared.session.Kernel.TheVariants.{IsConstant as constant_kernel};
 ghost use Rattle.runend_commands.specs.KernelForms.{IsReadInPlace};
 
 use crate::compute::kernel_runs::{constant_for, runs_for};
-use array_rowwise::flat_rows;
 use column_core::{FlatView, VortexError, VortexResult};
 use runend_aggregate::is_constant_of_constant;
 use runend_array::{ArrayRef, ExecutionCtx, Kernel};
+use runend_column::flat_rows;
 use std::alloc::Allocator;
 
 /// Whether any two rows are equal, null equal to null. It takes no memory where the array is flat, or is runs or a
@@ -47,5 +47,5 @@ pub fn is_constant<A: Allocator + Copy>(
 fn is_flat_constant<A: Allocator + Copy>(flat: FlatView<'_, A>) -> bool
     ensures { IsTrue result ↔ order.IsConstant (single_rows (leaf_in flat.entry)) }
 {
-    column_order::is_constant(flat, 0..flat.len())
+    column_ops::is_constant(flat, 0..flat.len())
 }

@@ -17,7 +17,7 @@ use column_core::{
 };
 use runend_array::{ArrayRef, ExecutionCtx, RunEnd, RunEndArray, array_of, null_constant};
 use runend_builder::row_runs;
-use runend_decode::has_nulls_alone;
+use runend_windows::has_nulls_alone;
 use std::alloc::Allocator;
 
 /// Writes the rows as runs, as few as there can be, whose ends have the narrowest type that has the last of them. A run

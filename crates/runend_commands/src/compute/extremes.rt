@@ -15,10 +15,10 @@ ghost use Rattle.runend_commands.specs.KernelForms.{IsReadInPlace};
 ghost use Rattle.runend_commands.specs.Meaning.{plain};
 
 use crate::compute::kernel_runs::{constant_for, runs_for};
-use array_rowwise::flat_rows;
 use column_core::{DType, FlatView, Scalar, ScalarValue, ScalarView, VortexError, VortexResult};
 use runend_aggregate::min_max_of_constant;
 use runend_array::{ArrayRef, ConstantArray, ExecutionCtx, Kernel, RunEndArray, RunEndArrayExt};
+use runend_column::flat_rows;
 use std::alloc::Allocator;
 
 /// The least and the greatest row that are not null, in memory of their own, or `None` where all are null. But for
@@ -85,7 +85,7 @@ fn extremes_of_flat<A: Allocator + Copy>(
     ensures extremes { IfOk result (AreExtremesIfAny (plain_of (OfLeaf (leaf_in flat.entry)))) }
     ensures no_memory { ¬ HasBytes (leaf_dtype (leaf_in flat.entry)) → result ≢ Err VortexError.OutOfMemory }
 {
-    let found = column_order::min_max(flat, 0..flat.len());
+    let found = column_ops::min_max(flat, 0..flat.len());
     scalar_pair(*ctx.allocator(), flat.dtype(), found)
 }
 

@@ -2,8 +2,8 @@
 ghost use Rattle.std.specs.Prelude.{◌≡◌, ◌<◌, option_map, IfOk};
 ghost use Rattle.column_core.specs.Refusal.{IsRefusedBy};
 ghost use Rattle.column_core.specs.Value.{Single};
-ghost use Rattle.column_order.specs.CompareFault.{compare_scalar_fault};
-ghost use Rattle.column_order.specs.Comparing.{compare_dtype, compare_with};
+ghost use Rattle.column_ops.specs.CompareFault.{compare_scalar_fault};
+ghost use Rattle.column_ops.specs.Comparing.{compare_dtype, compare_with};
 ghost use Rattle.runend_array.specs.Array.{column_of, dtype_of, rows};
 ghost use Rattle.runend_array.specs.Column.{IsFlat, OfConstant, column_dtype, column_of_runs, column_rows};
 ghost use Rattle.runend_array.specs.Encoding.{IsDecodedForm};
@@ -14,10 +14,10 @@ ghost use Rattle.runend_commands.specs.KernelForms.{HasKernel};
 
 use crate::compute::constants::{constant_with_rows, one_row, repeated_row};
 use crate::compute::kernel_runs::runs_for;
-use array_rowwise::flat_rows;
 use column_core::{Scalar, VortexResult};
-use column_order::{CompareOperator, FlatOrder};
+use column_ops::{CompareOperator, FlatOrder};
 use runend_array::{ArrayRef, ConstantArray, ExecutionCtx, Kernel, RunEndArray, RunEndArrayExt};
+use runend_column::flat_rows;
 use std::alloc::Allocator;
 
 /// Compares each row with the value: whether the operator holds, null where either is. A constant that has a row leaves

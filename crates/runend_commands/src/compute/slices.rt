@@ -5,12 +5,12 @@ ghost use Rattle.runend_array.specs.Array.{column_of, dtype_of, rows};
 ghost use Rattle.runend_array.specs.declared.session.Kernel.TheVariants.{Slice as slice_kernel};
 ghost use Rattle.runend_column.specs.SliceForm.{SliceLeaves};
 ghost use Rattle.runend_commands.specs.KernelForms.{HasKernel, OnRuns};
-ghost use Rattle.array_rowwise.specs.Parts.{IsPlainPart};
+ghost use Rattle.runend_column.specs.Parts.{IsPlainPart};
 
 use crate::compute::kernel_runs::runs_for;
-use array_rowwise::slice_rows;
 use column_core::VortexResult;
 use runend_array::{ArrayRef, ExecutionCtx, Kernel};
+use runend_column::slice_rows;
 use std::alloc::Allocator;
 use std::ops::Range;
 

@@ -3,17 +3,17 @@ ghost use Rattle.std.specs.Prelude.{◌≡◌, ◌≢◌, ◌↔◌, Err, IfOk, 
 ghost use Rattle.column_core.specs.FlatView.{leaf_in};
 ghost use Rattle.column_core.specs.Leaf.{single_rows};
 ghost use Rattle.column_core.specs.Refusal.{IsRefusedBy};
-ghost use Rattle.column_order.specs.OrderFacts as order;
+ghost use Rattle.column_ops.specs.OrderFacts as order;
 ghost use Rattle.column_core.specs.Kinds.{list_fault};
 ghost use Rattle.runend_array.specs.Array.{column_of, dtype_of, rows};
 ghost use Rattle.runend_array.specs.declared.session.Kernel.TheVariants.{IsSorted as sorted_kernel};
 ghost use Rattle.runend_commands.specs.KernelForms.{IsReadInPlace};
 
 use crate::compute::kernel_runs::{constant_for, runs_for};
-use array_rowwise::flat_rows;
 use column_core::{FlatView, VortexError, VortexResult};
 use runend_aggregate::is_sorted_of_constant;
 use runend_array::{ArrayRef, ExecutionCtx, Kernel};
+use runend_column::flat_rows;
 use std::alloc::Allocator;
 
 /// Whether no row is above the next, or, where `strict` is asked, each is below the next; null is below all else. It
@@ -49,5 +49,5 @@ pub fn is_sorted<A: Allocator + Copy>(
 fn is_flat_sorted<A: Allocator + Copy>(flat: FlatView<'_, A>, strict: bool) -> bool
     ensures { IsTrue result ↔ order.IsSorted strict (single_rows (leaf_in flat.entry)) }
 {
-    column_order::is_sorted(flat, 0..flat.len(), strict)
+    column_ops::is_sorted(flat, 0..flat.len(), strict)
 }

@@ -7,11 +7,11 @@ ghost use Rattle.runend_array.specs.declared.session.Kernel.TheVariants.{Sum as 
 ghost use Rattle.runend_commands.specs.KernelForms.{IsReadInPlace};
 
 use crate::compute::kernel_runs::{constant_for, runs_for};
-use array_rowwise::flat_rows;
 use column_core::{DType, VortexError, VortexResult};
 use column_sums::{SumAnswer, sum_view};
 use runend_aggregate::sum_of_constant;
 use runend_array::{ArrayRef, ExecutionCtx, Kernel};
+use runend_column::flat_rows;
 use std::alloc::Allocator;
 
 /// The sum of the rows that are not null. Runs and constants are added run by run where the kernel is registered, a

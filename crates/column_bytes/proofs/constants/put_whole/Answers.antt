@@ -3,7 +3,7 @@ use Rattle.std.specs.Int.{w128}
 use Rattle.std.proofs.lemmas.Int.{to_z-of_z}
 use Rattle.column_fields.specs.NumberBytes.{number_bytes, size_of}
 use Rattle.column_bytes.proofs.ConstantWrites.{puts_whole, number_in, length-number_bytes}
-use Rattle.varints.specs.Varint.{varint}
+use Rattle.column_fields.specs.Varint.{varint}
 use Rattle.column_fields.proofs.RoomLaws.{refused}
 use Rattle.column_bytes.proofs.MessageSizes.{whole_sized}
 use Rattle.column_bytes.proofs.constants.put_whole.Goals as goal

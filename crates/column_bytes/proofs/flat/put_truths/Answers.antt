@@ -1,7 +1,7 @@
 use Rattle.std.proofs.Common.{arith, refl, ℕ, ◌+◌, ◌*◌, ◌++◌, ap, length, ◌/◌, Bool, List}
 use Rattle.column_bytes.proofs.Writes.{puts_truths}
 use Rattle.column_fields.proofs.RoomLaws.{counted_refused}
-use Rattle.varints.specs.Varint.{varint}
+use Rattle.column_fields.specs.Varint.{varint}
 use Rattle.column_bytes.proofs.MessageSizes.{truths_sized}
 use Rattle.column_fields.specs.BitBytes.{bit_bytes}
 use Rattle.column_fields.proofs.BitReading.{length-bit_bytes}

@@ -1,5 +1,5 @@
 use Rattle.std.proofs.Common.{arith}
-use Rattle.varints.proofs.Varints.{if_none}
+use Rattle.column_fields.proofs.Varints.{if_none}
 use Rattle.column_bytes.proofs.NullLists.{no_validity, no_items, some_items, found_null, none_null}
 use Rattle.column_bytes.proofs.list_constants.read_element.Goals as goal
 

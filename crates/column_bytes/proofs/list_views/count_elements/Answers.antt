@@ -1,6 +1,6 @@
 use Rattle.std.proofs.Common.{arith}
 use Rattle.std.proofs.lemmas.Bool.{OnTrue_at, OnFalse_at}
-use Rattle.varints.proofs.Varints.{if_none}
+use Rattle.column_fields.proofs.Varints.{if_none}
 use Rattle.column_bytes.proofs.FlatReads.{no_leaf, no_leaf_form}
 use Rattle.column_bytes.proofs.ListViews.{elements_seen}
 use Rattle.column_bytes.proofs.Messages.{no_header}

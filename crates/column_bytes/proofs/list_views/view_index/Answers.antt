@@ -1,6 +1,6 @@
 use Rattle.std.proofs.Common.{arith, refl}
 use Rattle.std.proofs.lemmas.Bool.{OnTrue_at, OnFalse_at}
-use Rattle.varints.proofs.Varints.{if_none}
+use Rattle.column_fields.proofs.Varints.{if_none}
 use Rattle.runend_array.specs.Lists.{PlainIndex, RunIndex}
 use Rattle.column_bytes.proofs.ListViews.{flat_index_seen, no_index_seen, other_flat_length, other_runs_length, run_index_seen}
 use Rattle.column_bytes.proofs.list_views.view_index.Goals as goal

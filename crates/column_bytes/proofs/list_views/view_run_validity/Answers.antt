@@ -1,7 +1,7 @@
 use Rattle.std.proofs.Common.{◌≡◌, arith, refl}
 use Rattle.column_fields.specs.BitBytes.{bits_from}
 use Rattle.std.proofs.lemmas.Bool.{OnTrue_at, OnFalse_at}
-use Rattle.varints.proofs.Varints.{if_none}
+use Rattle.column_fields.proofs.Varints.{if_none}
 use Rattle.runend_array.specs.Lists.{ByRuns}
 use Rattle.column_bytes.proofs.FlatReads.{no_flags_field}
 use Rattle.column_bytes.proofs.ListViews.{flags_seen, no_runs_seen, other_bits_seen, other_rows_seen}

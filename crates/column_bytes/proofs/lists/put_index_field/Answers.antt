@@ -1,7 +1,7 @@
 use Rattle.std.proofs.Common.{arith, ℕ, ◌+◌, ◌*◌, ◌++◌, ap, length}
 use Rattle.column_fields.proofs.LengthLaws.{puts_bytes}
 use Rattle.column_fields.proofs.RoomLaws.{counted_refused}
-use Rattle.varints.specs.Varint.{varint}
+use Rattle.column_fields.specs.Varint.{varint}
 use Rattle.column_fields.proofs.SizeLaws.{bytes_long}
 use Rattle.runend_array.specs.Array.{column_of}
 use Rattle.column_bytes.specs.Bytes.{column_bytes}

@@ -4,7 +4,7 @@ use Rattle.column_fields.proofs.ListFieldLaws.{puts_lists, list_fields_long}
 use Rattle.column_bytes.specs.Bytes.{leaf_message, index_message}
 use Rattle.column_bytes.proofs.ListColumns.{elements_long, elements_written, index_stored, index_field}
 use Rattle.column_fields.proofs.RoomLaws.{counted_refused}
-use Rattle.varints.specs.Varint.{varint}
+use Rattle.column_fields.specs.Varint.{varint}
 use Rattle.column_fields.specs.Field.{bytes_field}
 use Rattle.column_fields.proofs.SizeLaws.{bytes_long}
 use Rattle.column_bytes.proofs.lists.put_parts.Goals as goal

@@ -1,7 +1,7 @@
 use Rattle.std.proofs.Common.{arith, ℕ, ◌+◌, ◌*◌, ◌++◌, ap, length, refl}
 use Rattle.column_bytes.proofs.ListColumns.{flags_stored, flags_put, flags_sized}
 use Rattle.column_fields.proofs.RoomLaws.{counted_refused}
-use Rattle.varints.specs.Varint.{varint}
+use Rattle.column_fields.specs.Varint.{varint}
 use Rattle.runend_array.specs.Column.{column_of_runs}
 use Rattle.column_bytes.specs.Bytes.{column_bytes}
 use Rattle.column_bytes.proofs.lists.put_run_validity.Goals as goal

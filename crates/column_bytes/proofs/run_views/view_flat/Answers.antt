@@ -1,5 +1,5 @@
 use Rattle.std.proofs.Common.{arith}
-use Rattle.varints.proofs.Varints.{if_none}
+use Rattle.column_fields.proofs.Varints.{if_none}
 use Rattle.column_bytes.proofs.RunViews.{no_flat_header, other_flat_kind, other_flat_form, not_required, no_flat_items, flat_seen}
 use Rattle.column_bytes.proofs.run_views.view_flat.Goals as goal
 

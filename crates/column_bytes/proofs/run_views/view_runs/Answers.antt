@@ -1,5 +1,5 @@
 use Rattle.std.proofs.Common.{arith}
-use Rattle.varints.proofs.Varints.{if_none}
+use Rattle.column_fields.proofs.Varints.{if_none}
 use Rattle.column_fields.proofs.Refusals.{not_true}
 use Rattle.column_bytes.proofs.RunViews.{no_runs_header, other_runs_kind, other_runs_form, no_seen_fields, no_seen_values, no_seen_ends, no_seen_window, seen_spelt}
 use Rattle.column_bytes.proofs.run_views.view_runs.Goals as goal

@@ -1,4 +1,4 @@
-use Rattle.varints.proofs.Varints.{if_none}
+use Rattle.column_fields.proofs.Varints.{if_none}
 use Rattle.column_bytes.proofs.TextLaws.{no_sizes, no_content, are_items}
 use Rattle.column_bytes.proofs.text_reading.read_text_items.Goals as goal
 

@@ -4,7 +4,7 @@ use Rattle.column_bytes.specs.Texts.{sizes_bytes, text_sizes, text_bytes}
 use Rattle.column_bytes.proofs.TextPacking.{summed-own}
 use Rattle.column_bytes.proofs.TextLaws.{puts_texts, text_fields_long, text_fields_past}
 use Rattle.column_fields.proofs.RoomLaws.{counted_refused}
-use Rattle.varints.specs.Varint.{varint}
+use Rattle.column_fields.specs.Varint.{varint}
 use Rattle.column_base.specs.ValidityForm.{ValidityForm}
 use Rattle.column_fields.specs.Validity.{validity_field}
 use Rattle.column_fields.proofs.SizeLaws.{bytes_long}

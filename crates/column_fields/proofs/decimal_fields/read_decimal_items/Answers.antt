@@ -1,5 +1,5 @@
 use Rattle.std.proofs.Common.{arith}
-use Rattle.varints.proofs.Varints.{if_none}
+use Rattle.column_fields.proofs.Varints.{if_none}
 use Rattle.column_fields.proofs.DecimalFieldLaws.{no_items, no_type, more_behind, are_items}
 use Rattle.column_fields.proofs.decimal_fields.read_decimal_items.Goals as goal
 

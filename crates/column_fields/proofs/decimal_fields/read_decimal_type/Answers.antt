@@ -1,7 +1,7 @@
 use Rattle.std.proofs.Common.{arith, refl}
 use Rattle.std.specs.Int.{w8}
 use Rattle.std.proofs.lemmas.Int.{to_z-of_z}
-use Rattle.varints.proofs.Varints.{if_none}
+use Rattle.column_fields.proofs.Varints.{if_none}
 use Rattle.column_fields.proofs.DecimalFieldLaws.{no_precision, too_precise, no_scale, other_scale, is_type}
 use Rattle.column_fields.proofs.decimal_fields.read_decimal_type.Goals as goal
 

@@ -1,5 +1,5 @@
 use Rattle.std.proofs.Common.{arith}
-use Rattle.varints.proofs.Varints.{if_none}
+use Rattle.column_fields.proofs.Varints.{if_none}
 use Rattle.column_fields.proofs.ElementFieldLaws.{no_decimals, other_number}
 use Rattle.column_fields.proofs.element_fields.read_element_type.Goals as goal
 

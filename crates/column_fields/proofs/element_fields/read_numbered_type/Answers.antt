@@ -1,5 +1,5 @@
 use Rattle.std.proofs.Common.{arith}
-use Rattle.varints.proofs.Varints.{if_none}
+use Rattle.column_fields.proofs.Varints.{if_none}
 use Rattle.column_fields.proofs.ElementFieldLaws.{no_number, no_told, other_told, more_behind, is_numbered}
 use Rattle.column_fields.proofs.element_fields.read_numbered_type.Goals as goal
 

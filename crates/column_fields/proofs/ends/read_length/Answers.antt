@@ -1,5 +1,5 @@
 use Rattle.std.proofs.Common.{◌∙◌, ap, arith, ℕ, ◌++◌}
-use Rattle.varints.specs.Varint.{varint}
+use Rattle.column_fields.specs.Varint.{varint}
 use Rattle.column_fields.proofs.LengthBytes.{one_byte, two_bytes}
 use Rattle.column_fields.proofs.ends.read_length.Goals as goal
 

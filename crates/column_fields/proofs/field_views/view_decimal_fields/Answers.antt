@@ -1,5 +1,5 @@
 use Rattle.std.proofs.Common.{arith}
-use Rattle.varints.proofs.Varints.{if_none}
+use Rattle.column_fields.proofs.Varints.{if_none}
 use Rattle.column_fields.proofs.DecimalFieldLaws.{no_decimal_validity, no_decimal_items, are_decimals}
 use Rattle.column_fields.proofs.field_views.view_decimal_fields.Goals as goal
 

@@ -1,5 +1,5 @@
 use Rattle.std.proofs.Common.{arith}
-use Rattle.varints.proofs.Varints.{if_none}
+use Rattle.column_fields.proofs.Varints.{if_none}
 use Rattle.column_fields.proofs.FlatFieldLaws.{no_flat_validity, no_items, are_flat}
 use Rattle.column_fields.proofs.field_views.view_flat_fields.Goals as goal
 

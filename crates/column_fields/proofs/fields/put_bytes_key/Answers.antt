@@ -1,7 +1,7 @@
 use Rattle.std.proofs.Common.{arith, ◌+◌, ◌*◌}
 use Rattle.std.proofs.lemmas.List.{length-append}
 use Rattle.column_fields.proofs.RoomLaws.{refused}
-use Rattle.varints.specs.Varint.{varint}
+use Rattle.column_fields.specs.Varint.{varint}
 use Rattle.column_fields.proofs.fields.put_bytes_key.Goals as goal
 
 pub returns-in_err-put_varint-clause-room : goal.returns-in_err-put_varint-clause-room

@@ -1,6 +1,6 @@
 use Rattle.std.proofs.Common.{arith, refl}
-use Rattle.varints.proofs.Forms.{is_written}
-use Rattle.varints.proofs.Shortest.{one_more, appended}
+use Rattle.column_fields.proofs.VarintForms.{is_written}
+use Rattle.column_fields.proofs.ShortestVarints.{one_more, appended}
 use Rattle.column_fields.proofs.KeptLaws.{kept_same, kept_behind, kept_on}
 use Rattle.column_fields.proofs.RoomLaws.{refused, varint_more, varint_some}
 use Rattle.column_fields.proofs.fields.put_varint.Goals as goal

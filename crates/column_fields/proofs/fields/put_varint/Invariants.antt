@@ -1,6 +1,6 @@
 use Rattle.std.proofs.Common.{List, ℕ, ◌+◌, ◌≤◌, ◌++◌, length}
-use Rattle.varints.specs.Varint.{varint}
-use Rattle.varints.proofs.Shortest.{IsCompact, Completes}
+use Rattle.column_fields.specs.Varint.{varint}
+use Rattle.column_fields.proofs.ShortestVarints.{IsCompact, Completes}
 use Rattle.column_fields.specs.Kept.{StaysInFront}
 use Rattle.column_fields.proofs.fields.put_varint.Given as goal
 

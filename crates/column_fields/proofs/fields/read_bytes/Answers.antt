@@ -1,5 +1,5 @@
 use Rattle.std.proofs.Common.{arith}
-use Rattle.varints.proofs.Varints.{if_none}
+use Rattle.column_fields.proofs.Varints.{if_none}
 use Rattle.column_fields.proofs.FieldLaws.{no_bytes_key, other_bytes_key, no_count, too_short, is_bytes, cut}
 use Rattle.column_fields.proofs.fields.read_bytes.Goals as goal
 

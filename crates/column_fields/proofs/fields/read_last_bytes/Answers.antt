@@ -1,5 +1,5 @@
 use Rattle.std.proofs.Common.{arith}
-use Rattle.varints.proofs.Varints.{if_none}
+use Rattle.column_fields.proofs.Varints.{if_none}
 use Rattle.column_fields.proofs.FlatFieldLaws.{no_last, more_behind, is_last}
 use Rattle.column_fields.proofs.fields.read_last_bytes.Goals as goal
 

@@ -1,5 +1,5 @@
 use Rattle.std.proofs.Common.{arith}
-use Rattle.varints.proofs.Varints.{if_none}
+use Rattle.column_fields.proofs.Varints.{if_none}
 use Rattle.column_fields.proofs.FieldLaws.{no_key, other_key, no_number, is_number}
 use Rattle.column_fields.proofs.fields.read_number.Goals as goal
 

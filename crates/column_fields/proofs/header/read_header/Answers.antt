@@ -1,4 +1,4 @@
-use Rattle.varints.proofs.Varints.{if_none}
+use Rattle.column_fields.proofs.Varints.{if_none}
 use Rattle.column_fields.proofs.HeaderLaws.{no_version, no_kind, no_form, no_rows, is_header}
 use Rattle.column_fields.proofs.header.read_header.Goals as goal
 

@@ -1,6 +1,6 @@
 use Rattle.std.proofs.Common.{◌≡◌, ◌∙◌, sym, ap, arith, ℕ, map, ◌+◌, ◌-◌, length}
 use Rattle.std.proofs.lemmas.List.{length-append}
-use Rattle.varints.specs.Varint.{varint}
+use Rattle.column_fields.specs.Varint.{varint}
 use Rattle.column_fields.specs.Lengths.{lengths_bytes}
 use Rattle.column_fields.proofs.LengthLaws.{lengths_cons, none_left}
 use Rattle.column_fields.proofs.length_sizes.measure.Goals as goal

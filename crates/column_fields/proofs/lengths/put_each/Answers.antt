@@ -1,5 +1,5 @@
 use Rattle.std.proofs.Common.{◌≡◌, ◌∙◌, ap, arith, ℕ, List, ◌-◌, ◌++◌, length}
-use Rattle.varints.specs.Varint.{varint}
+use Rattle.column_fields.specs.Varint.{varint}
 use Rattle.column_fields.proofs.LengthLaws.{lengths_step, lengths_done, lengths_left}
 use Rattle.column_fields.proofs.KeptLaws.{kept_on}
 use Rattle.column_fields.proofs.RoomLaws.{refused}

@@ -4,7 +4,7 @@ use Rattle.std.specs.Prelude.{unsigned_abs}
 use Rattle.column_fields.proofs.LengthLaws.{puts_bytes}
 use Rattle.column_fields.proofs.RoomLaws.{counted_refused, last_uncounted}
 use Rattle.column_base.specs.Numbers.{numbers}
-use Rattle.varints.specs.Varint.{varint}
+use Rattle.column_fields.specs.Varint.{varint}
 use Rattle.column_fields.specs.Lengths.{lengths_bytes}
 use Rattle.column_fields.proofs.SizeLaws.{bytes_long}
 use Rattle.column_fields.proofs.lengths.put_lengths_field.Goals as goal

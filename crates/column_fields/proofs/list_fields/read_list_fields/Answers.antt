@@ -1,4 +1,4 @@
-use Rattle.varints.proofs.Varints.{if_none}
+use Rattle.column_fields.proofs.Varints.{if_none}
 use Rattle.column_fields.proofs.ListFieldLaws.{no_elements, no_offsets, no_sizes, are_lists}
 use Rattle.column_fields.proofs.list_fields.read_list_fields.Goals as goal
 

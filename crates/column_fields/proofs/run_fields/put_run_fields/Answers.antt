@@ -4,7 +4,7 @@ use Rattle.column_fields.proofs.LengthLaws.{puts_bytes}
 use Rattle.column_fields.proofs.RunFieldLaws.{puts_runs, run_fields_long}
 use Rattle.column_fields.proofs.RoomLaws.{counted_refused}
 use Rattle.column_base.specs.Numbers.{numbers}
-use Rattle.varints.specs.Varint.{varint}
+use Rattle.column_fields.specs.Varint.{varint}
 use Rattle.column_fields.specs.Field.{number_field}
 use Rattle.column_fields.specs.Lengths.{lengths_bytes}
 use Rattle.column_fields.proofs.SizeLaws.{bytes_long}

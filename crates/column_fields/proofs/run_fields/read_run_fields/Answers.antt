@@ -1,4 +1,4 @@
-use Rattle.varints.proofs.Varints.{if_none}
+use Rattle.column_fields.proofs.Varints.{if_none}
 use Rattle.column_fields.proofs.RunFieldLaws.{no_offset, no_ends_type, other_ends_type, no_lengths, no_values, are_runs}
 use Rattle.column_fields.proofs.run_fields.read_run_fields.Goals as goal
 

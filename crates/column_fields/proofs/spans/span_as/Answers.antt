@@ -2,7 +2,7 @@ use Rattle.std.proofs.Common.{◌≡◌, ◌+◌, ◌<◌, ◌∙◌, false, pos
 use Rattle.std.proofs.lemmas.Int.{ints}
 use Rattle.std.proofs.lemmas.List.{nil_from_length}
 use Rattle.column_base.specs.Types.{HasNumber}
-use Rattle.varints.proofs.Varints.{if_none}
+use Rattle.column_fields.proofs.Varints.{if_none}
 use Rattle.column_fields.proofs.EndReading.{no_length, no_row, no_end, shorter}
 use Rattle.column_fields.proofs.SpanReading.{spanned_more, spanned_all}
 use Rattle.column_fields.proofs.spans.span_as.Goals as goal

@@ -1,5 +1,5 @@
 use Rattle.std.proofs.Common.{arith, refl}
-use Rattle.varints.proofs.Varints.{if_none}
+use Rattle.column_fields.proofs.Varints.{if_none}
 use Rattle.column_base.specs.ValidityForm.{NeverNull, NoneNull, AllNull}
 use Rattle.column_fields.proofs.ValidityLaws.{no_kind, other_kind, no_content, no_bits, is_plain, is_bits}
 use Rattle.column_fields.proofs.HeldNumbers.{held_long}

@@ -1,5 +1,5 @@
 use Rattle.column_core.specs.PrimitiveForm.{optional_numbers}
-use Rattle.column_order.specs.Comparing.{is_held}
+use Rattle.column_ops.specs.Comparing.{is_held}
 use Rattle.column_floats.proofs.KeyExtremes.{mapped_more}
 use Rattle.column_floats.proofs.tested.tested_bits.Goals as goal
 

@@ -1,6 +1,6 @@
 use Rattle.std.proofs.Common.{◌≡◌, map, take}
 use Rattle.column_core.specs.PrimitiveForm.{optional_numbers}
-use Rattle.column_order.specs.Comparing.{is_held}
+use Rattle.column_ops.specs.Comparing.{is_held}
 use Rattle.column_floats.proofs.tested.tested_bits.Given as goal
 
 abbrev pub invariant-loop-row : goal.invariant-loop-row

@@ -1,7 +1,7 @@
 use Rattle.std.proofs.Common.{◌∙◌, ap, sym, subst, w32, ℤ}
 use Rattle.std.specs.Prelude.{IfOk, Some}
 use Rattle.std.proofs.lemmas.Int.{to_z-of_z}
-use Rattle.column_order.specs.OrderFacts as order
+use Rattle.column_ops.specs.OrderFacts as order
 use Rattle.runend_array.specs.Array.{rows}
 use Rattle.c_columns.specs.Flags.{Tells, flag_of}
 use Rattle.c_columns.proofs.Endings.{told_sorted}

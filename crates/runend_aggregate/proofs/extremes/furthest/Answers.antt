@@ -1,8 +1,8 @@
 use Rattle.std.proofs.Common.{◌≡◌, ◌∙◌, ◌+◌, ◌++◌, [], ◌∷◌, sym, arith}
 use Rattle.std.specs.Prelude.{slice_range, option_map}
 use Rattle.column_core.specs.ScalarView.{sees}
-use Rattle.column_order.proofs.BestRows.{IsBest-past, IsBest-stays}
-use Rattle.column_order.proofs.RowRanges.{slice_range-next}
+use Rattle.column_ops.proofs.BestRows.{IsBest-past, IsBest-stays}
+use Rattle.column_ops.proofs.RowRanges.{slice_range-next}
 use Rattle.runend_array.specs.Array.{rows as rows_of}
 use Rattle.runend_aggregate.proofs.extremes.furthest.Goals as goal
 use Rattle.runend_aggregate.proofs.extremes.furthest.Goals.{then-is_past_best, else-is_past_best}

@@ -1,6 +1,6 @@
 use Rattle.std.specs.Prelude.{slice_range, option_map, IfSome}
 use Rattle.column_core.specs.ScalarView.{sees, IsViewOf}
-use Rattle.column_order.proofs.BestRows.{IsBest}
+use Rattle.column_ops.proofs.BestRows.{IsBest}
 use Rattle.runend_array.specs.Array.{dtype_of, rows}
 use Rattle.runend_aggregate.proofs.extremes.furthest.Given as goal
 

@@ -3,7 +3,7 @@ use Rattle.std.specs.Prelude.{All, IfNone, IfSome}
 use Rattle.std.specs.declared.cmp.Ordering.TheVariants.{Less, Greater}
 use Rattle.column_core.specs.ScalarView.{sees}
 use Rattle.column_core.specs.Value.{Value}
-use Rattle.column_order.specs.OrderFacts.{IsGreatest, IsLeast}
+use Rattle.column_ops.specs.OrderFacts.{IsGreatest, IsLeast}
 use Rattle.runend_array.specs.Array.{column_of}
 use Rattle.runend_aggregate.proofs.VisibleFacts.{furthest_found, none_found, rows_between}
 use Rattle.runend_aggregate.proofs.extremes.min_max.Goals as goal

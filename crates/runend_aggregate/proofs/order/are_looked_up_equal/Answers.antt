@@ -1,7 +1,7 @@
 use Rattle.std.proofs.Common.{◌∙◌, refl, sym, arith}
 use Rattle.std.proofs.lemmas.Bool.{false≢true}
 use Rattle.runend_array.specs.Array.{rows}
-use Rattle.column_order.proofs.RowRanges.{IsConstant-same, IsConstant-not}
+use Rattle.column_ops.proofs.RowRanges.{IsConstant-same, IsConstant-not}
 use Rattle.runend_aggregate.proofs.SeenRows.{AreSame-step, level}
 use Rattle.runend_aggregate.proofs.order.are_looked_up_equal.Goals as goal
 

@@ -1,7 +1,7 @@
 use Rattle.std.proofs.Common.{◌∙◌, refl, sym, arith}
 use Rattle.std.proofs.lemmas.Bool.{false≢true}
 use Rattle.runend_array.specs.Array.{rows}
-use Rattle.column_order.proofs.RowRanges.{AreSteps-next, IsSorted-steps, IsSorted-not}
+use Rattle.column_ops.proofs.RowRanges.{AreSteps-next, IsSorted-steps, IsSorted-not}
 use Rattle.runend_aggregate.proofs.order.are_looked_up_sorted.Goals as goal
 
 pub returns-then-not-is_step : goal.returns-then-not-is_step

@@ -1,7 +1,7 @@
 use Rattle.std.proofs.Common.{◌↔◌, List, Option, subst}
 use Rattle.std.specs.Prelude.{IsTrue}
 use Rattle.column_core.specs.Value.{Value}
-use Rattle.column_order.specs.OrderFacts.{IsConstant}
+use Rattle.column_ops.specs.OrderFacts.{IsConstant}
 use Rattle.runend_array.specs.Array.{column_of}
 use Rattle.runend_aggregate.proofs.VisibleFacts.{constant, rows_between}
 use Rattle.runend_aggregate.proofs.order.is_constant.Goals as goal

@@ -2,7 +2,7 @@ use Rattle.std.proofs.Common.{◌≡◌, ◌↔◌, ◌-◌, ◌∙◌, List, Op
 use Rattle.std.specs.Prelude.{IsTrue}
 use Rattle.std.proofs.lemmas.Bool.{false≢true}
 use Rattle.column_core.specs.Value.{Value}
-use Rattle.column_order.specs.OrderFacts.{IsSorted}
+use Rattle.column_ops.specs.OrderFacts.{IsSorted}
 use Rattle.runend_array.specs.Array.{column_of}
 use Rattle.runend_aggregate.proofs.VisibleFacts.{AreBounds, not_strict, rows_between, sorted_as_visible}
 use Rattle.runend_aggregate.proofs.order.is_sorted.Goals as goal

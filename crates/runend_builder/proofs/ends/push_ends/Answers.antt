@@ -1,7 +1,7 @@
 use Rattle.std.proofs.Common.{◌≡◌, ◌∙◌, ◌+◌, ◌^◌, ◌<◌, ◌++◌, ℕ, List, pos, map, sym, ap, subst}
 use Rattle.std.specs.Prelude.{All}
 use Rattle.column_base.specs.Numbers.{numbers}
-use Rattle.chunk_laws.specs.Encodings.{behind}
+use Rattle.runend_builder.specs.Encodings.{behind}
 use Rattle.runend_windows.proofs.Ends.{numbers_stored}
 use Rattle.runend_builder.proofs.ends.push_ends.Goals as goal
 

@@ -1,6 +1,6 @@
 use Rattle.std.proofs.Common.{◌∙◌, ◌+◌, ◌++◌, ℕ, List, map, ap, arith}
 use Rattle.std.proofs.lemmas.List.{length-map, take_all}
-use Rattle.chunk_laws.specs.Encodings.{behind}
+use Rattle.runend_builder.specs.Encodings.{behind}
 use Rattle.runend_builder.proofs.Pushed.{mapped_at, pushed_next}
 use Rattle.runend_builder.proofs.ends.push_stored.Goals as goal
 

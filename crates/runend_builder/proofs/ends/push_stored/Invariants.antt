@@ -1,5 +1,5 @@
 use Rattle.std.proofs.Common.{◌≡◌, ◌+◌, ◌++◌, map, take, vec_capacity, vec_len}
-use Rattle.chunk_laws.specs.Encodings.{behind}
+use Rattle.runend_builder.specs.Encodings.{behind}
 use Rattle.runend_builder.proofs.ends.push_stored.Given as goal
 
 abbrev pub invariant-loop-end : goal.invariant-loop-end

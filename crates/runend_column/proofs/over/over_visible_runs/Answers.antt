@@ -4,7 +4,7 @@ use Rattle.runend_array.specs.Array.{column_of}
 use Rattle.runend_array.specs.Column.{column_dtype, column_rows}
 use Rattle.runend_column.specs.VisibleForm.{IsOverVisibleRuns}
 use Rattle.runend_column.proofs.OverVisible.{over_dtype, over_form, over_parts, over_rows}
-use Rattle.runend_column.proofs.PassedOn.{if_ok}
+use Rattle.runend_column.proofs.AnsweredRows.{if_ok}
 use Rattle.runend_column.proofs.over.over_visible_runs.Goals as goal
 
 pub returns-in-Err-clause-only : goal.returns-in-Err-clause-only

@@ -4,7 +4,8 @@ use Rattle.column_core.specs.Leaf.{OfNumbers, single_rows}
 use Rattle.runend_array.specs.Column.{column_dtype, column_of_runs, column_rows}
 use Rattle.runend_column.specs.MinimalForm.{IsMinimalForm}
 use Rattle.runend_column.proofs.MinimalRuns.{minimal_column}
-use Rattle.runend_column.proofs.PassedOn.{if_ok, no_value}
+use Rattle.runend_column.proofs.AnsweredRows.{if_ok}
+use Rattle.runend_column.proofs.PassedOn.{no_value}
 use Rattle.runend_column.proofs.VisibleWindow.{read_rows, read_shown, read_window}
 use Rattle.runend_column.proofs.over.with_minimal_runs.Goals as goal
 

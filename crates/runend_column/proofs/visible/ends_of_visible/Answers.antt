@@ -2,7 +2,7 @@ use Rattle.std.proofs.Common.{◌∙◌, ap, length, sym}
 use Rattle.std.specs.Prelude.{unsigned_abs}
 use Rattle.std.proofs.lemmas.List.{length-map}
 use Rattle.runend_column.proofs.VisibleWindow.{visible_paired, visible_shown, visible_window}
-use Rattle.runend_column.proofs.PassedOn.{if_ok}
+use Rattle.runend_column.proofs.AnsweredRows.{if_ok}
 use Rattle.runend_column.proofs.visible.ends_of_visible.Goals as goal
 
 pub ends_between-requires : goal.ends_between-requires

@@ -1,6 +1,6 @@
 use Rattle.std.proofs.Common.{◌∙◌, ℕ, ap, sym}
 use Rattle.runend_column.specs.VisibleForm.{window_start}
-use Rattle.runend_column.proofs.PassedOn.{start_of_rows}
+use Rattle.runend_column.proofs.AnsweredRows.{start_of_rows}
 use Rattle.runend_column.proofs.visible.visible_offset.Goals as goal
 
 pub returns-then-is_empty : goal.returns-then-is_empty

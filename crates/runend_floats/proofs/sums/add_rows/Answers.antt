@@ -1,7 +1,7 @@
 use Rattle.std.proofs.Common.{rules, ◌∙◌, ℤ, Option, ap, replicate, sym, w64, FitsSigned}
 use Rattle.std.proofs.lemmas.Int.{to_z-of_z}
 use Rattle.float_bits.specs.declared.formats.FloatFormat.TheVariants.{F64}
-use Rattle.float_sums.specs.Tally.{joined, tally_of}
+use Rattle.float_bits.specs.Tally.{joined, tally_of}
 use Rattle.column_floats.specs.FloatRows.{doubles_of}
 use Rattle.column_floats.proofs.KeyBounds.{bits_of_total_key}
 use Rattle.runend_floats.proofs.RunSums.{tally_of_nulls, tally_of_run}

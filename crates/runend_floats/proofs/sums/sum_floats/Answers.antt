@@ -1,6 +1,6 @@
 use Rattle.std.proofs.Common.{◌∙◌, ap, List, Option, ℤ}
 use Rattle.column_core.specs.Leaf.{OfNumbers}
-use Rattle.float_sums.specs.Tally.{tally_of}
+use Rattle.float_bits.specs.Tally.{tally_of}
 use Rattle.runend_array.specs.Array.{dtype_of, rows}
 use Rattle.runend_encode.specs.Encoding.{IsRowEncoding}
 use Rattle.column_floats.specs.FloatRows.{doubles_of}

@@ -2,7 +2,7 @@ use Rattle.std.proofs.Common.{◌≡◌, ◌∙◌, ◌-◌, ◌<◌, ℕ, ap, a
 use Rattle.std.specs.Prelude.{slice_range}
 use Rattle.column_core.specs.PrimitiveForm.{optional_numbers, row_flags}
 use Rattle.column_core.proofs.OptionalRows.{length-optionals-le}
-use Rattle.float_sums.specs.Tally.{Tally, joined, tally_of}
+use Rattle.float_bits.specs.Tally.{Tally, joined, tally_of}
 use Rattle.runend_windows.specs.Ends.{ends_of}
 use Rattle.runend_windows.proofs.Ends.{length_ends_of}
 use Rattle.column_floats.specs.FloatRows.{doubles_of}

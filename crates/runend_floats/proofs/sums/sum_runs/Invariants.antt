@@ -1,7 +1,7 @@
 use Rattle.std.proofs.Common.{◌≡◌}
 use Rattle.std.specs.Prelude.{slice_range}
 use Rattle.column_core.specs.PrimitiveForm.{optional_numbers}
-use Rattle.float_sums.specs.Tally.{tally_of}
+use Rattle.float_bits.specs.Tally.{tally_of}
 use Rattle.runend_windows.specs.Ends.{ends_of}
 use Rattle.column_floats.specs.FloatRows.{doubles_of}
 use Rattle.runend_floats.specs.Runs.{first_row}

@@ -4,7 +4,7 @@ use Rattle.column_base.specs.Validity.{form_of}
 use Rattle.column_core.specs.Optionals.{optionals}
 use Rattle.column_ops.proofs.Passed.{passed_all}
 use Rattle.runend_map.proofs.MapResultRows.{all_at, zipped_next}
-use Rattle.array_rowwise.proofs.PassedOn.{no_value}
+use Rattle.runend_column.proofs.PassedOn.{no_value}
 use Rattle.runend_map.proofs.answers.answers.Goals as goal
 
 pub loop-row-preserved : goal.loop-row-preserved

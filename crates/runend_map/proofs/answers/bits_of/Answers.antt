@@ -1,7 +1,7 @@
 use Rattle.std.proofs.Common.{◌∙◌, false, map, ap, arith}
 use Rattle.std.specs.Prelude.{unwrap_or}
 use Rattle.std.proofs.lemmas.List.{take_all}
-use Rattle.array_rowwise.proofs.PassedOn.{no_value, only_error}
+use Rattle.runend_column.proofs.PassedOn.{no_value, only_error}
 use Rattle.runend_map.proofs.answers.bits_of.Goals as goal
 
 pub returns-clause-only : goal.returns-clause-only

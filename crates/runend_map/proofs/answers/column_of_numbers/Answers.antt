@@ -8,7 +8,7 @@ use Rattle.column_core.specs.Leaf.{OfNumbers, single_rows}
 use Rattle.column_core.specs.PrimitiveForm.{PrimitiveForm, primitive_dtype}
 use Rattle.column_core.specs.Value.{Number}
 use Rattle.runend_map.proofs.MapResultRows.{written_computed, written_rows}
-use Rattle.array_rowwise.proofs.PassedOn.{no_value, only_error}
+use Rattle.runend_column.proofs.PassedOn.{no_value, only_error}
 use Rattle.runend_map.proofs.answers.column_of_numbers.Goals as goal
 
 pub returns-clause-rows : goal.returns-clause-rows

@@ -7,7 +7,7 @@ use Rattle.column_core.specs.Computed.{IsComputedLeaf}
 use Rattle.column_core.specs.Leaf.{OfTruths, single_rows}
 use Rattle.column_core.specs.Value.{Truth}
 use Rattle.runend_map.proofs.MapResultRows.{same_items, written_computed, written_rows}
-use Rattle.array_rowwise.proofs.PassedOn.{no_value, only_error}
+use Rattle.runend_column.proofs.PassedOn.{no_value, only_error}
 use Rattle.runend_map.proofs.answers.column_of_truths.Goals as goal
 
 pub returns-clause-rows : goal.returns-clause-rows

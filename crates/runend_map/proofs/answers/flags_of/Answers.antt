@@ -2,7 +2,7 @@ use Rattle.std.proofs.Common.{◌∙◌, map, ap, arith}
 use Rattle.std.specs.Prelude.{is_some}
 use Rattle.std.proofs.lemmas.List.{take_all}
 use Rattle.runend_map.proofs.MapResultRows.{mapped_next}
-use Rattle.array_rowwise.proofs.PassedOn.{no_value, only_error}
+use Rattle.runend_column.proofs.PassedOn.{no_value, only_error}
 use Rattle.runend_map.proofs.answers.flags_of.Goals as goal
 
 pub loop-row-preserved : goal.loop-row-preserved

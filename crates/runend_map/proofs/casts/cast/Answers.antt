@@ -11,10 +11,10 @@ use Rattle.std.specs.Prelude.{IfOk}
 use Rattle.runend_column.specs.MinimalForm.{IsRunForm}
 use Rattle.runend_array.specs.Column.{column_dtype, column_of_runs, column_rows, plain_of}
 use Rattle.runend_map.proofs.CastRows.{cast_count, cast_rows, same_fault}
-use Rattle.array_rowwise.proofs.CastRows.{lists_fault}
+use Rattle.runend_column.proofs.CastRows.{lists_fault}
 use Rattle.runend_map.proofs.KeptRows.{if_ok}
 use Rattle.runend_map.proofs.OneKind.{no_fault}
-use Rattle.array_rowwise.proofs.PassedOn.{no_value}
+use Rattle.runend_column.proofs.PassedOn.{no_value}
 use Rattle.runend_map.proofs.casts.cast.Goals as goal
 
 pub over_runs-requires : goal.over_runs-requires

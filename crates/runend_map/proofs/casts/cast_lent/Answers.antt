@@ -12,7 +12,7 @@ use Rattle.runend_array.specs.Column.{column_of_runs, plain_of}
 use Rattle.runend_map.proofs.CastRows.{cast_count, cast_rows, same_fault}
 use Rattle.runend_map.proofs.KeptRows.{if_ok}
 use Rattle.runend_map.proofs.OneKind.{no_fault}
-use Rattle.array_rowwise.proofs.PassedOn.{no_value}
+use Rattle.runend_column.proofs.PassedOn.{no_value}
 use Rattle.runend_map.proofs.casts.cast_lent.Goals as goal
 
 pub over_runs-requires : goal.over_runs-requires

@@ -1,6 +1,6 @@
 use Rattle.std.proofs.Common.{◌∙◌, ap}
 use Rattle.runend_array.specs.Column.{column_dtype, column_rows}
-use Rattle.array_rowwise.proofs.PassedOn.{no_value, only_error}
+use Rattle.runend_column.proofs.PassedOn.{no_value, only_error}
 use Rattle.runend_map.proofs.codes.placed.Goals as goal
 
 pub over_runs-requires : goal.over_runs-requires

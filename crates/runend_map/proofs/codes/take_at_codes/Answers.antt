@@ -15,7 +15,7 @@ use Rattle.runend_map.proofs.TakenForms.{taken_kind}
 use Rattle.runend_map.proofs.CodeRows.{same_fault, taken_count, taken_over}
 use Rattle.runend_map.proofs.KeptRows.{if_ok}
 use Rattle.runend_map.proofs.OneKind.{no_fault}
-use Rattle.array_rowwise.proofs.PassedOn.{no_value}
+use Rattle.runend_column.proofs.PassedOn.{no_value}
 use Rattle.runend_map.proofs.codes.take_at_codes.Goals as goal
 
 pub returns-in_err-taken-clause-refused : goal.returns-in_err-taken-clause-refused

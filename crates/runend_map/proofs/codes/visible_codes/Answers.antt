@@ -5,7 +5,7 @@ use Rattle.column_core.specs.PrimitiveForm.{optional_numbers}
 use Rattle.column_core.specs.declared.flat.FlatColumn.{FlatColumn}
 use Rattle.column_ops.specs.Codes.{code_number}
 use Rattle.runend_map.proofs.CodeRows.{codes_are}
-use Rattle.array_rowwise.proofs.PassedOn.{no_value, only_error}
+use Rattle.runend_column.proofs.PassedOn.{no_value, only_error}
 use Rattle.runend_map.proofs.codes.visible_codes.Goals as goal
 
 pub returns-clause-codes : goal.returns-clause-codes

@@ -4,7 +4,7 @@ use Rattle.std.specs.Prelude.{option_map}
 use Rattle.std.proofs.lemmas.List.{length-replicate}
 use Rattle.column_core.specs.ScalarForm.{ScalarForm}
 use Rattle.column_core.specs.Value.{FlatValue, Single}
-use Rattle.column_order.specs.Comparing.{compare_rows, compare_with, compare_dtype}
+use Rattle.column_ops.specs.Comparing.{compare_rows, compare_with, compare_dtype}
 use Rattle.runend_array.specs.declared.array_ref.ArrayRef.{ArrayRef}
 use Rattle.runend_array.specs.declared.array_ref.ArrayRef.TheVariants.{Constant, RunEnd}
 use Rattle.runend_windows.proofs.RunRows.{length-run_rows}

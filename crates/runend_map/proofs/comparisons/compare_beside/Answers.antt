@@ -2,11 +2,11 @@ use Rattle.std.proofs.Common.{◌∙◌, List, Option, ap, length}
 use Rattle.column_core.specs.FlatColumn.{leaf_of}
 use Rattle.column_core.specs.Leaf.{single_rows}
 use Rattle.column_core.specs.Value.{Value}
-use Rattle.column_order.specs.Comparing.{compare_rows, compare_dtype}
+use Rattle.column_ops.specs.Comparing.{compare_rows, compare_dtype}
 use Rattle.runend_array.specs.Array.{dtype_of, rows}
 use Rattle.runend_map.proofs.ComparedRows.{own_rows, shown_fault}
 use Rattle.column_base.specs.declared.dtype.DType.{DType}
-use Rattle.array_rowwise.proofs.PassedOn.{no_value, only_error}
+use Rattle.runend_column.proofs.PassedOn.{no_value, only_error}
 use Rattle.runend_map.proofs.comparisons.compare_beside.Goals as goal
 
 pub compare_flat-truths-requires : goal.compare_flat-truths-requires

@@ -1,13 +1,13 @@
 use Rattle.std.proofs.Common.{◌∙◌, length, ap}
 use Rattle.column_core.specs.FlatColumn.{leaf_of}
 use Rattle.column_core.specs.Leaf.{leaf_dtype, leaf_rows, single_rows}
-use Rattle.column_order.specs.CompareFault.{compare_column_fault}
-use Rattle.column_order.specs.Comparing.{compare_dtype, compare_rows}
+use Rattle.column_ops.specs.CompareFault.{compare_column_fault}
+use Rattle.column_ops.specs.Comparing.{compare_dtype, compare_rows}
 use Rattle.runend_array.specs.Array.{dtype_of, rows}
 use Rattle.runend_map.proofs.ComparedRows.{beside_fault, memory_alone, stored_computed}
 use Rattle.runend_map.proofs.KeptRows.{if_ok}
 use Rattle.runend_map.proofs.OneKind.{no_column_fault, no_lists_beside}
-use Rattle.array_rowwise.proofs.PassedOn.{no_value, only_error}
+use Rattle.runend_column.proofs.PassedOn.{no_value, only_error}
 use Rattle.runend_map.proofs.comparisons.compare_flat.Goals as goal
 
 pub returns-clause-only : goal.returns-clause-only

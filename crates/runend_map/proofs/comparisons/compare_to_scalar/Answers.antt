@@ -4,7 +4,7 @@ use Rattle.column_core.specs.BoolForm.{bool_rows}
 use Rattle.column_core.specs.FlatColumn.{leaf_of}
 use Rattle.column_core.specs.Leaf.{OfTruths, single_rows}
 use Rattle.column_core.specs.Value.{FlatValue, Single, Value}
-use Rattle.column_order.specs.Comparing.{compare_with, compared}
+use Rattle.column_ops.specs.Comparing.{compare_with, compared}
 use Rattle.runend_array.specs.Array.{column_of, rows}
 use Rattle.runend_array.specs.Column.{Column, column_rows}
 use Rattle.runend_array.specs.Encoding.{IsDecodedForm}
@@ -12,7 +12,7 @@ use Rattle.runend_column.specs.VisibleForm.{visible_values}
 use Rattle.runend_map.proofs.ComparedRows.{compared_count, made_form, null_rows, nulls_alone-copies}
 use Rattle.runend_map.proofs.KeptRows.{if_ok, if_ok_both, mapped_rows}
 use Rattle.runend_map.proofs.OneKind.{filled}
-use Rattle.array_rowwise.proofs.PassedOn.{no_value, only_error}
+use Rattle.runend_column.proofs.PassedOn.{no_value, only_error}
 use Rattle.runend_map.proofs.comparisons.compare_to_scalar.Goals as goal
 
 pub returns-then-not-is_empty-clause-rows : goal.returns-then-not-is_empty-clause-rows

@@ -10,7 +10,7 @@ use Rattle.runend_array.specs.Column.{column_of_runs, plain_of}
 use Rattle.runend_map.proofs.CodeRows.{rows_at_runs, rows_count, same_fault}
 use Rattle.runend_map.proofs.KeptRows.{if_ok}
 use Rattle.runend_map.proofs.OneKind.{no_fault}
-use Rattle.array_rowwise.proofs.PassedOn.{no_value}
+use Rattle.runend_column.proofs.PassedOn.{no_value}
 use Rattle.runend_map.proofs.dictionary.take_at_runs.Goals as goal
 
 pub returns-in_err-taken-clause-refused : goal.returns-in_err-taken-clause-refused

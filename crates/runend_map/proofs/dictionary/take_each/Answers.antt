@@ -5,7 +5,7 @@ use Rattle.column_ops.proofs.IndexPositions.{refused-passed_on}
 use Rattle.runend_array.specs.Array.{rows}
 use Rattle.runend_array.specs.Column.{column_of_runs, plain_of}
 use Rattle.runend_map.proofs.CodeRows.{codes_are}
-use Rattle.array_rowwise.proofs.PassedOn.{no_value}
+use Rattle.runend_column.proofs.PassedOn.{no_value}
 use Rattle.runend_map.proofs.dictionary.take_each.Goals as goal
 
 pub returns-in_err-indices-clause-dtype : goal.returns-in_err-indices-clause-dtype

@@ -17,7 +17,7 @@ use Rattle.runend_map.specs.TakenForm.{TakeFromLeaves}
 use Rattle.runend_map.proofs.CodeRows.{as_many_rows}
 use Rattle.runend_map.proofs.TakenForms.{lists_taken}
 use Rattle.runend_map.proofs.KeptRows.{if_ok}
-use Rattle.array_rowwise.proofs.PassedOn.{no_value}
+use Rattle.runend_column.proofs.PassedOn.{no_value}
 use Rattle.runend_map.proofs.dictionary.take_from.Goals as goal
 
 pub returns-clause-refused : goal.returns-clause-refused

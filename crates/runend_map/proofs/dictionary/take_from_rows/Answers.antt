@@ -8,7 +8,7 @@ use Rattle.column_ops.proofs.IndexPositions.{refused-passed_on}
 use Rattle.runend_array.specs.Array.{column_of, dtype_of, rows}
 use Rattle.runend_array.specs.Column.{plain_of}
 use Rattle.runend_map.proofs.OneKind.{numbers_single}
-use Rattle.array_rowwise.proofs.PassedOn.{no_value}
+use Rattle.runend_column.proofs.PassedOn.{no_value}
 use Rattle.runend_map.proofs.dictionary.take_from_rows.Goals as goal
 
 pub returns-then-not-is_number_type : goal.returns-then-not-is_number_type

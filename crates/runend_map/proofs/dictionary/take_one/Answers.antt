@@ -8,7 +8,7 @@ use Rattle.column_ops.specs.Codes.{code_fault, code_rows}
 use Rattle.column_ops.specs.Nullable.{take_dtype}
 use Rattle.runend_array.specs.Array.{dtype_of, rows}
 use Rattle.runend_array.specs.Column.{OfConstant, plain_of}
-use Rattle.array_rowwise.proofs.PassedOn.{no_value}
+use Rattle.runend_column.proofs.PassedOn.{no_value}
 use Rattle.runend_map.proofs.dictionary.take_one.Goals as goal
 
 pub take_each-taken-requires : goal.take_each-taken-requires

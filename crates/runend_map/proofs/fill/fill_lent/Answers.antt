@@ -4,7 +4,7 @@ use Rattle.runend_array.specs.Array.{column_of, rows}
 use Rattle.std.specs.Prelude.{IfOk}
 use Rattle.runend_column.specs.MinimalForm.{IsRunForm}
 use Rattle.runend_map.proofs.FilledRows.{filled_count, filled_dtype, filled_rows}
-use Rattle.array_rowwise.proofs.FilledRows.{flat_computed}
+use Rattle.runend_column.proofs.FilledRows.{flat_computed}
 use Rattle.runend_map.proofs.KeptRows.{if_ok}
 use Rattle.column_base.specs.declared.dtype.DType.{DType}
 use Rattle.column_base.specs.declared.error.VortexError.{VortexError}
@@ -13,7 +13,7 @@ use Rattle.column_ops.specs.Fill.{fill_fault}
 use Rattle.column_ops.proofs.IndexPositions.{refused-passed_on}
 use Rattle.runend_array.specs.Column.{column_dtype}
 use Rattle.runend_map.proofs.OneKind.{no_fault}
-use Rattle.array_rowwise.proofs.PassedOn.{no_value}
+use Rattle.runend_column.proofs.PassedOn.{no_value}
 use Rattle.runend_map.proofs.fill.fill_lent.Goals as goal
 
 pub over_runs-requires : goal.over_runs-requires

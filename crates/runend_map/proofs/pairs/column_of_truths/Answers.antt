@@ -5,8 +5,8 @@ use Rattle.column_base.specs.declared.dtype.DType.TheVariants as column
 use Rattle.column_base.proofs.ValidityRows.{nullable-of_bits}
 use Rattle.column_core.specs.BoolForm.{bool_with}
 use Rattle.column_core.specs.Optionals.{optionals}
-use Rattle.column_order.specs.Comparing.{IsStoredComparison}
-use Rattle.column_order.proofs.WrittenTruths.{flags-all_true, IsStoredComparison-never_null}
+use Rattle.column_ops.specs.Comparing.{IsStoredComparison}
+use Rattle.column_ops.proofs.WrittenTruths.{flags-all_true, IsStoredComparison-never_null}
 use Rattle.runend_map.proofs.pairs.column_of_truths.Goals as goal
 
 pub returns-in-NonNullable-clause-truths : goal.returns-in-NonNullable-clause-truths

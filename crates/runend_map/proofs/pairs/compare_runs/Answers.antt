@@ -3,7 +3,7 @@ use Rattle.column_base.specs.declared.dtype.DType.{DType}
 use Rattle.column_core.specs.FlatColumn.{leaf_of}
 use Rattle.column_core.specs.Leaf.{leaf_dtype}
 use Rattle.column_core.specs.Value.{Value}
-use Rattle.column_order.specs.Comparing.{compare_dtype, compare_rows}
+use Rattle.column_ops.specs.Comparing.{compare_dtype, compare_rows}
 use Rattle.runend_array.specs.Column.{column_dtype, column_of_runs, column_rows}
 use Rattle.runend_map.specs.ShownRuns.{AreShownRuns, rows_shown}
 use Rattle.runend_map.proofs.OneKind.{no_column_fault, no_lists, no_lists_beside}

@@ -4,8 +4,8 @@ use Rattle.column_core.specs.BoolForm.{optional_truths}
 use Rattle.column_core.specs.FlatColumn.{leaf_of}
 use Rattle.column_core.specs.Leaf.{leaf_dtype, single_rows}
 use Rattle.column_core.specs.ScalarView.{sees}
-use Rattle.column_order.specs.Comparing.{compare_rows, either_nullability}
-use Rattle.column_order.proofs.WrittenTruths.{AreWritten-all, AreWritten-none, compared-typed, length-compare_rows}
+use Rattle.column_ops.specs.Comparing.{compare_rows, either_nullability}
+use Rattle.column_ops.proofs.WrittenTruths.{AreWritten-all, AreWritten-none, compared-typed, length-compare_rows}
 use Rattle.runend_windows.specs.Ends.{ends_of}
 use Rattle.runend_windows.proofs.RunRows.{length-run_rows}
 use Rattle.runend_map.specs.ShownRuns.{rows_shown}

@@ -2,7 +2,7 @@ use Rattle.std.proofs.Common.{◌-◌}
 use Rattle.column_base.specs.Types.{nullability_of}
 use Rattle.column_core.specs.FlatColumn.{leaf_of}
 use Rattle.column_core.specs.Leaf.{leaf_dtype}
-use Rattle.column_order.specs.Comparing.{compare_rows, either_nullability}
+use Rattle.column_ops.specs.Comparing.{compare_rows, either_nullability}
 use Rattle.runend_windows.specs.Ends.{ends_of}
 use Rattle.runend_map.specs.ShownRuns.{rows_shown}
 use Rattle.runend_map.proofs.PairedRuns.{IsPaired}

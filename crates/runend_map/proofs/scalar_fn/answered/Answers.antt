@@ -9,7 +9,7 @@ use Rattle.runend_array.specs.declared.session.Kernel.TheVariants.{ScalarFn}
 use Rattle.runend_map.specs.MapResult.{IsMappedForm}
 use Rattle.runend_map.proofs.KeptRows.{if_ok}
 use Rattle.runend_map.proofs.MapResultRows.{mapped_form}
-use Rattle.array_rowwise.proofs.PassedOn.{no_value, only_error}
+use Rattle.runend_column.proofs.PassedOn.{no_value, only_error}
 use Rattle.runend_map.proofs.scalar_fn.answered.Goals as goal
 
 -- answers to a column that is no run column are flat

@@ -8,7 +8,7 @@ use Rattle.runend_map.specs.MapInputs.{IsAsked}
 use Rattle.runend_map.specs.MapResult.{number_row, is_native}
 use Rattle.runend_map.proofs.KeptRows.{if_ok}
 use Rattle.runend_map.proofs.MapResultRows.{may_ask}
-use Rattle.array_rowwise.proofs.PassedOn.{no_value, only_error}
+use Rattle.runend_column.proofs.PassedOn.{no_value, only_error}
 use Rattle.runend_map.proofs.scalar_fn.asked_answers.Goals as goal
 
 pub answers_to-answers-requires-clause-callable : goal.answers_to-answers-requires-clause-callable

@@ -8,7 +8,7 @@ use Rattle.runend_map.specs.MapResult.{IsMappedForm, number_row, truth_row, is_n
 use Rattle.runend_map.proofs.KeptRows.{if_ok}
 use Rattle.runend_map.proofs.MapResultRows.{answers_count, owed_rows, no_native_fault}
 use Rattle.runend_map.proofs.OneKind.{no_fault}
-use Rattle.array_rowwise.proofs.PassedOn.{no_value}
+use Rattle.runend_column.proofs.PassedOn.{no_value}
 use Rattle.column_ops.proofs.IndexPositions.{refused-passed_on}
 use Rattle.runend_map.proofs.scalar_fn.map_rows_bool.Goals as goal
 

@@ -2,7 +2,7 @@ use Rattle.std.proofs.Common.{◌∙◌, ap, subst}
 use Rattle.runend_array.specs.Array.{column_of}
 use Rattle.runend_array.specs.Canonical.{IsCanonical}
 use Rattle.runend_array.specs.Column.{Column, column_dtype, column_rows}
-use Rattle.array_rowwise.proofs.PassedOn.{no_value, only_error}
+use Rattle.runend_column.proofs.PassedOn.{no_value, only_error}
 use Rattle.runend_map.proofs.KeptRows.{if_ok}
 use Rattle.runend_map.proofs.visible.shown_values.Goals as goal
 

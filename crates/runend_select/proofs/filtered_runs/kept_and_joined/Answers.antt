@@ -13,9 +13,9 @@ use Rattle.runend_windows.specs.Window.{run_rows, IsWindow}
 use Rattle.runend_windows.proofs.Ends.{length_ends_of}
 use Rattle.runend_encode.specs.Joined.{AllHaveRows}
 use Rattle.runend_column.specs.MinimalForm.{AreMinimalRuns}
-use Rattle.array_rowwise.proofs.ComputedRows.{ok_then}
+use Rattle.runend_column.proofs.ComputedRows.{ok_then}
 use Rattle.runend_select.proofs.MinimalForms.{flat_of_computed}
-use Rattle.array_rowwise.proofs.PassedOn.{no_value, only_error}
+use Rattle.runend_column.proofs.PassedOn.{no_value, only_error}
 use Rattle.runend_select.proofs.filtered_runs.kept_and_joined.Goals as goal
 
 pub numbers_in-numbers-requires : goal.numbers_in-numbers-requires

@@ -5,7 +5,7 @@ use Rattle.runend_array.specs.Column.{AreParts, OfLeaf, Runs, column_dtype, colu
 use Rattle.runend_windows.specs.Ends.{ends_of}
 use Rattle.runend_windows.specs.Window.{run_rows}
 use Rattle.runend_select.specs.FilterForm.{AreSelectedRuns}
-use Rattle.array_rowwise.proofs.PassedOn.{no_value, only_error}
+use Rattle.runend_column.proofs.PassedOn.{no_value, only_error}
 use Rattle.runend_select.proofs.filtered_runs.kept_column.Goals as goal
 
 pub new_unchecked-requires : goal.new_unchecked-requires

@@ -2,7 +2,7 @@ use Rattle.std.proofs.Common.{◌∙◌, ap, length, sym}
 use Rattle.runend_array.specs.Array.{column_of}
 use Rattle.runend_array.specs.Column.{Column, IsPlainEnds, column_rows}
 use Rattle.runend_windows.proofs.Ends.{length_ends_of}
-use Rattle.array_rowwise.proofs.PassedOn.{no_value}
+use Rattle.runend_column.proofs.PassedOn.{no_value}
 use Rattle.runend_select.specs.LeastSelected.{AreLeastSelected}
 use Rattle.runend_select.proofs.LeastColumn.{least-dtype, least-form, least-parts, least-rows}
 use Rattle.runend_select.proofs.filtered_runs.kept_in_one_pass.Goals as goal

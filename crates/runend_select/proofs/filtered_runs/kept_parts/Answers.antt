@@ -8,7 +8,7 @@ use Rattle.runend_array.specs.Column.{IsPlainEnds, column_dtype}
 use Rattle.runend_windows.specs.Ends.{ends_of}
 use Rattle.runend_select.specs.KeptRuns.{AreKept}
 use Rattle.runend_select.proofs.KeptColumn.{filled-kept, parts-kept, rows-kept, unsigned_of_ends}
-use Rattle.array_rowwise.proofs.PassedOn.{no_value, only_error}
+use Rattle.runend_column.proofs.PassedOn.{no_value, only_error}
 use Rattle.runend_select.proofs.filtered_runs.kept_parts.Goals as goal
 
 pub returns-in-Ok-clause-parts : goal.returns-in-Ok-clause-parts

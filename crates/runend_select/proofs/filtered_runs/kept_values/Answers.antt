@@ -1,8 +1,8 @@
 use Rattle.std.proofs.Common.{◌∙◌, ap, sym, subst}
 use Rattle.runend_array.specs.Column.{column_dtype, column_rows}
 use Rattle.runend_array.specs.Encoding.{IsComputedFlat}
-use Rattle.array_rowwise.proofs.ComputedRows.{ok_then}
-use Rattle.array_rowwise.proofs.PassedOn.{no_value, only_error}
+use Rattle.runend_column.proofs.ComputedRows.{ok_then}
+use Rattle.runend_column.proofs.PassedOn.{no_value, only_error}
 use Rattle.runend_select.proofs.filtered_runs.kept_values.Goals as goal
 
 pub returns-in_err-kept-clause-only : goal.returns-in_err-kept-clause-only

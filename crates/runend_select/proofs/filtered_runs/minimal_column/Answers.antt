@@ -6,8 +6,8 @@ use Rattle.column_core.specs.Value.{FlatValue, Single, Value}
 use Rattle.runend_windows.specs.Window.{run_rows}
 use Rattle.runend_column.specs.VisibleForm.{visible_ends, window_start}
 use Rattle.runend_column.proofs.VisibleWindow.{visible_rows}
-use Rattle.array_rowwise.proofs.ComputedRows.{ok_then}
-use Rattle.array_rowwise.proofs.PassedOn.{no_value, only_error}
+use Rattle.runend_column.proofs.ComputedRows.{ok_then}
+use Rattle.runend_column.proofs.PassedOn.{no_value, only_error}
 use Rattle.runend_select.proofs.filtered_runs.minimal_column.Goals as goal
 
 pub with_minimal_runs-requires : goal.with_minimal_runs-requires

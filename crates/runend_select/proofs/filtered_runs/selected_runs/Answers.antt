@@ -2,7 +2,7 @@ use Rattle.std.proofs.Common.{◌≡◌, ◌∙◌, Bool, true, false, ap, sym, 
 use Rattle.column_core.specs.Kinds.{is_numbers}
 use Rattle.runend_array.specs.Column.{column_dtype}
 use Rattle.runend_select.specs.FilterForm.{AreLeftRuns}
-use Rattle.array_rowwise.proofs.ComputedRows.{ok_then}
+use Rattle.runend_column.proofs.ComputedRows.{ok_then}
 use Rattle.runend_select.proofs.filtered_runs.selected_runs.Goals as goal
 
 pub least_kept-requires : goal.least_kept-requires

@@ -3,10 +3,10 @@ use Rattle.std.proofs.lemmas.List.{length-replicate}
 use Rattle.column_core.specs.Kinds.{is_numbers}
 use Rattle.column_core.specs.Leaf.{OfNumbers, single_rows}
 use Rattle.runend_array.specs.Column.{column_dtype, column_rows}
-use Rattle.array_rowwise.proofs.ComputedRows.{ok_then}
-use Rattle.array_rowwise.proofs.FilterFaults.{all_selected}
+use Rattle.runend_column.proofs.ComputedRows.{ok_then}
+use Rattle.runend_column.proofs.FilterFaults.{all_selected}
 use Rattle.runend_select.proofs.MinimalForms.{number_lists, single_count}
-use Rattle.array_rowwise.proofs.PassedOn.{no_value, only_error}
+use Rattle.runend_column.proofs.PassedOn.{no_value, only_error}
 use Rattle.runend_select.proofs.filtered_runs.visible_numbers.Goals as goal
 
 pub visible_values-requires : goal.visible_values-requires

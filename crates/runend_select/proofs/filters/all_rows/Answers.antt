@@ -3,7 +3,7 @@ use Rattle.column_core.specs.Kinds.{is_numbers}
 use Rattle.runend_array.specs.Array.{column_of}
 use Rattle.runend_array.specs.Column.{column_dtype, column_rows}
 use Rattle.runend_select.specs.FilterForm.{IsWholeForm}
-use Rattle.array_rowwise.proofs.ComputedRows.{ok_then}
+use Rattle.runend_column.proofs.ComputedRows.{ok_then}
 use Rattle.runend_select.proofs.filters.all_rows.Goals as goal
 
 pub minimal_column-requires : goal.minimal_column-requires

@@ -3,12 +3,12 @@ use Rattle.column_base.specs.Mask.{mask_bits}
 use Rattle.runend_array.specs.Array.{column_of}
 use Rattle.runend_array.specs.Column.{column_of_runs, column_rows}
 use Rattle.runend_windows.proofs.RunRows.{length-run_rows}
-use Rattle.array_rowwise.proofs.FilterFaults.{fault_here, fault_told, no_fault, rows-unchanged}
+use Rattle.runend_column.proofs.FilterFaults.{fault_here, fault_told, no_fault, rows-unchanged}
 use Rattle.runend_select.proofs.WithoutRuns.{rows-without_runs}
-use Rattle.array_rowwise.proofs.ComputedRows.{ok_then}
+use Rattle.runend_column.proofs.ComputedRows.{ok_then}
 use Rattle.runend_select.proofs.MinimalForms.{least-without_runs}
 use Rattle.runend_select.proofs.PassedOn.{first-none, first-told}
-use Rattle.array_rowwise.proofs.PassedOn.{refused_by_none}
+use Rattle.runend_column.proofs.PassedOn.{refused_by_none}
 use Rattle.runend_select.proofs.filters.filter.Goals as goal
 
 pub returns-then-len-clause-refused : goal.returns-then-len-clause-refused

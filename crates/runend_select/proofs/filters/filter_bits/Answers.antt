@@ -5,8 +5,8 @@ use Rattle.runend_array.specs.Column.{Column, column_dtype, column_rows}
 use Rattle.runend_array.specs.SessionForm.{SessionForm}
 use Rattle.runend_select.specs.FilterForm.{IsSelectedForm, TakesDirectly}
 use Rattle.runend_select.proofs.Forms.{flat-selected, takes_directly-same}
-use Rattle.array_rowwise.proofs.ComputedRows.{ok_then}
-use Rattle.array_rowwise.proofs.PassedOn.{no_value, only_error}
+use Rattle.runend_column.proofs.ComputedRows.{ok_then}
+use Rattle.runend_column.proofs.PassedOn.{no_value, only_error}
 use Rattle.runend_select.proofs.filters.filter_bits.Goals as goal
 
 pub returns-in_err-taken-clause-only : goal.returns-in_err-taken-clause-only

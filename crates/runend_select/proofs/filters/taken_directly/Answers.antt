@@ -1,11 +1,11 @@
 use Rattle.std.proofs.Common.{◌∙◌, sym}
 use Rattle.runend_array.specs.Column.{column_of_runs, column_rows, column_dtype}
 use Rattle.runend_windows.proofs.RunRows.{length-run_rows}
-use Rattle.array_rowwise.proofs.ComputedRows.{ok_then}
-use Rattle.array_rowwise.proofs.ListsTaken.{take_dtype-required}
-use Rattle.array_rowwise.proofs.SetPlaces.{take_rows-places}
+use Rattle.runend_column.proofs.ComputedRows.{ok_then}
+use Rattle.runend_column.proofs.ListsTaken.{take_dtype-required}
+use Rattle.runend_column.proofs.SetPlaces.{take_rows-places}
 use Rattle.runend_select.proofs.CheckedIndices.{bounds-places}
-use Rattle.array_rowwise.proofs.PassedOn.{no_value, only_error}
+use Rattle.runend_column.proofs.PassedOn.{no_value, only_error}
 use Rattle.runend_select.proofs.filters.taken_directly.Goals as goal
 
 pub taken_rows-taken-requires-clause-in_bounds : goal.taken_rows-taken-requires-clause-in_bounds

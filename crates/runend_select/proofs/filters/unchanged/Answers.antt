@@ -1,4 +1,4 @@
-use Rattle.array_rowwise.proofs.PassedOn.{no_value, only_error}
+use Rattle.runend_column.proofs.PassedOn.{no_value, only_error}
 use Rattle.runend_select.proofs.filters.unchanged.Goals as goal
 
 pub returns-in_err-copy-clause-only : goal.returns-in_err-copy-clause-only

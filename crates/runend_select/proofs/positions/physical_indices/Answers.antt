@@ -1,9 +1,9 @@
 use Rattle.std.proofs.Common.{◌∙◌, ap, length, subst}
 use Rattle.column_base.specs.Mask.{mask_bits}
 use Rattle.runend_array.specs.SessionForm.{SessionForm}
-use Rattle.runend_indices.specs.declared.strategy.TakeThresholds.{TakeThresholds}
-use Rattle.runend_indices.specs.Indices.{optional_indices}
-use Rattle.runend_indices.specs.Pick.{IsPicked}
+use Rattle.runend_select.specs.declared.strategy.TakeThresholds.{TakeThresholds}
+use Rattle.runend_select.specs.Indices.{optional_indices}
+use Rattle.runend_select.specs.Pick.{IsPicked}
 use Rattle.runend_select.specs.SessionPicks.{picks_of}
 use Rattle.runend_select.proofs.positions.physical_indices.Goals as goal
 

@@ -4,7 +4,7 @@ use Rattle.column_base.specs.Mask.{mask_bits}
 use Rattle.column_base.specs.Numbers.{numbers}
 use Rattle.runend_windows.specs.Window.{IsWindow}
 use Rattle.runend_select.specs.RunsOf.{AreRunsOf}
-use Rattle.runend_indices.specs.Indices.{optional_indices}
+use Rattle.runend_select.specs.Indices.{optional_indices}
 use Rattle.runend_select.proofs.taken_runs.runs_among.Goals as goal
 
 pub runs_by-requires-clause-window : goal.runs_by-requires-clause-window

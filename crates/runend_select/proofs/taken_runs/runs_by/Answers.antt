@@ -3,10 +3,10 @@ use Rattle.std.specs.Prelude.{unsigned_abs}
 use Rattle.column_base.specs.Mask.{mask_bits}
 use Rattle.column_core.specs.Counted.{Counted}
 use Rattle.runend_windows.specs.Window.{IsWindow}
-use Rattle.runend_indices.specs.Indices.{optional_indices, runs_of}
-use Rattle.runend_indices.specs.Pick.{answer_of, run_of_null}
+use Rattle.runend_select.specs.Indices.{optional_indices, runs_of}
+use Rattle.runend_select.specs.Pick.{answer_of, run_of_null}
 use Rattle.runend_select.specs.RunsOf.{AreRunsOf}
-use Rattle.array_rowwise.proofs.ComputedRows.{ok_then}
+use Rattle.runend_column.proofs.ComputedRows.{ok_then}
 use Rattle.runend_encode.proofs.Fitting.{naturals-of}
 use Rattle.runend_select.proofs.taken_runs.runs_by.Goals as goal
 

@@ -3,10 +3,10 @@ use Rattle.std.proofs.lemmas.List.{length-map}
 use Rattle.column_base.specs.Validity.{form_of}
 use Rattle.column_base.specs.ValidityForm.{flags}
 use Rattle.column_base.proofs.ValidityRows.{length-flags}
-use Rattle.runend_indices.specs.Indices.{AreInBounds, optional_indices}
+use Rattle.runend_select.specs.Indices.{AreInBounds, optional_indices}
 use Rattle.runend_select.proofs.TakenRuns.{runs-of_no_rows}
-use Rattle.array_rowwise.proofs.ComputedRows.{ok_then}
-use Rattle.array_rowwise.proofs.PassedOn.{no_value, only_error}
+use Rattle.runend_column.proofs.ComputedRows.{ok_then}
+use Rattle.runend_column.proofs.PassedOn.{no_value, only_error}
 use Rattle.runend_select.proofs.taken_runs.runs_of_indices.Goals as goal
 
 pub returns-then-is_empty-clause-only : goal.returns-then-is_empty-clause-only

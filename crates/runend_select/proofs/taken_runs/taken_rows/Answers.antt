@@ -2,8 +2,8 @@ use Rattle.std.proofs.Common.{length, ap, ◌∙◌}
 use Rattle.column_base.specs.Validity.{form_of}
 use Rattle.runend_array.specs.Column.{Column, column_rows}
 use Rattle.runend_select.proofs.TakenRuns.{fits-runs, positions-runs, rows-runs}
-use Rattle.array_rowwise.proofs.ComputedRows.{ok_then}
-use Rattle.array_rowwise.proofs.PassedOn.{no_value, only_error}
+use Rattle.runend_column.proofs.ComputedRows.{ok_then}
+use Rattle.runend_column.proofs.PassedOn.{no_value, only_error}
 use Rattle.runend_select.proofs.taken_runs.taken_rows.Goals as goal
 
 pub take_values-taken-requires-clause-counted : goal.take_values-taken-requires-clause-counted

@@ -7,9 +7,9 @@ use Rattle.column_base.specs.ValidityForm.{flags}
 use Rattle.column_base.proofs.ValidityRows.{length-flags}
 use Rattle.column_ops.specs.Take.{index_fault, take_fault}
 use Rattle.column_ops.proofs.IndexPositions.{first_fault-here, first_fault-next}
-use Rattle.runend_indices.specs.Indices.{optional_indices}
-use Rattle.runend_indices.proofs.Sorted.{AreSorted-all, AreSortedBefore-null, AreSortedBefore-valid}
-use Rattle.array_rowwise.proofs.PassedOn.{no_value}
+use Rattle.runend_select.specs.Indices.{optional_indices}
+use Rattle.runend_select.proofs.Sorted.{AreSorted-all, AreSortedBefore-null, AreSortedBefore-valid}
+use Rattle.runend_column.proofs.PassedOn.{no_value}
 use Rattle.runend_select.proofs.CheckedIndices.{length-indices}
 use Rattle.runend_select.proofs.PassedOn.{told-passed_on}
 use Rattle.runend_select.proofs.takes.check_each.Goals as goal

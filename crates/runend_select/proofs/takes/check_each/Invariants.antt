@@ -2,8 +2,8 @@ use Rattle.std.proofs.Common.{◌≡◌, length, take, true, None}
 use Rattle.column_base.specs.Validity.{form_of}
 use Rattle.column_base.specs.ValidityForm.{flags}
 use Rattle.column_ops.specs.Take.{take_fault}
-use Rattle.runend_indices.specs.Indices.{optional_indices}
-use Rattle.runend_indices.proofs.Sorted.{AreSortedBefore}
+use Rattle.runend_select.specs.Indices.{optional_indices}
+use Rattle.runend_select.proofs.Sorted.{AreSortedBefore}
 use Rattle.runend_select.proofs.takes.check_each.Given as goal
 
 -- the indices before this place are null or in bounds, and sorted where it says so

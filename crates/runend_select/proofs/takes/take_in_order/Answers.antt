@@ -4,11 +4,11 @@ use Rattle.column_base.specs.ValidityForm.{flags}
 use Rattle.runend_array.specs.Canonical.{canonical_column}
 use Rattle.runend_array.specs.Column.{Column, column_dtype, column_of_runs, column_rows}
 use Rattle.runend_windows.proofs.RunRows.{length-run_rows}
-use Rattle.runend_indices.specs.Indices.{optional_indices}
+use Rattle.runend_select.specs.Indices.{optional_indices}
 use Rattle.runend_select.specs.TakeForm.{TakeLeaves}
 use Rattle.runend_select.proofs.AllNull.{all_null, flat-taken, not_all_null, null_dtype, null_rows}
-use Rattle.array_rowwise.proofs.ComputedRows.{ok_then}
-use Rattle.array_rowwise.proofs.PassedOn.{no_value, only_error}
+use Rattle.runend_column.proofs.ComputedRows.{ok_then}
+use Rattle.runend_column.proofs.PassedOn.{no_value, only_error}
 use Rattle.runend_select.proofs.takes.take_in_order.Goals as goal
 
 pub returns-then-are_all_null-clause-rows : goal.returns-then-are_all_null-clause-rows

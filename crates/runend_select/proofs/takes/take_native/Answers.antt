@@ -8,9 +8,9 @@ use Rattle.runend_windows.proofs.RunRows.{length-run_rows}
 use Rattle.runend_array.specs.Array.{column_of}
 use Rattle.runend_select.specs.TakeForm.{TakeLeaves}
 use Rattle.runend_select.proofs.CheckedIndices.{AreInBounds-checked, same-fault, same-indices}
-use Rattle.array_rowwise.proofs.ComputedRows.{ok_then}
+use Rattle.runend_column.proofs.ComputedRows.{ok_then}
 use Rattle.runend_select.proofs.PassedOn.{first-none, first-told, told-passed_on}
-use Rattle.array_rowwise.proofs.PassedOn.{no_value, refused_by_none}
+use Rattle.runend_column.proofs.PassedOn.{no_value, refused_by_none}
 use Rattle.runend_select.proofs.takes.take_native.Goals as goal
 
 pub returns-in_err-sorted-clause-refused : goal.returns-in_err-sorted-clause-refused

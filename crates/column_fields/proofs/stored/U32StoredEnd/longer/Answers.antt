@@ -1,5 +1,5 @@
 use Rattle.std.proofs.Common.{ℕ, ◌∙◌, ap, arith, length}
-use Rattle.varints.specs.Varint.{varint}
+use Rattle.column_fields.specs.Varint.{varint}
 use Rattle.column_fields.proofs.LengthBytes.{long_u32}
 use Rattle.column_fields.proofs.stored.U32StoredEnd.longer.Goals as goal
 

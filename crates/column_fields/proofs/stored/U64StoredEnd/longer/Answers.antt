@@ -1,5 +1,5 @@
 use Rattle.std.proofs.Common.{ℕ, ap, arith, refl, length}
-use Rattle.varints.specs.Varint.{varint}
+use Rattle.column_fields.specs.Varint.{varint}
 use Rattle.column_fields.proofs.SizeLaws.{varint_bytes}
 use Rattle.column_fields.proofs.stored.U64StoredEnd.longer.Goals as goal
 

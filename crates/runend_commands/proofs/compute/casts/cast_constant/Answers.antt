@@ -7,7 +7,7 @@ use Rattle.column_ops.proofs.IndexPositions.{refused-passed_on}
 use Rattle.column_ops.specs.Cast.{cast_fault}
 use Rattle.runend_array.specs.Array.{column_of, rows}
 use Rattle.runend_array.specs.Column.{Column, OfConstant, column_rows, plain_of, repeated}
-use Rattle.array_rowwise.proofs.PassedOn.{refused_by_none}
+use Rattle.runend_column.proofs.PassedOn.{refused_by_none}
 use Rattle.runend_map.proofs.KeptRows.{if_ok}
 use Rattle.runend_commands.proofs.Constants.{cast_of_one, cast_single}
 use Rattle.runend_commands.proofs.compute.casts.cast_constant.Goals as goal

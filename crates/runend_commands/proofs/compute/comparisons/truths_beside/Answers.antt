@@ -3,8 +3,8 @@ use Rattle.std.specs.Prelude.{option_map}
 use Rattle.std.proofs.lemmas.List.{length-replicate}
 use Rattle.column_core.specs.ScalarForm.{ScalarForm}
 use Rattle.column_core.specs.Value.{FlatValue, Single}
-use Rattle.column_order.specs.CompareFault.{compare_scalar_fault}
-use Rattle.column_order.specs.Comparing.{compare_dtype, compare_with}
+use Rattle.column_ops.specs.CompareFault.{compare_scalar_fault}
+use Rattle.column_ops.specs.Comparing.{compare_dtype, compare_with}
 use Rattle.runend_array.specs.Array.{dtype_of, rows}
 use Rattle.runend_array.specs.Column.{OfConstant, column_rows}
 use Rattle.runend_map.proofs.ComparedRows.{constant_rows}

@@ -8,7 +8,7 @@ use Rattle.column_ops.proofs.IndexPositions.{refused-passed_on}
 use Rattle.column_ops.specs.Fill.{fill_dtype, fill_fault}
 use Rattle.runend_array.specs.Array.{column_of, dtype_of, rows}
 use Rattle.runend_array.specs.Column.{Column, OfConstant, column_dtype, column_rows, repeated}
-use Rattle.array_rowwise.proofs.PassedOn.{refused_by_none}
+use Rattle.runend_column.proofs.PassedOn.{refused_by_none}
 use Rattle.runend_map.proofs.KeptRows.{if_ok}
 use Rattle.runend_commands.specs.Meaning.{rows_filled}
 use Rattle.runend_commands.proofs.Constants.{fill_single, filled-repeated, row_filled}

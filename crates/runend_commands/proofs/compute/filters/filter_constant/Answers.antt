@@ -4,9 +4,9 @@ use Rattle.std.proofs.lemmas.List.{length-replicate}
 use Rattle.column_base.specs.Mask.{mask_bits}
 use Rattle.column_core.specs.Value.{Single}
 use Rattle.runend_array.specs.Column.{Constant, OfConstant, column_rows}
-use Rattle.array_rowwise.proofs.ConstantRows.{selected-constant}
-use Rattle.array_rowwise.proofs.FilterFaults.{fault_here}
-use Rattle.array_rowwise.proofs.FilterFaults as faults
+use Rattle.runend_column.proofs.ConstantRows.{selected-constant}
+use Rattle.runend_column.proofs.FilterFaults.{fault_here}
+use Rattle.runend_column.proofs.FilterFaults as faults
 use Rattle.runend_commands.proofs.compute.filters.filter_constant.Goals as goal
 
 pub returns-then-len-clause-refused : goal.returns-then-len-clause-refused

@@ -4,11 +4,11 @@ use Rattle.column_base.specs.declared.error.VortexError.{VortexError}
 use Rattle.column_core.specs.Refusal.{IsErrorFor}
 use Rattle.column_core.specs.Value.{IsLists, Single}
 use Rattle.column_ops.proofs.IndexPositions.{refused-passed_on}
-use Rattle.column_order.specs.CompareFault.{compare_scalar_fault}
-use Rattle.column_order.specs.Comparing.{compare_dtype, compare_with, compared}
+use Rattle.column_ops.specs.CompareFault.{compare_scalar_fault}
+use Rattle.column_ops.specs.Comparing.{compare_dtype, compare_with, compared}
 use Rattle.runend_array.specs.Array.{column_of, dtype_of, rows}
 use Rattle.runend_array.specs.Column.{Column, OfConstant, column_dtype, column_rows, repeated}
-use Rattle.array_rowwise.proofs.PassedOn.{refused_by_none}
+use Rattle.runend_column.proofs.PassedOn.{refused_by_none}
 use Rattle.runend_map.proofs.KeptRows.{if_ok}
 use Rattle.runend_commands.proofs.Constants.{compared-repeated}
 use Rattle.runend_commands.proofs.compute.scalar_comparisons.truth_of_constant.Goals as goal

@@ -1,7 +1,7 @@
 use Rattle.std.proofs.Common.{◌≡◌, ◌∙◌, length, refl, sym, ap}
 use Rattle.column_core.specs.FlatColumn.{leaf_of}
 use Rattle.column_core.specs.Leaf.{leaf_rows, single_rows}
-use Rattle.column_order.proofs.RowRanges.{length-single_rows}
+use Rattle.column_ops.proofs.RowRanges.{length-single_rows}
 use Rattle.runend_windows.specs.Ends.{ends_of}
 use Rattle.runend_column.proofs.VisibleWindow.{read_rows, read_shown, read_window}
 use Rattle.runend_map.proofs.ComparedRows.{own_rows}

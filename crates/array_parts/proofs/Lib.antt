@@ -1,3 +1,0 @@
-mod ListParts
-mod Parts
-mod Shown

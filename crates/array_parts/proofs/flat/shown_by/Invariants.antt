@@ -1,9 +1,0 @@
--- The bytes of the rows so far.
-use Rattle.std.proofs.Common.{◌≡◌, take}
-use Rattle.std.specs.Prelude.{sum_by}
-use Rattle.column_core.specs.Leaf.{OfVarBins, single_rows}
-use Rattle.array_parts.specs.BytesUsed.{in_usize, text_length}
-use Rattle.array_parts.proofs.flat.shown_by.Given as goal
-
-abbrev pub invariant-loop-row : goal.invariant-loop-row
-invariant-loop-row g l = l.bytes ≡ in_usize (sum_by text_length (take l.row (single_rows (OfVarBins l.texts))))

@@ -1,2 +1,0 @@
-pub mod BytesUsed
-pub mod ListParts

@@ -1,0 +1,3 @@
+pub mod PairEndings
+pub mod Answered
+pub mod GroupEndings

@@ -1,0 +1,6 @@
+pub mod Combined
+pub mod Tested
+pub mod Equal
+pub mod Chosen
+pub mod Hashed
+pub mod Grouped

@@ -1,4 +1,0 @@
-pub mod Rows
-pub mod Sums
-pub mod Orders
-pub mod Encodings

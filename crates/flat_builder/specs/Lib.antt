@@ -1,4 +1,0 @@
-pub mod Items
-pub mod OneRow
-pub mod Spans
-pub mod Texts

@@ -1,9 +1,0 @@
-pub mod Borrows
-pub mod Cuts
-pub mod Neighbours
-pub mod PlaceValues
-pub mod Products
-pub mod Results
-pub mod Roundings
-pub mod Sizes
-pub mod Tallies

@@ -1,5 +1,0 @@
-use Rattle.float_sums.proofs.PlaceValues.{value_of_add}
-use Rattle.float_sums.proofs.bins.add_at.Goals as goal
-
-pub returns-clause-value : goal.returns-clause-value
-returns-clause-value c = value_of_add _ _ _ c.requires.place

@@ -1,5 +1,0 @@
-use Rattle.float_sums.proofs.PlaceValues.{carries_nothing}
-use Rattle.float_sums.proofs.bins.settle.Goals as goal
-
-pub returns-clause-value : goal.returns-clause-value
-returns-clause-value c = carries_nothing _ _ c.carry.result _ c.carry.ensures.value c.requires.room

@@ -1,3 +1,0 @@
-pub mod BitRunsForm
-pub mod Blocks
-pub mod RunWriterForm

@@ -1,9 +1,0 @@
-use Rattle.std.proofs.Common.{sym}
-use Rattle.std.specs.Prelude.{option_map}
-use Rattle.runend_groups.specs.Answers.{greatest_of, is_at_least}
-use Rattle.runend_groups.proofs.Bounds.{at_least-order, bound_of-found}
-use Rattle.runend_groups.proofs.Picked.{each_given}
-use Rattle.runend_groups.proofs.extremes.GreatestFold.finish.Goals as goal
-
-pub returns : goal.returns
-returns g c = λ rows kept. (each_given (greatest_of rows), sym (bound_of-found is_at_least at_least-order rows (option_map g.T.NativePType.number c.args.self.now.found) kept))

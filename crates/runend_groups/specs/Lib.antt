@@ -1,4 +1,0 @@
-pub mod Groups
-pub mod Faults
-pub mod Sums
-pub mod Answers

@@ -1,3 +1,0 @@
-pub mod Payloads
-pub mod Records
-pub mod Writing

@@ -1,9 +1,0 @@
-use Rattle.std.proofs.Common.{length}
-use Rattle.runend_metadata.proofs.Records.{Progress}
-use Rattle.runend_metadata.proofs.metadata.read_numbers.Given as goal
-
-abbrev pub invariant-loop-rest : goal.invariant-loop-rest
-invariant-loop-rest l = Progress l.bytes l.rest l.ends_type l.runs l.offset
-
-abbrev pub decreases-loop-rest : goal.decreases-loop-rest
-decreases-loop-rest l = length l.rest

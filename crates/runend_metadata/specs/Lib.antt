@@ -1,4 +1,0 @@
-pub mod EndsType
-pub mod Fields
-pub mod Written
-pub mod Laws

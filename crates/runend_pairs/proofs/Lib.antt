@@ -1,0 +1,17 @@
+pub mod Walked
+pub mod Grown
+pub mod Placed
+pub mod AnswerColumns
+pub mod Faultless
+pub mod Mapped
+pub mod Same
+pub mod Picked
+pub mod Chosen
+pub mod Hashed
+pub mod WalkedGroups
+pub mod Answered
+pub mod Totals
+pub mod GroupPicked
+pub mod Bounds
+pub mod Refusals
+pub mod Encoded

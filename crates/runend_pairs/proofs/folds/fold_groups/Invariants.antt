@@ -1,0 +1,18 @@
+use Rattle.std.proofs.Common.{◌≡◌, ◌≤◌, length, map, vec_capacity}
+use Rattle.column_base.specs.ValidityForm.{flags}
+use Rattle.column_base.specs.Validity.{form_of}
+use Rattle.runend_windows.specs.Ends.{ends_of}
+use Rattle.runend_windows.specs.Window.{run_at}
+use Rattle.runend_pairs.specs.Groups.{first_row, shown_numbers}
+use Rattle.runend_pairs.proofs.Answered.{AreAnswered}
+use Rattle.runend_pairs.proofs.folds.fold_groups.Given as goal
+
+abbrev pub invariant-loop-group : goal.invariant-loop-group
+invariant-loop-group g l = record {
+  at : l.row ≡ first_row (ends_of l.groups) l.group;
+  here : l.run ≡ run_at (ends_of l.values.ends.now) l.row;
+  room : l.count ≤ vec_capacity l.items;
+  answered : AreAnswered g.N.NativePType.number g.S.Fold.gives g.S.Fold.answer_of (ends_of l.groups)
+      (shown_numbers (ends_of l.values.ends.now) (map g.T.NativePType.number l.values.items.now) (flags (form_of l.values.validity.now) (length l.values.items.now)))
+      l.group l.items.items l.flags;
+}

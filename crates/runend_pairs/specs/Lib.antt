@@ -1,0 +1,10 @@
+pub mod Zipped
+pub mod Operations
+pub mod Runs
+pub mod Answers
+pub mod Faults
+pub mod Hashes
+pub mod Groups
+pub mod GroupFaults
+pub mod Sums
+pub mod GroupAnswers

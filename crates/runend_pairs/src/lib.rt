@@ -1,0 +1,44 @@
+//! Two columns at once, by the runs of both: their rows worked pair by pair, and the rows of one grouped by runs of
+//! equal rows of the other.
+#![tactic(auto)]
+
+mod answers;
+mod booleans;
+mod choices;
+mod columns;
+mod comparisons;
+mod conditional;
+mod counts;
+mod ends;
+mod equality;
+mod extremes;
+mod fault;
+mod folds;
+mod group_fault;
+mod group_fold;
+mod grouped;
+mod hashes;
+mod negation;
+mod nulls;
+mod numbers;
+mod numerics;
+mod pairs;
+mod places;
+mod runs;
+mod stored;
+mod sums;
+mod values;
+
+pub use booleans::{BooleanOperator, boolean};
+pub use choices::{coalesce, greatest_of, least_of};
+pub use comparisons::compare;
+pub use conditional::if_else;
+pub use equality::equals;
+pub use fault::ZipError;
+pub use group_fault::GroupError;
+pub use group_fold::GroupFold;
+pub use grouped::{Groups, fold_by, sum_by};
+pub use hashes::{equal_rows_equal_hashes, hash};
+pub use negation::not;
+pub use nulls::{is_null, is_valid};
+pub use numerics::{NumericOperator, numeric};

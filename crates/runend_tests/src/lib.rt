@@ -1,0 +1,19 @@
+//! Tests of kernels over run columns against models that know of rows only.
+#![tactic(auto)]
+
+#[cfg(test)]
+mod columns;
+#[cfg(test)]
+mod dice;
+#[cfg(test)]
+mod plain;
+#[cfg(test)]
+mod refused;
+#[cfg(test)]
+mod sort_refused;
+#[cfg(test)]
+mod sort_trials;
+#[cfg(test)]
+mod texts;
+#[cfg(test)]
+mod trials;

@@ -1,5 +1,0 @@
-use Rattle.runend_zip.proofs.Hashed.{one_hash}
-use Rattle.runend_zip.proofs.hashes.equal_rows_equal_hashes.Goals as goal
-
-pub returns : goal.returns
-returns c = one_hash

@@ -1,4 +1,0 @@
-pub mod Varints
-pub mod Reading
-pub mod Shortest
-pub mod Forms
