@@ -77,7 +77,7 @@ fn runs_answer_as_rows() -> Result<(), Error> {
     Ok(())
 }
 
-/// The sum of each window of a hundred rows, by slices of the column that are made and dropped.
+/// Returns the sum of each window of a hundred rows, by slices of the column that are made and dropped.
 fn sums_of_windows(column: Column) -> Result<Vec<i128>, Error> {
     (0..column.len() - 100)
         .step_by(37)
@@ -153,7 +153,7 @@ fn columns_as_bytes() -> Result<(), Error> {
     Ok(())
 }
 
-/// The bytes of lists after this number of clones and slices, each of which has the same elements.
+/// Returns the bytes of lists after this number of clones and slices, each of which has the same elements.
 fn bytes_after_clones(own: Column) -> Result<Vec<u8>, Error> {
     for _ in 0..20_000 {
         let clone = own.try_clone()?;
@@ -181,7 +181,7 @@ fn threads_share_elements_of_lists() -> Result<(), Error> {
     Ok(())
 }
 
-/// Two numbers of u64 without null, as a message.
+/// Returns two numbers of u64 without null, as a message.
 fn two_numbers(numbers: [u64; 2]) -> Vec<u8> {
     let mut message = vec![8, 1, 16, 4, 24, 1, 32, 2, 40, 1, 58, 16];
     message.extend(numbers.iter().flat_map(|number| number.to_le_bytes()));

@@ -198,7 +198,7 @@ fn holds(row: i128, operator: Operator, tenths: i128) -> bool {
     }
 }
 
-/// Each operator with numbers in and past the type, in steps of a half; the last row is null, and stays so.
+/// Returns each operator with numbers in and past the type, in steps of a half; the last row is null, and stays so.
 fn check_all(column: &Column, items: &[i128]) -> Result<(), Error> {
     for operator in OPERATORS {
         for tenths in (-3000..=3000).step_by(5) {

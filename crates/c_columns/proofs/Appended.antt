@@ -28,7 +28,7 @@ pub value_grown : {T E : Type 0} (result : Result T E) (old new : Built) (scalar
 value_grown result old new scalar value text count same typed grown =
     subst (λ (s : ScalarForm). OnOk result (new ≡ with_rows old (replicate count (scalar_row s)))) same (column_grown result old new (replicate count (scalar_row scalar)) typed grown)
 
--- it is no value of the type, or there were too many rows
+-- it is not a value of the type, or there were too many rows
 pub no_value : (built : Built) (value : RowValue) (text : List ℕ) (count : ℕ) (error : VortexError) → IsShortOr (ConstantFault built.dtype value text) error → IsShortOr (PassedAppendFault built value text count) error
 no_value built value text count error (inl short) = inl short
 no_value built value text count error (inr wrong) = inr (inl wrong)

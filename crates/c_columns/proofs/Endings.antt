@@ -33,7 +33,7 @@ ends_done (Some error) code fields none is = absurd (cc)
 pub as_error : (error other : VortexError) (code : ℤ) (fields : ErrorFields) → error ≡ other → code ≡ pos (number_of error) → HasFields error fields → IsRefusedAs other code fields
 as_error error other code fields same is told = subst (λ (e : VortexError). IsRefusedAs e code fields) same (is, told)
 
--- refused: by the fault, or for want of memory
+-- refused: by the fault, or for memory
 pub ends_refused : (fault : Option VortexError) (error : VortexError) (code : ℤ) (fields : ErrorFields) → IsErrorFor fault error → code ≡ pos (number_of error) → HasFields error fields → EndsBy fault code fields
 ends_refused None error code fields (inl short) is told = inr (as_error error OutOfMemory code fields short is told)
 ends_refused None error code fields (inr found) is told = absurd (cc)

@@ -70,7 +70,7 @@ texts_are_single (column.Utf8 n) none = refl
 texts_are_single (column.Binary n) none = refl
 texts_are_single (column.List e n) none = absurd (cc)
 
--- so its part is no column of lists
+-- so its part is not a column of lists
 pub no_lists : (c : Column) (lists : Lists) (start stop : ℕ) → list_fault (column_dtype c) ≡ None → IsFlatPart c start stop (OfLists lists) → ⊥
 no_lists c lists start stop single part = let none : list_fault (column_dtype (OfLists lists)) ≡ None = ap list_fault part.dtype ∙ single in absurd (cc)
 

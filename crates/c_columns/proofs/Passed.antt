@@ -162,7 +162,7 @@ pub value_served : (dtype : DType) (value : RowValue) (text : List ℕ) (owned :
 value_served dtype value text owned (Ok scalar) some types accepts = λ error. no_fault dtype value.kind value text error some ((types dtype).0 (accepts.0 refl))
 value_served dtype value text owned (Err error) some types accepts = tt
 
--- what is passed is no value of any type
+-- what is passed is not a value of any type
 pub given_refused : (dtype : DType) (value : RowValue) (text : List ℕ) (error : VortexError) → (value.kind ≡ 0 → ⊥) → (error ≡ OutOfMemory) ⊎ ((error ≡ TypeMismatch) × ((t : DType) → ¬ IsPassedIn t value.kind value text))
     → IsShortOr (ConstantFault dtype value text) error
 given_refused dtype value text error some (inl short) = inl short

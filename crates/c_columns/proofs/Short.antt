@@ -1,4 +1,4 @@
--- Refusals for want of memory: where one is passed on, and where there can be none.
+-- Refusals for memory: where one is passed on, and where there can be none.
 use Rattle.std.proofs.Common.{◌≡◌, ◌≢◌, ◌∙◌, ◌⊎◌, inl, inr, length, refl, sym, ap, subst, pos, ℤ, ℕ, Ok, Err}
 use Rattle.std.specs.Prelude.{Option, Some, None, Result, IfErr, IfOk, IsErrAnd, nat_abs, nat_eq, true}
 use Rattle.std.proofs.lemmas.Bool.{false≢true}
@@ -22,7 +22,7 @@ use Rattle.c_columns.specs.declared.sessions.Session.{Session}
 abbrev Held : Type 0
 Held = Option (ArrayRef Global)
 
--- an error that is passed on for want of memory was that
+-- an error that is passed on for memory was that
 pub passed_short : {T : Type 0} (error : VortexError) (result : Result T VortexError) → IsErrAnd result (λ e. e ≡ error) → result ≡ Err OutOfMemory → error ≡ OutOfMemory
 passed_short error (Ok value) passed short = absurd passed
 passed_short error (Err other) passed short = let same : other ≡ OutOfMemory = cc in sym passed ∙ same
@@ -91,7 +91,7 @@ pub extremes_never_short : {T : Type 0} (s : Session) (c : Held) (a : ArrayRef G
 extremes_never_short s c a outcome error code some memory was number =
     subst (λ (h : Held). IsExtremeNeverShortOn s h code) (sym some) (λ plain read short. memory plain read (was ∙ ap (λ (e : VortexError). Err e) (refused_short error code number short)))
 
--- a row that has no room is not refused for want of memory
+-- a row that has no room is not refused for memory
 room_not_short : (value : Option Value) (room : ℕ) (error : VortexError) → IsRoomFault value room error → error ≢ OutOfMemory
 room_not_short None room error fault = absurd fault
 room_not_short (Some (Single (Number number))) room error fault = absurd fault

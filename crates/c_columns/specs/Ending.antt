@@ -46,7 +46,7 @@ HasFields error f = AreFields f 0 0 0
 abbrev pub IsRefusedAs : VortexError → ℤ → ErrorFields → Type 0
 IsRefusedAs error code fields = (code ≡ pos (number_of error)) × HasFields error fields
 
--- the call ends by this fault, or for want of memory; where there is no fault, with 0 or for want of memory
+-- the call ends by this fault, or for memory; where there is no fault, with 0 or for memory
 abbrev pub EndsBy : Option VortexError → ℤ → ErrorFields → Type 0
 EndsBy None code fields = (code ≡ pos 0) ⊎ IsRefusedAs OutOfMemory code fields
 EndsBy (Some error) code fields = IsRefusedAs OutOfMemory code fields ⊎ IsRefusedAs error code fields
@@ -55,11 +55,11 @@ EndsBy (Some error) code fields = IsRefusedAs OutOfMemory code fields ⊎ IsRefu
 abbrev pub IsShortOr : (VortexError → Type 0) → VortexError → Type 0
 IsShortOr Fault error = (error ≡ OutOfMemory) ⊎ Fault error
 
--- the call ends with 0, or for want of memory, or by a fault of this kind
+-- the call ends with 0, or for memory, or by a fault of this kind
 abbrev pub EndsAs : (VortexError → Type 0) → ℤ → ErrorFields → Type 0
 EndsAs Fault code fields = (code ≡ pos 0) ⊎ ((error : VortexError) × IsShortOr Fault error × IsRefusedAs error code fields)
 
--- the call ends with 0, and has no fault of this kind; or for want of memory, or by such a fault
+-- the call ends with 0, and has no fault of this kind; or for memory, or by such a fault
 abbrev pub EndsUnless : (VortexError → Type 0) → ℤ → ErrorFields → Type 0
 EndsUnless Fault code fields =
     ((code ≡ pos 0) × ((error : VortexError) → ¬ Fault error)) ⊎ ((error : VortexError) × IsShortOr Fault error × IsRefusedAs error code fields)
@@ -99,7 +99,8 @@ abbrev pub EndsOnGiven : Option (ArrayRef Global) → Result (Command Global) Vo
 EndsOnGiven None given code fields = code ≡ pos 22
 EndsOnGiven (Some c) given code fields = EndsBy (fault_given given c) code fields
 
--- how a call ends that passes a scalar: with 12 where it is no value of the column's type, else by the fault of the command that is made of it
+-- how a call ends that passes a scalar: with 12 where it is not a value of the column's type, else by the fault of the
+-- command that is made of it
 abbrev pub EndsByPassed : Type 0 → Option VortexError → ℤ → ErrorFields → Type 0
 EndsByPassed Given fault code fields = ((¬ Given) × IsRefusedAs TypeMismatch code fields) ⊎ IsRefusedAs OutOfMemory code fields ⊎ (Given × EndsBy fault code fields)
 
@@ -162,7 +163,7 @@ EndsOnEnds least_room greatest_room None code fields = code ≡ pos 22
 EndsOnEnds least_room greatest_room (Some c) code fields =
     ((code ≡ pos 0) × (refusal {A = Global} (plain c) MinMax ≡ None)) ⊎ ((error : VortexError) × IsEndsFault (plain c) least_room greatest_room error × IsRefusedAs error code fields)
 
--- how a call ends that has no fault: with 0, for want of memory, or with 22 where the handle is empty
+-- how a call ends that has no fault: with 0, for memory, or with 22 where the handle is empty
 abbrev pub EndsAlways : Option (ArrayRef Global) → ℤ → ErrorFields → Type 0
 EndsAlways None code fields = code ≡ pos 22
 EndsAlways (Some c) code fields = EndsBy None code fields

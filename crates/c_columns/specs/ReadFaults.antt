@@ -120,7 +120,8 @@ positive_bits I64 = 63
 abbrev pub offset_fault : PType → ℕ → Option VortexError
 offset_fault ptype offset = cond (nat_lt offset (2 ^ positive_bits ptype)) None (Some CastOutOfRange)
 
--- offsets of so many rows, from row `start` on, with room for so many, which is one more than rows: the last is the largest
+-- offsets of so many rows, from row `start` on, with room for so many, which is one more than rows: the last is the
+-- largest
 abbrev pub offsets_room_fault : PType → ℕ → ℕ → ℕ → ℕ → Option VortexError
 offsets_room_fault ptype start room count size = cond (nat_eq room 0) (Some (BadRange start start count)) (option_or (past_fault start (room - 1) count) (offset_fault ptype size))
 
@@ -163,7 +164,7 @@ abbrev pub IsRefusedIn : {T : Type 0} → Column → Option VortexError → Resu
 IsRefusedIn (OfLeaf leaf) fault result = IsRefusedOnlyBy fault result
 IsRefusedIn c fault result = IsRefusedBy fault result
 
--- the call on such a column ends by this fault, and on any other by this or for want of memory
+-- the call on such a column ends by this fault, and on any other by this or for memory
 abbrev pub EndsIn : Column → Option VortexError → ℤ → ErrorFields → Type 0
 EndsIn (OfLeaf leaf) fault code fields = EndsOnlyBy fault code fields
 EndsIn c fault code fields = EndsBy fault code fields

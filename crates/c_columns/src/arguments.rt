@@ -10,8 +10,8 @@ use runend_array::ArrayRef;
 use runend_commands::Command;
 use std::alloc::Global;
 
-/// The comparison with the value that is passed, in the type of the column. Refused as `TypeMismatch` where it is
-/// no value of the type, else for want of memory alone.
+/// Returns the comparison with the value that is passed, in the type of the column. Refused as `TypeMismatch` where it
+/// is not a value of the type, else only for memory.
 pub fn compare_scalar_command(
     alloc: Global,
     operator: CompareOperator,
@@ -28,8 +28,8 @@ pub fn compare_scalar_command(
     }
 }
 
-/// The filling of nulls with the value that is passed, in the type of the column. Refused as `TypeMismatch` where
-/// it is no value of the type, else for want of memory alone.
+/// Returns the filling of nulls with the value that is passed, in the type of the column. Refused as `TypeMismatch`
+/// where it is not a value of the type, else only for memory.
 pub fn fill_command(
     alloc: Global,
     array: &ArrayRef<Global>,

@@ -8,7 +8,7 @@ ghost use Rattle.c_columns.specs.Bits.{HasBits, bit_in, bits_fault, bits_in, val
 use column_core::{BitBuffer, BitBufferMut, Validity, VortexError, VortexResult};
 use std::alloc::Global;
 
-/// The validity of so many rows, by `nulls`: 0, the type has no null; 1, it has null and no row is null; any
+/// Returns the validity of so many rows, by `nulls`: 0, the type has no null; 1, it has null and no row is null; any
 /// other, by the bits from `first` on. Refused as `bits_of`.
 pub fn validity_of(
     alloc: Global,
@@ -49,7 +49,7 @@ pub fn bits_of(
     copy_bits(alloc, bytes, first, count)
 }
 
-// So many bits that are there. Refused for want of memory alone.
+// So many bits that are there. Refused only for memory.
 #[tactic(auto, using(crate::proofs::CountedRows::counted_bits))]
 fn copy_bits(
     alloc: Global,

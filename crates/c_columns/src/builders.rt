@@ -22,7 +22,7 @@ use std::sync::Arc;
 /// A builder on the heap.
 pub type BoxedBuilder = Box<RunBuilder<Global>>;
 
-/// The run column of the encoding of the rows. Refused as `Unsupported` exactly for lists.
+/// Returns the run column of the encoding of the rows. Refused as `Unsupported` exactly for lists.
 pub fn encoded_rows(alloc: Global, array: &ArrayRef<Global>) -> VortexResult<Boxed>
     ensures made { IfOk result (λ made. AreEncoded array.now made.value) }
     ensures refused { IsRefusedBy (encoding_fault (column_of array.now)) result }
@@ -31,7 +31,7 @@ pub fn encoded_rows(alloc: Global, array: &ArrayRef<Global>) -> VortexResult<Box
     boxed_runs(alloc, runs)
 }
 
-/// A builder of rows of this type, without rows. Refused as `Unsupported` exactly for lists.
+/// Returns a builder of rows of this type, without rows. Refused as `Unsupported` exactly for lists.
 pub fn new_builder(alloc: Global, dtype: DType) -> VortexResult<BoxedBuilder>
     ensures empty { IfOk result (λ made. made.value ≡ built_with dtype []) }
     ensures refused { IsRefusedBy (list_fault dtype) result }
@@ -79,7 +79,7 @@ pub fn append_passed(
     appended
 }
 
-/// The run column of the encoding of all rows so far, which the builder keeps. Refused for want of memory alone.
+/// Returns the run column of the encoding of all rows so far, which the builder keeps. Refused only for memory.
 pub fn encoding_of(alloc: Global, builder: &RunBuilder<Global>) -> VortexResult<Boxed>
     ensures made { IfOk result (λ made. AreBuilt builder.now made.value) }
     ensures only { IsOkUnless result VortexError.OutOfMemory }
@@ -88,9 +88,9 @@ pub fn encoding_of(alloc: Global, builder: &RunBuilder<Global>) -> VortexResult<
     boxed_runs(alloc, runs)
 }
 
-/// The run column of the encoding of all rows so far, which leave the builder; it has no rows after, and its type
-/// stays. Refused for want of memory alone, and then the builder stays as it is: the blocks of the answer are taken
-/// before the rows leave.
+/// Returns the run column of the encoding of all rows so far, which leave the builder; it has no rows after, and its
+/// type stays. Refused only for memory, and then the builder stays as it is: the blocks of the answer are
+/// taken before the rows leave.
 pub fn finished(alloc: Global, builder: &mut RunBuilder<Global>) -> VortexResult<Boxed>
     ensures made { IfOk result (λ made. AreBuilt builder.old made.value) }
     ensures only { IsOkUnless result VortexError.OutOfMemory }
@@ -104,8 +104,8 @@ pub fn finished(alloc: Global, builder: &mut RunBuilder<Global>) -> VortexResult
     Ok(place)
 }
 
-// The encoding of all rows, which leave the builder, is put in the place of other runs. Refused for want of memory
-// alone, and then the builder stays as it is; nothing else holds the runs, so that they are never refused as shared.
+// The encoding of all rows, which leave the builder, is put in the place of other runs. Refused only for memory, and
+// then the builder stays as it is; nothing else holds the runs, so that they are never refused as shared.
 fn finish_into(
     alloc: Global,
     builder: &mut RunBuilder<Global>,

@@ -17,7 +17,7 @@ use runend_array::ArrayRef;
 use runend_commands::{Command, StepResult, kept_outcome_of};
 use std::alloc::Global;
 
-/// A command on the column of a handle, which stays. What it leaves is put into `out`.
+/// Returns a command on the column of a handle, which stays. What it leaves is put into `out`.
 #[tactic(auto, using(crate::proofs::Endings::given_empty, crate::proofs::Endings::given_done, crate::proofs::Endings::given_refused))]
 pub fn apply(
     alloc: Global,

@@ -17,7 +17,7 @@ use std::alloc::Global;
 /// A column on the heap.
 pub type Boxed = Box<ArrayRef<Global>>;
 
-/// Puts a column on the heap. Refused for want of memory alone.
+/// Puts a column on the heap. Refused only for memory.
 pub fn boxed(alloc: Global, array: ArrayRef<Global>) -> VortexResult<Boxed>
     ensures only { IsOkUnless result VortexError.OutOfMemory }
     ensures column { IfOk result (λ made. made.value ≡ array) }
@@ -25,7 +25,7 @@ pub fn boxed(alloc: Global, array: ArrayRef<Global>) -> VortexResult<Boxed>
     Ok(Box::new(alloc, array)?)
 }
 
-/// The flat column of these numbers. Refused as the bits of its validity are.
+/// Returns the flat column of these numbers. Refused as the bits of its validity are.
 pub fn numbers<T: NativePType>(
     alloc: Global,
     items: &[T],
@@ -44,8 +44,8 @@ pub fn numbers<T: NativePType>(
     boxed(alloc, ArrayRef::Primitive(array))
 }
 
-/// The flat column of `count` booleans, the first of which is bit `start` of `truths`. Refused as the bits
-/// of its validity are, and then as these bits.
+/// Returns the flat column of `count` booleans, the first of which is bit `start` of `truths`. Refused as the bits of
+/// its validity are, and then as these bits.
 pub fn booleans(
     alloc: Global,
     truths: &[u8],
@@ -66,7 +66,7 @@ pub fn booleans(
     boxed(alloc, ArrayRef::Bool(array))
 }
 
-/// The flat column of these decimals. Refused as the bits of its validity are.
+/// Returns the flat column of these decimals. Refused as the bits of its validity are.
 pub fn decimals(
     alloc: Global,
     pairs: &[Pair],

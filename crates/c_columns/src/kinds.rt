@@ -17,7 +17,7 @@ pub struct Kind {
     pub scale: i8,
 }
 
-/// The type that C names, or `None` where the number is of no type, or of lists.
+/// Returns the type that C names, or `None` where the number is of no type, or of lists.
 pub fn dtype_of(kind: &Kind) -> Option<DType>
     ensures { result ≡ dtype_by kind.now.number kind.now }
 {
@@ -40,7 +40,7 @@ pub fn dtype_of(kind: &Kind) -> Option<DType>
     }
 }
 
-/// The type for C. Of lists it has no more than that they are lists.
+/// Returns the type for C. For lists it has no more than that they are lists.
 pub fn kind_of(dtype: DType) -> Kind
     ensures { IsKindOf dtype result }
 {
@@ -59,7 +59,7 @@ pub fn kind_of(dtype: DType) -> Kind
     }
 }
 
-/// What is answered where there is no column.
+/// Returns what is answered where there is no column.
 pub fn no_kind() -> Kind
     ensures { result.number ≡ 255 }
 {
@@ -71,7 +71,7 @@ pub fn no_kind() -> Kind
     }
 }
 
-/// The operator of a number.
+/// Returns the operator of a number.
 pub fn operator_by(number: u8) -> Option<CompareOperator>
     ensures { result ≡ operator_by_number number }
 {
@@ -97,7 +97,7 @@ pub fn varbin_kind(binary: u8) -> VarBinKind
     }
 }
 
-/// Is the flag not 0?
+/// Returns whether the flag is not 0.
 pub fn is_set(flag: u8) -> bool
     ensures { result ≡ flag_of flag }
 {

@@ -15,8 +15,8 @@ use runend_array::ArrayRef;
 use runend_column::{list_elements, list_offsets, list_sizes, list_validity, lists_over};
 use std::alloc::Global;
 
-/// The lists of which row i has `sizes[i]` of the elements, from `offsets[i]` on. Refused as the bits of its validity
-/// are, and then as `lists_over` refuses.
+/// Returns the lists of which row i has `sizes[i]` of the elements, from `offsets[i]` on. Refused as the bits of its
+/// validity are, and then as `lists_over` refuses.
 #[tactic(auto, using(crate::proofs::ListsPassed::bits_refused, crate::proofs::ListsPassed::parts_refused))]
 pub fn lists(
     alloc: Global,
@@ -40,7 +40,7 @@ pub fn lists(
     boxed(alloc, lists)
 }
 
-/// The elements of all lists. Refused as `Unsupported` unless the column lies as lists.
+/// Returns the elements of all lists. Refused as `Unsupported` unless the column lies as lists.
 pub fn elements_of(alloc: Global, array: &ArrayRef<Global>) -> VortexResult<Boxed>
     ensures made { IfOk result (λ made. AreElementsOf (column_of array.now) (column_of made.value)) }
     ensures refused { IsRefusedBy (no_lists_fault (column_of array.now)) result }
@@ -58,7 +58,7 @@ pub fn offsets_of(alloc: Global, array: &ArrayRef<Global>) -> VortexResult<Boxed
     boxed(alloc, offsets)
 }
 
-/// How many elements each list has. Refused as `elements_of`.
+/// Returns how many elements each list has. Refused as `elements_of`.
 pub fn sizes_of(alloc: Global, array: &ArrayRef<Global>) -> VortexResult<Boxed>
     ensures made { IfOk result (λ made. AreSizesOf (column_of array.now) (column_of made.value)) }
     ensures refused { IsRefusedBy (no_lists_fault (column_of array.now)) result }
@@ -67,7 +67,7 @@ pub fn sizes_of(alloc: Global, array: &ArrayRef<Global>) -> VortexResult<Boxed>
     boxed(alloc, sizes)
 }
 
-/// Whether each list is valid, as booleans. Refused as `elements_of`.
+/// Returns whether each list is valid, as booleans. Refused as `elements_of`.
 pub fn flags_of(alloc: Global, array: &ArrayRef<Global>) -> VortexResult<Boxed>
     ensures made { IfOk result (λ made. AreFlagsOf (column_of array.now) (column_of made.value)) }
     ensures refused { IsRefusedBy (no_lists_fault (column_of array.now)) result }

@@ -18,8 +18,8 @@ use column_core::{
 use runend_array::{ArrayRef, Canonical, ConstantArray};
 use std::alloc::Global;
 
-/// Which rows are true; null is not. A constant takes no memory, and stored bits are shared where they say it. Refused
-/// as `TypeMismatch` unless the rows are booleans, else for want of memory alone.
+/// Returns which rows are true; null is not. A constant takes no memory, and stored bits are shared where they say it.
+/// Refused as `TypeMismatch` unless the rows are booleans, else only for memory.
 pub fn mask_of(alloc: Global, array: &ArrayRef<Global>) -> VortexResult<Mask<Global>>
     ensures mask { IfOk result (λ mask. mask_bits mask ≡ map is_true (rows array.now)) }
     ensures refused { IsRefusedBy (mask_fault (dtype_of array.now)) result }
@@ -43,7 +43,7 @@ fn mask_of_truths(alloc: Global, array: &ArrayRef<Global>) -> VortexResult<Mask<
     }
 }
 
-// The rows of a flat column that are true. Refused for want of memory alone.
+// The rows of a flat column that are true. Refused only for memory.
 #[tactic(auto, using(crate::proofs::MaskRows::never_null, crate::proofs::MaskRows::none_null, crate::proofs::MaskRows::all_null))]
 fn mask_of_flat(alloc: Global, truths: &BoolArray<Global>) -> VortexResult<Mask<Global>>
     ensures mask { IfOk result (λ mask. mask_bits mask ≡ map is_true (single_rows (OfTruths truths.now))) }
@@ -166,7 +166,7 @@ fn mask_of_constant(constant: &ConstantArray<Global>) -> Mask<Global>
     }
 }
 
-/// Is the row true? Null is not.
+/// Returns whether the row is true. Null is not.
 pub(crate) fn is_selected(row: ScalarView<'_, Global>) -> bool
     ensures { result ≡ is_true (sees row.entry) }
 {

@@ -16,14 +16,14 @@ pub struct Pair {
 /// 2^64.
 const UNIT: i128 = 18_446_744_073_709_551_616;
 
-/// The number of two halves.
+/// Returns the number of two halves.
 pub fn number_of(pair: Pair) -> i128
     ensures { result ≡ number_in pair }
 {
     i128::from(pair.high) * UNIT + i128::from(pair.low)
 }
 
-/// The halves of a number.
+/// Returns the halves of a number.
 pub fn pair_of(number: i128) -> Pair
     ensures { number ≡ number_in result }
 {
@@ -33,7 +33,7 @@ pub fn pair_of(number: i128) -> Pair
     }
 }
 
-/// The numbers of these pairs. Refused for want of memory alone.
+/// Returns the numbers of these pairs. Refused only for memory.
 pub fn numbers_of(alloc: Global, pairs: &[Pair]) -> VortexResult<Vec<i128>>
     ensures numbers { IfOk result (λ numbers. numbers.items ≡ map number_in pairs.now) }
     ensures only { IsOkUnless result VortexError.OutOfMemory }

@@ -31,7 +31,8 @@ pub struct Extremes {
     pub greatest: RowValue,
 }
 
-/// The sum of the rows. Refused as the command is, and never for want of memory where the rows are read in place.
+/// Returns the sum of the rows. Refused as the command is, and never for memory where the rows are read in
+/// place.
 pub fn sum_of(alloc: Global, session: &Session, array: &ArrayRef<Global>) -> VortexResult<Total>
     ensures told { IfOk result (λ total. IsTotalOf (dtype_of array.now) (rows array.now) total) }
     ensures refused { IsRefusedBy (refusal {A = Global} (plain array.now) Sum) result }
@@ -43,7 +44,7 @@ pub fn sum_of(alloc: Global, session: &Session, array: &ArrayRef<Global>) -> Vor
     Ok(total_of(sum))
 }
 
-/// Whether any two rows are equal, as a byte. Refused as the command is, and never for want of memory where the
+/// Returns whether any two rows are equal, as a byte. Refused as the command is, and never for memory where the
 /// rows are read in place.
 #[tactic(auto, using(crate::proofs::Left::tells_of))]
 pub fn is_constant(alloc: Global, session: &Session, array: &ArrayRef<Global>) -> VortexResult<u8>
@@ -57,8 +58,8 @@ pub fn is_constant(alloc: Global, session: &Session, array: &ArrayRef<Global>) -
     Ok(byte_of(truth))
 }
 
-/// Whether the rows are sorted, as a byte. Refused as the command is, and never for want of memory where the rows
-/// are read in place.
+/// Returns whether the rows are sorted, as a byte. Refused as the command is, and never for memory where the
+/// rows are read in place.
 #[tactic(auto, using(crate::proofs::Left::tells_of))]
 pub fn is_sorted(
     alloc: Global,
@@ -76,9 +77,9 @@ pub fn is_sorted(
     Ok(byte_of(truth))
 }
 
-/// The least or the greatest row that is not null, or null where all are. A text or bytes go to the front of
-/// `text`. Refused as the command is, and as `row_value_of`; but for texts and bytes never for want of memory where
-/// the rows are read in place.
+/// Returns the least or the greatest row that is not null, or null where all are. A text or bytes go to the front of
+/// `text`. Refused as the command is, and as `row_value_of`; but for texts and bytes never for memory where the
+/// rows are read in place.
 #[tactic(auto, using(crate::proofs::Extremes::refused_extreme, crate::proofs::Extremes::short_extreme, crate::proofs::Told::none_told))]
 pub fn extreme_of(
     alloc: Global,
@@ -110,9 +111,9 @@ pub fn extreme_of(
     }
 }
 
-/// The least and the greatest row that are not null, or null twice where all are. A text or bytes of each go to the
-/// front of a buffer of its own. Refused as `Unsupported` for lists, and as `row_value_of`, of the least where neither
-/// has room; but for texts and bytes never for want of memory where the rows are read in place.
+/// Returns the least and the greatest row that are not null, or null twice where all are. A text or bytes of each go to
+/// the front of a buffer of its own. Refused as `Unsupported` for lists, and as `row_value_of`, of the least where
+/// neither has room; but for texts and bytes never for memory where the rows are read in place.
 #[tactic(auto, using(crate::proofs::Told::least_of_both, crate::proofs::Told::greatest_of_both, crate::proofs::Told::both_short, crate::proofs::Told::both_refused, crate::proofs::Told::both_accepted, crate::proofs::Told::none_told))]
 pub fn extremes_of(
     alloc: Global,
@@ -146,7 +147,7 @@ pub fn extremes_of(
     }
 }
 
-/// The row at `row`, which takes no memory. A text or bytes go to the front of `text`. Refused as the look-up
+/// Returns the row at `row`, which takes no memory. A text or bytes go to the front of `text`. Refused as the look-up
 /// of a row is, and then as `row_value_of`.
 #[tactic(auto, using(crate::proofs::LookUps::refused_lists, crate::proofs::LookUps::outside_fault, crate::proofs::LookUps::room_fault, crate::proofs::LookUps::no_fault, crate::proofs::Told::row_told))]
 pub fn row_at(array: &ArrayRef<Global>, row: usize, text: &mut [u8]) -> VortexResult<RowValue>

@@ -25,7 +25,7 @@ impl<T: Drop, A: Allocator> RawBox<T, A> {
         RawBox { at, alloc }
     }
 
-    /// The box again.
+    /// Returns the box again.
     pub fn from_raw(self) -> Box<T, A>
         ensures { result.value ≡ self.value }
     {

@@ -26,7 +26,7 @@ pub struct RowValue {
     pub truth: u8,
 }
 
-/// What a view shows, for C. A text or bytes go to the front of `text`, and `as_unsigned` says how many there
+/// Returns what a view shows, for C. A text or bytes go to the front of `text`, and `as_unsigned` says how many there
 /// are; refused as `ColumnLength`, with that number and the room, where they have no room there.
 pub fn row_value_of(view: ScalarView<'_, Global>, text: &mut [u8]) -> VortexResult<RowValue>
     ensures told { IfOk result (λ value. TellsView value text.new view.entry) }
@@ -77,8 +77,8 @@ pub fn put_bytes(bytes: &[u8], room: &mut [u8]) -> VortexResult<u64>
     Ok(size as u64)
 }
 
-/// The scalar that C passes, of the type of a column, nullable for null alone. `text` has the bytes of a text. Refused
-/// as `TypeMismatch` where it is no value of the type, or the bytes are not UTF-8.
+/// Returns the scalar that C passes, of the type of a column, nullable for null alone. `text` has the bytes of a text.
+/// Refused as `TypeMismatch` where it is not a value of the type, or the bytes are not UTF-8.
 pub fn scalar_of(
     alloc: Global,
     array: &ArrayRef<Global>,
@@ -101,8 +101,8 @@ pub fn scalar_of(
     )
 }
 
-/// The scalar of this type that C passes. `text` has the bytes of a text. Refused as `NullNotAllowed` for null in a
-/// type without null, and as `TypeMismatch` where it is no value of the type, or the bytes are not UTF-8.
+/// Returns the scalar of this type that C passes. `text` has the bytes of a text. Refused as `NullNotAllowed` for null
+/// in a type without null, and as `TypeMismatch` where it is not a value of the type, or the bytes are not UTF-8.
 #[tactic(auto, using(crate::proofs::Passed::null_refused, crate::proofs::Passed::value_refused, crate::proofs::Passed::given_refused, crate::proofs::Passed::null_served, crate::proofs::Passed::value_served))]
 pub fn scalar_of_type(
     alloc: Global,
@@ -122,7 +122,7 @@ pub fn scalar_of_type(
     Scalar::try_new(dtype, Some(given))
 }
 
-// The value that is passed, which is no null.
+// The value that is passed, which is not null.
 #[tactic(auto, using(crate::proofs::Passed::unsigned_passed, crate::proofs::Passed::signed_passed, crate::proofs::Passed::truth_passed, crate::proofs::Passed::decimal_passed, crate::proofs::Passed::text_passed, crate::proofs::Passed::bytes_passed, crate::proofs::Passed::not_text_passed))]
 fn value_of(alloc: Global, value: &RowValue, text: &[u8]) -> VortexResult<ScalarValue<Global>>
     ensures value { IfOk result (λ owned. value_in value.now.kind value.now text.now ≡ Some (flat_of owned)) }

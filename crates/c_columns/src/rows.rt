@@ -14,9 +14,9 @@ use crate::words::{check_range, put_bits, put_same};
 use column_core::{FlatView, NativePType, Validity, VortexError, VortexResult};
 use std::alloc::Global;
 
-/// The numbers that a flat column stores, from `start` on, as many as there are `items`. Refused as
-/// `Unsupported` where it is no flat column of integers, as `TypeMismatch` where it is one of another type,
-/// and as `BadRange` where the rows do not reach.
+/// Returns the numbers that a flat column stores, from `start` on, as many as there are `items`. Refused as
+/// `Unsupported` where it is not a flat column of integers, as `TypeMismatch` where it is one of another type, and as
+/// `BadRange` where the rows do not reach.
 #[tactic(auto, using(crate::proofs::ReadRefusals::numbers_of_type, crate::proofs::ReadRefusals::numbers_of_other))]
 pub fn read_numbers<T: NativePType>(
     flat: FlatView<'_, Global>,
@@ -39,8 +39,8 @@ pub fn read_numbers<T: NativePType>(
     Ok(())
 }
 
-/// The decimals that a flat column stores, from `start` on, as many as there are `pairs`. Refused as
-/// `Unsupported` where it is no flat column of decimals, and as `BadRange` where the rows do not reach.
+/// Returns the decimals that a flat column stores, from `start` on, as many as there are `pairs`. Refused as
+/// `Unsupported` where it is not a flat column of decimals, and as `BadRange` where the rows do not reach.
 pub fn read_decimals(
     flat: FlatView<'_, Global>,
     start: usize,
@@ -59,8 +59,8 @@ pub fn read_decimals(
     Ok(())
 }
 
-/// The bits of the booleans that a flat column stores, 64 to a word. Refused as `Unsupported` where it is
-/// no flat column of booleans, and as `ColumnLength` for another number of words.
+/// Returns the bits of the booleans that a flat column stores, 64 to a word. Refused as `Unsupported` where it is not a
+/// flat column of booleans, and as `ColumnLength` for another number of words.
 pub fn read_booleans(flat: FlatView<'_, Global>, words: &mut [u64]) -> VortexResult<()>
     ensures words { IfOk result (λ _. AreLeafTruths (leaf_in flat.entry) words.new) }
     ensures refused { IsRefusedOnlyBy (stored_truths_fault (length words.old) (leaf_in flat.entry)) result }
@@ -72,8 +72,8 @@ pub fn read_booleans(flat: FlatView<'_, Global>, words: &mut [u64]) -> VortexRes
     }
 }
 
-/// A bit for each row of a flat column, 64 to a word: whether it is valid. Refused as `ColumnLength` for another
-/// number of words.
+/// Returns a bit for each row of a flat column, 64 to a word: whether it is valid. Refused as `ColumnLength` for
+/// another number of words.
 pub fn read_validity(flat: FlatView<'_, Global>, words: &mut [u64]) -> VortexResult<()>
     ensures words { IfOk result (λ _. AreLeafFlags (leaf_in flat.entry) words.new) }
     ensures refused { IsRefusedOnlyBy (words_fault (leaf_count (leaf_in flat.entry)) (length words.old)) result }

@@ -21,7 +21,7 @@ use runend_array::{ArrayRef, RunEnd, RunEndArray, RunEndArrayExt, RunEndArraySlo
 use runend_column::{deserialize, serialize};
 use std::alloc::Global;
 
-/// A copy in the same form. Refused for want of memory alone.
+/// Returns a copy in the same form. Refused only for memory.
 pub fn copy(alloc: Global, array: &ArrayRef<Global>) -> VortexResult<ArrayRef<Global>>
     ensures same { IfOk result (λ made. IsCopyOf array.now made) }
     ensures only { IsOkUnless result VortexError.OutOfMemory }
@@ -29,7 +29,7 @@ pub fn copy(alloc: Global, array: &ArrayRef<Global>) -> VortexResult<ArrayRef<Gl
     array.try_clone(&mut plain_context(alloc))
 }
 
-/// A copy in the same form, on the heap. Refused for want of memory alone.
+/// Returns a copy in the same form, on the heap. Refused only for memory.
 pub fn boxed_copy(alloc: Global, array: &ArrayRef<Global>) -> VortexResult<Boxed>
     ensures same { IfOk result (λ made. IsCopyOf array.now made.value) }
     ensures only { IsOkUnless result VortexError.OutOfMemory }
@@ -37,7 +37,7 @@ pub fn boxed_copy(alloc: Global, array: &ArrayRef<Global>) -> VortexResult<Boxed
     boxed(alloc, copy(alloc, array)?)
 }
 
-/// A copy in the same form, in buffers that no other column shares, on the heap. Refused for want of memory alone.
+/// Returns a copy in the same form, in buffers that no other column shares, on the heap. Refused only for memory.
 pub fn boxed_compact(alloc: Global, array: &ArrayRef<Global>) -> VortexResult<Boxed>
     ensures same { IfOk result (λ made. IsCopyOf array.now made.value) }
     ensures only { IsOkUnless result VortexError.OutOfMemory }
@@ -52,8 +52,8 @@ fn compact(alloc: Global, array: &ArrayRef<Global>) -> VortexResult<ArrayRef<Glo
     array.compact(&mut plain_context(alloc))
 }
 
-/// The run column of copies of these parts. Refused as `Unsupported` where it would have more than 64 levels of runs,
-/// then as `RunEnd::try_new_offset_length` refuses, or for want of memory.
+/// Returns the run column of copies of these parts. Refused as `Unsupported` where it would have more than 64 levels of
+/// runs, then as `RunEnd::try_new_offset_length` refuses, or for memory.
 #[tactic(auto, using(crate::proofs::RunsServed::runs_too_deep, crate::proofs::RunsServed::runs_refused, crate::proofs::RunsServed::runs_served))]
 pub fn run_column(
     alloc: Global,
@@ -78,8 +78,8 @@ pub fn run_column(
     boxed_runs(alloc, runs)
 }
 
-/// The run column of copies of these parts, by its record. Refused as `Unsupported` where it would have more than 64
-/// levels of runs, then as `deserialize` refuses, or for want of memory.
+/// Returns the run column of copies of these parts, by its record. Refused as `Unsupported` where it would have more
+/// than 64 levels of runs, then as `deserialize` refuses, or for memory.
 #[tactic(auto, using(crate::proofs::RunsServed::record_too_deep, crate::proofs::RunsServed::record_refused))]
 pub fn recorded_column(
     alloc: Global,
@@ -101,7 +101,7 @@ pub fn recorded_column(
     boxed_runs(alloc, runs)
 }
 
-/// A copy of the ends of a run column. Refused as `Unsupported` where it is none, else for want of memory.
+/// Returns a copy of the ends of a run column. Refused as `Unsupported` where it is none, else for memory.
 pub fn ends_of(alloc: Global, array: &ArrayRef<Global>) -> VortexResult<Boxed>
     ensures made { IfOk result (λ made. AreEndsOf (column_of array.now) (column_of made.value)) }
     ensures refused { IsRefusedBy (no_runs_fault (column_of array.now)) result }
@@ -112,7 +112,7 @@ pub fn ends_of(alloc: Global, array: &ArrayRef<Global>) -> VortexResult<Boxed>
     }
 }
 
-/// A copy of the values of a run column. Refused as `Unsupported` where it is none, else for want of memory.
+/// Returns a copy of the values of a run column. Refused as `Unsupported` where it is none, else for memory.
 pub fn values_of(alloc: Global, array: &ArrayRef<Global>) -> VortexResult<Boxed>
     ensures made { IfOk result (λ made. AreRunValuesOf (column_of array.now) (column_of made.value)) }
     ensures refused { IsRefusedBy (no_runs_fault (column_of array.now)) result }
@@ -123,7 +123,7 @@ pub fn values_of(alloc: Global, array: &ArrayRef<Global>) -> VortexResult<Boxed>
     }
 }
 
-/// How many rows of the runs lie before the window; 0 of any other column.
+/// Returns how many rows of the runs lie before the window; 0 of any other column.
 pub fn offset_of(array: &ArrayRef<Global>) -> usize
     ensures { result ≡ offset_in (column_of array.now) }
 {
@@ -146,7 +146,7 @@ pub fn form_of_array(array: &ArrayRef<Global>) -> u8
 }
 
 /// Puts the record of a run column to the front of `room`, and answers how many bytes it has. Refused as
-/// `Unsupported` where it is no run column, and as `ColumnLength`, with that number and the room, where it has
+/// `Unsupported` where it is not a run column, and as `ColumnLength`, with that number and the room, where it has
 /// no room there.
 pub fn put_record(alloc: Global, array: &ArrayRef<Global>, room: &mut [u8]) -> VortexResult<usize>
     ensures put { IfOk result (λ size. IsRecordAtFront (column_of array.now) size room.new) }
@@ -162,7 +162,7 @@ pub fn put_record(alloc: Global, array: &ArrayRef<Global>, room: &mut [u8]) -> V
     Ok(size as usize)
 }
 
-/// Copies of both. Refused for want of memory alone.
+/// Copies of both. Refused only for memory.
 pub(crate) fn copies(
     alloc: Global,
     ends: &ArrayRef<Global>,
@@ -181,7 +181,7 @@ pub(crate) fn copies(
     }
 }
 
-/// A run column on the heap. Refused for want of memory alone.
+/// Returns a run column on the heap. Refused only for memory.
 pub(crate) fn boxed_runs(alloc: Global, runs: RunEndArray<Global>) -> VortexResult<Boxed>
     ensures column { IfOk result (λ made. column_of made.value ≡ column_of_runs runs) }
     ensures only { IsOkUnless result VortexError.OutOfMemory }
@@ -189,13 +189,13 @@ pub(crate) fn boxed_runs(alloc: Global, runs: RunEndArray<Global>) -> VortexResu
     boxed(alloc, ArrayRef::of_runs(alloc, runs)?)
 }
 
-/// A run column without rows, which holds no memory: it stands where another is put later.
+/// Returns a run column without rows, which holds no memory: it stands where another is put later.
 #[tactic(auto, using(crate::proofs::NoRuns::no_parts))]
 pub(crate) fn no_runs(alloc: Global) -> RunEndArray<Global> {
     RunEnd::new_unchecked(no_ends(alloc), no_ends(alloc), 0, 0)
 }
 
-/// A column of ends, or of other bytes, without rows, which holds no memory.
+/// Returns a column of ends, or of other bytes, without rows, which holds no memory.
 pub(crate) fn no_ends(alloc: Global) -> ArrayRef<Global>
     ensures { column_of result ≡ OfLeaf (OfNumbers (primitive_with U8 [] NeverNull)) }
 {

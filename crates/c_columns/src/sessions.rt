@@ -24,7 +24,7 @@ pub struct Session {
     pub kernels: [u8; 12],
 }
 
-/// The context of this session.
+/// Returns the context of this session.
 pub fn context(alloc: Global, session: &Session) -> ExecutionCtx<Global>
     ensures { IsSessionOf session.now result }
 {
@@ -44,12 +44,12 @@ pub fn context(alloc: Global, session: &Session) -> ExecutionCtx<Global>
     ExecutionCtx::new(built, alloc)
 }
 
-/// The context of no kernel, for calls that ask none.
+/// Returns the context of no kernel, for calls that ask none.
 pub fn plain_context(alloc: Global) -> ExecutionCtx<Global> {
     ExecutionCtx::new(VortexSession::empty(), alloc)
 }
 
-/// The session that has every kernel, and the thresholds that the ported crate sets.
+/// Returns the session that has every kernel, and the thresholds that the ported crate sets.
 pub fn initial() -> Session
     ensures thresholds { thresholds_in result ≡ crate_thresholds }
     ensures kernels { HasAllKernels result }

@@ -17,8 +17,9 @@ use runend_commands::compute;
 use std::alloc::Global;
 use std::ops::Range;
 
-/// The rows from `range.start` to `range.end - 1` of the column of a handle, which stays. They are put into `out`, in
-/// the form that the command `Slice` leaves; no command is made, since that takes as long as buffers that are shared.
+/// Returns the rows from `range.start` to `range.end - 1` of the column of a handle, which stays. They are put into
+/// `out`, in the form that the command `Slice` leaves; no command is made, since that takes as long as buffers that are
+/// shared.
 #[tactic(auto, using(crate::proofs::Endings::asked_empty, crate::proofs::Endings::asked_left, crate::proofs::Endings::asked_refused))]
 pub fn slice(
     alloc: Global,

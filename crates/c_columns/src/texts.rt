@@ -11,9 +11,9 @@ use column_core::{NativePType, VarBinKind, VarBinViewArray, View, VortexError, V
 use runend_array::ArrayRef;
 use std::alloc::Global;
 
-/// The flat column whose row i is the bytes from offset i up to offset i + 1. Refused as `NoRunsWindow` where
-/// there is no offset, as `EndsNotStrict`, with the row, where an offset is negative or below the one before,
-/// as the bits of its validity are, and then as `VarBinViewArray::try_new` refuses.
+/// Returns the flat column whose row i is the bytes from offset i up to offset i + 1. Refused as `NoRunsWindow` where
+/// there is no offset, as `EndsNotStrict`, with the row, where an offset is negative or below the one before, as the
+/// bits of its validity are, and then as `VarBinViewArray::try_new` refuses.
 #[tactic(auto, using(crate::proofs::Cuts::cuts_refused, crate::proofs::Cuts::bits_refused, crate::proofs::Cuts::texts_refused))]
 pub fn texts<T: NativePType>(
     alloc: Global,

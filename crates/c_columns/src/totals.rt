@@ -14,7 +14,7 @@ pub struct Total {
     pub empty: u8,
 }
 
-/// The sum for C.
+/// Returns the sum for C.
 pub fn total_of(answer: SumAnswer) -> Total
     ensures { IsAnswerTold answer result }
 {

@@ -84,7 +84,7 @@ fn filtered_by_bits(
     Ok(kept)
 }
 
-/// The row at each index, null at a null index. Refused as `TypeMismatch` unless the indices are integers, and
+/// Returns the row at each index, null at a null index. Refused as `TypeMismatch` unless the indices are integers, and
 /// then as `OutOfBounds`, with the index and the number of rows, at the first that is negative or of no row.
 #[tactic(auto, using(crate::proofs::TwoColumns::same_codes, crate::proofs::TwoColumns::take_left, crate::proofs::TwoColumns::looked_up_taken))]
 pub fn taken(
@@ -109,7 +109,7 @@ pub fn taken(
     }
 }
 
-/// The dictionary's row for each code, null for null. Refused as `TypeMismatch` unless the codes are integers,
+/// Returns the dictionary's row for each code, null for null. Refused as `TypeMismatch` unless the codes are integers,
 /// and then as `OutOfBounds`, with the code and the dictionary's rows, at the first that is negative or of no row.
 #[tactic(auto, using(crate::proofs::TwoColumns::look_up_left))]
 pub fn looked_up(
@@ -128,7 +128,7 @@ pub fn looked_up(
     boxed(alloc, taken)
 }
 
-/// Whether the operator holds of each row and the row of `right` beside it, null where either is. Refused as
+/// Returns whether the operator holds of each row and the row of `right` beside it, null where either is. Refused as
 /// `Unsupported` for lists, then as `TypeMismatch` for two kinds, then as `ColumnLength` for two numbers of rows.
 #[tactic(auto, using(crate::proofs::TwoColumns::compare_left))]
 pub fn compared(

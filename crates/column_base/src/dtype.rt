@@ -51,7 +51,7 @@ pub enum DType {
 }
 
 impl PType {
-    /// Is it one of the four unsigned types?
+    /// Returns whether it is one of the four unsigned types.
     pub fn is_unsigned_int(self) -> bool
         ensures { IsTrue result ↔ IsUnsigned self }
     {
@@ -63,7 +63,7 @@ impl PType {
 }
 
 impl DType {
-    /// Whether rows of this type may be null.
+    /// Returns whether rows of this type may be null.
     pub fn nullability(self) -> Nullability
         ensures { result ≡ nullability_of self }
     {
@@ -77,7 +77,7 @@ impl DType {
         }
     }
 
-    /// The type of the same kind with that nullability.
+    /// Returns the type of the same kind with that nullability.
     pub fn with_nullability(self, nullability: Nullability) -> DType
         ensures { result ≡ dtype_with self nullability }
     {

@@ -113,7 +113,7 @@ impl VortexError {
     ghost use Rattle.std.specs.Prelude.{◌≡◌};
     ghost use Rattle.column_base.specs.Error.{number_of};
 
-    /// The error's number, from 1 to 21 in the order of the variants.
+    /// Returns the error's number, from 1 to 21 in the order of the variants.
     pub fn number(self) -> u8
         ensures { result ≡ number_of self }
     {

@@ -19,8 +19,8 @@ pub enum Mask<A: Allocator> {
 }
 
 impl<A: Allocator> Mask<A> {
-    /// The mask of these bits, with no bits of its own where all are equal: `AllTrue` where no bit
-    /// is false, `AllFalse` where no bit is true and there is one. Takes no memory.
+    /// Returns the mask of these bits, with no bits of its own where all are equal: `AllTrue` where no bit is false,
+    /// `AllFalse` where no bit is true and there is one. Takes no memory.
     pub fn from_buffer(bits: BitBuffer<A>) -> Self
         ensures bits { mask_bits result ≡ bits }
         ensures normal { IsNormalMask result }
@@ -36,7 +36,7 @@ impl<A: Allocator> Mask<A> {
         }
     }
 
-    /// How many rows there are.
+    /// Returns how many rows there are.
     pub fn len(&self) -> usize
         ensures { result ≡ length (mask_bits self.now) }
     {
@@ -47,7 +47,7 @@ impl<A: Allocator> Mask<A> {
         }
     }
 
-    /// Is there no row?
+    /// Returns whether there are no rows.
     pub fn is_empty(&self) -> bool
         ensures { IsTrue result ↔ (mask_bits self.now ≡ []) }
     {
@@ -58,7 +58,7 @@ impl<A: Allocator> Mask<A> {
         }
     }
 
-    /// How many rows are selected.
+    /// Returns how many rows are selected.
     pub fn true_count(&self) -> usize
         ensures { result ≡ count_by (λ bit. bit) (mask_bits self.now) }
     {
@@ -69,7 +69,7 @@ impl<A: Allocator> Mask<A> {
         }
     }
 
-    /// Is the row at `index` selected?
+    /// Returns whether the row at `index` is selected.
     pub fn value(&self, index: usize) -> bool
         requires { index < length (mask_bits self.now) }
         ensures { slice_get (mask_bits self.now) index ≡ Some result }
@@ -83,8 +83,8 @@ impl<A: Allocator> Mask<A> {
 }
 
 impl<A: Allocator + Copy> Mask<A> {
-    /// The mask of `len` rows that selects those at `indices`, in the form that `from_buffer`
-    /// gives. Refused for want of memory alone.
+    /// Returns the mask of `len` rows that selects those at `indices`, in the form that `from_buffer` gives. Refused
+    /// only for memory.
     pub fn from_indices(alloc: A, len: usize, indices: &[usize]) -> VortexResult<Mask<A>>
         requires ascending { IsStrictlyIncreasing indices.now }
         requires in_bounds { All (λ index. index < len) indices.now }
@@ -101,7 +101,7 @@ impl<A: Allocator + Copy> Mask<A> {
         Ok(Mask::from_buffer(bits.freeze()))
     }
 
-    /// A copy of the mask in its form. Refused for want of memory alone.
+    /// Returns a copy of the mask in its form. Refused only for memory.
     pub fn try_clone(&self, alloc: A) -> VortexResult<Mask<A>>
         ensures same { IfOk result (λ copy. copy ≡ self.now) }
         ensures only { IsOkUnless result VortexError.OutOfMemory }

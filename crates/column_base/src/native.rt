@@ -23,15 +23,15 @@ pub trait NativePType: Copy + Default + Eq + Ord + Drop {
     // The number that a value stands for.
     ghost number: { Self → ℤ };
 
-    /// The value's number.
+    /// Returns the value's number.
     fn widen(self) -> i128
         ensures { result ≡ number self };
 
-    /// The value of the number `n`, or `None` exactly where the type does not have it.
+    /// Returns the value of the number `n`, or `None` exactly where the type does not have it.
     fn narrow(n: i128) -> Option<Self>
         ensures { Narrows number (HasNumber PTYPE) n result };
 
-    /// A buffer of this type without numbers.
+    /// Returns a buffer of this type without numbers.
     fn empty<A: Allocator>(alloc: A) -> PrimitiveValues<A>
         ensures shows { numbers result ≡ [] }
         ensures typed { ptype_of result ≡ PTYPE };
@@ -65,12 +65,12 @@ pub trait NativePType: Copy + Default + Eq + Ord + Drop {
         values
     }
 
-    /// The items of a buffer, where it is of this type.
+    /// Returns the items of a buffer, where it is of this type.
     fn slice_of<A: Allocator>(values: &PrimitiveValues<A>) -> Option<&[Self]>
         ensures typed { IsSome result ↔ (ptype_of values.now ≡ PTYPE) }
         ensures shows { IfSome result (λ items. map number items.now ≡ numbers values.now) };
 
-    /// The items of a buffer by value, where it is of this type.
+    /// Returns the items of a buffer by value, where it is of this type.
     fn into_buffer<A: Allocator>(values: PrimitiveValues<A>) -> Option<Buffer<Self, A>>
         ensures typed { IsSome result ↔ (ptype_of values ≡ PTYPE) }
         ensures shows { IfSome result (λ items. map number items.items ≡ numbers values) };
@@ -83,7 +83,7 @@ pub trait UnsignedPType: NativePType {
     // The number that a value stands for, as a natural number.
     ghost natural: { Self → ℕ };
 
-    /// The value as a `u64`, which has the numbers of all four types.
+    /// Returns the value as a `u64`, which has the numbers of all four types.
     fn to_u64(self) -> u64
         ensures { result ≡ natural self };
 

@@ -23,9 +23,9 @@ pub enum Validity<A: Allocator> {
 }
 
 impl<A: Allocator> Validity<A> {
-    /// The validity of these bits, with no bits of its own where all are equal: `AllValid` where
-    /// no bit is false, `AllInvalid` where no bit is true and there is one. Takes no memory. Where the first 64 bits
-    /// are of both kinds, no other is read.
+    /// Returns the validity of these bits, with no bits of its own where all are equal: `AllValid` where no bit is
+    /// false, `AllInvalid` where no bit is true and there is one. Takes no memory. Where the first 64 bits are of both
+    /// kinds, no other is read.
     pub fn from_bits(bits: BitBuffer<A>) -> Self
         ensures flags { flags (form_of result) (length bits) ≡ bits }
         ensures fits { HasLength (form_of result) (length bits) }
@@ -46,7 +46,7 @@ impl<A: Allocator> Validity<A> {
         }
     }
 
-    /// Whether the type of the rows has null.
+    /// Returns whether the type of the rows has null.
     pub fn nullability(&self) -> Nullability
         ensures { result ≡ nullability_in (form_of self.now) }
     {
@@ -58,8 +58,8 @@ impl<A: Allocator> Validity<A> {
         }
     }
 
-    /// How many rows it speaks of: as many as it has bits, and `None` where it has no bits, since
-    /// it then serves any number of rows.
+    /// Returns how many rows it speaks of: as many as it has bits, and `None` where it has no bits, since it then
+    /// serves any number of rows.
     pub fn len(&self) -> Option<usize>
         ensures { result ≡ length_of (form_of self.now) }
     {
@@ -71,7 +71,7 @@ impl<A: Allocator> Validity<A> {
         }
     }
 
-    /// Is the row at `index` there?
+    /// Returns whether the row at `index` is there.
     pub fn is_valid(&self, index: usize) -> bool
         requires { HasRow (form_of self.now) index }
         ensures { result ≡ flag_at (form_of self.now) index }
@@ -86,7 +86,7 @@ impl<A: Allocator> Validity<A> {
 }
 
 impl<A: Allocator + Copy> Validity<A> {
-    /// A copy of the validity in its form. Refused for want of memory alone.
+    /// Returns a copy of the validity in its form. Refused only for memory.
     pub fn try_clone(&self, alloc: A) -> VortexResult<Validity<A>>
         ensures same { IfOk result (λ copy. form_of copy ≡ form_of self.now) }
         ensures only { IsOkUnless result VortexError.OutOfMemory }
@@ -99,7 +99,7 @@ impl<A: Allocator + Copy> Validity<A> {
         }
     }
 
-    /// A copy of the validity in its form, with bits that are shared with none. Refused for want of memory alone.
+    /// Returns a copy of the validity in its form, with bits that are shared with none. Refused only for memory.
     pub fn compact(&self, alloc: A) -> VortexResult<Validity<A>>
         ensures same { IfOk result (λ copy. form_of copy ≡ form_of self.now) }
         ensures only { IsOkUnless result VortexError.OutOfMemory }
@@ -112,9 +112,8 @@ impl<A: Allocator + Copy> Validity<A> {
         }
     }
 
-    /// The validity of the rows from `range.start` to `range.end - 1`, with bits only where it says of
-    /// both kinds of rows that they are there. Where the type has null, no rows are `AllValid`.
-    /// Refused for want of memory alone.
+    /// Returns the validity of the rows from `range.start` to `range.end - 1`, with bits only where it says of both
+    /// kinds of rows that they are there. Where the type has null, no rows are `AllValid`. Refused only for memory.
     pub fn slice(&self, alloc: A, range: Range<usize>) -> VortexResult<Validity<A>>
         requires ordered { range.start ≤ range.end }
         requires in_bounds { IfSome (length_of (form_of self.now)) (λ count. range.end ≤ count) }

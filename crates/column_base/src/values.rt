@@ -54,28 +54,28 @@ macro_rules! match_each_unsigned {
 }
 
 impl<A: Allocator> PrimitiveValues<A> {
-    /// How many numbers there are.
+    /// Returns how many numbers there are.
     pub fn len(&self) -> usize
         ensures { result ≡ length (numbers self.now) }
     {
         match_each_native!(self, items => items.len())
     }
 
-    /// Are there no numbers?
+    /// Returns whether there are no numbers.
     pub fn is_empty(&self) -> bool
         ensures { IsTrue result ↔ (numbers self.now ≡ []) }
     {
         self.len() == 0
     }
 
-    /// The type of the numbers.
+    /// Returns the type of the numbers.
     pub fn ptype(&self) -> PType
         ensures { result ≡ ptype_of self.now }
     {
         match_each_native!(self, items => ptype_of_items(items.as_slice()))
     }
 
-    /// The number at `index`.
+    /// Returns the number at `index`.
     pub fn get(&self, index: usize) -> i128
         requires { index < length (numbers self.now) }
         ensures { slice_get (numbers self.now) index ≡ Some result }
@@ -85,8 +85,8 @@ impl<A: Allocator> PrimitiveValues<A> {
 }
 
 impl<A: Allocator + Copy> PrimitiveValues<A> {
-    /// The numbers of the vector, shared as `Buffer::shared` shares them. Nothing is copied, and want of memory refuses
-    /// nothing.
+    /// Returns the numbers of the vector, shared as `Buffer::shared` shares them. Nothing is copied, and want of memory
+    /// refuses nothing.
     pub fn from_vec<T: NativePType>(items: Vec<T, A>) -> PrimitiveValues<A>
         ensures shows { numbers result ≡ map T.number items.items }
         ensures typed { ptype_of result ≡ T.PTYPE }
@@ -94,8 +94,8 @@ impl<A: Allocator + Copy> PrimitiveValues<A> {
         T::wrap(items)
     }
 
-    /// A copy of the numbers, of the same type: shared with these where these are shared, and else in memory of its
-    /// own. Refused as `OutOfMemory` alone.
+    /// Returns a copy of the numbers, of the same type: shared with these where these are shared, and else in memory of
+    /// its own. Refused only as `OutOfMemory`.
     pub fn try_clone(&self, alloc: A) -> VortexResult<PrimitiveValues<A>>
         ensures only { IsOkUnless result VortexError.OutOfMemory }
         ensures shows { IfOk result (λ values. numbers values ≡ numbers self.now) }
@@ -104,8 +104,8 @@ impl<A: Allocator + Copy> PrimitiveValues<A> {
         match_each_native!(self, items => clone_of(alloc, items))
     }
 
-    /// The numbers from `range.start` to `range.end - 1`, of the same type: shared with these where these are shared,
-    /// and else copied. Refused as `OutOfMemory` alone.
+    /// Returns the numbers from `range.start` to `range.end - 1`, of the same type: shared with these where these are
+    /// shared, and else copied. Refused only as `OutOfMemory`.
     pub fn slice(&self, alloc: A, range: Range<usize>) -> VortexResult<PrimitiveValues<A>>
         requires ordered { range.start ≤ range.end }
         requires in_bounds { range.end ≤ length (numbers self.now) }
@@ -116,8 +116,8 @@ impl<A: Allocator + Copy> PrimitiveValues<A> {
         match_each_native!(self, items => part_of(alloc, items, range.start, range.end))
     }
 
-    /// A copy of the numbers, of the same type, shared with none: what these are a part of may then be freed. Refused
-    /// as `OutOfMemory` alone.
+    /// Returns a copy of the numbers, of the same type, shared with none: what these are a part of may then be freed.
+    /// Refused only as `OutOfMemory`.
     pub fn compact(&self, alloc: A) -> VortexResult<PrimitiveValues<A>>
         ensures only { IsOkUnless result VortexError.OutOfMemory }
         ensures shows { IfOk result (λ values. numbers values ≡ numbers self.now) }

@@ -42,7 +42,7 @@ pub record IsStoredScalar (t : DType) (value : Option FlatValue) : Type 0 where
   pub stored : IsStoredType t
   pub typed : IsRowOf t (option_map Single value)
 
--- how a value that is no null is told: the type has no null, or has null
+-- how a value that is not null is told: the type has no null, or has null
 abbrev pub some_validity : Nullability → ValidityForm
 some_validity NonNullable = NeverNull
 some_validity Nullable = NoneNull

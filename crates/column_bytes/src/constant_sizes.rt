@@ -23,7 +23,7 @@ use column_fields::{
 use runend_array::ConstantArray;
 use std::alloc::Allocator;
 
-/// How many bytes the message of a constant has. Refused as `OutOfMemory` exactly where no count tells them.
+/// Returns how many bytes the message of a constant has. Refused as `OutOfMemory` exactly where no count tells them.
 pub(crate) fn constant_size<A: Allocator>(array: &ConstantArray<A>) -> VortexResult<usize>
     ensures size { IfOk result (λ size. size ≡ length (column_bytes (OfConstant array.now))) }
     ensures stored { OnOk result (IsStoredConstant array.now) }
@@ -127,7 +127,7 @@ fn whole_size(dtype: DType, number: i128) -> VortexResult<usize>
     }
 }
 
-// The same of a value of so many bytes, which is no null.
+// The same of a value of so many bytes, which is not null.
 #[tactic(auto, unfolding(column_fields::specs::Validity::validity_field))]
 fn some_size(nullability: Nullability, count: usize) -> VortexResult<usize>
     ensures size { IfOk result (λ size. size ≡ length (validity_field (some_validity nullability)) +

@@ -36,7 +36,7 @@ use column_fields::{
 use runend_array::{ArrayRef, ConstantArray};
 use std::alloc::Allocator;
 
-/// Writes a constant at the end. Refused as `OutOfMemory` alone.
+/// Writes a constant at the end. Refused only as `OutOfMemory`.
 pub(crate) fn put_constant<A: Allocator, W: BufMut>(
     out: &mut W,
     array: &ConstantArray<A>,
@@ -190,8 +190,8 @@ fn put_told<W: BufMut>(out: &mut W, nullability: Nullability) -> VortexResult<()
     }
 }
 
-/// The constant that stands behind this header. Refused as `BadMetadata` exactly where none does, else as `OutOfMemory`
-/// alone.
+/// Returns the constant that stands behind this header. Refused as `BadMetadata` exactly where none does, else only as
+/// `OutOfMemory`.
 pub(crate) fn read_constant<A: Allocator + Copy>(
     alloc: A,
     header: Header,

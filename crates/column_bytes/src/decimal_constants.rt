@@ -9,8 +9,8 @@ use column_core::{Scalar, ScalarValue};
 use column_fields::{DECIMAL_SIZE, load_decimal, read_decimal_fields};
 use std::alloc::Allocator;
 
-/// What the bytes say of a decimal, or of null. Refused as `BadMetadata` exactly where they say nothing, else as
-/// `OutOfMemory` alone.
+/// Returns what the bytes say of a decimal, or of null. Refused as `BadMetadata` exactly where they say nothing, else
+/// only as `OutOfMemory`.
 pub(crate) fn read_decimal<A: Allocator + Copy>(alloc: A, bytes: &[u8]) -> VortexResult<Scalar<A>>
     ensures found { IfOk result (λ scalar. IsScalarIn 10 bytes.now scalar) }
     ensures bad { IsErrOf result VortexError.BadMetadata → HasNoScalarIn 10 bytes.now }

@@ -34,7 +34,7 @@ pub(crate) const TEXTS: u64 = 11;
 /// The number of the type of bytes.
 pub(crate) const BYTES: u64 = 12;
 
-/// Writes a flat column of integers at the end. Refused as `OutOfMemory` alone.
+/// Writes a flat column of integers at the end. Refused only as `OutOfMemory`.
 pub(crate) fn put_numbers<A: Allocator, W: BufMut>(
     out: &mut W,
     array: &PrimitiveArray<A>,
@@ -67,7 +67,7 @@ pub(crate) fn put_numbers<A: Allocator, W: BufMut>(
     Ok(())
 }
 
-/// Writes a flat column of booleans at the end. Refused as `OutOfMemory` alone.
+/// Writes a flat column of booleans at the end. Refused only as `OutOfMemory`.
 pub(crate) fn put_truths<A: Allocator, W: BufMut>(
     out: &mut W,
     array: &BoolArray<A>,
@@ -94,7 +94,7 @@ pub(crate) fn put_truths<A: Allocator, W: BufMut>(
     Ok(())
 }
 
-/// Writes a flat column of decimals at the end. Refused as `OutOfMemory` alone.
+/// Writes a flat column of decimals at the end. Refused only as `OutOfMemory`.
 pub(crate) fn put_decimal_rows<A: Allocator, W: BufMut>(
     out: &mut W,
     array: &DecimalArray<A>,
@@ -126,8 +126,8 @@ pub(crate) fn put_decimal_rows<A: Allocator, W: BufMut>(
     Ok(())
 }
 
-/// The flat column that stands behind this header. Refused as `BadMetadata` exactly where none does, else as
-/// `OutOfMemory` alone.
+/// Returns the flat column that stands behind this header. Refused as `BadMetadata` exactly where none does, else only
+/// as `OutOfMemory`.
 pub(crate) fn read_leaf<A: Allocator + Copy>(
     alloc: A,
     header: Header,

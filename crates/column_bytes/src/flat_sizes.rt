@@ -22,8 +22,8 @@ use column_fields::{
 };
 use std::alloc::Allocator;
 
-/// How many bytes the message of a flat column of integers has. Refused as `OutOfMemory` exactly where no count tells
-/// them.
+/// Returns how many bytes the message of a flat column of integers has. Refused as `OutOfMemory` exactly where no count
+/// tells them.
 pub(crate) fn numbers_size<A: Allocator>(array: &PrimitiveArray<A>) -> VortexResult<usize>
     ensures size { IfOk result (λ size. size ≡ length (column_bytes (OfLeaf (OfNumbers array.now)))) }
     ensures stored { AreNumbers array.now }
@@ -38,7 +38,7 @@ pub(crate) fn numbers_size<A: Allocator>(array: &PrimitiveArray<A>) -> VortexRes
     size_of_total(head as u128 + count as u128)
 }
 
-/// The same of a flat column of booleans.
+/// Returns the same of a flat column of booleans.
 pub(crate) fn truths_size<A: Allocator>(array: &BoolArray<A>) -> VortexResult<usize>
     ensures size { IfOk result (λ size. size ≡ length (column_bytes (OfLeaf (OfTruths array.now)))) }
     ensures stored { AreTruths array.now }
@@ -50,7 +50,7 @@ pub(crate) fn truths_size<A: Allocator>(array: &BoolArray<A>) -> VortexResult<us
     size_of_total(head as u128 + count as u128)
 }
 
-/// The same of a flat column of decimals.
+/// Returns the same of a flat column of decimals.
 pub(crate) fn decimals_size<A: Allocator>(array: &DecimalArray<A>) -> VortexResult<usize>
     ensures size { IfOk result (λ size. size ≡ length (column_bytes (OfLeaf (OfDecimals array.now)))) }
     ensures stored { AreDecimals array.now }
@@ -66,7 +66,7 @@ pub(crate) fn decimals_size<A: Allocator>(array: &DecimalArray<A>) -> VortexResu
     size_of_total(head as u128 + count as u128 + typed as u128)
 }
 
-/// The same of a flat column of texts or of bytes.
+/// Returns the same of a flat column of texts or of bytes.
 pub(crate) fn texts_size<A: Allocator>(array: &VarBinViewArray<A>) -> VortexResult<usize>
     ensures size { IfOk result (λ size. size ≡ length (column_bytes (OfLeaf (OfVarBins array.now)))) }
     ensures stored { OnOk result (AreTexts array.now) }

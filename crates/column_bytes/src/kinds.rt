@@ -8,7 +8,7 @@ ghost use Rattle.column_bytes.specs.Read.{HasNoPlainType};
 use column_base::{DType, Nullability};
 use column_fields::{number_of_type, type_of_number};
 
-/// The number of a type.
+/// Returns the number of a type.
 pub(crate) fn number_of_kind(dtype: DType) -> u64
     ensures { result ≡ kind_number dtype }
 {
@@ -22,7 +22,7 @@ pub(crate) fn number_of_kind(dtype: DType) -> u64
     }
 }
 
-/// The type of integers, booleans, texts or bytes with that number.
+/// Returns the type of integers, booleans, texts or bytes with that number.
 pub(crate) fn kind_of_number(number: u64, nullability: Nullability) -> Option<DType>
     ensures found { IfSome result (λ t. kind_number t ≡ number) }
     ensures nullability { IfSome result (λ t. nullability_of t ≡ nullability) }

@@ -46,8 +46,8 @@ pub fn read_takes_few_bytes()
 {}
 
 /// Writes a column and reads what was written: it is a column of the same form but for the views and buffers of texts
-/// and bytes, which are packed, and has the same rows. Refused as `Unsupported` where `write_column` is, else as
-/// `OutOfMemory` alone.
+/// and bytes, which are packed, and has the same rows. Refused as `Unsupported` where `write_column` is, else only as
+/// `OutOfMemory`.
 pub fn write_then_read<A: Allocator + Copy>(
     alloc: A,
     array: &ArrayRef<A>,

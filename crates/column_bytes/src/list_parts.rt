@@ -19,8 +19,8 @@ use runend_array::{ArrayRef, RowValidity};
 use std::alloc::Allocator;
 use std::rc::Rc;
 
-/// Which of so many lists are valid, and the bytes after it. Refused as `BadMetadata` exactly where the bytes begin
-/// with none, else as `OutOfMemory` alone.
+/// Returns which of so many lists are valid, and the bytes after it. Refused as `BadMetadata` exactly where the bytes
+/// begin with none, else only as `OutOfMemory`.
 pub(crate) fn read_row_validity<A: Allocator + Copy>(
     alloc: A,
     bytes: &[u8],
@@ -80,8 +80,8 @@ fn read_run_validity<A: Allocator + Copy>(
     }
 }
 
-/// The elements of lists of which the bytes are the message. Refused as `BadMetadata` exactly where they are that of no
-/// flat column, else as `OutOfMemory` alone.
+/// Returns the elements of lists of which the bytes are the message. Refused as `BadMetadata` exactly where they are
+/// that of no flat column, else only as `OutOfMemory`.
 pub(crate) fn read_elements<A: Allocator + Copy>(
     alloc: A,
     bytes: &[u8],
@@ -114,8 +114,8 @@ fn flat_of<A: Allocator>(array: ArrayRef<A>) -> FlatColumn<A>
     }
 }
 
-/// The offsets or sizes of which the bytes are the message: flat, or runs over a flat column. Refused as `BadMetadata`
-/// exactly where they are that of none, else as `OutOfMemory` alone.
+/// Returns the offsets or sizes of which the bytes are the message: flat, or runs over a flat column. Refused as
+/// `BadMetadata` exactly where they are that of none, else only as `OutOfMemory`.
 pub(crate) fn read_index<A: Allocator + Copy>(alloc: A, bytes: &[u8]) -> VortexResult<ArrayRef<A>>
     ensures found { IfOk result (λ index. IsIndexMessage bytes.now (index_of (column_of index))) }
     ensures plain { IfOk result (λ index. IsIndex (column_of index)) }

@@ -18,8 +18,8 @@ use runend_array::{ArrayRef, Canonical, ExecutionCtx, ListViewArray, RowValidity
 use std::alloc::Allocator;
 use std::rc::Rc;
 
-/// The column of lists that stands behind this header, with at most so many levels of runs. Refused as `BadMetadata`
-/// exactly where none does, else as `OutOfMemory` alone.
+/// Returns the column of lists that stands behind this header, with at most so many levels of runs. Refused as
+/// `BadMetadata` exactly where none does, else only as `OutOfMemory`.
 pub(crate) fn read_lists<A: Allocator + Copy>(
     alloc: A,
     header: Header,

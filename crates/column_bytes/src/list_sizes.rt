@@ -22,8 +22,9 @@ use column_fields::{
 use runend_array::{ArrayRef, ListViewArray, RowValidity, RunEndArray, RunEndArraySlotsExt};
 use std::alloc::Allocator;
 
-/// How many bytes the message of a column of lists has. Refused as `Unsupported` exactly where its offsets, its sizes
-/// or its validity are in runs and fewer than two levels are left, and as `OutOfMemory` where no count tells the bytes.
+/// Returns how many bytes the message of a column of lists has. Refused as `Unsupported` exactly where its offsets, its
+/// sizes or its validity are in runs and fewer than two levels are left, and as `OutOfMemory` where no count tells the
+/// bytes.
 pub(crate) fn lists_size<A: Allocator + Copy>(
     lists: &ListViewArray<A>,
     levels: usize,
@@ -129,7 +130,7 @@ fn parts_size<A: Allocator + Copy>(lists: &ListViewArray<A>) -> VortexResult<usi
     }
 }
 
-/// How many bytes the message of the elements has. Refused as `OutOfMemory` exactly where no count tells them.
+/// Returns how many bytes the message of the elements has. Refused as `OutOfMemory` exactly where no count tells them.
 pub(crate) fn elements_size<A: Allocator>(column: &FlatColumn<A>) -> VortexResult<usize>
     ensures size { IfOk result (λ size. size ≡ length (column_bytes (OfLeaf (leaf_of column.now)))) }
     ensures stored { OnOk result (IsStoredLeaf (leaf_of column.now)) }
@@ -143,7 +144,7 @@ pub(crate) fn elements_size<A: Allocator>(column: &FlatColumn<A>) -> VortexResul
     }
 }
 
-/// The same of the message of offsets or of sizes.
+/// Returns the same of the message of offsets or of sizes.
 pub(crate) fn index_size<A: Allocator + Copy>(index: &ArrayRef<A>) -> VortexResult<usize>
     requires { IsIndex (column_of index.now) }
     ensures size { IfOk result (λ size. size ≡ length (column_bytes (column_of index.now))) }
@@ -158,7 +159,7 @@ pub(crate) fn index_size<A: Allocator + Copy>(index: &ArrayRef<A>) -> VortexResu
     }
 }
 
-/// The same of the message of runs over flat integers or booleans.
+/// Returns the same of the message of runs over flat integers or booleans.
 pub(crate) fn flat_runs_size<A: Allocator + Copy>(runs: &RunEndArray<A>) -> VortexResult<usize>
     requires { IsPlainIndex runs.now.values ⊎ IsPlainTruths runs.now.values }
     ensures size { IfOk result (λ size. size ≡ length (column_bytes (column_of_runs runs.now))) }
@@ -175,7 +176,7 @@ pub(crate) fn flat_runs_size<A: Allocator + Copy>(runs: &RunEndArray<A>) -> Vort
     }
 }
 
-/// The same of the message of their values.
+/// Returns the same of the message of their values.
 pub(crate) fn run_values_size<A: Allocator>(values: &ArrayRef<A>) -> VortexResult<usize>
     requires { IsPlainIndex (column_of values.now) ⊎ IsPlainTruths (column_of values.now) }
     ensures size { IfOk result (λ size. size ≡ length (column_bytes (column_of values.now))) }

@@ -27,7 +27,7 @@ use std::alloc::Allocator;
 pub(crate) const LISTS: u64 = 13;
 
 /// Writes a column of lists at the end. Refused as `Unsupported` exactly where its offsets, its sizes or its validity
-/// are in runs and fewer than two levels are left, else as `OutOfMemory` alone.
+/// are in runs and fewer than two levels are left, else only as `OutOfMemory`.
 pub(crate) fn put_lists<A: Allocator + Copy, W: BufMut>(
     out: &mut W,
     lists: &ListViewArray<A>,
@@ -59,7 +59,7 @@ pub(crate) fn put_lists<A: Allocator + Copy, W: BufMut>(
     Ok(())
 }
 
-/// A bound of the levels of runs: 2 where offsets, sizes or validity are in runs.
+/// Returns a bound of the levels of runs: 2 where offsets, sizes or validity are in runs.
 pub(crate) fn levels_of<A: Allocator + Copy>(lists: &ListViewArray<A>) -> usize
     ensures { result ≡ lists_depth lists.now }
 {

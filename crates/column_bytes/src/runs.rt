@@ -26,7 +26,7 @@ use runend_windows::last_end_of;
 use std::alloc::Allocator;
 
 /// Writes a run column at the end, but for the message of its values, which is to stand behind it and has so many
-/// bytes. Refused as `OutOfMemory` alone.
+/// bytes. Refused only as `OutOfMemory`.
 pub(crate) fn put_runs<A: Allocator + Copy, W: BufMut>(
     out: &mut W,
     runs: &RunEndArray<A>,
@@ -56,8 +56,8 @@ pub(crate) fn put_runs<A: Allocator + Copy, W: BufMut>(
     Ok(())
 }
 
-/// How many bytes the message of a run column has, where that of its values has so many. Refused as `OutOfMemory`
-/// exactly where no count tells them.
+/// Returns how many bytes the message of a run column has, where that of its values has so many. Refused as
+/// `OutOfMemory` exactly where no count tells them.
 pub(crate) fn runs_size<A: Allocator + Copy>(
     runs: &RunEndArray<A>,
     values: usize,
@@ -91,8 +91,8 @@ fn header_of<A: Allocator + Copy>(runs: &RunEndArray<A>) -> Header
     }
 }
 
-/// The run column behind this header, with these fields and values. Refused as `BadMetadata` exactly where they make
-/// none, else as `OutOfMemory` alone.
+/// Returns the run column behind this header, with these fields and values. Refused as `BadMetadata` exactly where they
+/// make none, else only as `OutOfMemory`.
 pub(crate) fn read_runs<A: Allocator + Copy>(
     alloc: A,
     header: Header,
@@ -109,7 +109,7 @@ pub(crate) fn read_runs<A: Allocator + Copy>(
     ArrayRef::of_runs(alloc, runs)
 }
 
-/// The same, as a run column.
+/// Returns the same, as a run column.
 pub(crate) fn read_run_array<A: Allocator + Copy>(
     alloc: A,
     header: Header,

@@ -14,8 +14,8 @@ use column_base::{VortexError, VortexResult};
 use runend_array::{ArrayRef, RunEndArraySlotsExt};
 use std::alloc::Allocator;
 
-/// How many bytes the message of a column has. Takes no memory. Refused as `Unsupported` exactly where `write_column`
-/// is, and as `OutOfMemory` exactly where no count tells so many bytes, as no memory has them.
+/// Returns how many bytes the message of a column has. Takes no memory. Refused as `Unsupported` exactly where
+/// `write_column` is, and as `OutOfMemory` exactly where no count tells so many bytes, as no memory has them.
 pub fn message_size<A: Allocator + Copy>(array: &ArrayRef<A>) -> VortexResult<usize>
     ensures size { IfOk result (λ size. size ≡ length (column_bytes (column_of array.now))) }
     ensures writable { OnOk result (IsWritable 16 (column_of array.now)) }
@@ -28,7 +28,7 @@ pub fn message_size<A: Allocator + Copy>(array: &ArrayRef<A>) -> VortexResult<us
     size_within(array, MOST_LEVELS)
 }
 
-/// The same of a message with at most so many levels of runs.
+/// Returns the same of a message with at most so many levels of runs.
 pub(crate) fn size_within<A: Allocator + Copy>(
     array: &ArrayRef<A>,
     levels: usize,

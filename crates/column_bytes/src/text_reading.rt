@@ -13,9 +13,9 @@ use column_core::{VarBinKind, VarBinViewArray, View};
 use column_fields::{read_bytes, read_last_bytes, read_validity};
 use std::alloc::Allocator;
 
-/// The flat column of so many rows of texts, or of bytes, of which the bytes are the fields: one buffer has the bytes
-/// that the rows show, one row after the other. Refused as `BadMetadata` exactly where they are those of no such
-/// column, else as `OutOfMemory` alone.
+/// Returns the flat column of so many rows of texts, or of bytes, of which the bytes are the fields: one buffer has the
+/// bytes that the rows show, one row after the other. Refused as `BadMetadata` exactly where they are those of no such
+/// column, else only as `OutOfMemory`.
 pub fn read_text_fields<A: Allocator + Copy>(
     alloc: A,
     kind: VarBinKind,

@@ -42,7 +42,7 @@ pub fn put_text_fields<A: Allocator, W: BufMut>(
     Ok(())
 }
 
-/// How many bytes these fields have. Refused as `OutOfMemory` exactly where no count tells them.
+/// Returns how many bytes these fields have. Refused as `OutOfMemory` exactly where no count tells them.
 pub fn text_fields_size<A: Allocator>(array: &VarBinViewArray<A>) -> VortexResult<usize>
     ensures size { IfOk result (λ size. size ≡
         length (text_fields array.now.validity (text_sizes array.now) (text_bytes array.now))) }

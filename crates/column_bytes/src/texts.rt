@@ -20,7 +20,7 @@ use column_fields::{Header, put_header};
 use runend_array::ArrayRef;
 use std::alloc::Allocator;
 
-/// Writes a flat column of texts or of bytes at the end. Refused as `OutOfMemory` alone.
+/// Writes a flat column of texts or of bytes at the end. Refused only as `OutOfMemory`.
 pub(crate) fn put_texts<A: Allocator, W: BufMut>(
     out: &mut W,
     array: &VarBinViewArray<A>,
@@ -44,8 +44,8 @@ pub(crate) fn put_texts<A: Allocator, W: BufMut>(
     Ok(())
 }
 
-/// The flat column of so many rows of texts, or of bytes, that stands behind its header. Refused as `BadMetadata`
-/// exactly where none does, else as `OutOfMemory` alone.
+/// Returns the flat column of so many rows of texts, or of bytes, that stands behind its header. Refused as
+/// `BadMetadata` exactly where none does, else only as `OutOfMemory`.
 pub(crate) fn read_texts<A: Allocator + Copy>(
     alloc: A,
     kind: VarBinKind,

@@ -13,9 +13,9 @@ use column_core::View;
 use column_fields::read_shortest;
 use std::alloc::Allocator;
 
-/// The views of rows that stand one behind the other, where these are the bytes of their sizes, which are so many bytes
-/// together; a null row has none. Refused as `BadMetadata` exactly where there are no such rows, else as `OutOfMemory`
-/// alone.
+/// Returns the views of rows that stand one behind the other, where these are the bytes of their sizes, which are so
+/// many bytes together; a null row has none. Refused as `BadMetadata` exactly where there are no such rows, else only
+/// as `OutOfMemory`.
 pub(crate) fn read_views<A: Allocator + Copy>(
     alloc: A,
     validity: &Validity<A>,

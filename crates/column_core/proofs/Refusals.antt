@@ -10,7 +10,7 @@ use Rattle.column_base.proofs.Refusals.{passed_on}
 use Rattle.column_core.specs.Ranges.{IsBadRange}
 use Rattle.column_core.specs.Refusal.{IsErrorFor, range_fault, IsRefusedBy}
 
--- refused by that error exactly where the fault is there, else for want of memory alone
+-- refused by that error exactly where the fault is there, else only for memory
 pub refused_by : {T : Type 0} (test : Bool) (Fault : Type 0) (error : VortexError) (result : Result T VortexError) → Decides test Fault
     → (IsErrOf result error ↔ Fault) → (¬ Fault → IsOkUnless result OutOfMemory) → IsRefusedBy (cond test (Some error) None) result
 refused_by true Fault error (Ok value) decides refused only = let e = refused.1 (decides.0 refl) in absurd (cc)
@@ -18,7 +18,7 @@ refused_by true Fault error (Err other) decides refused only = let e = refused.1
 refused_by false Fault error (Ok value) decides refused only = refl
 refused_by false Fault error (Err other) decides refused only = inl (only (λ fault. false≢true (decides.1 fault)))
 
--- refused as a bad range exactly where the range is one, else for want of memory alone
+-- refused as a bad range exactly where the range is one, else only for memory
 pub refused_by_range : {T : Type 0} (start stop count : ℕ) (result : Result T VortexError)
     → (IsErrOf result (BadRange start stop count) ↔ IsBadRange start stop count) → (¬ IsBadRange start stop count → IsOkUnless result OutOfMemory)
     → IsRefusedBy (range_fault start stop count) result
@@ -37,7 +37,7 @@ pub made-exactly : {T U : Type 0} (first : Result U VortexError) (part : U) (mad
     → (IsErrOf first own ↔ Fault) → (IsErrOf (Ok made) own ↔ Fault)
 made-exactly first part made own Fault was exactly = (λ same. absurd (cc), λ fault. let refused = exactly.1 fault in absurd (cc))
 
--- one that is passed on is for want of memory where the first one was
+-- one that is passed on is for memory where the first one was
 pub passed-only : {T : Type 0} (result : Result T VortexError) (error : VortexError) (Fault : Type 0) → IsErrAnd result (λ e. e ≡ error)
     → (¬ Fault → error ≡ OutOfMemory) → ¬ Fault → IsOkUnless result OutOfMemory
 passed-only result error Fault passed only fine = passed_on result error OutOfMemory passed (only fine)

@@ -21,7 +21,7 @@ first_fault fault (x ∷ xs) = option_or (fault x) (first_fault fault xs)
 abbrev pub IsErrorFor : Option VortexError → VortexError → Type 0
 IsErrorFor fault error = (error ≡ OutOfMemory) ⊎ (fault ≡ Some error)
 
--- refused by the fault where there is one, else for want of memory alone
+-- refused by the fault where there is one, else only for memory
 abbrev pub IsRefusedBy : {T : Type 0} → Option VortexError → Result T VortexError → Type 0
 IsRefusedBy fault (Ok value) = fault ≡ None
 IsRefusedBy fault (Err error) = IsErrorFor fault error

@@ -28,7 +28,7 @@ pub record IsFirstOutside (form : VarBinForm) (row : ℕ) : Type 0 where
   pub outside : ¬ IsWithinAt form row
   pub before : (k : ℕ) → k < row → IsValidRow form k → IsWithinAt form k
 
--- a valid row that is no text, where texts are wanted
+-- a valid row that is not a text, where texts are wanted
 pub record IsNoText (form : VarBinForm) (row : ℕ) : Type 0 where
   pub in_rows : row < length form.views
   pub valid : IsValidRow form row

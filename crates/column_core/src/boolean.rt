@@ -35,8 +35,8 @@ impl<A: Allocator> Model for BoolArray<A> {
 }
 
 impl<A: Allocator> BoolArray<A> {
-    /// The column of these bits, null where the validity says so. Refused as `ColumnLength`, with
-    /// both lengths, where the validity is of another number of rows.
+    /// Returns the column of these bits, null where the validity says so. Refused as `ColumnLength`, with both lengths,
+    /// where the validity is of another number of rows.
     pub fn try_new(values: BitBuffer<A>, validity: Validity<A>) -> VortexResult<Self>
         ensures ok { IfOk result (λ array. array ≡ bool_with values (form_of validity)) }
         ensures accepts { IsOk result ↔ HasLength (form_of validity) (length values) }
@@ -57,7 +57,7 @@ impl<A: Allocator> BoolArray<A> {
         })
     }
 
-    /// The column of parts that `try_new` accepts.
+    /// Returns the column of parts that `try_new` accepts.
     pub fn new_unchecked(values: BitBuffer<A>, validity: Validity<A>) -> Self
         requires { HasLength (form_of validity) (length values) }
         ensures { result ≡ bool_with values (form_of validity) }
@@ -68,7 +68,7 @@ impl<A: Allocator> BoolArray<A> {
         }
     }
 
-    /// How many rows there are.
+    /// Returns how many rows there are.
     pub fn len(&self) -> usize
         ensures bits { result ≡ length self.now.bits }
         ensures rows { result ≡ length (bool_rows self.now) }
@@ -76,28 +76,28 @@ impl<A: Allocator> BoolArray<A> {
         self.bits.len()
     }
 
-    /// Are there no rows?
+    /// Returns whether there are no rows.
     pub fn is_empty(&self) -> bool
         ensures { IsTrue result ↔ (self.now.bits ≡ []) }
     {
         self.bits.is_empty()
     }
 
-    /// The type of the rows.
+    /// Returns the type of the rows.
     pub fn dtype(&self) -> DType
         ensures { result ≡ bool_dtype self.now }
     {
         DType::Bool(self.validity.nullability())
     }
 
-    /// The bits as they are stored, under null too.
+    /// Returns the bits as they are stored, under null too.
     pub fn values(&self) -> &BitBuffer<A>
         ensures { result.now ≡ self.now.bits }
     {
         &self.bits
     }
 
-    /// Which rows are valid.
+    /// Returns which rows are valid.
     pub fn validity(&self) -> &Validity<A>
         ensures form { form_of result.now ≡ self.now.validity }
         ensures counted { HasLength self.now.validity (length self.now.bits) }
@@ -105,7 +105,7 @@ impl<A: Allocator> BoolArray<A> {
         &self.validity
     }
 
-    /// The bits and the validity.
+    /// Returns the bits and the validity.
     pub fn into_parts(self) -> (BitBuffer<A>, Validity<A>)
         ensures whole { self ≡ bool_with result.0 (form_of result.1) }
         ensures counted { HasLength (form_of result.1) (length result.0) }
@@ -113,7 +113,7 @@ impl<A: Allocator> BoolArray<A> {
         (self.bits, self.validity)
     }
 
-    /// The row at `index`.
+    /// Returns the row at `index`.
     pub fn get(&self, index: usize) -> ScalarView<'_, A>
         requires { index < length self.now.bits }
         ensures row { slice_get (map (option_map Single) (bool_rows self.now)) index ≡ Some (sees result) }
@@ -128,8 +128,8 @@ impl<A: Allocator> BoolArray<A> {
 }
 
 impl<A: Allocator + Copy> BoolArray<A> {
-    /// A copy of the column in its form. Its buffers are shared with these where these are shared, and else copied.
-    /// Refused as `OutOfMemory` alone.
+    /// Returns a copy of the column in its form. Its buffers are shared with these where these are shared, and else
+    /// copied. Refused only as `OutOfMemory`.
     pub fn try_clone(&self, alloc: A) -> VortexResult<BoolArray<A>>
         ensures only { IsOkUnless result VortexError.OutOfMemory }
         ensures form { IfOk result (λ array. array ≡ self.now) }
@@ -139,8 +139,8 @@ impl<A: Allocator + Copy> BoolArray<A> {
         Ok(BoolArray { bits, validity })
     }
 
-    /// A copy of the column in the same form, with buffers that are shared with none: what these are a
-    /// part of may then be freed. Refused as `OutOfMemory` alone.
+    /// Returns a copy of the column in the same form, with buffers that are shared with none: what these are a part of
+    /// may then be freed. Refused only as `OutOfMemory`.
     pub fn compact(&self, alloc: A) -> VortexResult<BoolArray<A>>
         ensures only { IsOkUnless result VortexError.OutOfMemory }
         ensures form { IfOk result (λ array. array ≡ self.now) }
@@ -150,10 +150,10 @@ impl<A: Allocator + Copy> BoolArray<A> {
         Ok(BoolArray { bits, validity })
     }
 
-    /// The rows from `range.start` to `range.end - 1`, with the bits as they are stored, shared with these as
+    /// Returns the rows from `range.start` to `range.end - 1`, with the bits as they are stored, shared with these as
     /// `BitBuffer::slice` shares them, and else copied. Refused as `BadRange`, with both bounds and the number of rows,
     /// exactly where the range begins after its end or ends after the last row, and that before any memory is taken;
-    /// else as `OutOfMemory` alone.
+    /// else only as `OutOfMemory`.
     pub fn slice(&self, alloc: A, range: Range<usize>) -> VortexResult<BoolArray<A>>
         ensures refused { let count = length (bool_rows self.now) in
             IsErrOf result (VortexError.BadRange range.start range.end count) ↔ IsBadRange range.start range.end count }

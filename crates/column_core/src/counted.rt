@@ -40,21 +40,21 @@ impl<'a, E: UnsignedPType> CountedEnds<'a, E> {
         }
     }
 
-    /// How many runs there are.
+    /// Returns how many runs there are.
     pub fn len(&self) -> usize
         ensures { result ≡ length self.now.ends }
     {
         self.ends.len()
     }
 
-    /// Whether there is no run.
+    /// Returns whether there are no runs.
     pub fn is_empty(&self) -> bool
         ensures { IsTrue result ↔ (length self.now.ends ≡ 0) }
     {
         self.ends.is_empty()
     }
 
-    /// Whether the run ends at or below the row. This is one test.
+    /// Returns whether the run ends at or below the row. This is one test.
     #[inline]
     pub fn test(&mut self, run: usize, row: usize) -> bool
         requires { run < length self.old.ends }
@@ -65,8 +65,8 @@ impl<'a, E: UnsignedPType> CountedEnds<'a, E> {
         self.tested_end(run) <= row as u64
     }
 
-    /// The number where the run ends at or below the row, and else 0. This is one test, and a search
-    /// that adds the number takes no branch on what the test says.
+    /// Returns the number where the run ends at or below the row, and else 0. This is one test, and a search that adds
+    /// the number takes no branch on what the test says.
     #[inline(always)]
     pub fn number_if_ended(&mut self, run: usize, row: usize, number: usize) -> usize
         requires { run < length self.old.ends }
@@ -78,10 +78,9 @@ impl<'a, E: UnsignedPType> CountedEnds<'a, E> {
         number & ended_mask(self.tested_end(run), row as u64) as usize
     }
 
-    /// How many of `limit` rows, from `position` on, lie before the end of the run. That is what tests
-    /// from row to row tell, up to the first row that is not before the end, and it counts as these
-    /// tests do: one for each row that lies before the end, and one more where the end comes before
-    /// the limit. The end is read once.
+    /// Returns how many of `limit` rows, from `position` on, lie before the end of the run. That is what tests from row
+    /// to row tell, up to the first row that is not before the end, and it counts as these tests do: one for each row
+    /// that lies before the end, and one more where the end comes before the limit. The end is read once.
     #[inline]
     pub fn rows_to_end(&mut self, run: usize, position: usize, limit: usize) -> usize
         requires { run < length self.old.ends }

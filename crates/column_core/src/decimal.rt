@@ -41,8 +41,8 @@ impl<A: Allocator> Model for DecimalArray<A> {
 }
 
 impl<A: Allocator + Copy> DecimalArray<A> {
-    /// The column of these integers of decimals, null where the validity says so. Refused as `ColumnLength`, with
-    /// both lengths, where the validity is of another number of rows. Want of memory refuses nothing.
+    /// Returns the column of these integers of decimals, null where the validity says so. Refused as `ColumnLength`,
+    /// with both lengths, where the validity is of another number of rows. Want of memory refuses nothing.
     pub fn try_new(
         values: Vec<i128, A>,
         decimal_dtype: DecimalDType,
@@ -68,7 +68,7 @@ impl<A: Allocator + Copy> DecimalArray<A> {
         })
     }
 
-    /// The column of parts that `try_new` accepts.
+    /// Returns the column of parts that `try_new` accepts.
     pub fn new_unchecked(
         values: Vec<i128, A>,
         decimal_dtype: DecimalDType,
@@ -86,7 +86,7 @@ impl<A: Allocator + Copy> DecimalArray<A> {
 }
 
 impl<A: Allocator> DecimalArray<A> {
-    /// How many rows there are.
+    /// Returns how many rows there are.
     pub fn len(&self) -> usize
         ensures numbers { result ≡ length self.now.numbers }
         ensures rows { result ≡ length (decimal_rows self.now) }
@@ -94,35 +94,35 @@ impl<A: Allocator> DecimalArray<A> {
         self.values.len()
     }
 
-    /// Are there no rows?
+    /// Returns whether there are no rows.
     pub fn is_empty(&self) -> bool
         ensures { IsTrue result ↔ (self.now.numbers ≡ []) }
     {
         self.values.is_empty()
     }
 
-    /// The precision and the scale of the rows.
+    /// Returns the precision and the scale of the rows.
     pub fn decimal_dtype(&self) -> DecimalDType
         ensures { result ≡ self.now.decimal }
     {
         self.decimal
     }
 
-    /// The type of the rows.
+    /// Returns the type of the rows.
     pub fn dtype(&self) -> DType
         ensures { result ≡ decimal_dtype_of self.now }
     {
         DType::Decimal(self.decimal, self.validity.nullability())
     }
 
-    /// The integers of the decimals as they are stored, under null too.
+    /// Returns the integers of the decimals as they are stored, under null too.
     pub fn values(&self) -> &[i128]
         ensures { result.now ≡ self.now.numbers }
     {
         self.values.as_slice()
     }
 
-    /// Which rows are valid.
+    /// Returns which rows are valid.
     pub fn validity(&self) -> &Validity<A>
         ensures form { form_of result.now ≡ self.now.validity }
         ensures counted { HasLength self.now.validity (length self.now.numbers) }
@@ -130,7 +130,7 @@ impl<A: Allocator> DecimalArray<A> {
         &self.validity
     }
 
-    /// The integers of the decimals, their precision and scale, and the validity.
+    /// Returns the integers of the decimals, their precision and scale, and the validity.
     pub fn into_parts(self) -> (Buffer<i128, A>, DecimalDType, Validity<A>)
         ensures whole { self ≡ decimal_with result.1 result.0.items (form_of result.2) }
         ensures counted { HasLength (form_of result.2) (length result.0.items) }
@@ -138,7 +138,7 @@ impl<A: Allocator> DecimalArray<A> {
         (self.values, self.decimal, self.validity)
     }
 
-    /// The row at `index`.
+    /// Returns the row at `index`.
     pub fn get(&self, index: usize) -> ScalarView<'_, A>
         requires { index < length self.now.numbers }
         ensures row { slice_get (map (option_map Single) (decimal_rows self.now)) index ≡ Some (sees result) }
@@ -153,8 +153,8 @@ impl<A: Allocator> DecimalArray<A> {
 }
 
 impl<A: Allocator + Copy> DecimalArray<A> {
-    /// A copy of the column in its form. Its buffers are shared with these where these are shared, and else copied.
-    /// Refused as `OutOfMemory` alone.
+    /// Returns a copy of the column in its form. Its buffers are shared with these where these are shared, and else
+    /// copied. Refused only as `OutOfMemory`.
     pub fn try_clone(&self, alloc: A) -> VortexResult<DecimalArray<A>>
         ensures only { IsOkUnless result VortexError.OutOfMemory }
         ensures form { IfOk result (λ array. array ≡ self.now) }
@@ -168,8 +168,8 @@ impl<A: Allocator + Copy> DecimalArray<A> {
         })
     }
 
-    /// A copy of the column in the same form, with buffers that are shared with none: what these are a
-    /// part of may then be freed. Refused as `OutOfMemory` alone.
+    /// Returns a copy of the column in the same form, with buffers that are shared with none: what these are a part of
+    /// may then be freed. Refused only as `OutOfMemory`.
     pub fn compact(&self, alloc: A) -> VortexResult<DecimalArray<A>>
         ensures only { IsOkUnless result VortexError.OutOfMemory }
         ensures form { IfOk result (λ array. array ≡ self.now) }
@@ -183,10 +183,10 @@ impl<A: Allocator + Copy> DecimalArray<A> {
         })
     }
 
-    /// The rows from `range.start` to `range.end - 1`, with the numbers as they are stored, shared with these where
-    /// these are shared, and else copied. Refused as `BadRange`, with both bounds and the number of rows, exactly where
-    /// the range begins after its end or ends after the last row, and that before any memory is taken; else as
-    /// `OutOfMemory` alone.
+    /// Returns the rows from `range.start` to `range.end - 1`, with the numbers as they are stored, shared with these
+    /// where these are shared, and else copied. Refused as `BadRange`, with both bounds and the number of rows, exactly
+    /// where the range begins after its end or ends after the last row, and that before any memory is taken; else only
+    /// as `OutOfMemory`.
     pub fn slice(&self, alloc: A, range: Range<usize>) -> VortexResult<DecimalArray<A>>
         ensures refused { let count = length (decimal_rows self.now) in
             IsErrOf result (VortexError.BadRange range.start range.end count) ↔ IsBadRange range.start range.end count }

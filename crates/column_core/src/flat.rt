@@ -30,7 +30,7 @@ pub enum FlatColumn<A: Allocator> {
 }
 
 impl<A: Allocator> FlatColumn<A> {
-    /// The column, borrowed.
+    /// Returns the column, borrowed.
     pub fn view(&self) -> FlatView<'_, A>
         ensures { leaf_in result ≡ leaf_of self.now }
     {
@@ -42,7 +42,7 @@ impl<A: Allocator> FlatColumn<A> {
         }
     }
 
-    /// How many rows there are.
+    /// Returns how many rows there are.
     pub fn len(&self) -> usize
         ensures { result ≡ length (leaf_rows (leaf_of self.now)) }
     {
@@ -54,7 +54,7 @@ impl<A: Allocator> FlatColumn<A> {
         }
     }
 
-    /// The type of the rows.
+    /// Returns the type of the rows.
     pub fn dtype(&self) -> DType
         ensures { result ≡ leaf_dtype (leaf_of self.now) }
     {
@@ -66,7 +66,7 @@ impl<A: Allocator> FlatColumn<A> {
         }
     }
 
-    /// Which rows are valid.
+    /// Returns which rows are valid.
     pub fn validity(&self) -> &Validity<A>
         ensures form { form_of result.now ≡ leaf_validity (leaf_of self.now) }
         ensures counted { HasLength (leaf_validity (leaf_of self.now)) (leaf_count (leaf_of self.now)) }
@@ -80,7 +80,7 @@ impl<A: Allocator> FlatColumn<A> {
         }
     }
 
-    /// The row at `index`, borrowed.
+    /// Returns the row at `index`, borrowed.
     #[tactic(auto, using(crate::proofs::OptionalRows::rows_within))]
     pub fn get(&self, index: usize) -> ScalarView<'_, A>
         requires { index < length (leaf_rows (leaf_of self.now)) }
@@ -97,8 +97,8 @@ impl<A: Allocator> FlatColumn<A> {
 }
 
 impl<A: Allocator + Copy> FlatColumn<A> {
-    /// A copy of the column in its form. Its buffers are shared with these where these are shared, and else copied.
-    /// Refused as `OutOfMemory` alone.
+    /// Returns a copy of the column in its form. Its buffers are shared with these where these are shared, and else
+    /// copied. Refused only as `OutOfMemory`.
     pub fn try_clone(&self, alloc: A) -> VortexResult<FlatColumn<A>>
         ensures only { IsOkUnless result VortexError.OutOfMemory }
         ensures form { IfOk result (λ column. leaf_of column ≡ leaf_of self.now) }
@@ -111,8 +111,8 @@ impl<A: Allocator + Copy> FlatColumn<A> {
         }
     }
 
-    /// A copy of the column in the same form, with buffers that are shared with none: what these are a
-    /// part of may then be freed. The bytes of texts stay shared. Refused as `OutOfMemory` alone.
+    /// Returns a copy of the column in the same form, with buffers that are shared with none: what these are a part of
+    /// may then be freed. The bytes of texts stay shared. Refused only as `OutOfMemory`.
     pub fn compact(&self, alloc: A) -> VortexResult<FlatColumn<A>>
         ensures only { IsOkUnless result VortexError.OutOfMemory }
         ensures form { IfOk result (λ column. leaf_of column ≡ leaf_of self.now) }
@@ -125,9 +125,10 @@ impl<A: Allocator + Copy> FlatColumn<A> {
         }
     }
 
-    /// The rows from `range.start` to `range.end - 1`, in buffers that are shared with these where these are shared,
-    /// and else copied. Refused as `BadRange`, with both bounds and the number of rows, exactly where the range begins
-    /// after its end or ends after the last row, and that before any memory is taken; else as `OutOfMemory` alone.
+    /// Returns the rows from `range.start` to `range.end - 1`, in buffers that are shared with these where these are
+    /// shared, and else copied. Refused as `BadRange`, with both bounds and the number of rows, exactly where the range
+    /// begins after its end or ends after the last row, and that before any memory is taken; else as `OutOfMemory`
+    /// alone.
     pub fn slice(&self, alloc: A, range: Range<usize>) -> VortexResult<FlatColumn<A>>
         ensures refused { let count = length (leaf_rows (leaf_of self.now)) in
             IsErrOf result (VortexError.BadRange range.start range.end count) ↔ IsBadRange range.start range.end count }

@@ -28,7 +28,7 @@ pub enum FlatView<'a, A: Allocator> {
 }
 
 impl<'a, A: Allocator> FlatView<'a, A> {
-    /// How many rows there are.
+    /// Returns how many rows there are.
     pub fn len(self) -> usize
         ensures { result ≡ length (leaf_rows (leaf_in self.entry)) }
     {
@@ -40,14 +40,14 @@ impl<'a, A: Allocator> FlatView<'a, A> {
         }
     }
 
-    /// Are there no rows?
+    /// Returns whether there are no rows.
     pub fn is_empty(self) -> bool
         ensures { IsTrue result ↔ (length (leaf_rows (leaf_in self.entry)) ≡ 0) }
     {
         self.len() == 0
     }
 
-    /// The type of the rows.
+    /// Returns the type of the rows.
     pub fn dtype(self) -> DType
         ensures { result ≡ leaf_dtype (leaf_in self.entry) }
     {
@@ -59,7 +59,7 @@ impl<'a, A: Allocator> FlatView<'a, A> {
         }
     }
 
-    /// Which rows are valid.
+    /// Returns which rows are valid.
     pub fn validity(self) -> &'a Validity<A>
         ensures form { form_of result.now ≡ leaf_validity (leaf_in self.entry) }
         ensures counted { HasLength (leaf_validity (leaf_in self.entry)) (leaf_count (leaf_in self.entry)) }
@@ -73,7 +73,7 @@ impl<'a, A: Allocator> FlatView<'a, A> {
         }
     }
 
-    /// The row at `index`, borrowed from the column for as long as the view is.
+    /// Returns the row at `index`, borrowed from the column for as long as the view is.
     #[tactic(auto, using(crate::proofs::OptionalRows::rows_within))]
     pub fn get(self, index: usize) -> ScalarView<'a, A>
         requires { index < length (leaf_rows (leaf_in self)) }
@@ -90,7 +90,7 @@ impl<'a, A: Allocator> FlatView<'a, A> {
 }
 
 impl<'a, A: Allocator + Copy> FlatView<'a, A> {
-    /// A column in the same form, in memory of its own. Refused as `OutOfMemory` alone.
+    /// Returns a column in the same form, in memory of its own. Refused only as `OutOfMemory`.
     pub fn try_clone(self, alloc: A) -> VortexResult<FlatColumn<A>>
         ensures only { IsOkUnless result VortexError.OutOfMemory }
         ensures form { IfOk result (λ column. leaf_of column ≡ leaf_in self.entry) }

@@ -5,7 +5,7 @@ ghost use Rattle.column_core.specs.Value.{IsLists};
 
 use column_base::{DType, Nullability, VortexError};
 
-/// Is it a type of lists?
+/// Returns whether it is a type of lists.
 pub fn is_list_type(dtype: DType) -> bool
     ensures same { result ≡ is_list dtype }
     ensures lists { IsTrue result ↔ IsLists dtype }
@@ -26,7 +26,7 @@ pub fn fault_of_lists(dtype: DType) -> Option<VortexError>
     None
 }
 
-/// Is it a type of integers?
+/// Returns whether it is a type of integers.
 pub fn is_number_type(dtype: DType) -> bool
     ensures { result ≡ is_numbers dtype }
 {
@@ -36,7 +36,7 @@ pub fn is_number_type(dtype: DType) -> bool
     }
 }
 
-/// Are the two types equal but for nullability?
+/// Returns whether the two types are equal but for nullability.
 pub fn is_same_kind(left: DType, right: DType) -> bool
     ensures { result ≡ same_kind left right }
 {

@@ -44,8 +44,8 @@ impl<A: Allocator> Model for PrimitiveArray<A> {
 }
 
 impl<A: Allocator> PrimitiveArray<A> {
-    /// The column of these numbers, null where the validity says so. Refused as `ColumnLength`,
-    /// with both lengths, where the validity is of another number of rows.
+    /// Returns the column of these numbers, null where the validity says so. Refused as `ColumnLength`, with both
+    /// lengths, where the validity is of another number of rows.
     pub fn try_new(values: PrimitiveValues<A>, validity: Validity<A>) -> VortexResult<Self>
         ensures ok { IfOk result (λ array. array ≡ primitive_of values validity) }
         ensures accepts { IsOk result ↔ HasLength (form_of validity) (length (numbers values)) }
@@ -63,7 +63,7 @@ impl<A: Allocator> PrimitiveArray<A> {
         Ok(PrimitiveArray { values, validity })
     }
 
-    /// The column of parts that `try_new` accepts.
+    /// Returns the column of parts that `try_new` accepts.
     pub fn new_unchecked(values: PrimitiveValues<A>, validity: Validity<A>) -> Self
         requires { HasLength (form_of validity) (length (numbers values)) }
         ensures { result ≡ primitive_of values validity }
@@ -71,7 +71,7 @@ impl<A: Allocator> PrimitiveArray<A> {
         PrimitiveArray { values, validity }
     }
 
-    /// How many rows there are.
+    /// Returns how many rows there are.
     pub fn len(&self) -> usize
         ensures numbers { result ≡ length self.now.numbers }
         ensures rows { result ≡ length (primitive_rows self.now) }
@@ -79,28 +79,28 @@ impl<A: Allocator> PrimitiveArray<A> {
         self.values.len()
     }
 
-    /// Are there no rows?
+    /// Returns whether there are no rows.
     pub fn is_empty(&self) -> bool
         ensures { IsTrue result ↔ (self.now.numbers ≡ []) }
     {
         self.values.is_empty()
     }
 
-    /// The native type of the numbers.
+    /// Returns the native type of the numbers.
     pub fn ptype(&self) -> PType
         ensures { result ≡ self.now.ptype }
     {
         self.values.ptype()
     }
 
-    /// The type of the rows.
+    /// Returns the type of the rows.
     pub fn dtype(&self) -> DType
         ensures { result ≡ primitive_dtype self.now }
     {
         DType::Primitive(self.values.ptype(), self.validity.nullability())
     }
 
-    /// The numbers as they are stored, under null too.
+    /// Returns the numbers as they are stored, under null too.
     pub fn values(&self) -> &PrimitiveValues<A>
         ensures shows { numbers result.now ≡ self.now.numbers }
         ensures typed { ptype_of result.now ≡ self.now.ptype }
@@ -108,7 +108,7 @@ impl<A: Allocator> PrimitiveArray<A> {
         &self.values
     }
 
-    /// Which rows are valid.
+    /// Returns which rows are valid.
     pub fn validity(&self) -> &Validity<A>
         ensures form { form_of result.now ≡ self.now.validity }
         ensures counted { HasLength self.now.validity (length self.now.numbers) }
@@ -116,7 +116,7 @@ impl<A: Allocator> PrimitiveArray<A> {
         &self.validity
     }
 
-    /// The numbers and the validity.
+    /// Returns the numbers and the validity.
     pub fn into_parts(self) -> (PrimitiveValues<A>, Validity<A>)
         ensures whole { self ≡ primitive_of result.0 result.1 }
         ensures counted { HasLength (form_of result.1) (length (numbers result.0)) }
@@ -124,7 +124,7 @@ impl<A: Allocator> PrimitiveArray<A> {
         (self.values, self.validity)
     }
 
-    /// The row at `index`.
+    /// Returns the row at `index`.
     pub fn get(&self, index: usize) -> ScalarView<'_, A>
         requires { index < length self.now.numbers }
         ensures row { slice_get (map (option_map Single) (primitive_rows self.now)) index ≡ Some (sees result) }
@@ -139,8 +139,8 @@ impl<A: Allocator> PrimitiveArray<A> {
 }
 
 impl<A: Allocator + Copy> PrimitiveArray<A> {
-    /// A copy of the column in its form. Its buffers are shared with these where these are shared, and else copied.
-    /// Refused as `OutOfMemory` alone.
+    /// Returns a copy of the column in its form. Its buffers are shared with these where these are shared, and else
+    /// copied. Refused only as `OutOfMemory`.
     pub fn try_clone(&self, alloc: A) -> VortexResult<PrimitiveArray<A>>
         ensures only { IsOkUnless result VortexError.OutOfMemory }
         ensures form { IfOk result (λ array. array ≡ self.now) }
@@ -150,8 +150,8 @@ impl<A: Allocator + Copy> PrimitiveArray<A> {
         Ok(PrimitiveArray { values, validity })
     }
 
-    /// A copy of the column in the same form, with buffers that are shared with none: what these are a
-    /// part of may then be freed. Refused as `OutOfMemory` alone.
+    /// Returns a copy of the column in the same form, with buffers that are shared with none: what these are a part of
+    /// may then be freed. Refused only as `OutOfMemory`.
     pub fn compact(&self, alloc: A) -> VortexResult<PrimitiveArray<A>>
         ensures only { IsOkUnless result VortexError.OutOfMemory }
         ensures form { IfOk result (λ array. array ≡ self.now) }
@@ -161,10 +161,10 @@ impl<A: Allocator + Copy> PrimitiveArray<A> {
         Ok(PrimitiveArray { values, validity })
     }
 
-    /// The rows from `range.start` to `range.end - 1`, with the numbers as they are stored, shared with these where
-    /// these are shared, and else copied. Refused as `BadRange`, with both bounds and the number of rows, exactly where
-    /// the range begins after its end or ends after the last row, and that before any memory is taken; else as
-    /// `OutOfMemory` alone.
+    /// Returns the rows from `range.start` to `range.end - 1`, with the numbers as they are stored, shared with these
+    /// where these are shared, and else copied. Refused as `BadRange`, with both bounds and the number of rows, exactly
+    /// where the range begins after its end or ends after the last row, and that before any memory is taken; else only
+    /// as `OutOfMemory`.
     pub fn slice(&self, alloc: A, range: Range<usize>) -> VortexResult<PrimitiveArray<A>>
         ensures refused { let count = length (primitive_rows self.now) in
             IsErrOf result (VortexError.BadRange range.start range.end count) ↔ IsBadRange range.start range.end count }

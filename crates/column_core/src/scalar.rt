@@ -14,7 +14,7 @@ use column_base::{DType, NativePType, Nullability, PType, VortexError, VortexRes
 use std::alloc::Allocator;
 use std::marker::Model;
 
-/// A value that is no null, owned. Unsigned types have `Unsigned`, signed ones `Signed`.
+/// A value that is not null, owned. Unsigned types have `Unsigned`, signed ones `Signed`.
 #[derive(Drop)]
 #[derive_where(Debug, PartialEq, Eq)]
 pub enum ScalarValue<A: Allocator> {
@@ -47,7 +47,7 @@ impl<A: Allocator> Model for Scalar<A> {
 }
 
 impl<A: Allocator> ScalarValue<A> {
-    /// Is it a value of the type?
+    /// Returns whether it is a value of the type.
     pub fn is_of(&self, dtype: DType) -> bool
         ensures { IsTrue result ↔ IsOwnedOf dtype self.now }
     {
@@ -68,7 +68,7 @@ impl<A: Allocator> ScalarValue<A> {
 }
 
 impl<A: Allocator> Scalar<A> {
-    /// The scalar of these parts. Refused as `NullNotAllowed` for null in a type without null, and as
+    /// Returns the scalar of these parts. Refused as `NullNotAllowed` for null in a type without null, and as
     /// `TypeMismatch` for a value that is none of the type.
     pub fn try_new(dtype: DType, value: Option<ScalarValue<A>>) -> VortexResult<Self>
         ensures ok { IfOk result (λ scalar. scalar ≡ record { dtype = dtype; value = option_map flat_of value }) }
@@ -92,14 +92,14 @@ impl<A: Allocator> Scalar<A> {
         Ok(Scalar { dtype, value })
     }
 
-    /// The type.
+    /// Returns the type.
     pub fn dtype(&self) -> DType
         ensures { result ≡ self.now.dtype }
     {
         self.dtype
     }
 
-    /// The value, or `None` for null.
+    /// Returns the value, or `None` for null.
     pub fn value(&self) -> Option<&ScalarValue<A>>
         ensures value { option_map (λ v. flat_of v.now) result ≡ self.now.value }
         ensures of_type { IfSome result (λ v. IsOwnedOf self.now.dtype v.now) }
@@ -107,7 +107,7 @@ impl<A: Allocator> Scalar<A> {
         self.value.as_ref()
     }
 
-    /// The value as a row shows it, borrowed.
+    /// Returns the value as a row shows it, borrowed.
     pub fn view(&self) -> ScalarView<'_, A>
         ensures value { sees result ≡ option_map Single self.now.value }
         ensures of_type { IsViewOf self.now.dtype result }
@@ -129,7 +129,7 @@ impl<A: Allocator> PartialEq for Scalar<A> {
 
     ghost laws = { partial_equiv_from_equiv same_scalar_equivalence };
 
-    /// Are the two of one type, and both null or of equal values?
+    /// Returns whether the two are of one type, and both null or of equal values.
     fn eq(&self, other: &Scalar<A>) -> bool
         ensures answer { result ≡ same_scalar self.now other.now }
         ensures exact { IsTrue result ↔ (self.now ≡ other.now) }
@@ -143,7 +143,7 @@ impl<A: Allocator> Eq for Scalar<A> {
 }
 
 impl<A: Allocator + Copy> ScalarValue<A> {
-    /// A copy of the value, in memory of its own. Refused as `OutOfMemory` alone.
+    /// Returns a copy of the value, in memory of its own. Refused only as `OutOfMemory`.
     pub fn try_clone(&self, alloc: A) -> VortexResult<ScalarValue<A>>
         ensures only { IsOkUnless result VortexError.OutOfMemory }
         ensures value { IfOk result (λ v. flat_of v ≡ flat_of self.now) }
@@ -161,7 +161,7 @@ impl<A: Allocator + Copy> ScalarValue<A> {
 }
 
 impl<A: Allocator + Copy> Scalar<A> {
-    /// The scalar of what a row of that type shows, in memory of its own. Refused as `OutOfMemory` alone.
+    /// Returns the scalar of what a row of that type shows, in memory of its own. Refused only as `OutOfMemory`.
     pub fn of_view(alloc: A, dtype: DType, view: ScalarView<'_, A>) -> VortexResult<Scalar<A>>
         requires single { ¬ IsLists dtype }
         requires of_type { IsViewOf dtype view }
@@ -182,7 +182,7 @@ impl<A: Allocator + Copy> Scalar<A> {
         Ok(Scalar { dtype, value })
     }
 
-    /// An equal scalar, in memory of its own. Refused as `OutOfMemory` alone.
+    /// Returns an equal scalar, in memory of its own. Refused only as `OutOfMemory`.
     pub fn try_clone(&self, alloc: A) -> VortexResult<Scalar<A>>
         ensures only { IsOkUnless result VortexError.OutOfMemory }
         ensures same { IfOk result (λ scalar. scalar ≡ self.now) }

@@ -57,10 +57,10 @@ impl<A: Allocator> Model for VarBinViewArray<A> {
 }
 
 impl<A: Allocator + Copy> VarBinViewArray<A> {
-    /// The column of these views into these buffers, null where the validity says so. Refused, in
-    /// this order, as `ColumnLength`, with both lengths, where the validity is of another number of
-    /// rows; as `OutOfBounds`, with the row and the number of rows, for the first valid row whose view
-    /// is not within its buffer; as `TypeMismatch` where texts are wanted and a valid row is not UTF-8.
+    /// Returns the column of these views into these buffers, null where the validity says so. Refused, in this order,
+    /// as `ColumnLength`, with both lengths, where the validity is of another number of rows; as `OutOfBounds`, with
+    /// the row and the number of rows, for the first valid row whose view is not within its buffer; as `TypeMismatch`
+    /// where texts are wanted and a valid row is not UTF-8.
     pub fn try_new(
         views: Vec<View, A>,
         buffers: Vec<Bytes<A>, A>,
@@ -83,7 +83,7 @@ impl<A: Allocator + Copy> VarBinViewArray<A> {
         })
     }
 
-    /// The column of parts that `try_new` accepts.
+    /// Returns the column of parts that `try_new` accepts.
     pub fn new_unchecked(
         views: Vec<View, A>,
         buffers: Vec<Bytes<A>, A>,
@@ -103,7 +103,7 @@ impl<A: Allocator + Copy> VarBinViewArray<A> {
 }
 
 impl<A: Allocator> VarBinViewArray<A> {
-    /// How many rows there are.
+    /// Returns how many rows there are.
     pub fn len(&self) -> usize
         ensures views { result ≡ length self.now.views }
         ensures rows { result ≡ length (varbin_rows self.now) }
@@ -111,14 +111,14 @@ impl<A: Allocator> VarBinViewArray<A> {
         self.views.len()
     }
 
-    /// Are there no rows?
+    /// Returns whether there are no rows.
     pub fn is_empty(&self) -> bool
         ensures { IsTrue result ↔ (self.now.views ≡ []) }
     {
         self.views.is_empty()
     }
 
-    /// The type of the rows.
+    /// Returns the type of the rows.
     pub fn dtype(&self) -> DType
         ensures { result ≡ varbin_dtype self.now }
     {
@@ -128,14 +128,14 @@ impl<A: Allocator> VarBinViewArray<A> {
         }
     }
 
-    /// Whether the rows are texts or bytes.
+    /// Returns whether the rows are texts or bytes.
     pub fn kind(&self) -> VarBinKind
         ensures { result ≡ self.now.kind }
     {
         self.kind
     }
 
-    /// The views as they are stored, under null too.
+    /// Returns the views as they are stored, under null too.
     pub fn views(&self) -> &[View]
         ensures stored { result.now ≡ self.now.views }
         ensures accepted { AreVarBins self.now }
@@ -143,14 +143,14 @@ impl<A: Allocator> VarBinViewArray<A> {
         self.views.as_slice()
     }
 
-    /// The buffers that the views cut.
+    /// Returns the buffers that the views cut.
     pub fn buffers(&self) -> &[Bytes<A>]
         ensures { result.now ≡ self.now.buffers }
     {
         &self.buffers
     }
 
-    /// Which rows are valid.
+    /// Returns which rows are valid.
     pub fn validity(&self) -> &Validity<A>
         ensures form { form_of result.now ≡ self.now.validity }
         ensures counted { HasLength self.now.validity (length self.now.views) }
@@ -158,7 +158,7 @@ impl<A: Allocator> VarBinViewArray<A> {
         &self.validity
     }
 
-    /// The views, the buffers, whether the rows are texts or bytes, and the validity.
+    /// Returns the views, the buffers, whether the rows are texts or bytes, and the validity.
     pub fn into_parts(self) -> (Buffer<View, A>, Vec<Bytes<A>, A>, VarBinKind, Validity<A>)
         ensures whole { self ≡ varbin_with result.2 result.0.items result.1.items (form_of result.3) }
         ensures accepted { AreVarBins (varbin_with result.2 result.0.items result.1.items (form_of result.3)) }
@@ -166,7 +166,7 @@ impl<A: Allocator> VarBinViewArray<A> {
         (self.views, self.buffers, self.kind, self.validity)
     }
 
-    /// The row at `index`, borrowed from its buffer. Takes no memory.
+    /// Returns the row at `index`, borrowed from its buffer. Takes no memory.
     pub fn get(&self, index: usize) -> ScalarView<'_, A>
         requires { index < length self.now.views }
         ensures row { slice_get (map (option_map Single) (varbin_rows self.now)) index ≡ Some (sees result) }
@@ -184,8 +184,8 @@ impl<A: Allocator> VarBinViewArray<A> {
 }
 
 impl<A: Allocator + Copy> VarBinViewArray<A> {
-    /// A copy of the column in its form. Its views and validity are shared with these where these are shared, and else
-    /// copied; the bytes of the buffers are shared. Refused as `OutOfMemory` alone.
+    /// Returns a copy of the column in its form. Its views and validity are shared with these where these are shared,
+    /// and else copied; the bytes of the buffers are shared. Refused only as `OutOfMemory`.
     pub fn try_clone(&self, alloc: A) -> VortexResult<VarBinViewArray<A>>
         ensures only { IsOkUnless result VortexError.OutOfMemory }
         ensures form { IfOk result (λ array. array ≡ self.now) }
@@ -201,8 +201,8 @@ impl<A: Allocator + Copy> VarBinViewArray<A> {
         })
     }
 
-    /// A copy of the column in the same form, with views and validity that are shared with none. All
-    /// buffers are kept, and their bytes shared. Refused as `OutOfMemory` alone.
+    /// Returns a copy of the column in the same form, with views and validity that are shared with none. All buffers
+    /// are kept, and their bytes shared. Refused only as `OutOfMemory`.
     pub fn compact(&self, alloc: A) -> VortexResult<VarBinViewArray<A>>
         ensures only { IsOkUnless result VortexError.OutOfMemory }
         ensures form { IfOk result (λ array. array ≡ self.now) }
@@ -218,10 +218,10 @@ impl<A: Allocator + Copy> VarBinViewArray<A> {
         })
     }
 
-    /// The rows from `range.start` to `range.end - 1`, with views and validity shared with these where these are
-    /// shared, and else copied; all buffers are kept, and their bytes shared. Refused as `BadRange`, with both bounds
-    /// and the number of rows, exactly where the range begins after its end or ends after the last row, and that before
-    /// any memory is taken; else as `OutOfMemory` alone.
+    /// Returns the rows from `range.start` to `range.end - 1`, with views and validity shared with these where these
+    /// are shared, and else copied; all buffers are kept, and their bytes shared. Refused as `BadRange`, with both
+    /// bounds and the number of rows, exactly where the range begins after its end or ends after the last row, and that
+    /// before any memory is taken; else only as `OutOfMemory`.
     pub fn slice(&self, alloc: A, range: Range<usize>) -> VortexResult<VarBinViewArray<A>>
         ensures refused { let count = length (varbin_rows self.now) in
             IsErrOf result (VortexError.BadRange range.start range.end count) ↔ IsBadRange range.start range.end count }

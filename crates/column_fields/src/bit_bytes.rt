@@ -12,7 +12,7 @@ use bytes::BufMut;
 use column_base::{BitBuffer, BitBufferMut, VortexError, VortexResult};
 use std::alloc::Allocator;
 
-/// As few bytes as can hold so many bits.
+/// Returns as few bytes as can hold so many bits.
 pub fn bytes_for(count: usize) -> usize
     ensures { result ≡ (count + 7) / 8 }
 {
@@ -23,7 +23,7 @@ pub fn bytes_for(count: usize) -> usize
     }
 }
 
-/// Writes the bits at the end. Refused as `OutOfMemory` alone.
+/// Writes the bits at the end. Refused only as `OutOfMemory`.
 pub fn put_bits<A: Allocator, W: BufMut>(out: &mut W, bits: &BitBuffer<A>) -> VortexResult<()>
     ensures ok { OnOk result (W.written out.new ≡ W.written out.old ++ bit_bytes bits.now) }
     ensures room { UsesRoom result (W.spare out.old) (W.spare out.new) (length (bit_bytes bits.now)) }

@@ -14,7 +14,7 @@ use bytes::BufMut;
 use column_base::{DecimalDType, Validity, VortexError, VortexResult};
 use std::alloc::Allocator;
 
-/// Writes the precision and the scale at the end. Refused as `OutOfMemory` alone.
+/// Writes the precision and the scale at the end. Refused only as `OutOfMemory`.
 pub fn put_decimal_type<W: BufMut>(out: &mut W, decimal: DecimalDType) -> VortexResult<()>
     ensures ok { OnOk result (W.written out.new ≡ W.written out.old ++ decimal_type decimal) }
     ensures room { UsesRoom result (W.spare out.old) (W.spare out.new) (length (decimal_type decimal)) }
@@ -27,7 +27,7 @@ pub fn put_decimal_type<W: BufMut>(out: &mut W, decimal: DecimalDType) -> Vortex
     Ok(())
 }
 
-/// The precision and the scale at the front, and the bytes after them.
+/// Returns the precision and the scale at the front, and the bytes after them.
 pub(crate) fn read_decimal_type(bytes: &[u8]) -> Option<(DecimalDType, &[u8])>
     ensures found { IfSome result (λ r. bytes.now ≡ decimal_type r.0 ++ r.1.now) }
     ensures typed { IfSome result (λ r. IsDecimalType r.0) }
@@ -43,8 +43,8 @@ pub(crate) fn read_decimal_type(bytes: &[u8]) -> Option<(DecimalDType, &[u8])>
     Some((DecimalDType { precision, scale }, rest))
 }
 
-/// The validity of so many rows, the precision and the scale, and the bytes of the items, which the bytes are. Refused
-/// as `BadMetadata` exactly where they are none, else as `OutOfMemory` alone.
+/// Returns the validity of so many rows, the precision and the scale, and the bytes of the items, which the bytes are.
+/// Refused as `BadMetadata` exactly where they are none, else only as `OutOfMemory`.
 pub fn read_decimal_fields<A: Allocator + Copy>(
     alloc: A,
     bytes: &[u8],

@@ -96,7 +96,7 @@ fn words_of(number: i128) -> (u64, u64)
     ((unsigned % WORD) as u64, (unsigned / WORD) as u64)
 }
 
-/// The integers of so many decimals, of which these are the bytes. Takes memory for them, and for no more.
+/// Returns the integers of so many decimals, of which these are the bytes. Takes memory for them, and for no more.
 pub fn load_decimals<A: Allocator>(
     alloc: A,
     bytes: &[u8],
@@ -119,7 +119,7 @@ pub fn load_decimals<A: Allocator>(
     Ok(numbers)
 }
 
-/// The integer of the decimal of which these are the bytes.
+/// Returns the integer of the decimal of which these are the bytes.
 pub fn load_decimal(bytes: &[u8]) -> i128
     requires { length bytes.now ≡ 16 }
     ensures shows { decimal_bytes result ≡ bytes.now }

@@ -10,7 +10,7 @@ use crate::types::{number_of_type, type_of_number};
 use bytes::BufMut;
 use column_base::{ElementDType, Nullability, VortexError, VortexResult};
 
-/// Writes the type of the elements at the end. Refused as `OutOfMemory` alone.
+/// Writes the type of the elements at the end. Refused only as `OutOfMemory`.
 pub fn put_element_type<W: BufMut>(out: &mut W, element: ElementDType) -> VortexResult<()>
     ensures ok { OnOk result (W.written out.new ≡ W.written out.old ++ element_type element) }
     ensures room { UsesRoom result (W.spare out.old) (W.spare out.new) (length (element_type element)) }
@@ -48,7 +48,7 @@ fn put_numbered_type<W: BufMut>(
     Ok(())
 }
 
-/// The type of elements that the bytes are.
+/// Returns the type of elements that the bytes are.
 pub fn read_element_type(bytes: &[u8]) -> Option<ElementDType>
     ensures found { IfSome result (λ element. bytes.now ≡ element_type element) }
     ensures typed { IfSome result (λ element. IsElementType element) }

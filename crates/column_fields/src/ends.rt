@@ -17,9 +17,9 @@ const HIGH_BITS: u64 = 0x8080_8080_8080_8080;
 
 const LOW_BITS: u64 = !HIGH_BITS;
 
-/// The ends of that type of the runs of which these are the lengths: each run but the first has a row. Refused as
-/// `BadMetadata` exactly where no ends of the type have these lengths, as none of a signed type have, else as
-/// `OutOfMemory` alone. Takes memory for as many ends as there are bytes.
+/// Returns the ends of that type of the runs of which these are the lengths: each run but the first has a row. Refused
+/// as `BadMetadata` exactly where no ends of the type have these lengths, as none of a signed type have, else only as
+/// `OutOfMemory`. Takes memory for as many ends as there are bytes.
 pub fn load_ends<A: Allocator + Copy>(
     alloc: A,
     ptype: PType,

@@ -9,7 +9,7 @@ use crate::varint::read_shortest;
 use bytes::BufMut;
 use column_base::{VortexError, VortexResult};
 
-/// Writes the shortest varint of a number at the end. Refused as `OutOfMemory` alone.
+/// Writes the shortest varint of a number at the end. Refused only as `OutOfMemory`.
 #[inline(always)]
 pub fn put_varint<W: BufMut>(out: &mut W, number: u64) -> VortexResult<()>
     ensures ok { OnOk result (W.written out.new ≡ W.written out.old ++ varint number) }
@@ -26,7 +26,7 @@ pub fn put_varint<W: BufMut>(out: &mut W, number: u64) -> VortexResult<()>
     Ok(())
 }
 
-/// Writes a field with a number. Refused as `OutOfMemory` alone.
+/// Writes a field with a number. Refused only as `OutOfMemory`.
 pub fn put_number<W: BufMut>(out: &mut W, field: u64, number: u64) -> VortexResult<()>
     requires { field < 32 }
     ensures ok { OnOk result (W.written out.new ≡ W.written out.old ++ number_field field number) }
@@ -39,8 +39,8 @@ pub fn put_number<W: BufMut>(out: &mut W, field: u64, number: u64) -> VortexResu
     Ok(())
 }
 
-/// Writes the key and the length of a field of so many bytes, which the caller puts behind them. Refused as
-/// `OutOfMemory` alone.
+/// Writes the key and the length of a field of so many bytes, which the caller puts behind them. Refused only as
+/// `OutOfMemory`.
 pub fn put_bytes_key<W: BufMut>(out: &mut W, field: u64, count: usize) -> VortexResult<()>
     requires { field < 32 }
     ensures ok { OnOk result (W.written out.new ≡ W.written out.old ++ (varint (field * 8 + 2) ++ varint count)) }
@@ -54,7 +54,7 @@ pub fn put_bytes_key<W: BufMut>(out: &mut W, field: u64, count: usize) -> Vortex
     Ok(())
 }
 
-/// Writes a field with bytes. Refused as `OutOfMemory` alone.
+/// Writes a field with bytes. Refused only as `OutOfMemory`.
 pub fn put_bytes<W: BufMut>(out: &mut W, field: u64, content: &[u8]) -> VortexResult<()>
     requires { field < 32 }
     ensures ok { OnOk result (W.written out.new ≡ W.written out.old ++ bytes_field field content.now) }
@@ -67,7 +67,7 @@ pub fn put_bytes<W: BufMut>(out: &mut W, field: u64, content: &[u8]) -> VortexRe
     Ok(())
 }
 
-/// The number of the field at the front, if it has that field number, and the bytes after it.
+/// Returns the number of the field at the front, if it has that field number, and the bytes after it.
 pub fn read_number(bytes: &[u8], field: u64) -> Option<(u64, &[u8])>
     requires { field < 32 }
     ensures found { IfSome result (λ r. bytes.now ≡ number_field field r.0 ++ r.1.now) }
@@ -82,7 +82,7 @@ pub fn read_number(bytes: &[u8], field: u64) -> Option<(u64, &[u8])>
     Some((number, rest))
 }
 
-/// The bytes after the field at the front, if it is that field with that number.
+/// Returns the bytes after the field at the front, if it is that field with that number.
 pub fn read_constant(bytes: &[u8], field: u64, number: u64) -> Option<&[u8]>
     requires { field < 32 }
     ensures found { IfSome result (λ rest. bytes.now ≡ number_field field number ++ rest.now) }
@@ -95,7 +95,7 @@ pub fn read_constant(bytes: &[u8], field: u64, number: u64) -> Option<&[u8]>
     Some(rest)
 }
 
-/// The bytes in the field at the front, if it has that field number, and the bytes after it.
+/// Returns the bytes in the field at the front, if it has that field number, and the bytes after it.
 pub fn read_bytes(bytes: &[u8], field: u64) -> Option<(&[u8], &[u8])>
     requires { field < 32 }
     ensures found { IfSome result (λ r. bytes.now ≡ bytes_field field r.0.now ++ r.1.now) }
@@ -114,7 +114,7 @@ pub fn read_bytes(bytes: &[u8], field: u64) -> Option<(&[u8], &[u8])>
     Some((content, rest))
 }
 
-/// The bytes in the field that the bytes are, if it has that field number and nothing comes behind it.
+/// Returns the bytes in the field that the bytes are, if it has that field number and nothing comes behind it.
 pub fn read_last_bytes(bytes: &[u8], field: u64) -> Option<&[u8]>
     requires { field < 32 }
     ensures found { IfSome result (λ content. bytes.now ≡ bytes_field field content.now) }

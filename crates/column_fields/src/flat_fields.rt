@@ -10,8 +10,8 @@ use crate::validity::read_validity;
 use column_base::{Validity, VortexError, VortexResult};
 use std::alloc::Allocator;
 
-/// The validity of so many rows and the bytes of the items, which the bytes are. Refused as `BadMetadata` exactly where
-/// they are none, else as `OutOfMemory` alone.
+/// Returns the validity of so many rows and the bytes of the items, which the bytes are. Refused as `BadMetadata`
+/// exactly where they are none, else only as `OutOfMemory`.
 pub fn read_flat_fields<A: Allocator + Copy>(
     alloc: A,
     bytes: &[u8],

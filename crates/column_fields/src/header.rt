@@ -16,7 +16,7 @@ pub struct Header {
     pub rows: u64,
 }
 
-/// Writes a header at the end. Refused as `OutOfMemory` alone.
+/// Writes a header at the end. Refused only as `OutOfMemory`.
 pub fn put_header<W: BufMut>(out: &mut W, stated: Header) -> VortexResult<()>
     ensures ok { OnOk result (W.written out.new ≡
         W.written out.old ++ header_bytes stated.kind stated.form stated.rows) }
@@ -32,7 +32,7 @@ pub fn put_header<W: BufMut>(out: &mut W, stated: Header) -> VortexResult<()>
     Ok(())
 }
 
-/// The header at the front, and the bytes after it.
+/// Returns the header at the front, and the bytes after it.
 pub fn read_header(bytes: &[u8]) -> Option<(Header, &[u8])>
     ensures found { IfSome result (λ r. bytes.now ≡ header_bytes r.0.kind r.0.form r.0.rows ++ r.1.now) }
     ensures small { IfSome result (λ r. (r.0.kind < 2 ^ 64) × (r.0.form < 2 ^ 64) × (r.0.rows < 2 ^ 64)) }

@@ -13,8 +13,8 @@ use std::alloc::Allocator;
 // So many run lengths at once that 32 bits count their bytes.
 const BLOCK: usize = 65_536;
 
-/// How many bytes the lengths of the runs with these ends have, in one pass over the ends. Refused as `OutOfMemory`
-/// exactly where no count tells them.
+/// Returns how many bytes the lengths of the runs with these ends have, in one pass over the ends. Refused as
+/// `OutOfMemory` exactly where no count tells them.
 #[tactic(auto, using(crate::proofs::LengthLaws::ends_stored))]
 pub fn lengths_size<A: Allocator>(ends: &PrimitiveValues<A>) -> VortexResult<usize>
     requires { IsUnsigned (ptype_of ends.now) }

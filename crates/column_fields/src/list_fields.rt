@@ -15,8 +15,8 @@ pub struct ListFields<'a> {
     pub sizes: &'a [u8],
 }
 
-/// How many bytes the fields have where the messages have so many. Refused as `OutOfMemory` exactly where no count
-/// tells them.
+/// Returns how many bytes the fields have where the messages have so many. Refused as `OutOfMemory` exactly where no
+/// count tells them.
 pub fn list_fields_size(elements: usize, offsets: usize, sizes: usize) -> VortexResult<usize>
     ensures size { IfOk result (λ size. (e o s : List ℕ) → length e ≡ elements → length o ≡ offsets →
         length s ≡ sizes → size ≡ length (list_fields e o s)) }
@@ -32,7 +32,7 @@ pub fn list_fields_size(elements: usize, offsets: usize, sizes: usize) -> Vortex
     }
 }
 
-/// The fields that the bytes are.
+/// Returns the fields that the bytes are.
 pub fn read_list_fields(bytes: &[u8]) -> Option<ListFields<'_>>
     ensures found { IfSome result (λ f. bytes.now ≡ list_fields f.elements.now f.offsets.now f.sizes.now) }
     ensures small { IfSome result (λ f. (length f.elements.now < 2 ^ 64) × (length f.offsets.now < 2 ^ 64) ×

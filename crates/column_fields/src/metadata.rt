@@ -27,7 +27,7 @@ impl RunEndMetadata {
     ghost use Rattle.column_fields.specs.RecordFields.{IsRecord, Means, StatesUnknownEndsType};
     ghost use Rattle.column_fields.specs.WrittenRecord.{IsWritten};
 
-    /// The type of the ends, which is unsigned.
+    /// Returns the type of the ends, which is unsigned.
     pub fn ends_ptype(&self) -> PType
         requires { IsEndsTypeNumber self.now.ends_ptype }
         ensures number { ends_type_number result ≡ Some self.now.ends_ptype }
@@ -58,9 +58,9 @@ impl RunEndMetadata {
         };
     }
 
-    /// The record that the bytes spell: of the fields 1, 2 and 3 the last one counts, one that is absent
-    /// is 0, and other fields are skipped. Refused as `BadMetadata` where the bytes spell no fields, and
-    /// else as `EndsTypeNumber` where the last number for the type of the ends is above 3. Takes no memory.
+    /// Returns the record that the bytes spell: of the fields 1, 2 and 3 the last one counts, one that is absent is 0,
+    /// and other fields are skipped. Refused as `BadMetadata` where the bytes spell no fields, and else as
+    /// `EndsTypeNumber` where the last number for the type of the ends is above 3. Takes no memory.
     pub fn decode(bytes: &[u8]) -> VortexResult<RunEndMetadata>
         ensures ok { (m : RunEndMetadata) → (result ≡ Ok m) ↔ Means bytes.now m }
         ensures known { IfOk result (λ m. IsEndsTypeNumber m.ends_ptype) }
@@ -83,8 +83,8 @@ impl RunEndMetadata {
         })
     }
 
-    /// The written form: the fields that are not 0, in order, each number in as few bytes as there can
-    /// be. Refused for want of memory alone.
+    /// Returns the written form: the fields that are not 0, in order, each number in as few bytes as there can be.
+    /// Refused only for memory.
     pub fn encode_to_vec<A: Allocator>(&self, alloc: A) -> VortexResult<Vec<u8, A>>
         requires { IsEndsTypeNumber self.now.ends_ptype }
         ensures written { IfOk result (λ bytes. IsWritten bytes.items self.now) }
@@ -111,7 +111,7 @@ struct Numbers {
     offset: u64,
 }
 
-/// The last values of the fields that the bytes spell.
+/// Returns the last values of the fields that the bytes spell.
 #[tactic(auto, using(crate::proofs::Records::started, crate::proofs::Records::field_shorter, crate::proofs::Records::one_more_field, crate::proofs::Records::all_read, crate::proofs::Records::stuck))]
 fn read_numbers(bytes: &[u8]) -> Option<Numbers>
     ensures found { IfSome result (λ n. SpellsNumbers bytes.now n.ends_type n.runs n.offset) }
@@ -135,7 +135,7 @@ fn read_numbers(bytes: &[u8]) -> Option<Numbers>
     })
 }
 
-/// The value of the field if it has that number, else the value before.
+/// Returns the value of the field if it has that number, else the value before.
 fn latest(before: u64, number: u64, field: FieldValue) -> u64
     ensures { result ≡ (if field.number == number then unwrap_or field.value 0 else before) }
 {
@@ -146,7 +146,7 @@ fn latest(before: u64, number: u64, field: FieldValue) -> u64
     }
 }
 
-/// How many bytes a field with that number has when it is written.
+/// Returns how many bytes a field with that number has when it is written.
 fn field_len(number: u64, value: u64) -> usize
     requires { number ≤ 3 }
     ensures exact { HasLength (IsWrittenField number) value result }

@@ -12,7 +12,7 @@ use bytes::BufMut;
 use column_base::{PType, PrimitiveValues, VortexError, VortexResult};
 use std::alloc::Allocator;
 
-/// How many bytes a number of that type has.
+/// Returns how many bytes a number of that type has.
 pub fn size_of_type(ptype: PType) -> usize
     ensures { result ≡ size_of ptype }
 {
@@ -58,7 +58,7 @@ fn put_one<T: StoredNumber, W: BufMut>(out: &mut W, number: i128) -> VortexResul
     Ok(())
 }
 
-/// The number of a type of which these are the bytes.
+/// Returns the number of a type of which these are the bytes.
 pub fn load_value(ptype: PType, bytes: &[u8]) -> i128
     requires { length bytes.now ≡ size_of ptype }
     ensures shows { number_bytes ptype result ≡ bytes.now }
@@ -196,7 +196,7 @@ fn load_as<T: StoredNumber, A: Allocator + Copy>(
     Ok(T::wrap(load_all::<T, A>(alloc, bytes, count)?))
 }
 
-/// A buffer of so many numbers of a type, of which these are the bytes. Takes memory for them, and for no more.
+/// Returns a buffer of so many numbers of a type, of which these are the bytes. Takes memory for them, and for no more.
 pub fn load_values<A: Allocator + Copy>(
     alloc: A,
     ptype: PType,

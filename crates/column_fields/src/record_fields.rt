@@ -12,7 +12,7 @@ pub(crate) struct FieldValue {
     pub(crate) value: Option<u64>,
 }
 
-/// The field at the front, and the bytes after it.
+/// Returns the field at the front, and the bytes after it.
 #[tactic(auto, using(crate::proofs::Payloads::no_key, crate::proofs::Payloads::no_large_key, crate::proofs::Payloads::no_zero_number, crate::proofs::Payloads::no_other_known, crate::proofs::Payloads::no_payload, crate::proofs::Payloads::found_field))]
 pub(crate) fn read_field(bytes: &[u8]) -> Option<(FieldValue, &[u8])>
     ensures found { IfSome result (λ r. BeginsWithField bytes.now r.0.number r.0.value r.1.now) }
@@ -28,7 +28,7 @@ pub(crate) fn read_field(bytes: &[u8]) -> Option<(FieldValue, &[u8])>
     Some((FieldValue { number, value }, rest))
 }
 
-/// The value that the payload at the front carries, and the bytes after it.
+/// Returns the value that the payload at the front carries, and the bytes after it.
 #[tactic(auto, using(crate::proofs::Payloads::found_varint, crate::proofs::Payloads::found_eight, crate::proofs::Payloads::found_four, crate::proofs::Payloads::found_delimited, crate::proofs::Payloads::no_varint, crate::proofs::Payloads::no_eight, crate::proofs::Payloads::no_four, crate::proofs::Payloads::no_count, crate::proofs::Payloads::no_delimited, crate::proofs::Payloads::no_other))]
 fn read_payload(bytes: &[u8], wire: u64) -> Option<(Option<u64>, &[u8])>
     ensures found { IfSome result (λ r. BeginsWithPayload wire bytes.now r.0 r.1.now) }
@@ -57,7 +57,7 @@ fn read_payload(bytes: &[u8], wire: u64) -> Option<(Option<u64>, &[u8])>
     }
 }
 
-/// The bytes after the first `count`.
+/// Returns the bytes after the first `count`.
 fn skip(bytes: &[u8], count: u64) -> Option<&[u8]>
     ensures found { IfSome result (λ rest. (count ≤ length bytes.now) × (rest.now ≡ drop count bytes.now)) }
     ensures none { IfNone result (length bytes.now < count) }

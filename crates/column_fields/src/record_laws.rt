@@ -17,7 +17,7 @@ pub fn spelling_is_unique()
     ensures one_form { WrittenFormIsUnique }
 {}
 
-/// Writes a record and reads what was written: it is that record. Refused for want of memory alone.
+/// Writes a record and reads what was written: it is that record. Refused only for memory.
 pub fn write_then_read<A: Allocator>(
     metadata: &RunEndMetadata,
     alloc: A,

@@ -27,7 +27,7 @@ pub struct RunFields<'a> {
 }
 
 /// Writes the fields at the end, but for the message of the values, which is to stand behind them and has so many
-/// bytes. Refused as `OutOfMemory` alone.
+/// bytes. Refused only as `OutOfMemory`.
 pub fn put_run_fields<A: Allocator, W: BufMut>(
     out: &mut W,
     offset: u64,
@@ -53,8 +53,8 @@ pub fn put_run_fields<A: Allocator, W: BufMut>(
     Ok(())
 }
 
-/// How many bytes the fields have where the message of the values has so many. Refused as `OutOfMemory` exactly where
-/// no count tells them.
+/// Returns how many bytes the fields have where the message of the values has so many. Refused as `OutOfMemory` exactly
+/// where no count tells them.
 pub fn run_fields_size<A: Allocator>(
     offset: u64,
     ends_type: PType,
@@ -81,7 +81,7 @@ pub fn run_fields_size<A: Allocator>(
     }
 }
 
-/// The fields that the bytes are.
+/// Returns the fields that the bytes are.
 pub fn read_run_fields(bytes: &[u8]) -> Option<RunFields<'_>>
     ensures found { IfSome result (λ f. bytes.now ≡ run_fields f.offset f.ends_type f.lengths.now f.values.now) }
     ensures small { IfSome result (λ f. (f.offset < 2 ^ 64) × (length f.lengths.now < 2 ^ 64) ×

@@ -3,7 +3,7 @@ ghost use Rattle.std.specs.Prelude.{◌≡◌, ◌++◌, ◌+◌, ◌<◌, ◌�
 ghost use Rattle.std.specs.List.{flat_map};
 ghost use Rattle.column_fields.specs.Varint.{varint};
 
-/// The varints of eight numbers, where each is one byte: none has a bit of 128 or more.
+/// Returns the varints of eight numbers, where each is one byte: none has a bit of 128 or more.
 #[inline(always)]
 pub fn one_byte_each(numbers: &[u64; 8]) -> Option<[u8; 8]>
     ensures { IfSome result (λ bytes. bytes ≡ flat_map varint numbers.now) }
@@ -25,8 +25,8 @@ pub fn one_byte_each(numbers: &[u64; 8]) -> Option<[u8; 8]>
     ])
 }
 
-/// The varints of eight numbers at the front of 16 bytes, and how many bytes they have, where none has more than two.
-/// No branch tells which has one.
+/// Returns the varints of eight numbers at the front of 16 bytes, and how many bytes they have, where none has more
+/// than two. No branch tells which has one.
 #[inline(always)]
 pub fn two_bytes_at_most(numbers: &[u64; 8]) -> Option<([u8; 16], usize)>
     ensures bytes { IfSome result (λ r. take r.1 r.0 ≡ flat_map varint numbers.now) }

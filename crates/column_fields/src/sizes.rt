@@ -26,7 +26,7 @@ pub fn size_of_total(total: u128) -> VortexResult<usize>
     }
 }
 
-/// How many bytes the shortest varint of a number has.
+/// Returns how many bytes the shortest varint of a number has.
 #[inline(always)]
 pub fn varint_size(number: u64) -> usize
     ensures size { result ≡ length (varint number) }
@@ -37,7 +37,7 @@ pub fn varint_size(number: u64) -> usize
     ((bits * 9 + 64) / 64) as usize
 }
 
-/// How many bytes a field with a number has.
+/// Returns how many bytes a field with a number has.
 pub fn number_size(field: u64, number: u64) -> usize
     requires { field < 32 }
     ensures size { result ≡ length (number_field field number) }
@@ -46,7 +46,7 @@ pub fn number_size(field: u64, number: u64) -> usize
     varint_size(field * 8) + varint_size(number)
 }
 
-/// How many bytes the key and the length of a field of so many bytes have.
+/// Returns how many bytes the key and the length of a field of so many bytes have.
 pub fn bytes_key_size(field: u64, count: usize) -> usize
     requires { field < 32 }
     ensures size { result ≡ length (varint (field * 8 + 2) ++ varint count) }
@@ -55,7 +55,7 @@ pub fn bytes_key_size(field: u64, count: usize) -> usize
     varint_size(field * 8 + 2) + varint_size(count as u64)
 }
 
-/// How many bytes a header has.
+/// Returns how many bytes a header has.
 pub fn header_size(stated: Header) -> usize
     ensures size { result ≡ length (header_bytes stated.kind stated.form stated.rows) }
     ensures most { result ≤ 80 }
@@ -66,7 +66,7 @@ pub fn header_size(stated: Header) -> usize
         + number_size(4, stated.rows)
 }
 
-/// How many bytes the fields have that tell which rows are null.
+/// Returns how many bytes the fields have that tell which rows are null.
 #[tactic(auto, unfolding(crate::specs::Validity::validity_field))]
 pub fn validity_size<A: Allocator>(validity: &Validity<A>) -> usize
     ensures size { result ≡ length (validity_field (form_of validity.now)) }
@@ -80,7 +80,7 @@ pub fn validity_size<A: Allocator>(validity: &Validity<A>) -> usize
     }
 }
 
-/// How many bytes these fields have where bits tell it.
+/// Returns how many bytes these fields have where bits tell it.
 pub fn bit_validity_size<A: Allocator>(bits: &BitBuffer<A>) -> usize
     ensures size { result ≡ length (validity_field (ByBits bits.now)) }
     ensures most { result ≤ 2 ^ 62 }
@@ -89,7 +89,7 @@ pub fn bit_validity_size<A: Allocator>(bits: &BitBuffer<A>) -> usize
     number_size(5, 4) + bytes_key_size(6, count) + count
 }
 
-/// How many bytes the precision and the scale have.
+/// Returns how many bytes the precision and the scale have.
 pub fn decimal_type_size(decimal: DecimalDType) -> usize
     ensures size { result ≡ length (decimal_type decimal) }
     ensures typed { IsDecimalType decimal }

@@ -12,7 +12,7 @@ use column_base::{NativePType, UnsignedPType, VortexError, VortexResult};
 
 /// A native number that is stored as bytes.
 pub(crate) trait StoredNumber: NativePType {
-    /// How many bytes it has.
+    /// Returns how many bytes it has.
     fn size() -> usize
         ensures { result ≡ size_of Self.PTYPE };
 
@@ -37,7 +37,7 @@ pub(crate) trait StoredNumber: NativePType {
         ensures kept { StaysInFront (W.written out.old) (W.written out.new) }
         ensures only { IsOkUnless result VortexError.OutOfMemory };
 
-    /// The number of these bytes.
+    /// Returns the number of these bytes.
     fn load(bytes: &[u8]) -> Self
         requires { length bytes.now ≡ size_of Self.PTYPE }
         ensures shows { number_bytes Self.PTYPE (Self.number result) ≡ bytes.now }
@@ -62,19 +62,19 @@ macro_rules! bytes_of_eight {
 
 /// The end of a run, as its type stores it.
 pub(crate) trait StoredEnd: UnsignedPType {
-    /// The end as a `u64`. It is a number of its own type too.
+    /// Returns the end as a `u64`. It is a number of its own type too.
     fn end(self) -> u64
         ensures value { result ≡ Self.natural self }
         ensures fits { HasNumber Self.PTYPE (pos (Self.natural self)) };
 
-    /// How many bytes behind its first the varint of the length of a run has that begins and ends there, one for each
-    /// power of 128 that the length reaches. The end is a number of its own type too.
+    /// Returns how many bytes behind its first the varint of the length of a run has that begins and ends there, one
+    /// for each power of 128 that the length reaches. The end is a number of its own type too.
     fn longer(start: Self, end: Self) -> u32
         ensures size { 1 + result ≡ length (varint (Self.natural end - Self.natural start)) }
         ensures most { result ≤ 9 }
         ensures fits { HasNumber Self.PTYPE (pos (Self.natural end)) };
 
-    /// The end of that number, or `None` exactly where the type does not have it.
+    /// Returns the end of that number, or `None` exactly where the type does not have it.
     fn of_end(end: u64) -> Option<Self>
         ensures { Narrows Self.number (HasNumber Self.PTYPE) (pos end) result };
 }

@@ -4,7 +4,7 @@ ghost use Rattle.column_fields.specs.Types.{type_number, HasNoType};
 
 use column_base::PType;
 
-/// The number of a type.
+/// Returns the number of a type.
 pub fn number_of_type(ptype: PType) -> u64
     ensures { result ≡ type_number ptype }
 {
@@ -20,7 +20,7 @@ pub fn number_of_type(ptype: PType) -> u64
     }
 }
 
-/// The type with that number.
+/// Returns the type with that number.
 pub fn type_of_number(number: u64) -> Option<PType>
     ensures found { IfSome result (λ t. type_number t ≡ number) }
     ensures none { IfNone result (HasNoType number) }

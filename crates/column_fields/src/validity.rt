@@ -13,7 +13,7 @@ use bytes::BufMut;
 use column_base::{BitBuffer, Validity, VortexError, VortexResult};
 use std::alloc::Allocator;
 
-/// Writes how validity is told. Refused as `OutOfMemory` alone.
+/// Writes how validity is told. Refused only as `OutOfMemory`.
 #[tactic(auto, unfolding(crate::specs::Validity::validity_field))]
 pub fn put_validity<A: Allocator, W: BufMut>(
     out: &mut W,
@@ -33,7 +33,7 @@ pub fn put_validity<A: Allocator, W: BufMut>(
     }
 }
 
-/// Writes that validity is told by bits, and the bits. Refused as `OutOfMemory` alone.
+/// Writes that validity is told by bits, and the bits. Refused only as `OutOfMemory`.
 pub fn put_bit_validity<A: Allocator, W: BufMut>(
     out: &mut W,
     bits: &BitBuffer<A>,
@@ -50,7 +50,7 @@ pub fn put_bit_validity<A: Allocator, W: BufMut>(
     Ok(())
 }
 
-/// The validity of so many rows at the front, and the bytes after it.
+/// Returns the validity of so many rows at the front, and the bytes after it.
 pub fn read_validity<A: Allocator + Copy>(
     alloc: A,
     bytes: &[u8],

@@ -8,7 +8,7 @@ use std::alloc::Allocator;
 /// Where the bits of a tenth byte begin, of which 64 bits hold one.
 const LAST_SHIFT: u32 = 63;
 
-/// The varint at the front, and the bytes after it.
+/// Returns the varint at the front, and the bytes after it.
 pub fn read_varint(bytes: &[u8]) -> Option<(u64, &[u8])>
     ensures found { IfSome result (λ r. Begins IsVarint bytes.now r.0 r.1.now) }
     ensures none { IfNone result (BeginsWithNone IsVarint bytes.now) }
@@ -32,7 +32,7 @@ pub fn read_varint(bytes: &[u8]) -> Option<(u64, &[u8])>
     Some((with_bits(value, last, LAST_SHIFT), after))
 }
 
-/// The first byte, and the bytes after it.
+/// Returns the first byte, and the bytes after it.
 fn first_byte(bytes: &[u8]) -> Option<(u8, &[u8])>
     ensures found { IfSome result (λ r. bytes.now ≡ r.0 ∷ r.1.now) }
     ensures none { IfNone result (bytes.now ≡ []) }
@@ -41,7 +41,7 @@ fn first_byte(bytes: &[u8]) -> Option<(u8, &[u8])>
     Some((*first, rest))
 }
 
-/// The number with further bits above those that it has.
+/// Returns the number with further bits above those that it has.
 #[tactic(auto, using(crate::proofs::VarintReading::shifted_whole))]
 fn with_bits(value: u64, bits: u8, shift: u32) -> u64
     requires in_range { shift < 64 }
@@ -51,7 +51,8 @@ fn with_bits(value: u64, bits: u8, shift: u32) -> u64
     value + (u64::from(bits) << shift)
 }
 
-/// The shortest varint at the front, and the bytes after it. A varint with more bytes than its number needs is none.
+/// Returns the shortest varint at the front, and the bytes after it. A varint with more bytes than its number needs is
+/// none.
 pub fn read_shortest(bytes: &[u8]) -> Option<(u64, &[u8])>
     ensures found { IfSome result (λ r. bytes.now ≡ varint r.0 ++ r.1.now) }
     ensures small { IfSome result (λ r. r.0 < 2 ^ 64) }
@@ -65,7 +66,7 @@ pub fn read_shortest(bytes: &[u8]) -> Option<(u64, &[u8])>
     Some((number, rest))
 }
 
-/// How many bytes the shortest varint of a number has.
+/// Returns how many bytes the shortest varint of a number has.
 pub fn varint_len(n: u64) -> usize
     ensures exact { HasLength IsShortestVarint n result }
     ensures most { result ≤ 10 }

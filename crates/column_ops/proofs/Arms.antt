@@ -48,7 +48,7 @@ other_count mask rows m n m_is n_is other =
     ap (λ equal. cond equal None (Some (MaskLength mask rows))) (ne_eqb mask rows (λ same. other (m_is ∙ same ∙ sym n_is)))
     ∙ ap (λ (k : ℕ). Some (MaskLength k rows)) (sym m_is) ∙ ap (λ (k : ℕ). Some (MaskLength m k)) (sym n_is)
 
--- what can be refused for want of memory alone, where there is no fault
+-- what can be refused only for memory, where there is no fault
 pub no_fault : {T : Type 0} (fault : Option VortexError) (result : Result T VortexError) → fault ≡ None → IsOkUnless result OutOfMemory → IsRefusedBy fault result
 no_fault fault (Ok value) none only = none
 no_fault fault (Err error) none only = inl only

@@ -58,7 +58,7 @@ pub kind_dtype-either : (kind : VarBinKind) (n m : Nullability) → with_nullabi
 kind_dtype-either Utf8 n m = refl
 kind_dtype-either Binary n m = refl
 
--- of the rows each that is no null has the property
+-- of the rows each that is not null has the property
 abbrev pub EachValid : {B : Type 0} → (B → Type 0) → List (Option B) → Type 0
 EachValid P rows = All (λ row. IfSome row P) rows
 

@@ -64,7 +64,7 @@ answer_bits-rows value operator right as_numbers (n ∷ ns) (true ∷ bs) =
     ∙ ap (λ (o : Ordering). holds_of operator o ∷ map (is_held (λ (m : ℤ). holds_of operator (int_cmp m right))) (optionals ns bs)) (as_numbers n)
 answer_bits-rows value operator right as_numbers (n ∷ ns) (false ∷ bs) = ap (λ (bits : List Bool). false ∷ bits) (answer_bits-rows value operator right as_numbers ns bs)
 
--- a row is no null where its flag is true
+-- a row is not null where its flag is true
 flags_of-rows : {B : Type 0} (value : B → FlatValue) (xs : List B) (bs : List Bool) → length bs ≡ length xs
     → map is_some (map row_of (map (option_map value) (optionals xs bs))) ≡ bs
 flags_of-rows value [] [] h = refl
@@ -138,7 +138,7 @@ stored_values-blank operator rows right bits flags some told flagged =
     let value = some_value right some in
     rw (told, flagged, value.1) (stored-blank operator rows value.0)
 
--- a view that is no null is of a type with whatever nullability
+-- a view that is not null is of a type with whatever nullability
 kind_of-view : {A : Type 0} (t : DType) (n : Nullability) (v : ScalarView A) → is_none (sees v) ≡ false → IsViewOf t v → IsViewOf (with_nullability t n) v
 kind_of-view t n view.Null some is = absurd (false≢true (sym some))
 kind_of-view (column.Bool m) n (view.Bool b) some is = is

@@ -12,7 +12,7 @@ use Rattle.column_ops.proofs.BestRows.{IsBest-past, IsBest-stays}
 use Rattle.column_ops.proofs.OrderLaws.{flat_equal}
 use Rattle.column_ops.proofs.RowRanges.{slice_range-next}
 
--- the first item that is no null is the furthest one to any side
+-- the first item that is not null is the furthest one to any side
 pub first-furthest : (side : Ordering) (rows : List (Option Value)) (start from : ℕ) (value : Value) → side ≢ Equal → start ≤ from → slice_get rows from ≡ Some (Some value)
     → All (λ row. row ≡ None) (slice_range rows start from) → IsFurthest side (slice_range rows start (from + 1)) (Some value)
 first-furthest side rows start from value sided ordered here nulls =

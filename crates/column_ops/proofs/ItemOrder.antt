@@ -115,13 +115,13 @@ pub two-nulls : (strict : Bool) (rows : List (Option Value)) (start last : ℕ) 
 two-nulls true rows start last asked some first second steps = false≢true (steps start (omega arith) some None None first second)
 two-nulls false rows start last asked some first second steps = cc
 
--- behind a row that is no null only such a row may stand
+-- behind a row that is not null only such a row may stand
 step-some : (strict : Bool) (left : Value) (right : Option Value) → is_step_of strict (row_cmp (Some left) right) ≡ true → (seen : Value) × (right ≡ Some seen)
 step-some true left None h = absurd (false≢true h)
 step-some false left None h = absurd (false≢true h)
 step-some strict left (Some seen) h = (seen, refl)
 
--- from a row that is no null on, no row is one
+-- from a row that is not null on, no row is one
 some-after : (strict : Bool) (rows : List (Option Value)) (from last : ℕ) (seen : Value) → last < length rows → AreSteps strict rows from last → slice_get rows from ≡ Some (Some seen)
     → (n : ℕ) → from + n ≤ last → (other : Value) × (slice_get rows (from + n) ≡ Some (Some other))
 some-after strict rows from last seen inside steps here zero within = (seen, rw add-zero here)

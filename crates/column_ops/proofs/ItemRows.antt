@@ -143,7 +143,7 @@ some-item [] k within = absurd (omega arith)
 some-item (x ∷ items) zero within = (x, refl)
 some-item (x ∷ items) (suc k) within = some-item items k (omega arith)
 
--- a row whose flag is true is no null
+-- a row whose flag is true is not null
 pub some-here : {S : Type 0} (value : S → FlatValue) (items : List S) (flags : List Bool) (k : ℕ) → k < length items → slice_get flags k ≡ Some true
     → (seen : Value) × (slice_get (flagged_rows value items flags) k ≡ Some (Some seen))
 some-here value items flags k within flag =

@@ -47,7 +47,7 @@ blank-part : (truth : Option Bool) → is_some truth ≡ false → unwrap_or tru
 blank-part None h = refl
 blank-part (Some b) h = cc
 
--- an answer that is no null is of a boolean that is none
+-- an answer that is not null is of a boolean that is none
 some-part : (truth : Option Bool) (answer : Option Value) → option_map truth_value truth ≡ answer → IsSome answer → is_some truth ≡ true
 some-part None answer h some = absurd (false≢true (subst IsSome (sym h) some))
 some-part (Some b) answer h some = refl
@@ -90,7 +90,7 @@ pub AreWritten-all : (nullability : Nullability) (all : List (Option Value)) (k 
 AreWritten-all nullability all k bits flags truths past same written =
     two_maps truths ∙ ap (map (option_map truth_value)) same ∙ written.rows ∙ take_all k all past
 
--- a row of a type without null is no null
+-- a row of a type without null is not null
 pub some_view : {A : Type 0} (t : DType) (v : ScalarView A) → IsViewOf t v → nullability_of t ≡ NonNullable → IsSome (sees v)
 some_view (column.Bool n) view.Null h e = absurd (subst MayBeNull e h)
 some_view (column.Primitive p n) view.Null h e = absurd (subst MayBeNull e h)
@@ -111,7 +111,7 @@ without_null : (m n : Nullability) → either_nullability m n ≡ NonNullable �
 without_null NonNullable n h = (refl, h)
 without_null Nullable n h = cc
 
--- where neither type has null, a comparison is no null
+-- where neither type has null, a comparison is not null
 pub compared-typed : {A B : Type 0} (operator : CompareOperator) (t u : DType) (left : ScalarView A) (right : ScalarView B) → IsViewOf t left → IsViewOf u right
     → either_nullability (nullability_of t) (nullability_of u) ≡ NonNullable → IsSome (compared operator (sees left) (sees right))
 compared-typed operator t u left right is_left is_right e =

@@ -47,16 +47,16 @@ abbrev pub number_fault : DType → ℤ → Option VortexError
 number_fault (column.Primitive ptype n) z = cond (has_number ptype z) None (Some CastOutOfRange)
 number_fault dtype z = None
 
--- why the row is no value of a type that its own type can be cast to
+-- why the row is not a value of a type that its own type can be cast to
 abbrev pub cast_row_fault : DType → Option Value → Option VortexError
 cast_row_fault dtype None = null_fault (nullability_of dtype)
 cast_row_fault dtype (Some (Single (Number z))) = number_fault dtype z
 cast_row_fault dtype (Some value) = None
 
--- whether rows of the first type can be cast to the second: both are of integers, or of one kind that is no list
+-- whether rows of the first type can be cast to the second: both are of integers, or of one kind that is not a list
 abbrev pub can_cast : DType → DType → Bool
 can_cast from to = (is_numbers from && is_numbers to) || (same_kind from to && not (is_list to))
 
--- the column's type cannot be cast to the type; then the first row that is no value of the type
+-- the column's type cannot be cast to the type; then the first row that is not a value of the type
 abbrev pub cast_fault : PlainColumn → DType → Option VortexError
 cast_fault plain dtype = cond (can_cast plain.dtype dtype) (first_fault (cast_row_fault dtype) plain.rows) (Some Unsupported)

@@ -3,7 +3,7 @@ use Rattle.std.specs.Prelude.{◌≡◌, ◌<◌, ◌≤◌, ℕ, List, Bool, tr
 use Rattle.column_core.specs.Optionals.{optionals}
 use Rattle.column_core.specs.Value.{FlatValue, Value, Single}
 
--- the row of an item that is no null
+-- the row of an item that is not null
 abbrev pub item_row : {S : Type 0} → (S → FlatValue) → S → Option Value
 item_row value item = Some (Single (value item))
 

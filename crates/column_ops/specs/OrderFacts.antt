@@ -27,17 +27,17 @@ abbrev pub IsSorted : Bool → List (Option Value) → Type 0
 IsSorted true rows = IsInStrictOrder rows
 IsSorted false rows = IsInOrder rows
 
--- a row that is no null, and no other such row stands on that side of it
+-- a row that is not null, and no other such row stands on that side of it
 pub record IsFurthest (side : Ordering) (rows : List (Option Value)) (row : Option Value) : Type 0 where
   pub value : IsSome row
   pub among : Contains rows row
   pub none_past : (other : Option Value) → Contains rows other → IsSome other → row_cmp other row ≢ side
 
--- a row that is no null, and no such row is below it
+-- a row that is not null, and no such row is below it
 abbrev pub IsLeast : List (Option Value) → Option Value → Type 0
 IsLeast rows row = IsFurthest Less rows row
 
--- a row that is no null, and no such row is above it
+-- a row that is not null, and no such row is above it
 abbrev pub IsGreatest : List (Option Value) → Option Value → Type 0
 IsGreatest rows row = IsFurthest Greater rows row
 

@@ -21,7 +21,7 @@ abbrev pub is_step_of : Bool → Ordering → Bool
 is_step_of true ordering = is_lt ordering
 is_step_of false ordering = is_le ordering
 
--- whether a row is no null, and on that side of the best one so far, if there is one
+-- whether a row is not null, and on that side of the best one so far, if there is one
 abbrev pub is_past : Ordering → Option Value → Option (Option Value) → Bool
 is_past side None best = false
 is_past side (Some value) None = true

@@ -32,7 +32,7 @@ index_fault count (Some (negsuc k)) = Some (OutOfBounds (negsuc k) count)
 abbrev pub take_fault : List (Option ℤ) → ℕ → Option VortexError
 take_fault indices count = first_fault (index_fault count) indices
 
--- each position that is no null is below the number of rows
+-- each position that is not null is below the number of rows
 abbrev pub ArePositions : List (Option ℕ) → ℕ → Type 0
 ArePositions positions count = All (λ position. IfSome position (λ k. k < count)) positions
 

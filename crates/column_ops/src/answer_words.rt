@@ -7,8 +7,8 @@ use crate::operator::CompareOperator;
 use column_core::{VortexError, VortexResult};
 use std::alloc::Allocator;
 
-/// A bit for each item: whether the operator holds of it and the right one. Each operator has a loop of its own, in
-/// which it is a constant, so that no row branches. Refused as `OutOfMemory` alone.
+/// Returns a bit for each item: whether the operator holds of it and the right one. Each operator has a loop of its
+/// own, in which it is a constant, so that no row branches. Refused only as `OutOfMemory`.
 pub(crate) fn words_of_answers<T: Copy + Ord + Drop, A: Allocator + Copy>(
     alloc: A,
     items: &[T],

@@ -27,7 +27,7 @@ impl<A: Allocator> Model for BitWriter<A> {
 }
 
 impl<A: Allocator + Copy> BitWriter<A> {
-    /// No bits, and room for `capacity` bits. Refused for want of memory alone.
+    /// Returns no bits, and room for `capacity` bits. Refused only for memory.
     pub fn with_capacity(alloc: A, capacity: usize) -> VortexResult<Self>
         ensures empty { IfOk result (λ writer. writer ≡ []) }
         ensures only { IsOkUnless result VortexError.OutOfMemory }
@@ -39,7 +39,7 @@ impl<A: Allocator + Copy> BitWriter<A> {
         })
     }
 
-    /// Puts `bit` behind the last bit. Refused for want of memory alone.
+    /// Puts `bit` behind the last bit. Refused only for memory.
     #[inline(always)]
     pub fn append(&mut self, bit: bool) -> VortexResult<()>
         ensures ok { OnOk result (self.new ≡ self.old ++ bit ∷ []) }
@@ -57,7 +57,7 @@ impl<A: Allocator + Copy> BitWriter<A> {
         Ok(())
     }
 
-    /// The bits that were written, `count` of them. Refused for want of memory alone.
+    /// Returns the bits that were written, `count` of them. Refused only for memory.
     pub fn finish(self, count: usize) -> VortexResult<BitBufferMut<A>>
         requires { count ≡ length self }
         ensures only { IsOkUnless result VortexError.OutOfMemory }

@@ -10,8 +10,8 @@ ghost use Rattle.column_ops.specs.Take.{taken_bit};
 use column_core::{BitBuffer, BitBufferMut, Validity, VortexError, VortexResult};
 use std::alloc::Allocator;
 
-/// The bits at these positions: false where the position is null, and where there is no such bit. What stands under
-/// null may be any number. Refused as `OutOfMemory` alone.
+/// Returns the bits at these positions: false where the position is null, and where there is no such bit. What stands
+/// under null may be any number. Refused only as `OutOfMemory`.
 pub(crate) fn bits_at<A: Allocator + Copy>(
     alloc: A,
     bits: &BitBuffer<A>,

@@ -24,9 +24,8 @@ use column_core::{
 };
 use std::alloc::Allocator;
 
-/// The numbers in the native type, with 0 stored under null. Refused, at the first row that the type
-/// does not have, as `NullNotAllowed` for null and as `CastOutOfRange` for a number; else as
-/// `OutOfMemory` alone.
+/// Returns the numbers in the native type, with 0 stored under null. Refused, at the first row that the type does not
+/// have, as `NullNotAllowed` for null and as `CastOutOfRange` for a number; else only as `OutOfMemory`.
 pub(crate) fn cast_values<A: Allocator + Copy>(
     alloc: A,
     array: &PrimitiveArray<A>,

@@ -23,9 +23,9 @@ use column_core::{
 };
 use std::alloc::Allocator;
 
-/// Does the operator hold of each row and the scalar? Null where the row or the scalar is null. The
-/// answer has null where either type has, and false is stored under null. Refused as `TypeMismatch`
-/// exactly where the two types differ in more than nullability, else as `OutOfMemory` alone.
+/// Returns whether the operator holds of each row and the scalar. Null where the row or the scalar is null. The answer
+/// has null where either type has, and false is stored under null. Refused as `TypeMismatch` exactly where the two
+/// types differ in more than nullability, else only as `OutOfMemory`.
 pub fn compare_scalar<A: Allocator + Copy>(
     alloc: A,
     column: FlatView<'_, A>,
@@ -51,10 +51,10 @@ pub fn compare_scalar<A: Allocator + Copy>(
     }
 }
 
-/// Does the operator hold of each row and the row beside it? Null where either row is null. The answer
-/// has null where either type has, and false is stored under null. Refused, in this order, as
-/// `TypeMismatch` where the two types differ in more than nullability, and as `ColumnLength`, with the
-/// number of rows of the column and of the right one, where these differ; else as `OutOfMemory` alone.
+/// Returns whether the operator holds of each row and the row beside it. Null where either row is null. The answer has
+/// null where either type has, and false is stored under null. Refused, in this order, as `TypeMismatch` where the two
+/// types differ in more than nullability, and as `ColumnLength`, with the number of rows of the column and of the right
+/// one, where these differ; else only as `OutOfMemory`.
 pub fn compare_column<A: Allocator + Copy>(
     alloc: A,
     column: FlatView<'_, A>,
@@ -116,7 +116,7 @@ fn compare_to_null<A: Allocator + Copy>(
     Ok(BoolArray::new_unchecked(bits.freeze(), validity_of_nulls(count)))
 }
 
-// Each row compared with one value that is no null.
+// Each row compared with one value that is not null.
 fn compare_to_value<A: Allocator + Copy>(
     alloc: A,
     column: FlatView<'_, A>,

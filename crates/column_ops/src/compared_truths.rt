@@ -17,7 +17,7 @@ use column_core::{
 };
 use std::alloc::Allocator;
 
-/// Does the operator hold of the two rows? `None` where one is null.
+/// Returns whether the operator holds of the two rows. `None` where one is null.
 pub(crate) fn truth_of<A: Allocator>(
     operator: CompareOperator,
     left: &ScalarView<'_, A>,
@@ -32,8 +32,8 @@ pub(crate) fn truth_of<A: Allocator>(
     }
 }
 
-/// Writes one more optional boolean: its bit, false for null, and whether it is no null. Refused
-/// as `OutOfMemory` alone, and then a bit may be written without its flag.
+/// Writes one more optional boolean: its bit, false for null, and whether it is not null. Refused
+/// only as `OutOfMemory`, and then a bit may be written without its flag.
 pub(crate) fn push_truth<A: Allocator + Copy>(
     bits: &mut BitBufferMut<A>,
     flags: &mut BitBufferMut<A>,
@@ -47,7 +47,7 @@ pub(crate) fn push_truth<A: Allocator + Copy>(
     flags.append(truth.is_some())
 }
 
-/// The column of these bits, null where the flag is false. Takes no memory.
+/// Returns the column of these bits, null where the flag is false. Takes no memory.
 pub(crate) fn column_of_truths<A: Allocator + Copy>(
     bits: BitBufferMut<A>,
     flags: BitBufferMut<A>,
@@ -69,8 +69,8 @@ pub(crate) fn column_of_truths<A: Allocator + Copy>(
     }
 }
 
-/// Which answers are valid where the rows are so, which are compared with a value of a type of that
-/// nullability. Refused as `OutOfMemory` alone.
+/// Returns which answers are valid where the rows are so, which are compared with a value of a type of that
+/// nullability. Refused only as `OutOfMemory`.
 pub(crate) fn validity_of_answers<A: Allocator + Copy>(
     alloc: A,
     rows: &Validity<A>,
@@ -92,7 +92,7 @@ pub(crate) fn validity_of_answers<A: Allocator + Copy>(
     }
 }
 
-/// The validity of `count` answers that are all null. Takes no memory.
+/// Returns the validity of `count` answers that are all null. Takes no memory.
 pub(crate) fn validity_of_nulls<A: Allocator>(count: usize) -> Validity<A>
     ensures flags { flags (form_of result) count ≡ replicate count false }
     ensures fits { HasLength (form_of result) count }

@@ -12,7 +12,7 @@ ghost use Rattle.column_ops.specs.Written.{IsValidityOf};
 use column_core::{Nullability, Validity, VortexError, VortexResult};
 use std::alloc::Allocator;
 
-/// Is no row null by the form alone? Bits are not read.
+/// Returns whether no row is null by the form alone. Bits are not read.
 pub(crate) fn is_all_valid<A: Allocator>(validity: &Validity<A>) -> bool
     ensures valid { (count : ℕ) → result ≡ true → flags (form_of validity.now) count ≡ replicate count true }
     ensures nullable { result ≡ false → nullability_in (form_of validity.now) ≡ Nullable }
@@ -63,8 +63,8 @@ fn has_null<A: Allocator>(validity: &Validity<A>, count: usize) -> bool
     }
 }
 
-/// The validity of so many rows in a type of that nullability, in the form that a call computes. Refused
-/// as `OutOfMemory` alone.
+/// Returns the validity of so many rows in a type of that nullability, in the form that a call computes. Refused only
+/// as `OutOfMemory`.
 pub(crate) fn computed_validity<A: Allocator + Copy>(
     alloc: A,
     validity: &Validity<A>,

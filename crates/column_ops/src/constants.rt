@@ -22,8 +22,8 @@ use column_core::{
 };
 use std::alloc::Allocator;
 
-/// A bit for each row: whether the operator holds of the row and the view, false where one is null. The
-/// view is null or of the column's type. Refused as `OutOfMemory` alone.
+/// Returns a bit for each row: whether the operator holds of the row and the view, false where one is null. The view is
+/// null or of the column's type. Refused only as `OutOfMemory`.
 pub(crate) fn bits_of_answers<A: Allocator + Copy>(
     alloc: A,
     column: FlatView<'_, A>,

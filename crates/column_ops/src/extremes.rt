@@ -17,8 +17,8 @@ use std::alloc::Allocator;
 use std::cmp::Ordering;
 use std::ops::Range;
 
-/// The least and the greatest of the rows from `range.start` to `range.end - 1` that are no nulls,
-/// borrowed, or `None` where all of them are null. Takes no memory.
+/// Returns the least and the greatest of the rows from `range.start` to `range.end - 1` that are no nulls, borrowed, or
+/// `None` where all of them are null. Takes no memory.
 pub fn min_max<'a, A: Allocator + Copy>(
     column: FlatView<'a, A>,
     range: Range<usize>,
@@ -101,7 +101,7 @@ fn ends_of_rows<'a, R: FlatRows<A>, A: Allocator + Copy>(
     Some((least, greatest))
 }
 
-// A row that is no null, and past which no such row is on that side, or `None` where all rows are null.
+// A row that is not null, and past which no such row is on that side, or `None` where all rows are null.
 fn furthest<'a, R: FlatRows<A>, A: Allocator + Copy>(
     column: &'a R,
     range: Range<usize>,

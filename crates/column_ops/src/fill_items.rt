@@ -15,7 +15,7 @@ use column_core::{
 };
 use std::alloc::Allocator;
 
-/// The rows with the value in place of each null. Refused as `OutOfMemory` alone.
+/// Returns the rows with the value in place of each null. Refused only as `OutOfMemory`.
 pub(crate) fn fill_items<T: Copy + Drop, A: Allocator + Copy>(
     alloc: A,
     items: &[T],
@@ -33,7 +33,7 @@ pub(crate) fn fill_items<T: Copy + Drop, A: Allocator + Copy>(
     Ok((filled, Validity::NonNullable))
 }
 
-/// The value that fills the nulls of rows of this type. Refused as `Unsupported` for lists; then as
+/// Returns the value that fills the nulls of rows of this type. Refused as `Unsupported` for lists; then as
 /// `TypeMismatch` for a scalar of another kind; then as `NullFill` for null. Takes no memory.
 pub(crate) fn fill_value<A: Allocator>(
     dtype: DType,

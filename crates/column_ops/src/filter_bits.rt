@@ -12,8 +12,8 @@ use crate::bit_writer::BitWriter;
 use column_core::{BitBuffer, BitBufferMut, Mask, Validity, VortexError, VortexResult};
 use std::alloc::Allocator;
 
-/// The booleans of the rows at which the mask is true and their validity, with false stored under null. Refused as
-/// `OutOfMemory` alone.
+/// Returns the booleans of the rows at which the mask is true and their validity, with false stored under null. Refused
+/// only as `OutOfMemory`.
 pub(crate) fn filter_bits<A: Allocator + Copy>(
     alloc: A,
     bits: &BitBuffer<A>,
@@ -34,7 +34,7 @@ pub(crate) fn filter_bits<A: Allocator + Copy>(
     }
 }
 
-/// The bits at which the mask is true. Refused as `OutOfMemory` alone.
+/// Returns the bits at which the mask is true. Refused only as `OutOfMemory`.
 pub(crate) fn selected_bits<A: Allocator + Copy>(
     alloc: A,
     bits: &BitBuffer<A>,

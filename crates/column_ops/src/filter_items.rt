@@ -15,8 +15,7 @@ use crate::rows::item_at;
 use column_core::{BitBuffer, BitBufferMut, Mask, Validity, VortexError, VortexResult};
 use std::alloc::Allocator;
 
-/// The rows at which the mask is true, with the blank item stored under null. Refused as `OutOfMemory`
-/// alone.
+/// Returns the rows at which the mask is true, with the blank item stored under null. Refused only as `OutOfMemory`.
 pub(crate) fn filter_items<T: Copy + Drop, A: Allocator + Copy>(
     alloc: A,
     items: &[T],

@@ -11,7 +11,7 @@ pub(crate) trait FlatRows<A: Allocator> {
     // The form of the column.
     ghost leaf: { Self → Leaf };
 
-    /// The row at `index`, borrowed.
+    /// Returns the row at `index`, borrowed.
     fn row(&self, index: usize) -> ScalarView<'_, A>
         requires { index < length (leaf_rows (leaf self.now)) }
         ensures row { slice_get (single_rows (leaf self.now)) index ≡ Some (sees result) }

@@ -14,8 +14,8 @@ use column_core::{BitBuffer, ScalarView, Validity};
 use std::alloc::Allocator;
 use std::ops::Range;
 
-/// The least and the greatest of the items from `range.start` to `range.end - 1` that are no nulls, as
-/// rows, or `None` where all of them are null. Takes no memory.
+/// Returns the least and the greatest of the items from `range.start` to `range.end - 1` that are no nulls, as rows, or
+/// `None` where all of them are null. Takes no memory.
 pub(crate) fn min_max_of<'a, T: FlatItem, A: Allocator>(
     items: &[T],
     validity: &Validity<A>,
@@ -84,7 +84,7 @@ fn ends_of_valid<T: FlatItem>(items: &[T], start: usize, stop: usize) -> Option<
     Some((least, greatest))
 }
 
-/// The first row from `start` to `stop - 1` whose flag is true, and `stop` where there is none.
+/// Returns the first row from `start` to `stop - 1` whose flag is true, and `stop` where there is none.
 pub(crate) fn first_valid<A: Allocator>(flags: &BitBuffer<A>, start: usize, stop: usize) -> usize
     requires ordered { start ≤ stop }
     requires in_bounds { stop ≤ length flags.now }

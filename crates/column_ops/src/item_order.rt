@@ -16,7 +16,7 @@ use std::ops::Range;
 // rows are compared at once.
 const BLOCK: usize = 256;
 
-/// Are any two of the rows from `range.start` to `range.end - 1` equal, null equal to null? Takes no
+/// Returns whether any two of the rows from `range.start` to `range.end - 1` are equal, null equal to null. Takes no
 /// memory.
 pub(crate) fn is_constant_of<T: FlatItem, A: Allocator>(
     items: &[T],
@@ -93,8 +93,8 @@ fn is_constant_flagged<T: FlatItem, A: Allocator>(
     is_constant_valid(items, start, stop)
 }
 
-/// Is no row from `range.start` to `range.end - 1` above the next, or is each below the next where
-/// `strict` is asked? Null is below all else. Takes no memory.
+/// Returns whether no row from `range.start` to `range.end - 1` is above the next, or is each below the next where
+/// `strict` is asked. Null is below all else. Takes no memory.
 pub(crate) fn is_sorted_of<T: FlatItem, A: Allocator>(
     items: &[T],
     validity: &Validity<A>,

@@ -22,7 +22,7 @@ pub(crate) trait FlatItem: Copy + Ord + Drop {
     // The type of a column of such items; only decimals have a precision and a scale.
     ghost dtype: { DecimalDType → Nullability → DType };
 
-    /// The item as a row.
+    /// Returns the item as a row.
     fn view<'a, A: Allocator>(self) -> ScalarView<'a, A>
         ensures row { sees result ≡ item_row value self }
         ensures of_type { (decimal : DecimalDType) (nullability : Nullability) →

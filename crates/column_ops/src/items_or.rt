@@ -8,7 +8,7 @@ use crate::blanks::put_at_zeros;
 use column_core::{BitBuffer, Validity, VortexError, VortexResult};
 use std::alloc::Allocator;
 
-/// The items, with this one in place of each null. Refused as `OutOfMemory` alone.
+/// Returns the items, with this one in place of each null. Refused only as `OutOfMemory`.
 pub(crate) fn items_or<T: Copy + Drop, A: Allocator + Copy>(
     alloc: A,
     items: &[T],
@@ -28,7 +28,7 @@ pub(crate) fn items_or<T: Copy + Drop, A: Allocator + Copy>(
     }
 }
 
-/// So many copies of the item. Refused as `OutOfMemory` alone.
+/// So many copies of the item. Refused only as `OutOfMemory`.
 pub(crate) fn filled_vec<T: Copy + Drop, A: Allocator>(
     alloc: A,
     item: T,
@@ -44,7 +44,7 @@ pub(crate) fn filled_vec<T: Copy + Drop, A: Allocator>(
     Ok(copies)
 }
 
-/// The items where the bits are true, and this one elsewhere. Refused as `OutOfMemory` alone.
+/// Returns the items where the bits are true, and this one elsewhere. Refused only as `OutOfMemory`.
 pub(crate) fn items_by_bits<T: Copy + Drop, A: Allocator + Copy>(
     alloc: A,
     items: &[T],
@@ -61,7 +61,7 @@ pub(crate) fn items_by_bits<T: Copy + Drop, A: Allocator + Copy>(
     Ok(shown)
 }
 
-/// The items where the bits are true, and this one elsewhere, in the memory that they are in.
+/// Returns the items where the bits are true, and this one elsewhere, in the memory that they are in.
 pub(crate) fn with_item_at_nulls<T: Copy + Drop, A: Allocator>(
     mut items: Vec<T, A>,
     bits: &BitBuffer<A>,

@@ -28,8 +28,8 @@ pub(crate) fn null_row<T: Drop>(nullability: Nullability) -> VortexResult<Option
     }
 }
 
-/// The rows in a type of that nullability, with the blank item stored under null. Refused as
-/// `NullNotAllowed` for a null where rows may not be null; else as `OutOfMemory` alone.
+/// Returns the rows in a type of that nullability, with the blank item stored under null. Refused as `NullNotAllowed`
+/// for a null where rows may not be null; else only as `OutOfMemory`.
 pub(crate) fn keep_items<T: Copy + Drop, A: Allocator + Copy>(
     alloc: A,
     items: &[T],

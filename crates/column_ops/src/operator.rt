@@ -17,7 +17,7 @@ pub enum CompareOperator {
 impl CompareOperator {
     ghost use Rattle.column_ops.specs.Comparing.{holds_of};
 
-    /// Does the operator hold of a left and a right value that are so ordered?
+    /// Returns whether the operator holds of a left and a right value that are so ordered.
     #[inline]
     pub fn holds(self, ordering: Ordering) -> bool
         ensures { result ≡ holds_of self ordering }

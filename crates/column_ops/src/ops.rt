@@ -35,17 +35,16 @@ pub trait ColumnOps<A: Allocator + Copy>: Sized {
     // The column's form.
     ghost leaf: { Self → Leaf };
 
-    /// How many rows there are.
+    /// Returns how many rows there are.
     fn row_count(&self) -> usize
         ensures { result ≡ length (leaf_rows (leaf self.now)) };
 
-    /// The type of the rows.
+    /// Returns the type of the rows.
     fn column_dtype(&self) -> DType
         ensures { result ≡ leaf_dtype (leaf self.now) };
 
-    /// The rows at these positions, null for null, where the valid positions are below the number of
-    /// rows. The type has null where the column's or the positions' has. Refused as `OutOfMemory`
-    /// alone.
+    /// Returns the rows at these positions, null for null, where the valid positions are below the number of rows. The
+    /// type has null where the column's or the positions' has. Refused only as `OutOfMemory`.
     fn take_at(&self, alloc: A, positions: &[u64], validity: &Validity<A>) -> VortexResult<Self>
         requires counted { HasLength (form_of validity.now) (length positions.now) }
         requires within { ArePositions (optionals positions.now (flags (form_of validity.now) (length positions.now)))
@@ -58,9 +57,9 @@ pub trait ColumnOps<A: Allocator + Copy>: Sized {
             (nullability_in (form_of validity.now))))
             (leaf column)) };
 
-    /// The rows at the indices, null for null. The type has null where the column's or the indices' has.
-    /// Refused as `OutOfBounds`, with the index and the number of rows, at the first valid index that is
-    /// negative or not below that number; else as `OutOfMemory` alone.
+    /// Returns the rows at the indices, null for null. The type has null where the column's or the indices' has.
+    /// Refused as `OutOfBounds`, with the index and the number of rows, at the first valid index that is negative or
+    /// not below that number; else only as `OutOfMemory`.
     fn take(&self, alloc: A, indices: &PrimitiveArray<A>) -> VortexResult<Self>
         ensures refused { IsRefusedBy (take_fault (optional_numbers indices.now) (length (leaf_rows (leaf self.now))))
             result }
@@ -73,10 +72,10 @@ pub trait ColumnOps<A: Allocator + Copy>: Sized {
         self.take_at(alloc, positions.as_slice(), &places)
     }
 
-    /// The rows of this dictionary at the codes, null for null. The type has null where the dictionary's
-    /// or the codes' has. Refused as `TypeMismatch` unless the codes are integers; then as
-    /// `OutOfBounds`, with the code and the number of rows, at the first code that is no null and is
-    /// negative or not below that number; else as `OutOfMemory` alone.
+    /// Returns the rows of this dictionary at the codes, null for null. The type has null where the dictionary's or the
+    /// codes' has. Refused as `TypeMismatch` unless the codes are integers; then as `OutOfBounds`, with the code and
+    /// the number of rows, at the first code that is not null and is negative or not below that number; else only as
+    /// `OutOfMemory`.
     fn take_codes(&self, alloc: A, codes: &FlatColumn<A>) -> VortexResult<Self>
         ensures refused { IsRefusedBy (code_fault (plain_leaf (leaf_of codes.now)) (length (leaf_rows (leaf self.now))))
             result }
@@ -91,9 +90,8 @@ pub trait ColumnOps<A: Allocator + Copy>: Sized {
         }
     }
 
-    /// The rows at which the mask is true, in order. Refused as `MaskLength`, with the mask's length and
-    /// the number of rows, where they differ, and that before any memory is taken; else as
-    /// `OutOfMemory` alone.
+    /// Returns the rows at which the mask is true, in order. Refused as `MaskLength`, with the mask's length and the
+    /// number of rows, where they differ, and that before any memory is taken; else only as `OutOfMemory`.
     fn filter(&self, alloc: A, mask: &Mask<A>) -> VortexResult<Self>
         ensures refused { IsRefusedBy (filter_fault (length (mask_bits mask.now)) (length (leaf_rows (leaf self.now))))
             result }
@@ -102,17 +100,16 @@ pub trait ColumnOps<A: Allocator + Copy>: Sized {
         ensures made { IfOk result (λ column. IsMade (filter_rows (mask_bits mask.now) (leaf_rows (leaf self.now)))
             (leaf_dtype (leaf self.now)) (leaf column)) };
 
-    /// The rows with the value in place of each null, of the column's kind and without null. Refused as
-    /// `OutOfMemory` alone.
+    /// Returns the rows with the value in place of each null, of the column's kind and without null. Refused only as
+    /// `OutOfMemory`.
     fn fill_with(&self, alloc: A, value: &ScalarValue<A>) -> VortexResult<Self>
         requires { IsOwnedOf (leaf_dtype (leaf self.now)) value.now }
         ensures only { IsOkUnless result VortexError.OutOfMemory }
         ensures made { IfOk result (λ column. IsMade (fill_rows (leaf_rows (leaf self.now)) (flat_of value.now))
             (fill_dtype (leaf_dtype (leaf self.now))) (leaf column)) };
 
-    /// The rows with the scalar's value in place of each null, of the column's kind and without null.
-    /// Refused as `TypeMismatch` for a scalar of another kind; then as `NullFill` for null; else as
-    /// `OutOfMemory` alone.
+    /// Returns the rows with the scalar's value in place of each null, of the column's kind and without null. Refused
+    /// as `TypeMismatch` for a scalar of another kind; then as `NullFill` for null; else only as `OutOfMemory`.
     fn fill_null(&self, alloc: A, scalar: &Scalar<A>) -> VortexResult<Self>
         ensures refused { IsRefusedBy (fill_fault (leaf_dtype (leaf self.now)) scalar.now) result }
         ensures made { IfOk result (λ column. IfSome scalar.now.value (λ value.
@@ -123,17 +120,17 @@ pub trait ColumnOps<A: Allocator + Copy>: Sized {
         self.fill_with(alloc, value)
     }
 
-    /// The rows in the type, which rows of this type can be cast to. Refused, at the first row that is
-    /// no value of the type, as `NullNotAllowed` for null and as `CastOutOfRange` for a number; else as
-    /// `OutOfMemory` alone.
+    /// Returns the rows in the type, which rows of this type can be cast to. Refused, at the first row that is not a
+    /// value of the type, as `NullNotAllowed` for null and as `CastOutOfRange` for a number; else only as
+    /// `OutOfMemory`.
     fn cast_to(&self, alloc: A, dtype: DType) -> VortexResult<Self>
         requires { can_cast (leaf_dtype (leaf self.now)) dtype ≡ true }
         ensures refused { IsRefusedBy (first_fault (cast_row_fault dtype) (single_rows (leaf self.now))) result }
         ensures made { IfOk result (λ column. IsMade (leaf_rows (leaf self.now)) dtype (leaf column)) };
 
-    /// The rows in the type, which may be any. Refused as `Unsupported` unless both types are of integers, or
-    /// both of one kind; then, at the first row that is no value of the type, as `NullNotAllowed` for
-    /// null and as `CastOutOfRange` for a number; else as `OutOfMemory` alone.
+    /// Returns the rows in the type, which may be any. Refused as `Unsupported` unless both types are of integers, or
+    /// both of one kind; then, at the first row that is not a value of the type, as `NullNotAllowed` for null and as
+    /// `CastOutOfRange` for a number; else only as `OutOfMemory`.
     fn cast(&self, alloc: A, dtype: DType) -> VortexResult<Self>
         ensures refused { IsRefusedBy (cast_fault (plain_leaf (leaf self.now)) dtype) result }
         ensures made { IfOk result (λ column. IsMade (leaf_rows (leaf self.now)) dtype (leaf column)) }

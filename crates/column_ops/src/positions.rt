@@ -14,9 +14,8 @@ use column_base::match_each_native;
 use column_core::{BitBuffer, NativePType, PrimitiveArray, Validity, VortexError, VortexResult};
 use std::alloc::Allocator;
 
-/// The positions of indices among `count` rows, null for null. Refused as `OutOfBounds`, with the index
-/// and `count`, at the first valid index that is negative or not below `count`; else as `OutOfMemory`
-/// alone.
+/// Returns the positions of indices among `count` rows, null for null. Refused as `OutOfBounds`, with the index and
+/// `count`, at the first valid index that is negative or not below `count`; else only as `OutOfMemory`.
 pub fn positions_of<A: Allocator + Copy>(
     alloc: A,
     indices: &PrimitiveArray<A>,
@@ -30,8 +29,8 @@ pub fn positions_of<A: Allocator + Copy>(
     match_each_native!(indices.values(), items => native_positions(alloc, items.as_slice(), validity, count))
 }
 
-/// The position of an index among `count` rows. Refused as `OutOfBounds`, with the index and `count`,
-/// exactly where it is negative or not below `count`. Takes no memory.
+/// Returns the position of an index among `count` rows. Refused as `OutOfBounds`, with the index and `count`, exactly
+/// where it is negative or not below `count`. Takes no memory.
 #[inline(always)]
 pub fn checked_index(index: i128, count: usize) -> VortexResult<u64>
     ensures refused { IsRefusedBy (index_fault count (Some index)) result }

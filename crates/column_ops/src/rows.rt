@@ -8,7 +8,7 @@ ghost use Rattle.column_core.specs.Optionals.{optionals};
 use column_core::Validity;
 use std::alloc::Allocator;
 
-/// The item in a row, or `None` for null.
+/// Returns the item in a row, or `None` for null.
 pub fn item_at<T: Copy + Drop, A: Allocator>(
     items: &[T],
     validity: &Validity<A>,

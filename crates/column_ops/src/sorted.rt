@@ -14,8 +14,8 @@ use std::alloc::Allocator;
 use std::cmp::Ordering;
 use std::ops::Range;
 
-/// Are any two of the rows from `range.start` to `range.end - 1` equal, null equal to null? No rows
-/// are constant. Takes no memory.
+/// Returns whether any two of the rows from `range.start` to `range.end - 1` are equal, null equal to null. No rows are
+/// constant. Takes no memory.
 pub fn is_constant<A: Allocator + Copy>(column: FlatView<'_, A>, range: Range<usize>) -> bool
     requires ordered { range.start ≤ range.end }
     requires in_bounds { range.end ≤ length (leaf_rows (leaf_in column)) }
@@ -62,8 +62,8 @@ fn order_at<R: FlatRows<A>, A: Allocator + Copy>(column: &R, left: usize, right:
     compare_views(&column.row(left), &column.row(right))
 }
 
-/// Is no row from `range.start` to `range.end - 1` above the next, or is each below the next where
-/// `strict` is asked? No rows are sorted. Takes no memory.
+/// Returns whether no row from `range.start` to `range.end - 1` is above the next, or is each below the next where
+/// `strict` is asked. No rows are sorted. Takes no memory.
 pub fn is_sorted<A: Allocator + Copy>(
     column: FlatView<'_, A>,
     range: Range<usize>,

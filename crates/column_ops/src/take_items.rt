@@ -13,8 +13,8 @@ use crate::items_or::{filled_vec, with_item_at_nulls};
 use column_core::{BitBuffer, BitBufferMut, Nullability, Validity, VortexError, VortexResult};
 use std::alloc::Allocator;
 
-/// The rows at these positions, null for null, with the blank item stored under null. Refused as
-/// `OutOfMemory` alone.
+/// Returns the rows at these positions, null for null, with the blank item stored under null. Refused as `OutOfMemory`
+/// alone.
 pub(crate) fn take_items<T: Copy + Drop, A: Allocator + Copy>(
     alloc: A,
     items: &[T],
@@ -45,8 +45,8 @@ pub(crate) fn take_items<T: Copy + Drop, A: Allocator + Copy>(
     }
 }
 
-/// The bits at these positions and their validity, null for null, with false stored under null. Refused as
-/// `OutOfMemory` alone.
+/// Returns the bits at these positions and their validity, null for null, with false stored under null. Refused only as
+/// `OutOfMemory`.
 pub(crate) fn take_bits<A: Allocator + Copy>(
     alloc: A,
     bits: &BitBuffer<A>,

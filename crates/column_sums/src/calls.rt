@@ -22,7 +22,7 @@ impl Model for Calls {
 const _: () = prove!(size_of::<Calls>() == 0);
 
 impl Calls {
-    /// The list of no runs.
+    /// Returns the list of no runs.
     #[inline]
     pub(crate) fn new() -> Calls
         ensures { result.runs ≡ [] }
@@ -30,7 +30,7 @@ impl Calls {
         Calls {}
     }
 
-    /// The list with one run more, of a signed value.
+    /// Returns the list with one run more, of a signed value.
     #[inline]
     pub(crate) fn and_signed(&self, _value: &i64, _len: &usize) -> Calls
         ensures { result.runs ≡ self.now.runs ++ (_value.now, _len.now) ∷ [] }
@@ -38,7 +38,7 @@ impl Calls {
         Calls {}
     }
 
-    /// The list with one run more, of an unsigned value.
+    /// Returns the list with one run more, of an unsigned value.
     #[inline]
     pub(crate) fn and_unsigned(&self, _value: &u64, _len: &usize) -> Calls
         ensures { result.runs ≡ self.now.runs ++ (pos _value.now, _len.now) ∷ [] }

@@ -17,7 +17,7 @@ use crate::unsigned::UnsignedSum;
 use column_core::{FlatView, PrimitiveArray, VortexError, VortexResult};
 use std::alloc::Allocator;
 
-/// The sum of the rows of a flat column of integers, added one at a time. Refused as `Unsupported` exactly for
+/// Returns the sum of the rows of a flat column of integers, added one at a time. Refused as `Unsupported` exactly for
 /// columns of other types. It takes no memory.
 pub fn sum_view<A: Allocator>(column: FlatView<'_, A>) -> VortexResult<SumAnswer>
     ensures refused { IsRefusedBy (sum_fault (leaf_dtype (leaf_in column.entry))) result }

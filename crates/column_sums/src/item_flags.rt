@@ -11,7 +11,7 @@ pub trait ItemFlags {
     // A flag for each item.
     ghost flags: { Self → List Bool };
 
-    /// Is the item at `index` valid?
+    /// Returns whether the item at `index` is valid.
     fn is_valid(&self, index: usize) -> bool
         requires { index < length (flags self.now) }
         ensures { slice_get (flags self.now) index ≡ Some result };

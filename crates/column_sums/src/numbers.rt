@@ -6,7 +6,7 @@ ghost use Rattle.column_core.specs.PrimitiveForm.{optional_numbers};
 use column_core::{PrimitiveArray, ScalarView};
 use std::alloc::Allocator;
 
-/// The number in a row of a column of a signed type, or `None` where the row is null.
+/// Returns the number in a row of a column of a signed type, or `None` where the row is null.
 pub fn signed_at<A: Allocator>(array: &PrimitiveArray<A>, row: usize) -> Option<i64>
     requires signed { ¬ IsUnsigned array.now.ptype }
     requires within { row < length (optional_numbers array.now) }
@@ -18,7 +18,7 @@ pub fn signed_at<A: Allocator>(array: &PrimitiveArray<A>, row: usize) -> Option<
     }
 }
 
-/// The number in a row of a column of an unsigned type, or `None` where the row is null.
+/// Returns the number in a row of a column of an unsigned type, or `None` where the row is null.
 pub fn unsigned_at<A: Allocator>(array: &PrimitiveArray<A>, row: usize) -> Option<u64>
     requires unsigned { IsUnsigned array.now.ptype }
     requires within { row < length (optional_numbers array.now) }

@@ -39,7 +39,7 @@ impl Model for SignedSum {
 }
 
 impl SignedSum {
-    /// The sum of nothing, which is 0.
+    /// Returns the sum of nothing, which is 0.
     pub fn new() -> SignedSum
         ensures { result ≡ record { value = pos 0; calls = [] } }
     {
@@ -50,7 +50,7 @@ impl SignedSum {
         }
     }
 
-    /// The sum so far.
+    /// Returns the sum so far.
     pub fn value(&self) -> i64
         ensures { result ≡ self.now.value }
     {

@@ -5,7 +5,7 @@ use column_core::NativePType;
 
 /// One of the four signed types.
 pub trait SignedPType: NativePType {
-    /// The value as an `i64`, which has the numbers of all four types.
+    /// Returns the value as an `i64`, which has the numbers of all four types.
     fn to_i64(self) -> i64
         ensures { result ≡ Self.number self };
 }

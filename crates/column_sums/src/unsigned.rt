@@ -30,7 +30,7 @@ impl Model for UnsignedSum {
 }
 
 impl UnsignedSum {
-    /// The sum of nothing, which is 0.
+    /// Returns the sum of nothing, which is 0.
     pub fn new() -> UnsignedSum
         ensures { result ≡ record { value = pos 0; calls = [] } }
     {
@@ -40,7 +40,7 @@ impl UnsignedSum {
         }
     }
 
-    /// The sum so far.
+    /// Returns the sum so far.
     pub fn value(&self) -> u64
         ensures { pos result ≡ self.now.value }
     {

@@ -2,7 +2,7 @@
 use column_core::{BitBuffer, BitBufferMut, NativePType, PrimitiveArray, Validity, VortexResult};
 use std::alloc::Allocator;
 
-/// A bit for each flag.
+/// Returns a bit for each flag.
 pub(crate) fn bits<A: Allocator + Copy>(alloc: A, flags: &[bool]) -> VortexResult<BitBuffer<A>> {
     let mut bits = BitBufferMut::with_capacity(alloc, flags.len())?;
     for flag in flags {
@@ -11,7 +11,7 @@ pub(crate) fn bits<A: Allocator + Copy>(alloc: A, flags: &[bool]) -> VortexResul
     Ok(bits.freeze())
 }
 
-/// A column of a type without null.
+/// Returns a column of a type without null.
 pub(crate) fn required<T: NativePType, A: Allocator + Copy>(
     alloc: A,
     items: &[T],
@@ -20,7 +20,7 @@ pub(crate) fn required<T: NativePType, A: Allocator + Copy>(
     PrimitiveArray::try_new(T::wrap(items), Validity::NonNullable)
 }
 
-/// A column with a bit for each row, null where the flag is false.
+/// Returns a column with a bit for each row, null where the flag is false.
 pub(crate) fn nullable<T: NativePType, A: Allocator + Copy>(
     alloc: A,
     items: &[T],

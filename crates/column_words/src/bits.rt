@@ -5,8 +5,8 @@ ghost use Rattle.column_words.specs.Bits.{IsBitWord, bit_digit, bit_word, is_bit
 use column_base::{BitBuffer, BitBufferMut, VortexError, VortexResult};
 use std::alloc::Allocator;
 
-/// The bits of the word: one for each `0` or `1`, true where it is `1`. `None` where a byte is neither. Refused
-/// as `OutOfMemory` alone.
+/// Returns the bits of the word: one for each `0` or `1`, true where it is `1`. `None` where a byte is neither. Refused
+/// only as `OutOfMemory`.
 pub fn parse_bits<A: Allocator + Copy>(alloc: A, word: &str) -> VortexResult<Option<BitBuffer<A>>>
     ensures only { IsOkUnless result VortexError.OutOfMemory }
     ensures bits { IfOk result (λ read. IfSome read (λ bits. bit_word bits ≡ word.now)) }

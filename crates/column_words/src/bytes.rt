@@ -10,7 +10,7 @@ use column_base::{VortexError, VortexResult};
 use hex::FromHex;
 use std::alloc::{AllocError, Allocator};
 
-/// The bytes that the words stand for, or `None` where a word stands for none. Refused as `OutOfMemory` alone.
+/// Returns the bytes that the words stand for, or `None` where a word stands for none. Refused only as `OutOfMemory`.
 pub fn parse_bytes<'a, I: Iterator<Item = &'a str> + Drop, A: Allocator + Copy>(
     alloc: A,
     words: I,
@@ -29,7 +29,7 @@ pub fn parse_bytes<'a, I: Iterator<Item = &'a str> + Drop, A: Allocator + Copy>(
     Ok(Some(bytes))
 }
 
-/// The byte of a word of two hexadecimal digits of either case, or `None` where the word is anything else.
+/// Returns the byte of a word of two hexadecimal digits of either case, or `None` where the word is anything else.
 pub fn parse_byte(word: &str) -> Option<u8>
     ensures byte { IfSome result (λ byte. decode_of word.now ≡ Ok (byte ∷ [])) }
     ensures found { IsSome result ↔ IsByteWord word.now }

@@ -8,7 +8,7 @@ use column_core::ScalarView;
 use column_sums::SumValue;
 use std::alloc::{AllocError, Allocator};
 
-/// Is it null, or an integer?
+/// Returns whether it is null, or an integer.
 pub fn is_null_or_number<A: Allocator>(row: ScalarView<'_, A>) -> bool
     ensures { IsTrue result ↔ IsNullOrNumber (sees row.entry) }
 {

@@ -8,8 +8,8 @@ ghost use Rattle.column_words.specs.Types.{marked, ptype_name, type_name};
 use column_base::{Nullability, PType};
 use std::alloc::{AllocError, Allocator};
 
-/// The type of rows that a word names: a type of numbers, with a question mark behind it where
-/// rows may be null.
+/// Returns the type of rows that a word names: a type of numbers, with a question mark behind it where rows may be
+/// null.
 pub fn parse_type(word: &str) -> Option<(PType, Nullability)>
     ensures { MatchOption result ((ptype : PType) (nullability : Nullability) →
         word.now ≢ type_name ptype nullability) (λ named. word.now ≡ type_name named.0 named.1) }
@@ -18,8 +18,8 @@ pub fn parse_type(word: &str) -> Option<(PType, Nullability)>
     Some((parse_ptype(name)?, nullability))
 }
 
-/// The word before its question mark, or the word itself where it has none at its end, and whether rows of
-/// such a type may be null.
+/// Returns the word before its question mark, or the word itself where it has none at its end, and whether rows of such
+/// a type may be null.
 pub fn split_mark(word: &str) -> (&str, Nullability)
     ensures whole { word.now ≡ marked result.0.now result.1 }
     ensures unmarked { result.1 ≡ Nullability.NonNullable → (front : List ℕ) → word.now ≢ front ++ codes "?" }
@@ -30,7 +30,7 @@ pub fn split_mark(word: &str) -> (&str, Nullability)
     }
 }
 
-/// The type of numbers that a word names, as `u8`.
+/// Returns the type of numbers that a word names, as `u8`.
 pub fn parse_ptype(word: &str) -> Option<PType>
     ensures { MatchOption result ((ptype : PType) → word.now ≢ ptype_name ptype) (λ ptype. word.now ≡
         ptype_name ptype) }
@@ -48,7 +48,7 @@ pub fn parse_ptype(word: &str) -> Option<PType>
     }
 }
 
-/// The name of a type of numbers.
+/// Returns the name of a type of numbers.
 pub fn name_of(ptype: PType) -> &'static str
     ensures { result.now ≡ ptype_name ptype }
 {

@@ -10,19 +10,19 @@ use vortex_runend::{
     UnsignedPType, Validity, VortexResult, VortexSession, initialize,
 };
 
-/// A context in which no kernel is registered.
+/// Returns a context in which no kernel is registered.
 pub(crate) fn context<A: Allocator + Copy>(alloc: A) -> ExecutionCtx<A> {
     ExecutionCtx::new(VortexSession::empty(), alloc)
 }
 
-/// A context in which all kernels are registered, with the library's thresholds.
+/// Returns a context in which all kernels are registered, with the library's thresholds.
 pub(crate) fn full_context<A: Allocator + Copy>(alloc: A) -> ExecutionCtx<A> {
     let mut session = VortexSession::empty();
     initialize(&mut session);
     ExecutionCtx::new(session, alloc)
 }
 
-/// A column of a type without null.
+/// Returns a column of a type without null.
 pub(crate) fn required<T: NativePType, A: Allocator + Copy>(
     alloc: A,
     items: &[T],
@@ -31,7 +31,7 @@ pub(crate) fn required<T: NativePType, A: Allocator + Copy>(
     PrimitiveArray::try_new(T::wrap(items), Validity::NonNullable)
 }
 
-/// A column with a bit for each row, null where the flag is false.
+/// Returns a column with a bit for each row, null where the flag is false.
 pub(crate) fn nullable<T: NativePType, A: Allocator + Copy>(
     alloc: A,
     items: &[T],
@@ -47,7 +47,7 @@ pub(crate) fn nullable<T: NativePType, A: Allocator + Copy>(
     }
 }
 
-/// A column of ends.
+/// Returns a column of ends.
 pub(crate) fn ends_column<T: UnsignedPType, A: Allocator + Copy>(
     alloc: A,
     items: &[T],
@@ -71,7 +71,7 @@ pub(crate) fn runs_of<A: Allocator + Copy>(
     RunEnd::try_new_offset_length(ends, values, offset, length, ctx)
 }
 
-/// The same as a column of any form.
+/// Returns the same as a column of any form.
 pub(crate) fn run_column<A: Allocator + Copy>(
     ends: VortexResult<PrimitiveArray<A>>,
     values: VortexResult<PrimitiveArray<A>>,
@@ -103,7 +103,7 @@ pub(crate) fn both<L: Drop, R: Drop>(
     }
 }
 
-/// Are the rows these, of a signed type?
+/// Returns whether the rows are these, of a signed type.
 pub(crate) fn are_rows<A: Allocator + Copy>(array: &ArrayRef<A>, rows: &[Option<i64>]) -> bool {
     for index in 0..rows.len() {
         match array.scalar_at(index) {

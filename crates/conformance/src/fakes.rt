@@ -38,12 +38,12 @@ pub struct Endless {
 }
 
 impl Endless {
-    /// One that was not read from yet.
+    /// Returns one that was not read from yet.
     pub fn new() -> Endless {
         Endless { calls: 0 }
     }
 
-    /// How often it was read.
+    /// Returns how often it was read.
     pub fn calls(&self) -> u64 {
         self.calls
     }

@@ -6,7 +6,7 @@ use vortex_runend::{
     BitBuffer, BitBufferMut, BoolArray, Validity, VarBinKind, VarBinViewArray, View, VortexResult,
 };
 
-/// A bit for each flag.
+/// Returns a bit for each flag.
 pub(crate) fn bits<A: Allocator + Copy>(alloc: A, flags: &[bool]) -> VortexResult<BitBuffer<A>> {
     let mut bits = BitBufferMut::with_capacity(alloc, flags.len())?;
     for flag in flags {

@@ -4,7 +4,7 @@ use vortex_runend::{ArrayRef, FlatColumn, ScalarView, VortexResult};
 
 /// A value that a row may show.
 pub(crate) trait Shown {
-    /// Is it the value that is seen?
+    /// Returns whether it is the value that is seen.
     fn is_seen<A: Allocator>(&self, view: ScalarView<'_, A>) -> bool;
 }
 
@@ -45,7 +45,7 @@ impl<'a, S: Shown> Shown for &'a [S] {
     }
 }
 
-/// Are the rows that a call makes these?
+/// Returns whether the rows that a call makes are these.
 pub(crate) fn are_shown<S: Shown, A: Allocator + Copy>(
     made: VortexResult<ArrayRef<A>>,
     rows: &[Option<S>],

@@ -5,8 +5,8 @@ use std::alloc::Global;
 use std::io::Read;
 use vortex_runend::{BitBufferMut, PrimitiveArray, PrimitiveValues, Validity};
 
-/// The fields under this name, as numbers of type i64, with null for an empty field. Refused where the
-/// header has no such name, where a field is no number, and where the file is no CSV.
+/// Returns the fields under this name, as numbers of type i64, with null for an empty field. Refused where the header
+/// has no such name, where a field is not a number, and where the file is no CSV.
 pub fn read_column<R: Read + Drop>(
     alloc: Global,
     file: R,

@@ -13,7 +13,7 @@ pub(crate) struct Summary {
     pub(crate) sum: Option<SumValue>,
 }
 
-/// The summary of a run column of integers, whose rows are added run by run.
+/// Returns the summary of a run column of integers, whose rows are added run by run.
 pub(crate) fn summary_of(
     column: &RunEndArray<Global>,
     ctx: &mut ExecutionCtx<Global>,

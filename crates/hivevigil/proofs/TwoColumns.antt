@@ -34,7 +34,7 @@ on_two fault c d a b code fields some other ends =
 pub two_done : (fault : Fault) (c d : Held) (a b : ArrayRef Global) (code : ℤ) (fields : ErrorFields) → c ≡ Some a → d ≡ Some b → fault a b ≡ None → code ≡ pos 0 → EndsOnTwo fault c d code fields
 two_done fault c d a b code fields some other none is = on_two fault c d a b code fields some other (ends_done (fault a b) code fields none is)
 
--- refused by its fault, or for want of memory
+-- refused by its fault, or for memory
 pub two_refused : (fault : Fault) (c d : Held) (a b : ArrayRef Global) (error : VortexError) (code : ℤ) (fields : ErrorFields)
     → c ≡ Some a → d ≡ Some b → IsErrorFor (fault a b) error → code ≡ pos (number_of error) → HasFields error fields → EndsOnTwo fault c d code fields
 two_refused fault c d a b error code fields some other why is told = on_two fault c d a b code fields some other (ends_refused (fault a b) error code fields why is told)

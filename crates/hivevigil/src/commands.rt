@@ -19,7 +19,7 @@ use column_ops::CompareOperator;
 use runend_commands::Command;
 use std::alloc::Global;
 
-/// The column as runs, as few as there can be. Refused as `OnlyPrimitive` unless the rows are integers.
+/// Returns the column as runs, as few as there can be. Refused as `OnlyPrimitive` unless the rows are integers.
 #[tactic(auto, using(c_columns::proofs::Endings::left_with, c_columns::proofs::Endings::ends_with))]
 #[unsafe(no_mangle)]
 pub extern "C" fn hv_encode(
@@ -37,7 +37,7 @@ pub extern "C" fn hv_encode(
     apply(alloc, session, column, Ok(Command::Encode), out, error)
 }
 
-/// The rows in a flat form.
+/// Returns the rows in a flat form.
 #[tactic(auto, using(c_columns::proofs::Endings::left_with, c_columns::proofs::Endings::ends_with))]
 #[unsafe(no_mangle)]
 pub extern "C" fn hv_decode(
@@ -55,7 +55,7 @@ pub extern "C" fn hv_decode(
     apply(alloc, session, column, Ok(Command::Decode), out, error)
 }
 
-/// The rows from `start` to `stop - 1`. Refused as `BadRange`.
+/// Returns the rows from `start` to `stop - 1`. Refused as `BadRange`.
 #[unsafe(no_mangle)]
 pub extern "C" fn hv_slice(
     alloc: Global,
@@ -76,7 +76,7 @@ pub extern "C" fn hv_slice(
     slice(alloc, session, column, start..stop, out, error)
 }
 
-/// Each row as the same value of this type. Answers 23 where the number is of no type, or of lists.
+/// Returns each row as the same value of this type. Answers 23 where the number is of no type, or of lists.
 #[tactic(auto, using(c_columns::proofs::Endings::left_with, c_columns::proofs::Endings::ends_with))]
 #[unsafe(no_mangle)]
 pub extern "C" fn hv_cast(
@@ -101,7 +101,7 @@ pub extern "C" fn hv_cast(
     }
 }
 
-/// The rows at the indices, integers in any form: null at a null index.
+/// Returns the rows at the indices, integers in any form: null at a null index.
 #[tactic(auto, using(crate::proofs::TwoColumns::no_first, crate::proofs::TwoColumns::no_second, crate::proofs::TwoColumns::two_done, crate::proofs::TwoColumns::two_refused))]
 #[unsafe(no_mangle)]
 pub extern "C" fn hv_take(
@@ -133,7 +133,7 @@ pub extern "C" fn hv_take(
     answer(outcome, out, error)
 }
 
-/// The rows at which the mask, booleans in any form, is true: null selects nothing.
+/// Returns the rows at which the mask, booleans in any form, is true: null selects nothing.
 #[tactic(auto, using(crate::proofs::TwoColumns::no_first, crate::proofs::TwoColumns::no_second, crate::proofs::TwoColumns::two_done, crate::proofs::TwoColumns::two_refused))]
 #[unsafe(no_mangle)]
 pub extern "C" fn hv_filter(
@@ -165,7 +165,7 @@ pub extern "C" fn hv_filter(
     answer(outcome, out, error)
 }
 
-/// The dictionary's row for each row, which is its number there; null stays null.
+/// Returns the dictionary's row for each row, which is its number there; null stays null.
 #[tactic(auto, using(crate::proofs::TwoColumns::no_first, crate::proofs::TwoColumns::no_second, crate::proofs::TwoColumns::two_done, crate::proofs::TwoColumns::two_refused))]
 #[unsafe(no_mangle)]
 pub extern "C" fn hv_take_from(
@@ -255,7 +255,7 @@ pub extern "C" fn hv_compare_scalar(
     }
 }
 
-/// A value of the column's type in place of each null. Refused as `TypeMismatch` where it is none of the type.
+/// Returns a value of the column's type in place of each null. Refused as `TypeMismatch` where it is none of the type.
 #[tactic(auto, using(c_columns::proofs::Endings::left_filled, c_columns::proofs::Endings::ends_filled, c_columns::proofs::Endings::passed_empty))]
 #[unsafe(no_mangle)]
 pub extern "C" fn hv_fill(

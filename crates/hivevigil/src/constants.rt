@@ -12,8 +12,8 @@ use c_columns::kinds::{self, Kind};
 use c_columns::row_value::RowValue;
 use std::alloc::Global;
 
-/// The value, of this type, in each of `count` rows. Answers 23 where the number is of no type, or of lists; else
-/// refused as `constants::constant` says.
+/// Returns the value, of this type, in each of `count` rows. Answers 23 where the number is of no type, or of lists;
+/// else refused as `constants::constant` says.
 #[tactic(auto, using(crate::proofs::PartEndings::unless_done, crate::proofs::PartEndings::unless_refused))]
 #[unsafe(no_mangle)]
 pub extern "C" fn hv_constant(

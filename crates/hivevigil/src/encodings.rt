@@ -19,7 +19,8 @@ use c_columns::row_value::RowValue;
 use column_core::VortexResult;
 use std::alloc::Global;
 
-/// The rows, of any type but lists, as runs, as few as there can be. Refused as `Unsupported` exactly for lists.
+/// Returns the rows, of any type but lists, as runs, as few as there can be. Refused as `Unsupported` exactly for
+/// lists.
 #[tactic(auto, using(crate::proofs::ReadEndings::window_empty, crate::proofs::ReadEndings::window_done, crate::proofs::ReadEndings::window_refused))]
 #[unsafe(no_mangle)]
 pub extern "C" fn hv_encode_rows(
@@ -41,7 +42,7 @@ pub extern "C" fn hv_encode_rows(
     answer(outcome, out, error)
 }
 
-/// A builder of rows of this type, without rows. Answers 23 where the number is of no type, or of lists.
+/// Returns a builder of rows of this type, without rows. Answers 23 where the number is of no type, or of lists.
 #[unsafe(no_mangle)]
 pub extern "C" fn hv_builder_new(
     alloc: Global,
@@ -117,7 +118,7 @@ pub extern "C" fn hv_append_value(
     write_status(outcome, error)
 }
 
-/// The encoding of all rows of the builder, which it keeps. Refused for want of memory alone.
+/// Returns the encoding of all rows of the builder, which it keeps. Refused only for memory.
 #[tactic(auto, using(crate::proofs::BuilderEndings::built_empty, crate::proofs::BuilderEndings::built_done, crate::proofs::BuilderEndings::built_short))]
 #[unsafe(no_mangle)]
 pub extern "C" fn hv_encoding(
@@ -139,8 +140,8 @@ pub extern "C" fn hv_encoding(
     answer(outcome, out, error)
 }
 
-/// The encoding of all rows of the builder, which leave it: it has none after, and its type stays. Refused for want of
-/// memory alone, and then the builder stays as it is.
+/// Returns the encoding of all rows of the builder, which leave it: it has none after, and its type stays. Refused only
+/// for memory, and then the builder stays as it is.
 #[tactic(auto, using(crate::proofs::BuilderEndings::built_empty, crate::proofs::BuilderEndings::built_done, crate::proofs::BuilderEndings::built_short))]
 #[unsafe(no_mangle)]
 pub extern "C" fn hv_finish(
@@ -163,7 +164,7 @@ pub extern "C" fn hv_finish(
     answer(outcome, out, error)
 }
 
-/// How many rows the builder has; 0 of no builder.
+/// Returns how many rows the builder has; 0 of no builder.
 #[unsafe(no_mangle)]
 pub extern "C" fn hv_builder_rows(alloc: Global, builder: &mut BuilderHandle) -> usize
     ensures same { builder.new.built ≡ builder.old.built }
@@ -177,7 +178,7 @@ pub extern "C" fn hv_builder_rows(alloc: Global, builder: &mut BuilderHandle) ->
     count
 }
 
-/// How many runs the builder holds, as many as the encoding of its rows has; 0 of no builder.
+/// Returns how many runs the builder holds, as many as the encoding of its rows has; 0 of no builder.
 #[unsafe(no_mangle)]
 pub extern "C" fn hv_builder_runs(alloc: Global, builder: &mut BuilderHandle) -> usize
     ensures same { builder.new.built ≡ builder.old.built }

@@ -13,7 +13,7 @@ use c_columns::pairs::Pair;
 use column_core::DecimalDType;
 use std::alloc::Global;
 
-/// The flat column of `count` booleans, the first of which is bit `start` of `truths`. Nulls are told as to
+/// Returns the flat column of `count` booleans, the first of which is bit `start` of `truths`. Nulls are told as to
 /// `hv_u8`. Refused as `ColumnLength` where there are fewer bits of either.
 #[tactic(auto, using(c_columns::proofs::Endings::ends_done, c_columns::proofs::Endings::ends_refused))]
 #[unsafe(no_mangle)]
@@ -42,7 +42,7 @@ pub extern "C" fn hv_bools(
     )
 }
 
-/// The flat column of these decimals, of this precision and scale. Nulls are told, and refused, as to `hv_u8`.
+/// Returns the flat column of these decimals, of this precision and scale. Nulls are told, and refused, as to `hv_u8`.
 #[tactic(auto, using(c_columns::proofs::Endings::ends_done, c_columns::proofs::Endings::ends_refused))]
 #[unsafe(no_mangle)]
 pub extern "C" fn hv_decimals(

@@ -13,8 +13,8 @@ use c_columns::handle::Handle;
 use c_columns::lists;
 use std::alloc::Global;
 
-/// The lists of which row i has `sizes[i]` of the elements, from element `offsets[i]` on. The elements are shared, and
-/// stay. Nulls are told as to `hv_u8`. Refused as `lists::lists` says.
+/// Returns the lists of which row i has `sizes[i]` of the elements, from element `offsets[i]` on. The elements are
+/// shared, and stay. Nulls are told as to `hv_u8`. Refused as `lists::lists` says.
 #[tactic(auto, using(crate::proofs::PartEndings::held_unless_empty, crate::proofs::PartEndings::held_unless_done, crate::proofs::PartEndings::held_unless_refused))]
 #[unsafe(no_mangle)]
 pub extern "C" fn hv_lists(
@@ -43,7 +43,7 @@ pub extern "C" fn hv_lists(
     answer(outcome, out, error)
 }
 
-/// The elements of all lists. Refused as `Unsupported` unless the column lies as lists.
+/// Returns the elements of all lists. Refused as `Unsupported` unless the column lies as lists.
 #[tactic(auto, using(crate::proofs::ReadEndings::window_empty, crate::proofs::ReadEndings::window_done, crate::proofs::ReadEndings::window_refused))]
 #[unsafe(no_mangle)]
 pub extern "C" fn hv_list_elements(
@@ -89,7 +89,7 @@ pub extern "C" fn hv_list_offsets(
     answer(outcome, out, error)
 }
 
-/// How many elements each list has, u64 numbers. Refused as `hv_list_elements`.
+/// Returns how many elements each list has, u64 numbers. Refused as `hv_list_elements`.
 #[tactic(auto, using(crate::proofs::ReadEndings::window_empty, crate::proofs::ReadEndings::window_done, crate::proofs::ReadEndings::window_refused))]
 #[unsafe(no_mangle)]
 pub extern "C" fn hv_list_sizes(
@@ -112,7 +112,7 @@ pub extern "C" fn hv_list_sizes(
     answer(outcome, out, error)
 }
 
-/// Whether each list is valid, as booleans. Refused as `hv_list_elements`.
+/// Returns whether each list is valid, as booleans. Refused as `hv_list_elements`.
 #[tactic(auto, using(crate::proofs::ReadEndings::window_empty, crate::proofs::ReadEndings::window_done, crate::proofs::ReadEndings::window_refused))]
 #[unsafe(no_mangle)]
 pub extern "C" fn hv_list_validity(

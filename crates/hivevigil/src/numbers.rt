@@ -11,7 +11,7 @@ use c_columns::flat;
 use c_columns::handle::Handle;
 use std::alloc::Global;
 
-/// The flat column of these numbers. By `nulls` 0 the type has no null; 1 it has, and no row is null; any other
+/// Returns the flat column of these numbers. By `nulls` 0 the type has no null; 1 it has, and no row is null; any other
 /// row i is null where bit `first + i` of `bits` is 0. Refused as `ColumnLength` where there are fewer bits.
 #[tactic(auto, using(c_columns::proofs::Endings::ends_done, c_columns::proofs::Endings::ends_refused))]
 #[unsafe(no_mangle)]
@@ -33,7 +33,7 @@ pub extern "C" fn hv_u8(
     answer(flat::numbers(alloc, items, nulls, bits, first), out, error)
 }
 
-/// The flat column of these numbers. By `nulls` 0 the type has no null; 1 it has, and no row is null; any other
+/// Returns the flat column of these numbers. By `nulls` 0 the type has no null; 1 it has, and no row is null; any other
 /// row i is null where bit `first + i` of `bits` is 0. Refused as `ColumnLength` where there are fewer bits.
 #[tactic(auto, using(c_columns::proofs::Endings::ends_done, c_columns::proofs::Endings::ends_refused))]
 #[unsafe(no_mangle)]
@@ -55,7 +55,7 @@ pub extern "C" fn hv_u16(
     answer(flat::numbers(alloc, items, nulls, bits, first), out, error)
 }
 
-/// The flat column of these numbers. By `nulls` 0 the type has no null; 1 it has, and no row is null; any other
+/// Returns the flat column of these numbers. By `nulls` 0 the type has no null; 1 it has, and no row is null; any other
 /// row i is null where bit `first + i` of `bits` is 0. Refused as `ColumnLength` where there are fewer bits.
 #[tactic(auto, using(c_columns::proofs::Endings::ends_done, c_columns::proofs::Endings::ends_refused))]
 #[unsafe(no_mangle)]
@@ -77,7 +77,7 @@ pub extern "C" fn hv_u32(
     answer(flat::numbers(alloc, items, nulls, bits, first), out, error)
 }
 
-/// The flat column of these numbers. By `nulls` 0 the type has no null; 1 it has, and no row is null; any other
+/// Returns the flat column of these numbers. By `nulls` 0 the type has no null; 1 it has, and no row is null; any other
 /// row i is null where bit `first + i` of `bits` is 0. Refused as `ColumnLength` where there are fewer bits.
 #[tactic(auto, using(c_columns::proofs::Endings::ends_done, c_columns::proofs::Endings::ends_refused))]
 #[unsafe(no_mangle)]
@@ -99,7 +99,7 @@ pub extern "C" fn hv_u64(
     answer(flat::numbers(alloc, items, nulls, bits, first), out, error)
 }
 
-/// The flat column of these numbers. By `nulls` 0 the type has no null; 1 it has, and no row is null; any other
+/// Returns the flat column of these numbers. By `nulls` 0 the type has no null; 1 it has, and no row is null; any other
 /// row i is null where bit `first + i` of `bits` is 0. Refused as `ColumnLength` where there are fewer bits.
 #[tactic(auto, using(c_columns::proofs::Endings::ends_done, c_columns::proofs::Endings::ends_refused))]
 #[unsafe(no_mangle)]
@@ -121,7 +121,7 @@ pub extern "C" fn hv_i8(
     answer(flat::numbers(alloc, items, nulls, bits, first), out, error)
 }
 
-/// The flat column of these numbers. By `nulls` 0 the type has no null; 1 it has, and no row is null; any other
+/// Returns the flat column of these numbers. By `nulls` 0 the type has no null; 1 it has, and no row is null; any other
 /// row i is null where bit `first + i` of `bits` is 0. Refused as `ColumnLength` where there are fewer bits.
 #[tactic(auto, using(c_columns::proofs::Endings::ends_done, c_columns::proofs::Endings::ends_refused))]
 #[unsafe(no_mangle)]
@@ -143,7 +143,7 @@ pub extern "C" fn hv_i16(
     answer(flat::numbers(alloc, items, nulls, bits, first), out, error)
 }
 
-/// The flat column of these numbers. By `nulls` 0 the type has no null; 1 it has, and no row is null; any other
+/// Returns the flat column of these numbers. By `nulls` 0 the type has no null; 1 it has, and no row is null; any other
 /// row i is null where bit `first + i` of `bits` is 0. Refused as `ColumnLength` where there are fewer bits.
 #[tactic(auto, using(c_columns::proofs::Endings::ends_done, c_columns::proofs::Endings::ends_refused))]
 #[unsafe(no_mangle)]
@@ -165,7 +165,7 @@ pub extern "C" fn hv_i32(
     answer(flat::numbers(alloc, items, nulls, bits, first), out, error)
 }
 
-/// The flat column of these numbers. By `nulls` 0 the type has no null; 1 it has, and no row is null; any other
+/// Returns the flat column of these numbers. By `nulls` 0 the type has no null; 1 it has, and no row is null; any other
 /// row i is null where bit `first + i` of `bits` is 0. Refused as `ColumnLength` where there are fewer bits.
 #[tactic(auto, using(c_columns::proofs::Endings::ends_done, c_columns::proofs::Endings::ends_refused))]
 #[unsafe(no_mangle)]

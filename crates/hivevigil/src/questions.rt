@@ -22,8 +22,8 @@ use c_columns::totals::Total;
 use c_columns::{questions, runs};
 use std::alloc::Global;
 
-/// The sum of the rows that are not null. Refused as `Unsupported` unless they are integers. Never 21 over a flat
-/// column, nor, where the kernel is registered, over runs or a constant.
+/// Returns the sum of the rows that are not null. Refused as `Unsupported` unless they are integers. Never 21 over a
+/// flat column, nor, where the kernel is registered, over runs or a constant.
 #[tactic(auto, using(c_columns::proofs::Endings::asked_empty, c_columns::proofs::Endings::asked_done, c_columns::proofs::Endings::asked_refused, c_columns::proofs::Short::short_empty))]
 #[unsafe(no_mangle)]
 pub extern "C" fn hv_sum(
@@ -46,8 +46,8 @@ pub extern "C" fn hv_sum(
     write_answer(outcome, total, error)
 }
 
-/// Whether any two rows are equal, null equal to null: 1, or 0. Refused as `Unsupported` for lists. Never 21 over a
-/// flat column, nor, where the kernel is registered, over runs or a constant.
+/// Returns whether any two rows are equal, null equal to null: 1, or 0. Refused as `Unsupported` for lists. Never 21
+/// over a flat column, nor, where the kernel is registered, over runs or a constant.
 #[tactic(auto, using(c_columns::proofs::Endings::asked_empty, c_columns::proofs::Endings::asked_done, c_columns::proofs::Endings::asked_refused, c_columns::proofs::Endings::told_constant, c_columns::proofs::Short::short_empty))]
 #[unsafe(no_mangle)]
 pub extern "C" fn hv_is_constant(
@@ -70,7 +70,7 @@ pub extern "C" fn hv_is_constant(
     write_answer(outcome, truth, error)
 }
 
-/// Whether no row is above the next, or, where `strict` is not 0, each below it, null being below all else: 1,
+/// Returns whether no row is above the next, or, where `strict` is not 0, each below it, null being below all else: 1,
 /// or 0. Refused as `Unsupported` for lists. Never 21 over a flat column, nor, where the kernel is registered, over
 /// runs or a constant.
 #[tactic(auto, using(c_columns::proofs::Endings::asked_empty, c_columns::proofs::Endings::asked_done, c_columns::proofs::Endings::asked_refused, c_columns::proofs::Endings::told_sorted, c_columns::proofs::Short::short_empty))]
@@ -97,9 +97,9 @@ pub extern "C" fn hv_is_sorted(
     write_answer(outcome, truth, error)
 }
 
-/// The least row that is not null, or the greatest where `greatest` is not 0; null where all are. A text or bytes
-/// go to the front of `text`: 11, with their number and the room, where they have no room there. But for texts and
-/// bytes never 21 over a flat column, nor, where the kernel is registered, over runs or a constant.
+/// Returns the least row that is not null, or the greatest where `greatest` is not 0; null where all are. A text or
+/// bytes go to the front of `text`: 11, with their number and the room, where they have no room there. But for texts
+/// and bytes never 21 over a flat column, nor, where the kernel is registered, over runs or a constant.
 #[tactic(auto, using(c_columns::proofs::Extremes::extreme_empty, c_columns::proofs::Extremes::extreme_done, c_columns::proofs::Extremes::extreme_refused, c_columns::proofs::Short::extreme_short_empty))]
 #[unsafe(no_mangle)]
 pub extern "C" fn hv_extreme(
@@ -125,9 +125,9 @@ pub extern "C" fn hv_extreme(
     write_answer(outcome, value, error)
 }
 
-/// The least and the greatest row that are not null; null twice where all are. A text or bytes of each go to the front
-/// of a buffer of its own: 11, with their number and the room, where they have no room there. But for texts and bytes
-/// never 21 over a flat column, nor, where the kernel is registered, over runs or a constant.
+/// Returns the least and the greatest row that are not null; null twice where all are. A text or bytes of each go to
+/// the front of a buffer of its own: 11, with their number and the room, where they have no room there. But for texts
+/// and bytes never 21 over a flat column, nor, where the kernel is registered, over runs or a constant.
 #[tactic(auto, using(crate::proofs::EndsEndings::ends_empty, crate::proofs::EndsEndings::ends_done, crate::proofs::EndsEndings::ends_refused, c_columns::proofs::Short::extreme_short_empty, c_columns::proofs::Short::extremes_done_never_short))]
 #[unsafe(no_mangle)]
 pub extern "C" fn hv_min_max(
@@ -163,8 +163,8 @@ pub extern "C" fn hv_min_max(
     }
 }
 
-/// The row at `row`, which takes no memory. A text or bytes go to the front of `text`: 11, with their number and
-/// the room, where they have no room there. Refused as `Unsupported` for lists, and then as `OutOfBounds`.
+/// Returns the row at `row`, which takes no memory. A text or bytes go to the front of `text`: 11, with their number
+/// and the room, where they have no room there. Refused as `Unsupported` for lists, and then as `OutOfBounds`.
 #[tactic(auto, using(c_columns::proofs::LookUps::row_empty, c_columns::proofs::LookUps::row_done, c_columns::proofs::LookUps::row_refused))]
 #[unsafe(no_mangle)]
 pub extern "C" fn hv_at(
@@ -187,7 +187,7 @@ pub extern "C" fn hv_at(
     write_answer(outcome, value, error)
 }
 
-/// How many rows there are; 0 of no column.
+/// Returns how many rows there are; 0 of no column.
 #[unsafe(no_mangle)]
 pub extern "C" fn hv_length(alloc: Global, column: &mut Handle) -> usize
     ensures same { column.new.column ≡ column.old.column }
@@ -201,7 +201,7 @@ pub extern "C" fn hv_length(alloc: Global, column: &mut Handle) -> usize
     found
 }
 
-/// The type of the rows; the number is 255 of no column.
+/// Returns the type of the rows; the number is 255 of no column.
 #[unsafe(no_mangle)]
 pub extern "C" fn hv_kind_of(alloc: Global, column: &mut Handle) -> Kind
     ensures same { column.new.column ≡ column.old.column }
@@ -229,7 +229,7 @@ pub extern "C" fn hv_form(alloc: Global, column: &mut Handle) -> u8
     found
 }
 
-/// How many rows of the runs of a run column lie before its window; 0 of any other.
+/// Returns how many rows of the runs of a run column lie before its window; 0 of any other.
 #[unsafe(no_mangle)]
 pub extern "C" fn hv_offset(alloc: Global, column: &mut Handle) -> usize
     ensures same { column.new.column ≡ column.old.column }

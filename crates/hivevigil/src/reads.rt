@@ -14,7 +14,7 @@ use c_columns::pairs::Pair;
 use c_columns::windows;
 use std::alloc::Global;
 
-/// The numbers of the rows from row `start` on, as many as there are `items`. Refused as
+/// Returns the numbers of the rows from row `start` on, as many as there are `items`. Refused as
 /// `windows::read_numbers` says.
 #[tactic(auto, using(crate::proofs::ReadEndings::rows_empty, crate::proofs::ReadEndings::rows_done))]
 #[unsafe(no_mangle)]
@@ -38,7 +38,7 @@ pub extern "C" fn hv_read_u8(
     write_status(outcome, error)
 }
 
-/// The numbers of the rows from row `start` on, as many as there are `items`. Refused as
+/// Returns the numbers of the rows from row `start` on, as many as there are `items`. Refused as
 /// `windows::read_numbers` says.
 #[tactic(auto, using(crate::proofs::ReadEndings::rows_empty, crate::proofs::ReadEndings::rows_done))]
 #[unsafe(no_mangle)]
@@ -62,7 +62,7 @@ pub extern "C" fn hv_read_u16(
     write_status(outcome, error)
 }
 
-/// The numbers of the rows from row `start` on, as many as there are `items`. Refused as
+/// Returns the numbers of the rows from row `start` on, as many as there are `items`. Refused as
 /// `windows::read_numbers` says.
 #[tactic(auto, using(crate::proofs::ReadEndings::rows_empty, crate::proofs::ReadEndings::rows_done))]
 #[unsafe(no_mangle)]
@@ -86,7 +86,7 @@ pub extern "C" fn hv_read_u32(
     write_status(outcome, error)
 }
 
-/// The numbers of the rows from row `start` on, as many as there are `items`. Refused as
+/// Returns the numbers of the rows from row `start` on, as many as there are `items`. Refused as
 /// `windows::read_numbers` says.
 #[tactic(auto, using(crate::proofs::ReadEndings::rows_empty, crate::proofs::ReadEndings::rows_done))]
 #[unsafe(no_mangle)]
@@ -110,7 +110,7 @@ pub extern "C" fn hv_read_u64(
     write_status(outcome, error)
 }
 
-/// The numbers of the rows from row `start` on, as many as there are `items`. Refused as
+/// Returns the numbers of the rows from row `start` on, as many as there are `items`. Refused as
 /// `windows::read_numbers` says.
 #[tactic(auto, using(crate::proofs::ReadEndings::rows_empty, crate::proofs::ReadEndings::rows_done))]
 #[unsafe(no_mangle)]
@@ -133,7 +133,7 @@ pub extern "C" fn hv_read_i8(
     write_status(outcome, error)
 }
 
-/// The numbers of the rows from row `start` on, as many as there are `items`. Refused as
+/// Returns the numbers of the rows from row `start` on, as many as there are `items`. Refused as
 /// `windows::read_numbers` says.
 #[tactic(auto, using(crate::proofs::ReadEndings::rows_empty, crate::proofs::ReadEndings::rows_done))]
 #[unsafe(no_mangle)]
@@ -156,7 +156,7 @@ pub extern "C" fn hv_read_i16(
     write_status(outcome, error)
 }
 
-/// The numbers of the rows from row `start` on, as many as there are `items`. Refused as
+/// Returns the numbers of the rows from row `start` on, as many as there are `items`. Refused as
 /// `windows::read_numbers` says.
 #[tactic(auto, using(crate::proofs::ReadEndings::rows_empty, crate::proofs::ReadEndings::rows_done))]
 #[unsafe(no_mangle)]
@@ -179,7 +179,7 @@ pub extern "C" fn hv_read_i32(
     write_status(outcome, error)
 }
 
-/// The numbers of the rows from row `start` on, as many as there are `items`. Refused as
+/// Returns the numbers of the rows from row `start` on, as many as there are `items`. Refused as
 /// `windows::read_numbers` says.
 #[tactic(auto, using(crate::proofs::ReadEndings::rows_empty, crate::proofs::ReadEndings::rows_done))]
 #[unsafe(no_mangle)]
@@ -202,7 +202,7 @@ pub extern "C" fn hv_read_i64(
     write_status(outcome, error)
 }
 
-/// The decimals of the rows from row `start` on, as many as there are `pairs`. Refused as
+/// Returns the decimals of the rows from row `start` on, as many as there are `pairs`. Refused as
 /// `windows::read_decimals` says.
 #[tactic(auto, using(crate::proofs::ReadEndings::rows_empty, crate::proofs::ReadEndings::rows_done))]
 #[unsafe(no_mangle)]
@@ -225,7 +225,7 @@ pub extern "C" fn hv_read_decimals(
     write_status(outcome, error)
 }
 
-/// The booleans that a flat column stores, 64 to a word, in as few words as can be. Refused as
+/// Returns the booleans that a flat column stores, 64 to a word, in as few words as can be. Refused as
 /// `windows::read_all_booleans` says.
 #[unsafe(no_mangle)]
 pub extern "C" fn hv_read_bools(
@@ -246,8 +246,8 @@ pub extern "C" fn hv_read_bools(
     write_status(outcome, error)
 }
 
-/// A bit for each row of a flat column, 64 to a word: whether it is valid. Refused as `windows::read_all_validity`
-/// says.
+/// Returns a bit for each row of a flat column, 64 to a word: whether it is valid. Refused as
+/// `windows::read_all_validity` says.
 #[unsafe(no_mangle)]
 pub extern "C" fn hv_read_validity(
     alloc: Global,
@@ -267,8 +267,8 @@ pub extern "C" fn hv_read_validity(
     write_status(outcome, error)
 }
 
-/// The offsets of the texts or bytes from row `start` on, from 0: one more than rows. Refused
-/// as `windows::read_offsets` says.
+/// Returns the offsets of the texts or bytes from row `start` on, from 0: one more than rows. Refused as
+/// `windows::read_offsets` says.
 #[tactic(auto, using(crate::proofs::ReadEndings::rows_empty, crate::proofs::ReadEndings::rows_done))]
 #[unsafe(no_mangle)]
 pub extern "C" fn hv_read_offsets(
@@ -290,8 +290,8 @@ pub extern "C" fn hv_read_offsets(
     write_status(outcome, error)
 }
 
-/// The offsets of the texts or bytes from row `start` on, from 0: one more than rows. Refused
-/// as `windows::read_offsets` says.
+/// Returns the offsets of the texts or bytes from row `start` on, from 0: one more than rows. Refused as
+/// `windows::read_offsets` says.
 #[tactic(auto, using(crate::proofs::ReadEndings::rows_empty, crate::proofs::ReadEndings::rows_done))]
 #[unsafe(no_mangle)]
 pub extern "C" fn hv_read_large_offsets(
@@ -313,7 +313,7 @@ pub extern "C" fn hv_read_large_offsets(
     write_status(outcome, error)
 }
 
-/// The bytes of `count` texts or bytes from row `start` on, one after the other. Refused as
+/// Returns the bytes of `count` texts or bytes from row `start` on, one after the other. Refused as
 /// `windows::read_bytes` says.
 #[tactic(auto, using(crate::proofs::ReadEndings::rows_empty, crate::proofs::ReadEndings::rows_done))]
 #[unsafe(no_mangle)]

@@ -13,7 +13,7 @@ use c_columns::row_value::RowValue;
 use c_columns::run_reads;
 use std::alloc::Global;
 
-/// How many runs the column stores. Refused as `Unsupported` where it has none.
+/// Returns how many runs the column stores. Refused as `Unsupported` where it has none.
 #[unsafe(no_mangle)]
 pub extern "C" fn hv_run_count(
     alloc: Global,
@@ -33,7 +33,7 @@ pub extern "C" fn hv_run_count(
     write_answer(outcome, count, error)
 }
 
-/// The run of a row, from 0. Refused as `Unsupported` where the column has no runs, and then as `OutOfBounds`.
+/// Returns the run of a row, from 0. Refused as `Unsupported` where the column has no runs, and then as `OutOfBounds`.
 #[unsafe(no_mangle)]
 pub extern "C" fn hv_run_of(
     alloc: Global,
@@ -54,8 +54,8 @@ pub extern "C" fn hv_run_of(
     write_answer(outcome, run, error)
 }
 
-/// The rows that a run shows, from `start` to `stop - 1` of the column, and their value. A text or bytes go to the
-/// front of `text`. Refused as `run_reads::run_at` says.
+/// Returns the rows that a run shows, from `start` to `stop - 1` of the column, and their value. A text or bytes go to
+/// the front of `text`. Refused as `run_reads::run_at` says.
 #[tactic(auto, using(crate::proofs::RunEndings::run_empty, crate::proofs::RunEndings::run_done, crate::proofs::RunEndings::run_refused))]
 #[unsafe(no_mangle)]
 pub extern "C" fn hv_run(

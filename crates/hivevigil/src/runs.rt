@@ -90,8 +90,8 @@ pub extern "C" fn hv_deserialize(
     answer(outcome, out, error)
 }
 
-/// The record of a run column: its bytes go to the front of `bytes`, and `size` says how many they are. Answers 11,
-/// with their number and the room, where they have no room there.
+/// Returns the record of a run column: its bytes go to the front of `bytes`, and `size` says how many they are. Answers
+/// 11, with their number and the room, where they have no room there.
 #[tactic(auto, using(crate::proofs::PartEndings::held_unless_empty, crate::proofs::PartEndings::held_unless_done, crate::proofs::PartEndings::held_unless_refused))]
 #[unsafe(no_mangle)]
 pub extern "C" fn hv_serialize(

@@ -7,7 +7,7 @@ use c_columns::handle::Handle;
 use runend_column::bytes_used;
 use std::alloc::Global;
 
-/// How many bytes the buffers of the column take, as `bytes_used` counts them; 0 of no column.
+/// Returns how many bytes the buffers of the column take, as `bytes_used` counts them; 0 of no column.
 #[unsafe(no_mangle)]
 pub extern "C" fn hv_bytes_used(alloc: Global, column: &mut Handle) -> usize
     ensures same { column.new.column ≡ column.old.column }

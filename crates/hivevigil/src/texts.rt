@@ -12,7 +12,7 @@ use c_columns::kinds::varbin_kind;
 use c_columns::texts::texts;
 use std::alloc::Global;
 
-/// The flat column of texts, or of bytes where `binary` is not 0, whose row i is the bytes from offset i up to
+/// Returns the flat column of texts, or of bytes where `binary` is not 0, whose row i is the bytes from offset i up to
 /// offset i + 1. Nulls are told as to `hv_u8`. Refused as `texts::texts` says.
 #[unsafe(no_mangle)]
 pub extern "C" fn hv_texts(
@@ -48,7 +48,7 @@ pub extern "C" fn hv_texts(
     )
 }
 
-/// The flat column of texts, or of bytes where `binary` is not 0, whose row i is the bytes from offset i up to
+/// Returns the flat column of texts, or of bytes where `binary` is not 0, whose row i is the bytes from offset i up to
 /// offset i + 1. Nulls are told as to `hv_u8`. Refused as `texts::texts` says.
 #[unsafe(no_mangle)]
 pub extern "C" fn hv_large_texts(

@@ -1,7 +1,7 @@
 //! Which library it is.
 ghost use Rattle.std.specs.Prelude.{◌≡◌};
 
-/// The version as one number: a million for each major, a thousand for each minor, and one for each patch.
+/// Returns the version as one number: a million for each major, a thousand for each minor, and one for each patch.
 #[unsafe(no_mangle)]
 pub extern "C" fn hv_version() -> u32
     ensures { result ≡ 1000000 }
@@ -9,7 +9,7 @@ pub extern "C" fn hv_version() -> u32
     1_000_000
 }
 
-/// The number of the binary interface: a program that was compiled for this number runs with this library.
+/// Returns the number of the binary interface: a program that was compiled for this number runs with this library.
 #[unsafe(no_mangle)]
 pub extern "C" fn hv_abi() -> u32
     ensures { result ≡ 1 }

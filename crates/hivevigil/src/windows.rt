@@ -11,7 +11,7 @@ use c_columns::handle::Handle;
 use c_columns::windows;
 use std::alloc::Global;
 
-/// The booleans of `count` rows from row `start` on, 64 to a word, in as few words as can be. Refused as
+/// Returns the booleans of `count` rows from row `start` on, 64 to a word, in as few words as can be. Refused as
 /// `windows::read_booleans` says.
 #[unsafe(no_mangle)]
 pub extern "C" fn hv_read_bools_from(
@@ -35,7 +35,7 @@ pub extern "C" fn hv_read_bools_from(
     write_status(outcome, error)
 }
 
-/// A bit for each of `count` rows from row `start` on, 64 to a word: whether it is valid. Refused as
+/// Returns a bit for each of `count` rows from row `start` on, 64 to a word: whether it is valid. Refused as
 /// `windows::read_validity` says.
 #[unsafe(no_mangle)]
 pub extern "C" fn hv_read_validity_from(

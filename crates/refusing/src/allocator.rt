@@ -55,12 +55,12 @@ impl<B: Allocator> Refusing<B> {
         }
     }
 
-    /// How many requests came so far, refused ones among them.
+    /// Returns how many requests came so far, refused ones among them.
     pub fn asked(&self) -> u64 {
         self.plan.asked()
     }
 
-    /// How many requests the plan refused so far.
+    /// Returns how many requests the plan refused so far.
     pub fn refused(&self) -> u64 {
         self.plan.refused()
     }

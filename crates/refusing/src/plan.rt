@@ -16,7 +16,7 @@ pub enum Refusals {
 }
 
 impl Refusals {
-    /// Whether the request of this number is refused.
+    /// Returns whether the request of this number is refused.
     pub fn refuse(self, request: u64) -> bool
         ensures { IsTrue result ↔ Refuses self request }
     {

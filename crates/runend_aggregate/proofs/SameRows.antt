@@ -40,7 +40,7 @@ above_zero : (count : ℕ) → ¬ (count ≡ 0) → 0 < count
 above_zero zero some = absurd (some refl)
 above_zero (suc n) some = omega arith
 
--- a view that is no null shows a value
+-- a view that is not null shows a value
 some_seen : {A : Type 0} (seen : ScalarView A) → ¬ (seen ≡ view.Null) → IsSome (sees seen)
 some_seen view.Null other = absurd (other refl)
 some_seen (view.Bool b) other = refl

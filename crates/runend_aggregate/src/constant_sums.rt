@@ -16,9 +16,8 @@ use column_sums::{Runs, SignedSum, SumAnswer, UnsignedSum, sum_in_runs};
 use runend_array::ConstantArray;
 use std::alloc::Allocator;
 
-/// The sum of the rows of a constant column, as `sum` answers it of runs: its value is added once, as
-/// often as there are rows. Refused as `Unsupported` exactly for columns of other types than integers.
-/// It takes no memory.
+/// Returns the sum of the rows of a constant column, as `sum` answers it of runs: its value is added once, as often as
+/// there are rows. Refused as `Unsupported` exactly for columns of other types than integers. It takes no memory.
 pub fn sum_of_constant<A: Allocator>(array: &ConstantArray<A>) -> VortexResult<SumAnswer>
     ensures refused { IsRefusedBy (sum_fault array.now.dtype) result }
     ensures no_memory { result ≢ Err VortexError.OutOfMemory }

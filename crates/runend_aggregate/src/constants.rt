@@ -10,9 +10,9 @@ use column_core::{ScalarView, VortexError, VortexResult, fault_of_lists};
 use runend_array::ConstantArray;
 use std::alloc::Allocator;
 
-/// The least and the greatest of the rows that are not null, borrowed from the column, as `min_max`
-/// answers them of runs: the value twice, or `None` where there is no row or all are null. Refused as
-/// `Unsupported` exactly for lists.
+/// Returns the least and the greatest of the rows that are not null, borrowed from the column, as `min_max` answers
+/// them of runs: the value twice, or `None` where there is no row or all are null. Refused as `Unsupported` exactly for
+/// lists.
 pub fn min_max_of_constant<A: Allocator + Copy>(
     array: &ConstantArray<A>,
 ) -> VortexResult<Option<(ScalarView<'_, A>, ScalarView<'_, A>)>>
@@ -35,7 +35,7 @@ pub fn min_max_of_constant<A: Allocator + Copy>(
     }
 }
 
-/// Are any two rows of a constant column equal? They are. Refused as `Unsupported` exactly for lists,
+/// Returns whether any two rows of a constant column are equal. They are. Refused as `Unsupported` exactly for lists,
 /// as `is_constant` is of runs.
 pub fn is_constant_of_constant<A: Allocator>(array: &ConstantArray<A>) -> VortexResult<bool>
     ensures refused { IsRefusedBy (list_fault array.now.dtype) result }
@@ -48,9 +48,9 @@ pub fn is_constant_of_constant<A: Allocator>(array: &ConstantArray<A>) -> Vortex
     }
 }
 
-/// Is no row of a constant column above the next, or, where `strict` is asked, is each below the next?
-/// Equal rows are sorted, and strictly so only where there are fewer than two. Refused as
-/// `Unsupported` exactly for lists, as `is_sorted` is of runs.
+/// Returns whether no row of a constant column is above the next, or, where `strict` is asked, is each below the next.
+/// Equal rows are sorted, and strictly so only where there are fewer than two. Refused as `Unsupported` exactly for
+/// lists, as `is_sorted` is of runs.
 pub fn is_sorted_of_constant<A: Allocator>(
     array: &ConstantArray<A>,
     strict: bool,

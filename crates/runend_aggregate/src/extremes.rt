@@ -14,9 +14,9 @@ use std::alloc::Allocator;
 use std::cmp::Ordering;
 use std::ops::Range;
 
-/// The least and the greatest of the rows that are not null, borrowed from the column, or `None` where
-/// all rows are null. Work is by visible runs. Refused as `Unsupported` exactly for lists. It takes no
-/// memory, whatever the form of the run values.
+/// Returns the least and the greatest of the rows that are not null, borrowed from the column, or `None` where all rows
+/// are null. Work is by visible runs. Refused as `Unsupported` exactly for lists. It takes no memory, whatever the form
+/// of the run values.
 pub fn min_max<'a, A: Allocator + Copy>(
     array: &'a RunEndArray<A>,
     ctx: &mut ExecutionCtx<A>,
@@ -42,7 +42,7 @@ pub fn min_max<'a, A: Allocator + Copy>(
     Ok(ends_of(array.values(), array.visible_runs()))
 }
 
-// A row that is no null, and past which no such row is on that side, or `None` where all rows are null.
+// A row that is not null, and past which no such row is on that side, or `None` where all rows are null.
 fn furthest<A: Allocator + Copy>(
     values: &ArrayRef<A>,
     range: Range<usize>,

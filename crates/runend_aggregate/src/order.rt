@@ -15,7 +15,7 @@ use std::alloc::Allocator;
 use std::cmp::Ordering;
 use std::ops::Range;
 
-/// Are any two rows equal, null equal to null? No rows are constant. Work is by visible runs. Refused
+/// Returns whether any two rows are equal, null equal to null. No rows are constant. Work is by visible runs. Refused
 /// as `Unsupported` exactly for lists. It takes no memory, whatever the form of the run values.
 pub fn is_constant<A: Allocator + Copy>(
     array: &RunEndArray<A>,
@@ -33,9 +33,9 @@ pub fn is_constant<A: Allocator + Copy>(
     Ok(are_equal(array.values(), array.visible_runs()))
 }
 
-/// Is no row above the next, or, where `strict` is asked, is each below the next? No rows are sorted.
-/// Work is by visible runs. Refused as `Unsupported` exactly for lists. It takes no memory, whatever the
-/// form of the run values.
+/// Returns whether no row is above the next, or, where `strict` is asked, is each below the next. No rows are sorted.
+/// Work is by visible runs. Refused as `Unsupported` exactly for lists. It takes no memory, whatever the form of the
+/// run values.
 pub fn is_sorted<A: Allocator + Copy>(
     array: &RunEndArray<A>,
     strict: bool,

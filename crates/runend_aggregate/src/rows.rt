@@ -11,7 +11,7 @@ use runend_array::ArrayRef;
 use std::alloc::Allocator;
 use std::cmp::Ordering;
 
-/// The row at an index that there is.
+/// Returns the row at an index that there is.
 pub(crate) fn row_of<A: Allocator + Copy>(values: &ArrayRef<A>, row: usize) -> ScalarView<'_, A>
     requires { row < length (rows values.now) }
     ensures row { slice_get (rows values.now) row ≡ Some (sees result) }
@@ -23,7 +23,7 @@ pub(crate) fn row_of<A: Allocator + Copy>(values: &ArrayRef<A>, row: usize) -> S
     }
 }
 
-/// How one row stands to another one.
+/// Returns how one row stands to another one.
 pub(crate) fn order_at<A: Allocator + Copy>(
     values: &ArrayRef<A>,
     left: usize,
@@ -38,7 +38,7 @@ pub(crate) fn order_at<A: Allocator + Copy>(
     compare_views(&row_of(values, left), &row_of(values, right))
 }
 
-/// Is the row no null, and past the best one so far on that side?
+/// Returns whether the row is not null, and past the best one so far on that side.
 pub(crate) fn is_past_best<A: Allocator>(
     row: &ScalarView<'_, A>,
     best: &Option<ScalarView<'_, A>>,

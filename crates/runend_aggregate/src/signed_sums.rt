@@ -17,8 +17,8 @@ use column_sums::{Numbers, SignedSum, SumAnswer};
 use runend_array::{ArrayRef, RunEndArray, RunEndArrayExt, RunEndArraySlotsExt};
 use std::alloc::Allocator;
 
-/// The sum of the rows of a column of signed numbers, by one call of `add_run` for each visible run that
-/// is not null, up to and with the first that leaves the range of `i64`.
+/// Returns the sum of the rows of a column of signed numbers, by one call of `add_run` for each visible run that is not
+/// null, up to and with the first that leaves the range of `i64`.
 pub(crate) fn sum_signed_visible<A: Allocator + Copy>(
     array: &RunEndArray<A>,
     sum: &mut SignedSum,

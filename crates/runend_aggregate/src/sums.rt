@@ -15,9 +15,9 @@ use column_sums::{SignedSum, SumAnswer, UnsignedSum};
 use runend_array::{ExecutionCtx, RunEndArray, RunEndArrayExt};
 use std::alloc::Allocator;
 
-/// The sum of the rows of a column of signed numbers, by one call of `add_run` for each visible run that
-/// is not null, with its value and the number of rows that show it, up to and with the first that leaves
-/// the range of `i64`. Never refused.
+/// Returns the sum of the rows of a column of signed numbers, by one call of `add_run` for each visible run that is not
+/// null, with its value and the number of rows that show it, up to and with the first that leaves the range of `i64`.
+/// Never refused.
 pub fn sum_signed_runs<A: Allocator + Copy>(
     array: &RunEndArray<A>,
     sum: &mut SignedSum,
@@ -38,9 +38,9 @@ pub fn sum_signed_runs<A: Allocator + Copy>(
     Ok(sum_signed_visible(array, sum))
 }
 
-/// The sum of the rows of a column of unsigned numbers, by one call of `add_run` for each visible run
-/// that is not null, with its value and the number of rows that show it, up to and with the first that
-/// leaves the range of `u64`. Never refused.
+/// Returns the sum of the rows of a column of unsigned numbers, by one call of `add_run` for each visible run that is
+/// not null, with its value and the number of rows that show it, up to and with the first that leaves the range of
+/// `u64`. Never refused.
 pub fn sum_unsigned_runs<A: Allocator + Copy>(
     array: &RunEndArray<A>,
     sum: &mut UnsignedSum,
@@ -61,10 +61,9 @@ pub fn sum_unsigned_runs<A: Allocator + Copy>(
     Ok(sum_unsigned_visible(array, sum))
 }
 
-/// The sum of the rows that are not null, added one at a time in order: null where some partial sum
-/// leaves the range of `i64` for signed numbers, or of `u64` for unsigned ones. Work is by visible runs.
-/// Refused as `Unsupported` exactly for columns of other types. It takes no memory, whatever the form of
-/// the run values.
+/// Returns the sum of the rows that are not null, added one at a time in order: null where some partial sum leaves the
+/// range of `i64` for signed numbers, or of `u64` for unsigned ones. Work is by visible runs. Refused as `Unsupported`
+/// exactly for columns of other types. It takes no memory, whatever the form of the run values.
 pub fn sum<A: Allocator + Copy>(
     array: &RunEndArray<A>,
     ctx: &mut ExecutionCtx<A>,

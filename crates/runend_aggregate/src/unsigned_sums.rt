@@ -17,8 +17,8 @@ use column_sums::{Numbers, SumAnswer, UnsignedSum};
 use runend_array::{ArrayRef, RunEndArray, RunEndArrayExt, RunEndArraySlotsExt};
 use std::alloc::Allocator;
 
-/// The sum of the rows of a column of unsigned numbers, by one call of `add_run` for each visible run that
-/// is not null, up to and with the first that leaves the range of `u64`.
+/// Returns the sum of the rows of a column of unsigned numbers, by one call of `add_run` for each visible run that is
+/// not null, up to and with the first that leaves the range of `u64`.
 pub(crate) fn sum_unsigned_visible<A: Allocator + Copy>(
     array: &RunEndArray<A>,
     sum: &mut UnsignedSum,

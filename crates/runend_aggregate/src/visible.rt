@@ -12,7 +12,7 @@ use column_core::{PrimitiveArray, ScalarView, UnsignedPType};
 use runend_array::{ArrayRef, RunEndArray, RunEndArrayExt, RunEndArraySlotsExt};
 use std::alloc::Allocator;
 
-/// The ends, as the flat column that they are.
+/// Returns the ends, as the flat column that they are.
 pub(crate) fn plain_ends<A: Allocator + Copy>(array: &RunEndArray<A>) -> &PrimitiveArray<A>
     ensures ends { ends_of result.now ≡ array.now.ends }
     ensures unsigned { IsUnsigned result.now.ptype }
@@ -45,7 +45,7 @@ fn rows_before_run<E: UnsignedPType>(ends: &[E], run: usize, offset: usize, coun
     rows_to_end(ends, run - 1, offset, count)
 }
 
-/// How many rows of a window, of `count` rows from position `offset` on, show a run.
+/// Returns how many rows of a window, of `count` rows from position `offset` on, show a run.
 #[inline]
 pub(crate) fn rows_of_run<E: UnsignedPType>(
     ends: &[E],
@@ -59,8 +59,8 @@ pub(crate) fn rows_of_run<E: UnsignedPType>(
     rows_to_end(ends, run, offset, count).saturating_sub(rows_before_run(ends, run, offset, count))
 }
 
-/// How many rows lie between the end of a run and that of the run before it, where the ends increase. So many rows of a
-/// window show a run that is neither the first nor the last visible one.
+/// Returns how many rows lie between the end of a run and that of the run before it, where the ends increase. So many
+/// rows of a window show a run that is neither the first nor the last visible one.
 #[inline(always)]
 pub(crate) fn rows_between<E: UnsignedPType>(ends: &[E], run: usize) -> usize
     requires within { run < length ends.now }
@@ -71,7 +71,7 @@ pub(crate) fn rows_between<E: UnsignedPType>(ends: &[E], run: usize) -> usize
     (ends[run].to_u64() - ends[run - 1].to_u64()) as usize
 }
 
-/// The number in a row of a column that has no unsigned numbers.
+/// Returns the number in a row of a column that has no unsigned numbers.
 pub(crate) fn signed_in<A: Allocator + Copy>(values: &ArrayRef<A>, row: usize) -> Option<i64>
     requires signed { ¬ IsUnsignedType (dtype_of values.now) }
     requires within { row < length (rows values.now) }
@@ -83,7 +83,7 @@ pub(crate) fn signed_in<A: Allocator + Copy>(values: &ArrayRef<A>, row: usize) -
     }
 }
 
-/// The number in a row of a column that has no signed numbers.
+/// Returns the number in a row of a column that has no signed numbers.
 pub(crate) fn unsigned_in<A: Allocator + Copy>(values: &ArrayRef<A>, row: usize) -> Option<u64>
     requires unsigned { ¬ IsSignedType (dtype_of values.now) }
     requires within { row < length (rows values.now) }

@@ -36,7 +36,7 @@ use Rattle.runend_windows.proofs.RunAt.{run_of_row_within}
 use Rattle.runend_windows.proofs.RunRows.{length-run_rows, slice_get-run_rows_of_window}
 use Rattle.runend_array.proofs.ShownLists.{flag-in_runs, has_rows-in_runs, nullability-in_runs}
 
--- flags that say of each row whether it is no null
+-- flags that say of each row whether it is not null
 flags-from_each : (rows : List (Option Value)) (form : RowValidityForm) → ((i : ℕ) (row : Option Value) → i < length rows → slice_get rows i ≡ Some row → row_flag_at form i ≡ is_some row)
     → row_flags_of form (length rows) ≡ map is_some rows
 flags-from_each rows form each =

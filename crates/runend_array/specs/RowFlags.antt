@@ -8,7 +8,7 @@ use Rattle.runend_array.specs.ListRuns.{IsValidityInRuns}
 use Rattle.runend_array.specs.Column.{Column, Constant, OfLeaf, OfConstant, OfLists, OfRuns, column_rows, column_dtype}
 use Rattle.column_core.specs.Computed.{without_nulls}
 
--- the validity of a column: row by row whether it is no null, and without null exactly where the type is
+-- the validity of a column: row by row whether it is not null, and without null exactly where the type is
 pub record IsValidityOf (c : Column) (form : RowValidityForm) : Type 0 where
   pub counted : HasRows form (length (column_rows c))
   pub flags : row_flags_of form (length (column_rows c)) ≡ map is_some (column_rows c)

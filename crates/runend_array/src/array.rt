@@ -78,14 +78,14 @@ pub trait RunEndArraySlotsExt<A: Allocator> {
     // The form of the run column.
     ghost runs: { Self → Runs };
 
-    /// The ends: a flat column without null, of an unsigned type, whose numbers strictly increase.
+    /// Returns the ends: a flat column without null, of an unsigned type, whose numbers strictly increase.
     fn ends(&self) -> &ArrayRef<A>
         ensures plain { IsPlainEnds (column_of result.now) }
         ensures numbers { end_numbers (column_of result.now) ≡ (runs self.now).ends }
         ensures ptype { end_ptype (column_of result.now) ≡ (runs self.now).ends_type }
         ensures valid { AreRuns (runs self.now) };
 
-    /// The values, one for each run.
+    /// Returns the values, one for each run.
     fn values(&self) -> &ArrayRef<A>
         ensures form { column_of result.now ≡ (runs self.now).values }
         ensures valid { AreRuns (runs self.now) };
@@ -93,15 +93,15 @@ pub trait RunEndArraySlotsExt<A: Allocator> {
 
 /// What a run column tells beside its slots.
 pub trait RunEndArrayExt<A: Allocator>: RunEndArraySlotsExt<A> {
-    /// How many rows of the runs lie before the window.
+    /// Returns how many rows of the runs lie before the window.
     fn offset(&self) -> usize
         ensures { result ≡ (Self.runs self.now).offset };
 
-    /// The type of the rows.
+    /// Returns the type of the rows.
     fn dtype(&self) -> DType
         ensures { result ≡ column_dtype (Self.runs self.now).values };
 
-    /// The run of row `index`, or the last run where no run ends past it.
+    /// Returns the run of row `index`, or the last run where no run ends past it.
     fn find_physical_index(&self, index: usize) -> usize
         requires some { 0 < length (Self.runs self.now).ends }
         requires within { index ≤ (Self.runs self.now).count }

@@ -39,7 +39,7 @@ pub enum ArrayRef<A: Allocator> {
 }
 
 impl<A: Allocator + Copy> ArrayRef<A> {
-    /// How many rows there are.
+    /// Returns how many rows there are.
     pub fn len(&self) -> usize
         ensures { result ≡ length (rows self.now) }
     {
@@ -51,14 +51,14 @@ impl<A: Allocator + Copy> ArrayRef<A> {
         }
     }
 
-    /// Are there no rows?
+    /// Returns whether there are no rows.
     pub fn is_empty(&self) -> bool
         ensures { IsTrue result ↔ (length (rows self.now) ≡ 0) }
     {
         self.len() == 0
     }
 
-    /// The type of the rows.
+    /// Returns the type of the rows.
     #[cycle(dtype)]
     pub fn dtype(&self) -> DType
         ensures { result ≡ dtype_of self.now }
@@ -71,7 +71,7 @@ impl<A: Allocator + Copy> ArrayRef<A> {
         }
     }
 
-    /// A run column, as a column of any form. Refused as `OutOfMemory` alone.
+    /// Returns a run column, as a column of any form. Refused only as `OutOfMemory`.
     pub fn of_runs(alloc: A, runs: RunEndArray<A>) -> VortexResult<ArrayRef<A>>
         ensures only { IsOkUnless result VortexError.OutOfMemory }
         ensures form { IfOk result (λ array. column_of array ≡ column_of_runs runs) }
@@ -85,7 +85,7 @@ impl<A: Allocator + Copy> ArrayRef<A> {
         }
     }
 
-    /// The flat column that this array is, borrowed, or `None` where it has another form.
+    /// Returns the flat column that this array is, borrowed, or `None` where it has another form.
     pub fn flat_view(&self) -> Option<FlatView<'_, A>>
         ensures flat { IfSome result (λ view. column_of self.now ≡ OfLeaf (leaf_in view)) }
         ensures other { IfNone result (¬ IsLeaf (column_of self.now)) }
@@ -110,8 +110,8 @@ impl<A: Allocator + Copy> ArrayRef<A> {
         }
     }
 
-    /// The row at `index`, borrowed from the array. Refused as `OutOfBounds`, with the index and the
-    /// number of rows, exactly from that number on. Takes no memory.
+    /// Returns the row at `index`, borrowed from the array. Refused as `OutOfBounds`, with the index and the number of
+    /// rows, exactly from that number on. Takes no memory.
     #[cycle(scalar_at)]
     pub fn scalar_at(&self, index: usize) -> VortexResult<ScalarView<'_, A>>
         ensures row { IfOk result (λ view. slice_get (rows self.now) index ≡ Some (sees view)) }
@@ -144,8 +144,8 @@ impl<A: Allocator + Copy> ArrayRef<A> {
         }
     }
 
-    /// An array that is equal in form. Its buffers are shared with this one's where those are shared, and else copied.
-    /// Refused as `OutOfMemory` alone.
+    /// Returns an array that is equal in form. Its buffers are shared with this one's where those are shared, and else
+    /// copied. Refused only as `OutOfMemory`.
     pub fn try_clone(&self, ctx: &mut ExecutionCtx<A>) -> VortexResult<ArrayRef<A>>
         ensures only { IsOkUnless result VortexError.OutOfMemory }
         ensures form { IfOk result (λ array. column_of array ≡ column_of self.now) }
@@ -154,9 +154,9 @@ impl<A: Allocator + Copy> ArrayRef<A> {
         self.clone_in(*ctx.allocator(), Buffers::Shared)
     }
 
-    /// An array that is equal in form, with ends, numbers, bits and views in buffers that are shared with none: those
-    /// that this one shows a part of may then be freed. The bytes of texts and the elements of lists stay shared.
-    /// Refused as `OutOfMemory` alone.
+    /// Returns an array that is equal in form, with ends, numbers, bits and views in buffers that are shared with none:
+    /// those that this one shows a part of may then be freed. The bytes of texts and the elements of lists stay shared.
+    /// Refused only as `OutOfMemory`.
     pub fn compact(&self, ctx: &mut ExecutionCtx<A>) -> VortexResult<ArrayRef<A>>
         ensures only { IsOkUnless result VortexError.OutOfMemory }
         ensures form { IfOk result (λ array. column_of array ≡ column_of self.now) }
@@ -193,10 +193,10 @@ impl<A: Allocator + Copy> ArrayRef<A> {
         }
     }
 
-    /// The rows in a flat form: a flat column is copied as it stands, a constant is written out, and
-    /// of a run column the rows that its runs show are written, with 0, false or the view of nothing
-    /// under null; runs of lists become lists over the same elements. Buffers of texts and elements of
-    /// lists are shared. Refused as `OutOfMemory` alone.
+    /// Returns the rows in a flat form: a flat column is copied as it stands, a constant is written out, and of a run
+    /// column the rows that its runs show are written, with 0, false or the view of nothing under null; runs of lists
+    /// become lists over the same elements. Buffers of texts and elements of lists are shared. Refused as `OutOfMemory`
+    /// alone.
     pub fn canonicalize(&self, ctx: &mut ExecutionCtx<A>) -> VortexResult<ArrayRef<A>>
         ensures only { IsOkUnless result VortexError.OutOfMemory }
         ensures rows { IfOk result (λ array. rows array ≡ rows self.now) }
@@ -208,7 +208,8 @@ impl<A: Allocator + Copy> ArrayRef<A> {
         flat.into_array(*ctx.allocator())
     }
 
-    /// The rows in a flat form, as `canonicalize` writes them, as that form alone. Refused as `OutOfMemory` alone.
+    /// Returns the rows in a flat form, as `canonicalize` writes them, as that form alone. Refused as `OutOfMemory`
+    /// alone.
     pub fn to_canonical(&self, ctx: &mut ExecutionCtx<A>) -> VortexResult<Canonical<A>>
         ensures only { IsOkUnless result VortexError.OutOfMemory }
         ensures rows { IfOk result (λ flat. column_rows (canonical_column flat) ≡ rows self.now) }
@@ -287,8 +288,8 @@ impl<A: Allocator + Copy> ArrayRef<A> {
         }
     }
 
-    /// The rows from `start` to `stop - 1`, in a flat form: of runs only the values of the runs of these rows are
-    /// looked at, and of a flat form the buffers are shared where they can be. Refused as `OutOfMemory` alone.
+    /// Returns the rows from `start` to `stop - 1`, in a flat form: of runs only the values of the runs of these rows
+    /// are looked at, and of a flat form the buffers are shared where they can be. Refused only as `OutOfMemory`.
     #[cycle(rows_between)]
     pub fn rows_between(&self, alloc: A, start: usize, stop: usize) -> VortexResult<Canonical<A>>
         requires ordered { start ≤ stop }
@@ -356,7 +357,7 @@ fn constant_between<A: Allocator + Copy>(
     Ok(rows)
 }
 
-/// The refusal of an index that is not below the number of rows.
+/// Returns the refusal of an index that is not below the number of rows.
 pub(crate) fn out_of_bounds(index: usize, length: usize) -> VortexError
     ensures { result ≡ VortexError.OutOfBounds (pos index) length }
 {
@@ -366,7 +367,7 @@ pub(crate) fn out_of_bounds(index: usize, length: usize) -> VortexError
     }
 }
 
-/// Lists as an array. Refused as `OutOfMemory` alone.
+/// Lists as an array. Refused only as `OutOfMemory`.
 pub(crate) fn of_lists<A: Allocator + Copy>(
     alloc: A,
     lists: ListViewArray<A>,

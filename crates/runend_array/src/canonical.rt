@@ -23,7 +23,7 @@ pub enum Canonical<A: Allocator> {
     List(ListViewArray<A>),
 }
 
-/// A flat column as an array. Takes no memory.
+/// Returns a flat column as an array. Takes no memory.
 pub fn array_of<A: Allocator + Copy>(flat: FlatColumn<A>) -> ArrayRef<A>
     ensures { column_of result ≡ OfLeaf (leaf_of flat) }
 {
@@ -36,7 +36,7 @@ pub fn array_of<A: Allocator + Copy>(flat: FlatColumn<A>) -> ArrayRef<A>
 }
 
 impl<A: Allocator + Copy> Canonical<A> {
-    /// The column as an array, in its form. Refused as `OutOfMemory` alone.
+    /// Returns the column as an array, in its form. Refused only as `OutOfMemory`.
     pub fn into_array(self, alloc: A) -> VortexResult<ArrayRef<A>>
         ensures only { IsOkUnless result VortexError.OutOfMemory }
         ensures form { IfOk result (λ array. column_of array ≡ canonical_column self) }
@@ -47,9 +47,9 @@ impl<A: Allocator + Copy> Canonical<A> {
         }
     }
 
-    /// The rows that runs of these values show, from row `offset` on, `count` many, in a flat form, with 0,
-    /// false or the view of nothing under null. From `prefill_runs` runs on the rows of booleans start as
-    /// the value of most runs; the answer is the same. Refused as `OutOfMemory` alone.
+    /// Returns the rows that runs of these values show, from row `offset` on, `count` many, in a flat form, with 0,
+    /// false or the view of nothing under null. From `prefill_runs` runs on the rows of booleans start as the value of
+    /// most runs; the answer is the same. Refused only as `OutOfMemory`.
     pub fn decode_with(
         self,
         alloc: A,

@@ -30,10 +30,9 @@ use runend_windows::{
 };
 use std::alloc::Allocator;
 
-/// The ends and the values of the runs of a column: a run for each longest stretch of equal rows,
-/// null being equal to null. Ends are as narrow as can be. A column whose validity says that all of
-/// its rows are null, of which there is one at least, gives one end in u64 and one constant null.
-/// Refused as `OutOfMemory` alone.
+/// Returns the ends and the values of the runs of a column: a run for each longest stretch of equal rows, null being
+/// equal to null. Ends are as narrow as can be. A column whose validity says that all of its rows are null, of which
+/// there is one at least, gives one end in u64 and one constant null. Refused only as `OutOfMemory`.
 pub fn runend_encode<A: Allocator + Copy>(
     array: &PrimitiveArray<A>,
     ctx: &mut ExecutionCtx<A>,
@@ -68,10 +67,9 @@ fn encode_nulls<A: Allocator + Copy>(
     Ok((ends, ArrayRef::Constant(values)))
 }
 
-/// The rows that runs show, from row `offset` on, `count` many: a constant null where there is a run
-/// and all values are null, else a flat column with 0, false or the view of nothing under null. From
-/// `prefill_runs` runs on the rows of booleans start as the value of most runs; others make no use
-/// of it. Refused as `OutOfMemory` alone.
+/// Returns the rows that runs show, from row `offset` on, `count` many: a constant null where there is a run and all
+/// values are null, else a flat column with 0, false or the view of nothing under null. From `prefill_runs` runs on the
+/// rows of booleans start as the value of most runs; others make no use of it. Refused only as `OutOfMemory`.
 pub fn decode_column<A: Allocator + Copy>(
     alloc: A,
     ends: &PrimitiveArray<A>,

@@ -29,21 +29,21 @@ impl<A: Allocator> Model for ConstantArray<A> {
 }
 
 impl<A: Allocator> ConstantArray<A> {
-    /// The scalar in each of `len` rows. No memory is taken.
+    /// Returns the scalar in each of `len` rows. No memory is taken.
     pub fn new(scalar: Scalar<A>, len: usize) -> Self
         ensures { result ≡ record { dtype = scalar.dtype; value = scalar.value; count = len } }
     {
         ConstantArray { scalar, len }
     }
 
-    /// What each row shows.
+    /// Returns what each row shows.
     pub fn scalar(&self) -> &Scalar<A>
         ensures { result.now ≡ record { dtype = self.now.dtype; value = self.now.value } }
     {
         &self.scalar
     }
 
-    /// What each row shows, borrowed.
+    /// Returns what each row shows, borrowed.
     pub(crate) fn scalar_view(&self) -> ScalarView<'_, A>
         ensures value { sees result ≡ option_map Single self.now.value }
         ensures of_type { IsViewOf self.now.dtype result }
@@ -51,21 +51,21 @@ impl<A: Allocator> ConstantArray<A> {
         self.scalar.view()
     }
 
-    /// How many rows there are.
+    /// Returns how many rows there are.
     pub fn len(&self) -> usize
         ensures { result ≡ self.now.count }
     {
         self.len
     }
 
-    /// Are there no rows?
+    /// Returns whether there are no rows.
     pub fn is_empty(&self) -> bool
         ensures { IsTrue result ↔ (self.now.count ≡ 0) }
     {
         self.len == 0
     }
 
-    /// The type of the rows.
+    /// Returns the type of the rows.
     pub fn dtype(&self) -> DType
         ensures { result ≡ self.now.dtype }
     {
@@ -74,7 +74,7 @@ impl<A: Allocator> ConstantArray<A> {
 }
 
 impl<A: Allocator + Copy> ConstantArray<A> {
-    /// An equal column. Refused as `OutOfMemory` alone.
+    /// Returns an equal column. Refused only as `OutOfMemory`.
     pub(crate) fn clone_in(&self, alloc: A) -> VortexResult<ConstantArray<A>>
         ensures only { IsOkUnless result VortexError.OutOfMemory }
         ensures form { IfOk result (λ array. array ≡ self.now) }
@@ -86,7 +86,7 @@ impl<A: Allocator + Copy> ConstantArray<A> {
         })
     }
 
-    /// A column of `count` rows, each of them the scalar. Refused as `OutOfMemory` alone.
+    /// Returns a column of `count` rows, each of them the scalar. Refused only as `OutOfMemory`.
     pub fn repeated(&self, alloc: A, count: usize) -> VortexResult<ConstantArray<A>>
         ensures only { IsOkUnless result VortexError.OutOfMemory }
         ensures form { IfOk result (λ array. array ≡ repeated self.now count) }

@@ -15,7 +15,7 @@ pub(crate) enum Buffers {
     Compact,
 }
 
-/// A copy of the column in its form. Refused as `OutOfMemory` alone.
+/// Returns a copy of the column in its form. Refused only as `OutOfMemory`.
 pub(crate) fn copy_flat<A: Allocator + Copy>(
     alloc: A,
     column: FlatView<'_, A>,
@@ -45,7 +45,7 @@ fn compact_flat<A: Allocator + Copy>(
     }
 }
 
-/// A copy of the bits. Refused as `OutOfMemory` alone.
+/// Returns a copy of the bits. Refused only as `OutOfMemory`.
 pub(crate) fn copy_bits<A: Allocator + Copy>(
     alloc: A,
     bits: &BitBuffer<A>,

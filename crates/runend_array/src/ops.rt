@@ -13,8 +13,8 @@ pub use runend_windows::first_past;
 use runend_windows::{ended_before, first_past_of};
 use std::alloc::Allocator;
 
-/// The run of a row, over a column of ends: the number of ends at or below it, but the last run where
-/// that is past it. The ends are flat, unsigned, strictly increasing, and at least one.
+/// Returns the run of a row, over a column of ends: the number of ends at or below it, but the last run where that is
+/// past it. The ends are flat, unsigned, strictly increasing, and at least one.
 #[tactic(auto, using(runend_windows::proofs::Ends::length_ends_of))]
 pub fn find_physical_index<A: Allocator + Copy>(ends: &ArrayRef<A>, index: usize) -> usize
     requires plain { IsPlainEnds (column_of ends.now) }
@@ -48,8 +48,8 @@ pub fn find_slice_end_index<A: Allocator + Copy>(ends: &ArrayRef<A>, index: usiz
     }
 }
 
-/// The run of a row, over a column of strictly increasing ends: the first run that ends past it, or
-/// the number of runs where none does.
+/// Returns the run of a row, over a column of strictly increasing ends: the first run that ends past it, or the number
+/// of runs where none does.
 pub(crate) fn run_of<A: Allocator + Copy>(ends: &ArrayRef<A>, row: usize) -> usize
     requires plain { IsPlainEnds (column_of ends.now) }
     requires increasing { IsStrictlyIncreasing (end_numbers (column_of ends.now)) }
@@ -62,8 +62,8 @@ pub(crate) fn run_of<A: Allocator + Copy>(ends: &ArrayRef<A>, row: usize) -> usi
     }
 }
 
-/// The run of a row, over a column of strictly increasing ends: run by run from `run` on, which is not
-/// past it. Some run ends past the row.
+/// Returns the run of a row, over a column of strictly increasing ends: run by run from `run` on, which is not past it.
+/// Some run ends past the row.
 pub(crate) fn run_from<A: Allocator + Copy>(ends: &ArrayRef<A>, run: usize, row: usize) -> usize
     requires plain { IsPlainEnds (column_of ends.now) }
     requires increasing { IsStrictlyIncreasing (end_numbers (column_of ends.now)) }
@@ -91,7 +91,7 @@ fn run_count<A: Allocator + Copy>(ends: &ArrayRef<A>) -> usize
     }
 }
 
-/// The end of a run, over a column of ends.
+/// Returns the end of a run, over a column of ends.
 pub(crate) fn end_of_run<A: Allocator + Copy>(ends: &ArrayRef<A>, run: usize) -> usize
     requires plain { IsPlainEnds (column_of ends.now) }
     requires within { run < length (end_numbers (column_of ends.now)) }

@@ -61,7 +61,7 @@ impl Model for VortexSession {
 }
 
 impl VortexSession {
-    /// A session with no kernel, whose thresholds are all 0.
+    /// Returns a session with no kernel, whose thresholds are all 0.
     pub fn empty() -> Self
         ensures none { (k : Kernel) → is_registered_in result k ≡ false }
         ensures thresholds { result.thresholds ≡ no_thresholds }
@@ -82,14 +82,14 @@ impl VortexSession {
         self.registered[kernel as usize] = true;
     }
 
-    /// Whether the kernel is registered.
+    /// Returns whether the kernel is registered.
     pub fn is_registered(&self, kernel: Kernel) -> bool
         ensures { result ≡ is_registered_in self.now kernel }
     {
         self.registered[kernel as usize]
     }
 
-    /// The thresholds by which kernels choose.
+    /// Returns the thresholds by which kernels choose.
     pub fn thresholds(&self) -> Thresholds
         ensures { result ≡ self.now.thresholds }
     {
@@ -125,21 +125,21 @@ impl<A: Allocator + Copy> ExecutionCtx<A> {
     ghost use Rattle.std.specs.Borrow.{sem};
     ghost use Rattle.runend_array.specs.SessionLends.{lends_session};
 
-    /// A context of this session, whose calls take memory from `alloc`.
+    /// Returns a context of this session, whose calls take memory from `alloc`.
     pub fn new(session: VortexSession, alloc: A) -> Self
         ensures { result ≡ session }
     {
         ExecutionCtx { session, alloc }
     }
 
-    /// The session.
+    /// Returns the session.
     pub fn session(&self) -> &VortexSession
         ensures { result.now ≡ self.now }
     {
         &self.session
     }
 
-    /// The session, to be changed: the context has it as it was last written.
+    /// Returns the session, to be changed: the context has it as it was last written.
     pub fn session_mut(&mut self) -> &mut VortexSession
         ensures* writes_back { sem 𝓛 (lends_session A.row A.Allocator self.entry result) }
         ensures value { result.now ≡ self.old }
@@ -147,7 +147,7 @@ impl<A: Allocator + Copy> ExecutionCtx<A> {
         &mut self.session
     }
 
-    /// The allocator.
+    /// Returns the allocator.
     pub fn allocator(&self) -> &A {
         &self.alloc
     }

@@ -35,8 +35,8 @@ use runend_windows::{no_null, repeated_items};
 use std::alloc::Allocator;
 use std::rc::Rc;
 
-/// A constant, written out: where it is null, the validity says so of all rows, else no row is null.
-/// Null of a list type is written as lists without elements. Refused as `OutOfMemory` alone.
+/// Returns a constant, written out: where it is null, the validity says so of all rows, else no row is null. Null of a
+/// list type is written as lists without elements. Refused only as `OutOfMemory`.
 pub(crate) fn write_constant<A: Allocator + Copy>(
     alloc: A,
     constant: &ConstantArray<A>,
@@ -356,7 +356,7 @@ fn no_lists<A: Allocator + Copy>(
     }
 }
 
-/// A column of that type without rows, in a flat form. Refused as `OutOfMemory` alone.
+/// Returns a column of that type without rows, in a flat form. Refused only as `OutOfMemory`.
 pub(crate) fn no_rows<A: Allocator + Copy>(alloc: A, dtype: DType) -> VortexResult<Canonical<A>>
     ensures only { IsOkUnless result VortexError.OutOfMemory }
     ensures rows { IfOk result (λ flat. column_rows (canonical_column flat) ≡ []) }

@@ -7,8 +7,8 @@ ghost use Rattle.column_base.specs.Words.{first_bits, IsWordOf};
 use column_core::{BitBuffer, BitBufferMut, Validity, VortexError, VortexResult};
 use std::alloc::Allocator;
 
-/// Puts behind the flags, for each of `count` rows from row `start` on, whether it is no null. Refused as `OutOfMemory`
-/// alone, and then the flags stay.
+/// Puts behind the flags, for each of `count` rows from row `start` on, whether it is not null. Refused as
+/// `OutOfMemory` alone, and then the flags stay.
 pub(crate) fn append_flags<A: Allocator>(
     flags: &mut Vec<bool, A>,
     validity: &Validity<A>,
@@ -30,7 +30,7 @@ pub(crate) fn append_flags<A: Allocator>(
     }
 }
 
-// Puts so many copies of a flag behind the flags. Refused as `OutOfMemory` alone, and then the flags stay.
+// Puts so many copies of a flag behind the flags. Refused only as `OutOfMemory`, and then the flags stay.
 fn append_copies<A: Allocator>(
     flags: &mut Vec<bool, A>,
     flag: bool,
@@ -45,7 +45,7 @@ fn append_copies<A: Allocator>(
     Ok(())
 }
 
-/// Puts the bits from bit `start` on behind the others. Refused as `OutOfMemory` alone, and then the others stay.
+/// Puts the bits from bit `start` on behind the others. Refused only as `OutOfMemory`, and then the others stay.
 pub(crate) fn append_bits<A: Allocator>(
     grown: &mut Vec<bool, A>,
     bits: &BitBuffer<A>,
@@ -61,7 +61,7 @@ pub(crate) fn append_bits<A: Allocator>(
     Ok(())
 }
 
-/// The bits, 64 to a word. Refused as `OutOfMemory` alone.
+/// Returns the bits, 64 to a word. Refused only as `OutOfMemory`.
 pub(crate) fn packed<A: Allocator + Copy>(alloc: A, bits: &[bool]) -> VortexResult<BitBuffer<A>>
     ensures only { IsOkUnless result VortexError.OutOfMemory }
     ensures bits { IfOk result (λ buffer. buffer ≡ bits.now) }

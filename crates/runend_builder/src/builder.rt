@@ -46,7 +46,8 @@ impl<A: Allocator> Model for RunBuilder<A> {
 }
 
 impl<A: Allocator + Copy> RunBuilder<A> {
-    /// A builder of rows of this type, without rows. Refused as `Unsupported` exactly for lists. Takes no memory.
+    /// Returns a builder of rows of this type, without rows. Refused as `Unsupported` exactly for lists. Takes no
+    /// memory.
     pub fn new(alloc: A, dtype: DType) -> VortexResult<Self>
         ensures empty { IfOk result (λ builder. builder ≡ built_with dtype []) }
         ensures served { IfOk result (λ _. list_fault dtype ≡ None) }
@@ -58,28 +59,28 @@ impl<A: Allocator + Copy> RunBuilder<A> {
         Ok(RunBuilder::empty(alloc, dtype))
     }
 
-    /// How many rows there are.
+    /// Returns how many rows there are.
     pub fn len(&self) -> usize
         ensures { result ≡ length self.now.rows }
     {
         last_of(&self.ends) as usize
     }
 
-    /// Are there no rows?
+    /// Returns whether there are no rows.
     pub fn is_empty(&self) -> bool
         ensures { IsTrue result ↔ (length self.now.rows ≡ 0) }
     {
         self.len() == 0
     }
 
-    /// The type of the rows.
+    /// Returns the type of the rows.
     pub fn dtype(&self) -> DType
         ensures { result ≡ self.now.dtype }
     {
         self.dtype
     }
 
-    /// How many runs are held: as many as the encoding of the rows has.
+    /// Returns how many runs are held: as many as the encoding of the rows has.
     pub fn runs(&self) -> usize
         ensures { HasRuns self.now.rows result }
     {
@@ -87,8 +88,8 @@ impl<A: Allocator + Copy> RunBuilder<A> {
     }
 
     /// Puts the rows of a batch, in any form, behind the rows. Refused as `TypeMismatch` for a batch of another type,
-    /// then as `WindowOverflow` where there were 2^64 rows or more, both before any memory is taken; else as
-    /// `OutOfMemory` alone. Where it is refused, the rows stay.
+    /// then as `WindowOverflow` where there were 2^64 rows or more, both before any memory is taken; else only as
+    /// `OutOfMemory`. Where it is refused, the rows stay.
     pub fn append_rows(
         &mut self,
         batch: &ArrayRef<A>,
@@ -132,8 +133,8 @@ impl<A: Allocator + Copy> RunBuilder<A> {
         self.append_run(value, count)
     }
 
-    /// The encoding of all rows so far, which the builder keeps: what `encode_rows` answers for a column of them.
-    /// Refused as `OutOfMemory` alone.
+    /// Returns the encoding of all rows so far, which the builder keeps: what `encode_rows` answers for a column of
+    /// them. Refused only as `OutOfMemory`.
     pub fn encoding(&self, ctx: &mut ExecutionCtx<A>) -> VortexResult<RunEndArray<A>>
         ensures only { IsOkUnless result VortexError.OutOfMemory }
         ensures encoded { IfOk result (λ runs. IsEncodedRows self.now.rows self.now.dtype runs) }
@@ -143,10 +144,10 @@ impl<A: Allocator + Copy> RunBuilder<A> {
         Ok(RunEnd::new_unchecked(ArrayRef::Primitive(ends), array_of(values), 0, self.len()))
     }
 
-    /// The encoding of all rows, as `encoding` answers it, made of the builder's own memory where that can be; the
-    /// builder has no rows after, holds no memory and takes rows of its type again. Ends are narrowed to their least
-    /// type, the values' bits and flags packed, and all else is moved, with the room that it had in reserve. Refused as
-    /// `OutOfMemory` alone, and then the rows stay.
+    /// Returns the encoding of all rows, as `encoding` answers it, made of the builder's own memory where that can be;
+    /// the builder has no rows after, holds no memory and takes rows of its type again. Ends are narrowed to their
+    /// least type, the values' bits and flags packed, and all else is moved, with the room that it had in reserve.
+    /// Refused only as `OutOfMemory`, and then the rows stay.
     pub fn finish(&mut self, ctx: &mut ExecutionCtx<A>) -> VortexResult<RunEndArray<A>>
         ensures only { IsOkUnless result VortexError.OutOfMemory }
         ensures encoded { IfOk result (λ runs. IsEncodedRows self.old.rows self.old.dtype runs) }
@@ -216,7 +217,7 @@ impl<A: Allocator + Copy> RunBuilder<A> {
         Ok(())
     }
 
-    // Puts the rows of an array of the same type behind the rows. Refused as `OutOfMemory` alone, and then the rows
+    // Puts the rows of an array of the same type behind the rows. Refused only as `OutOfMemory`, and then the rows
     // stay.
     fn append_part(&mut self, alloc: A, array: &ArrayRef<A>) -> VortexResult<()>
         requires single { ¬ IsLists (dtype_of array.now) }
@@ -268,7 +269,7 @@ impl<A: Allocator + Copy> RunBuilder<A> {
         }
     }
 
-    // The ends and the values of the encoding. Refused as `OutOfMemory` alone.
+    // The ends and the values of the encoding. Refused only as `OutOfMemory`.
     fn parts(&self, alloc: A) -> VortexResult<(PrimitiveArray<A>, FlatColumn<A>)>
         ensures only { IsOkUnless result VortexError.OutOfMemory }
         ensures encoding { IfOk result (λ parts.
@@ -284,7 +285,7 @@ impl<A: Allocator + Copy> RunBuilder<A> {
         }
     }
 
-    // The same, made of the builder's own memory, which has no rows after. Refused as `OutOfMemory` alone, and then the
+    // The same, made of the builder's own memory, which has no rows after. Refused only as `OutOfMemory`, and then the
     // rows stay.
     fn take_parts(&mut self, alloc: A) -> VortexResult<(PrimitiveArray<A>, FlatColumn<A>)>
         ensures only { IsOkUnless result VortexError.OutOfMemory }

@@ -41,7 +41,7 @@ impl<A: Allocator> Model for FlatBuilder<A> {
 }
 
 impl<A: Allocator + Copy> FlatBuilder<A> {
-    /// A column of this type, which is none of lists, without rows. Takes no memory.
+    /// Returns a column of this type, which is none of lists, without rows. Takes no memory.
     pub fn new(alloc: A, dtype: DType) -> Self
         requires { ¬ IsLists dtype }
         ensures dtype { result.dtype ≡ dtype }
@@ -55,7 +55,7 @@ impl<A: Allocator + Copy> FlatBuilder<A> {
     }
 
     /// Puts the rows of a column of the same type from row `start` on behind the rows, in memory of their own. Refused
-    /// as `OutOfMemory` alone, and then the rows stay.
+    /// only as `OutOfMemory`, and then the rows stay.
     ///
     /// The column has the form that calls compute (`IsComputedLeaf`): it stores 0, false or the view of nothing under
     /// null, has bits of validity only for rows of both kinds, and is `AllInvalid` only where it has a row.
@@ -96,8 +96,8 @@ impl<A: Allocator + Copy> FlatBuilder<A> {
         Ok(())
     }
 
-    /// The rows as a flat column with memory of its own, as a call computes it: 0, false or the view of nothing is
-    /// stored under null, and texts and bytes stand in one buffer. Refused as `OutOfMemory` alone.
+    /// Returns the rows as a flat column with memory of its own, as a call computes it: 0, false or the view of nothing
+    /// is stored under null, and texts and bytes stand in one buffer. Refused only as `OutOfMemory`.
     pub fn to_column(&self, alloc: A) -> VortexResult<FlatColumn<A>>
         ensures only { IsOkUnless result VortexError.OutOfMemory }
         ensures rows { IfOk result (λ column. single_rows (leaf_of column) ≡ self.now.rows) }
@@ -107,9 +107,9 @@ impl<A: Allocator + Copy> FlatBuilder<A> {
         column_of(alloc, &self.items, &self.flags, self.nullability)
     }
 
-    /// The same column, made of the builder's own memory: numbers, views and bytes of texts are moved to it, with the
-    /// room that they had in reserve, and bits and flags are packed. The builder has no rows after, holds no memory and
-    /// takes rows of its type again. Refused as `OutOfMemory` alone, and then the rows stay.
+    /// Returns the same column, made of the builder's own memory: numbers, views and bytes of texts are moved to it,
+    /// with the room that they had in reserve, and bits and flags are packed. The builder has no rows after, holds no
+    /// memory and takes rows of its type again. Refused only as `OutOfMemory`, and then the rows stay.
     pub fn take_column(&mut self, alloc: A) -> VortexResult<FlatColumn<A>>
         ensures only { IsOkUnless result VortexError.OutOfMemory }
         ensures rows { IfOk result (λ column. single_rows (leaf_of column) ≡ self.old.rows) }

@@ -23,7 +23,7 @@ use column_core::{
 };
 use std::alloc::Allocator;
 
-/// A flat column of copies of these items, null where a flag is false. Refused as `OutOfMemory` alone.
+/// Returns a flat column of copies of these items, null where a flag is false. Refused only as `OutOfMemory`.
 pub(crate) fn column_of<A: Allocator + Copy>(
     alloc: A,
     items: &Items<A>,
@@ -39,7 +39,7 @@ pub(crate) fn column_of<A: Allocator + Copy>(
     column_with(alloc, items, validity)
 }
 
-/// The validity of these flags. Refused as `OutOfMemory` alone.
+/// Returns the validity of these flags. Refused only as `OutOfMemory`.
 pub(crate) fn validity_of<A: Allocator + Copy>(
     alloc: A,
     flags: &[bool],

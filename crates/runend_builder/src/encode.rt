@@ -19,10 +19,10 @@ use runend_column::{ends_of_visible, visible_offset, visible_values};
 use runend_encode::{encode_flat, encode_runs};
 use std::alloc::Allocator;
 
-/// The run column of the encoding of the rows of an array, of any form and any kind but lists: a tight exact cover of
-/// them, with ends of the least unsigned type that has the last of them and with flat values of the array's type. Of
-/// runs and of a constant only the visible runs are looked at, and not the rows. Refused as `Unsupported` exactly for
-/// lists, before any memory is taken, else as `OutOfMemory` alone.
+/// Returns the run column of the encoding of the rows of an array, of any form and any kind but lists: a tight exact
+/// cover of them, with ends of the least unsigned type that has the last of them and with flat values of the array's
+/// type. Of runs and of a constant only the visible runs are looked at, and not the rows. Refused as `Unsupported`
+/// exactly for lists, before any memory is taken, else only as `OutOfMemory`.
 pub fn encode_rows<A: Allocator + Copy>(
     array: &ArrayRef<A>,
     ctx: &mut ExecutionCtx<A>,
@@ -37,7 +37,7 @@ pub fn encode_rows<A: Allocator + Copy>(
     Ok(RunEnd::new_unchecked(ArrayRef::Primitive(ends), array_of(values), 0, count))
 }
 
-/// The ends and the values of that encoding. Refused as `encode_rows` refuses.
+/// Returns the ends and the values of that encoding. Refused as `encode_rows` refuses.
 pub fn row_runs<A: Allocator + Copy>(
     alloc: A,
     array: &ArrayRef<A>,

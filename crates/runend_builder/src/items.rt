@@ -24,7 +24,7 @@ pub(crate) enum Items<A: Allocator> {
     VarBins(TextItems<A>),
 }
 
-/// No items of a type, which is none of lists. Takes no memory.
+/// Returns no items of a type, which is none of lists. Takes no memory.
 pub(crate) fn no_items<A: Allocator + Copy>(alloc: A, dtype: DType) -> Items<A>
     requires { ¬ IsLists dtype }
     ensures typed { type_with (stored_in result) (nullability_of dtype) ≡ dtype }
@@ -41,7 +41,7 @@ pub(crate) fn no_items<A: Allocator + Copy>(alloc: A, dtype: DType) -> Items<A>
     }
 }
 
-/// Puts the items of a column of the same kind from row `start` on behind the others. Refused as `OutOfMemory` alone,
+/// Puts the items of a column of the same kind from row `start` on behind the others. Refused only as `OutOfMemory`,
 /// and then the others stay.
 pub(crate) fn append_items<A: Allocator>(
     items: &mut Items<A>,

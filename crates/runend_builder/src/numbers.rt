@@ -20,7 +20,7 @@ pub(crate) enum NumberItems<A: Allocator> {
     I64(Vec<i64, A>),
 }
 
-/// No integers of the type.
+/// Returns no integers of the type.
 pub(crate) fn no_numbers<A: Allocator>(alloc: A, ptype: PType) -> NumberItems<A>
     ensures none { numbers_in result ≡ [] }
     ensures typed { ptype_in result ≡ ptype }
@@ -37,7 +37,7 @@ pub(crate) fn no_numbers<A: Allocator>(alloc: A, ptype: PType) -> NumberItems<A>
     }
 }
 
-/// Puts the numbers of the same type from number `start` on behind the others. Refused as `OutOfMemory` alone, and then
+/// Puts the numbers of the same type from number `start` on behind the others. Refused only as `OutOfMemory`, and then
 /// the others stay.
 pub(crate) fn append_numbers<A: Allocator>(
     items: &mut NumberItems<A>,
@@ -63,7 +63,7 @@ pub(crate) fn append_numbers<A: Allocator>(
     }
 }
 
-/// A copy of the numbers as a column stores them. Refused as `OutOfMemory` alone.
+/// Returns a copy of the numbers as a column stores them. Refused only as `OutOfMemory`.
 pub(crate) fn copied_numbers<A: Allocator + Copy>(
     alloc: A,
     items: &NumberItems<A>,
@@ -84,7 +84,8 @@ pub(crate) fn copied_numbers<A: Allocator + Copy>(
     }
 }
 
-/// The numbers themselves as a column stores them: none is copied, and none stays. Want of memory refuses nothing.
+/// Returns the numbers themselves as a column stores them: none is copied, and none stays. Want of memory refuses
+/// nothing.
 pub(crate) fn taken_numbers<A: Allocator + Copy>(
     alloc: A,
     items: &mut NumberItems<A>,

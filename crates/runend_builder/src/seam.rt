@@ -15,8 +15,8 @@ use crate::ends::push_ends;
 use column_core::{FlatView, PrimitiveArray, Scalar, VortexError, VortexResult};
 use std::alloc::Allocator;
 
-/// Is the first row of a column equal to the last value, null being equal to null, so that their runs are one? Refused
-/// as `OutOfMemory` alone.
+/// Returns whether the first row of a column is equal to the last value, null being equal to null, so that their runs
+/// are one. Refused only as `OutOfMemory`.
 pub(crate) fn goes_on<A: Allocator + Copy>(
     alloc: A,
     last: &Option<Scalar<A>>,
@@ -34,7 +34,7 @@ pub(crate) fn goes_on<A: Allocator + Copy>(
     Ok(one)
 }
 
-/// A row of a flat column, in memory of its own. Refused as `OutOfMemory` alone.
+/// Returns a row of a flat column, in memory of its own. Refused only as `OutOfMemory`.
 pub(crate) fn row_scalar<A: Allocator + Copy>(
     alloc: A,
     values: FlatView<'_, A>,
@@ -50,8 +50,8 @@ pub(crate) fn row_scalar<A: Allocator + Copy>(
 }
 
 /// Puts the runs of a part, of which there are some, behind the runs: its ends so many rows later, and its values.
-/// Where the run at the seam goes on, the end of the first part of it goes, and its value stands there. Refused as
-/// `OutOfMemory` alone, and then nothing is changed.
+/// Where the run at the seam goes on, the end of the first part of it goes, and its value stands there. Refused only as
+/// `OutOfMemory`, and then nothing is changed.
 pub(crate) fn push_runs<A: Allocator + Copy>(
     ends: &mut Vec<u64, A>,
     values: &mut FlatBuilder<A>,
@@ -113,7 +113,7 @@ pub(crate) fn extend_last<A: Allocator>(ends: &mut Vec<u64, A>, count: u64)
     ends[run] += count;
 }
 
-/// The last end, which is the number of rows, or 0 where there is none.
+/// Returns the last end, which is the number of rows, or 0 where there is none.
 pub(crate) fn last_of(ends: &[u64]) -> u64
     ensures { result ≡ last_end ends.now }
 {

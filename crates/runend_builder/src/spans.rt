@@ -7,8 +7,8 @@ use column_core::{View, VortexError, VortexResult};
 use std::alloc::Allocator;
 use std::ops::Range;
 
-/// The range of the buffer from the first to the last byte of its texts, unless it is longer than they are together:
-/// then it has bytes that no text has.
+/// Returns the range of the buffer from the first to the last byte of its texts, unless it is longer than they are
+/// together: then it has bytes that no text has.
 pub(crate) fn span_of(views: &[View], buffer: &[u8]) -> Option<Range<usize>>
     requires { All (IsWithinBuffer (buffer.now ∷ [])) views.now }
     ensures ordered { IfSome result (λ span. span.start ≤ span.end) }
@@ -31,7 +31,7 @@ pub(crate) fn span_of(views: &[View], buffer: &[u8]) -> Option<Range<usize>>
 }
 
 /// Puts texts of a buffer behind the others: the bytes of the range in which all of them lie, and a view for each.
-/// Refused as `OutOfMemory` alone, and then the others stay.
+/// Refused only as `OutOfMemory`, and then the others stay.
 pub(crate) fn push_span<A: Allocator>(
     views: &mut Vec<View, A>,
     bytes: &mut Vec<u8, A>,

@@ -24,8 +24,8 @@ use column_core::{
 use std::alloc::{AllocFailed, Allocator};
 use std::mem::replace;
 
-/// A flat column of these items, null where a flag is false: numbers, views and bytes are moved, bits are packed, and
-/// no item stays. Refused as `OutOfMemory` alone, and then all of them stay.
+/// Returns a flat column of these items, null where a flag is false: numbers, views and bytes are moved, bits are
+/// packed, and no item stays. Refused only as `OutOfMemory`, and then all of them stay.
 pub(crate) fn taken_column<A: Allocator + Copy>(
     alloc: A,
     items: &mut Items<A>,
@@ -137,7 +137,7 @@ fn taken_text_column<A: Allocator + Copy>(
     Ok(FlatColumn::VarBinView(array))
 }
 
-// These bytes as the one buffer. Refused as `OutOfMemory` alone, and then they stay.
+// These bytes as the one buffer. Refused only as `OutOfMemory`, and then they stay.
 fn taken_buffer<A: Allocator + Copy>(
     alloc: A,
     bytes: &mut Vec<u8, A>,

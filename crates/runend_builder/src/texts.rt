@@ -16,7 +16,7 @@ pub(crate) struct TextItems<A: Allocator> {
     pub(crate) bytes: Vec<u8, A>,
 }
 
-/// No texts of the kind. Takes no memory.
+/// Returns no texts of the kind. Takes no memory.
 pub(crate) fn no_texts<A: Allocator + Copy>(alloc: A, kind: VarBinKind) -> TextItems<A>
     ensures kind { result.kind ≡ kind }
     ensures views { result.views.items ≡ [] }
@@ -30,7 +30,7 @@ pub(crate) fn no_texts<A: Allocator + Copy>(alloc: A, kind: VarBinKind) -> TextI
 }
 
 /// Puts the texts of the same kind from row `start` on behind the others, in bytes of their own, with the view of
-/// nothing for null. Refused as `OutOfMemory` alone, and then the others stay.
+/// nothing for null. Refused only as `OutOfMemory`, and then the others stay.
 pub(crate) fn append_texts<A: Allocator>(
     items: &mut TextItems<A>,
     part: &VarBinViewArray<A>,

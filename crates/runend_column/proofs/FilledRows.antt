@@ -25,7 +25,7 @@ lists_refused (column.Utf8 n) scalar lists = absurd lists
 lists_refused (column.Binary n) scalar lists = absurd lists
 lists_refused (column.List e n) scalar lists = refl
 
--- a scalar that fills is no null
+-- a scalar that fills is not null
 pub filling : (dtype : DType) (scalar : ScalarForm) (P : FlatValue → Type 0) → fill_fault dtype scalar ≡ None → IfSome scalar.value P → (v : FlatValue) × (scalar.value ≡ Some v) × P v
 filling dtype scalar P none made = elim (scalar.value) as (λ o. scalar.value ≡ o → (v : FlatValue) × (scalar.value ≡ Some v) × P v) [
   | None ↦ λ null.

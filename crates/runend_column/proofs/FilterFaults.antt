@@ -13,7 +13,7 @@ use Rattle.column_ops.specs.Filter.{filter_fault, filter_rows}
 pub no_fault : (mask rows : ℕ) → mask ≡ rows → filter_fault mask rows ≡ None
 no_fault mask rows same = let equal : (mask == rows) ≡ true = (Decides-eqb mask rows).1 same in rw equal refl
 
--- what is refused by no fault is refused for want of memory alone
+-- what is refused by no fault is refused only for memory
 pub only_memory : {T : Type 0} (fault : Option VortexError) (result : Result T VortexError) → fault ≡ None → IsRefusedBy fault result → IsOkUnless result OutOfMemory
 only_memory fault (Ok value) none told = tt
 only_memory fault (Err error) none told = elim told [

@@ -5,7 +5,7 @@ ghost use Rattle.column_base.specs.Bits.{set_indices_of};
 use column_core::{BitBuffer, VortexError, VortexResult};
 use std::alloc::Allocator;
 
-/// The places of the true bits, in ascending order. Refused as `OutOfMemory` alone.
+/// Returns the places of the true bits, in ascending order. Refused only as `OutOfMemory`.
 pub fn set_bit_indices<A: Allocator + Copy>(
     alloc: A,
     bits: &BitBuffer<A>,

@@ -24,9 +24,9 @@ use runend_array::{ArrayRef, ExecutionCtx, ListViewArray};
 use runend_windows::decode_typed_numbers;
 use std::alloc::Allocator;
 
-/// The rows that runs show, from row `offset` on, `length` many. A constant null where there is a run
-/// and all values are null, else a flat column with 0 under null. The parts are a valid window over
-/// flat unsigned ends without null. Refused as `OutOfMemory` alone.
+/// Returns the rows that runs show, from row `offset` on, `length` many. A constant null where there is a run and all
+/// values are null, else a flat column with 0 under null. The parts are a valid window over flat unsigned ends without
+/// null. Refused only as `OutOfMemory`.
 pub fn runend_decode_primitive<A: Allocator + Copy>(
     ends: PrimitiveArray<A>,
     values: PrimitiveArray<A>,
@@ -47,9 +47,9 @@ pub fn runend_decode_primitive<A: Allocator + Copy>(
     decode_runs(ends, FlatColumn::Primitive(values), offset, length, ctx)
 }
 
-/// The rows that runs of decimals show, from row `offset` on, `length` many. A constant null where there is a
-/// run and all values are null, else a flat column with 0 under null. The parts are a valid
-/// window over flat unsigned ends without null. Refused as `OutOfMemory` alone.
+/// Returns the rows that runs of decimals show, from row `offset` on, `length` many. A constant null where there is a
+/// run and all values are null, else a flat column with 0 under null. The parts are a valid window over flat unsigned
+/// ends without null. Refused only as `OutOfMemory`.
 pub fn runend_decode_decimal<A: Allocator + Copy>(
     ends: PrimitiveArray<A>,
     values: DecimalArray<A>,
@@ -71,9 +71,9 @@ pub fn runend_decode_decimal<A: Allocator + Copy>(
     decode_runs(ends, FlatColumn::Decimal(values), offset, length, ctx)
 }
 
-/// The rows that runs of texts or bytes show, from row `offset` on, `length` many. A constant null where there is a
-/// run and all values are null, else a flat column with the view of nothing under null. The parts are a valid
-/// window over flat unsigned ends without null. The buffers are kept. Refused as `OutOfMemory` alone.
+/// Returns the rows that runs of texts or bytes show, from row `offset` on, `length` many. A constant null where there
+/// is a run and all values are null, else a flat column with the view of nothing under null. The parts are a valid
+/// window over flat unsigned ends without null. The buffers are kept. Refused only as `OutOfMemory`.
 pub fn runend_decode_varbinview<A: Allocator + Copy>(
     ends: PrimitiveArray<A>,
     values: VarBinViewArray<A>,
@@ -95,9 +95,9 @@ pub fn runend_decode_varbinview<A: Allocator + Copy>(
     decode_runs(ends, FlatColumn::VarBinView(values), offset, length, ctx)
 }
 
-/// The rows that runs of flat values show, from row `offset` on, `length` many. A constant null where there is a
-/// run and all values are null, else a flat column with 0, false or the view of nothing under null. Booleans
-/// are prefilled from the session's number of runs on. Refused as `OutOfMemory` alone.
+/// Returns the rows that runs of flat values show, from row `offset` on, `length` many. A constant null where there is
+/// a run and all values are null, else a flat column with 0, false or the view of nothing under null. Booleans are
+/// prefilled from the session's number of runs on. Refused only as `OutOfMemory`.
 pub(crate) fn decode_runs<A: Allocator + Copy>(
     ends: PrimitiveArray<A>,
     values: FlatColumn<A>,
@@ -122,10 +122,9 @@ pub(crate) fn decode_runs<A: Allocator + Copy>(
     decoded
 }
 
-/// The rows that runs of lists show, from row `offset` on, `length` many: lists over the same elements,
-/// with offsets, sizes and, where it is stored, validity as run columns over these ends and this
-/// window, with flat values. The parts are a valid window over flat unsigned ends without null.
-/// Refused as `OutOfMemory` alone.
+/// Returns the rows that runs of lists show, from row `offset` on, `length` many: lists over the same elements, with
+/// offsets, sizes and, where it is stored, validity as run columns over these ends and this window, with flat values.
+/// The parts are a valid window over flat unsigned ends without null. Refused only as `OutOfMemory`.
 pub fn runend_decode_listview<A: Allocator + Copy>(
     ends: PrimitiveArray<A>,
     values: ListViewArray<A>,
@@ -148,10 +147,10 @@ pub fn runend_decode_listview<A: Allocator + Copy>(
     shown
 }
 
-/// The rows of runs whose ends come from an iterator, as a flat column of `T` with 0 under null: row i
-/// is the value of the first run that ends past it, null where the mask is false there. Ends count
-/// rows; a run that ends where the one before it does shows no row. The validity of a type with null
-/// is that which `Validity::from_bits` makes. Refused as `OutOfMemory` alone.
+/// Returns the rows of runs whose ends come from an iterator, as a flat column of `T` with 0 under null: row i is the
+/// value of the first run that ends past it, null where the mask is false there. Ends count rows; a run that ends where
+/// the one before it does shows no row. The validity of a type with null is that which `Validity::from_bits` makes.
+/// Refused only as `OutOfMemory`.
 ///
 /// The iterator gives an end for each value, none below the one before it, and the last is `length`.
 /// There is a bit of the mask for each value, and only under `Mask::AllTrue` has the type no null.

@@ -19,8 +19,8 @@ use column_core::{Mask, Validity, VortexError, VortexResult};
 use runend_array::{ArrayRef, Canonical, ConstantArray};
 use std::alloc::Allocator;
 
-/// The rows at these positions, null for null, in a flat form. One row is made flat, and taken for each valid position.
-/// Refused as `OutOfMemory` alone.
+/// Returns the rows at these positions, null for null, in a flat form. One row is made flat, and taken for each valid
+/// position. Refused only as `OutOfMemory`.
 pub(crate) fn take_constant<A: Allocator + Copy>(
     alloc: A,
     values: &ArrayRef<A>,
@@ -70,8 +70,8 @@ fn take_first<A: Allocator + Copy>(
     taken
 }
 
-/// The rows at which the mask is true, in a flat form. So many rows are made flat as it has true bits. Refused as
-/// `OutOfMemory` alone.
+/// Returns the rows at which the mask is true, in a flat form. So many rows are made flat as it has true bits. Refused
+/// only as `OutOfMemory`.
 pub(crate) fn select_constant<A: Allocator + Copy>(
     alloc: A,
     values: &ArrayRef<A>,

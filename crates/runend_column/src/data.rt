@@ -35,22 +35,22 @@ pub struct RunEndDataParts<A: Allocator> {
 }
 
 impl RunEndData {
-    /// The data of a run column with this offset. Nothing is tested.
+    /// Returns the data of a run column with this offset. Nothing is tested.
     pub fn new(offset: usize) -> Self
         ensures { result ≡ offset }
     {
         RunEndData { offset }
     }
 
-    /// The data of a run column with this offset, as `new` makes it. Nothing is tested.
+    /// Returns the data of a run column with this offset, as `new` makes it. Nothing is tested.
     pub fn new_unchecked(offset: usize) -> Self
         ensures { result ≡ offset }
     {
         RunEndData { offset }
     }
 
-    /// The data of the encoding of a plain column of integers: offset 0. Refused as
-    /// `OnlyPrimitive` exactly for other forms and types. Takes no memory.
+    /// Returns the data of the encoding of a plain column of integers: offset 0. Refused as `OnlyPrimitive` exactly for
+    /// other forms and types. Takes no memory.
     pub fn encode<A: Allocator + Copy>(
         array: &ArrayRef<A>,
         ctx: &mut ExecutionCtx<A>,
@@ -86,7 +86,7 @@ impl RunEndData {
         runend_array::validate_parts(ends, values, offset, length)
     }
 
-    /// The offset, beside the slots.
+    /// Returns the offset, beside the slots.
     pub fn into_parts<A: Allocator>(
         self,
         ends: ArrayRef<A>,
@@ -103,7 +103,7 @@ impl RunEndData {
         }
     }
 
-    /// Are the offsets equal?
+    /// Returns whether the offsets are equal.
     pub fn array_eq(&self, other: &RunEndData) -> bool
         ensures { result ≡ data_eq self.now other.now }
     {

@@ -12,8 +12,8 @@ use column_core::{FlatColumn, VortexError, VortexResult, fault_of_lists};
 use runend_array::{ArrayRef, Canonical, ExecutionCtx};
 use std::alloc::Allocator;
 
-/// The rows of a column, stored one by one; of a flat column the buffers are shared. Refused as `Unsupported`
-/// exactly for lists, before any memory is taken, else as `OutOfMemory` alone.
+/// Returns the rows of a column, stored one by one; of a flat column the buffers are shared. Refused as `Unsupported`
+/// exactly for lists, before any memory is taken, else only as `OutOfMemory`.
 pub fn flat_rows<A: Allocator + Copy>(
     column: &ArrayRef<A>,
     ctx: &mut ExecutionCtx<A>,

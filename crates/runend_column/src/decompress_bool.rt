@@ -19,9 +19,9 @@ use runend_array::{ArrayRef, ExecutionCtx, null_constant};
 use runend_windows::{decode_typed_bits, masks_all};
 use std::alloc::Allocator;
 
-/// The rows that runs of booleans show, from row `offset` on, `length` many. A constant null where
-/// there is a run and all values are null, else a flat column with false under null. The parts are a
-/// valid window over flat unsigned ends without null. Refused as `OutOfMemory` alone.
+/// Returns the rows that runs of booleans show, from row `offset` on, `length` many. A constant null where there is a
+/// run and all values are null, else a flat column with false under null. The parts are a valid window over flat
+/// unsigned ends without null. Refused only as `OutOfMemory`.
 pub fn runend_decode_bools<A: Allocator + Copy>(
     ends: PrimitiveArray<A>,
     values: BoolArray<A>,
@@ -43,10 +43,10 @@ pub fn runend_decode_bools<A: Allocator + Copy>(
     decode_runs(ends, FlatColumn::Bool(values), offset, length, ctx)
 }
 
-/// The rows of runs whose ends come from an iterator: a constant null where there is a run and the mask
-/// is nowhere true, else a flat column with false under null. Row i is the bit of the first run that ends
-/// past it, null where the mask is false there. Ends count rows; a run that ends where the one before it
-/// does shows no row. Refused as `OutOfMemory` alone.
+/// Returns the rows of runs whose ends come from an iterator: a constant null where there is a run and the mask is
+/// nowhere true, else a flat column with false under null. Row i is the bit of the first run that ends past it, null
+/// where the mask is false there. Ends count rows; a run that ends where the one before it does shows no row. Refused
+/// only as `OutOfMemory`.
 ///
 /// The iterator gives an end for each value, none below the one before it, and the last is `length`.
 /// There is a bit of the mask for each value, and only under `Mask::AllTrue` has the type no null.

@@ -15,9 +15,9 @@ use column_ops::ColumnOps;
 use runend_array::{ArrayRef, ExecutionCtx, array_of};
 use std::alloc::Allocator;
 
-/// The rows with the scalar's value in place of each null, of the column's kind and without null, flat.
-/// Refused as `Unsupported` for lists; then as `TypeMismatch` for a scalar of another kind; then as
-/// `NullFill` for null; else as `OutOfMemory` alone.
+/// Returns the rows with the scalar's value in place of each null, of the column's kind and without null, flat. Refused
+/// as `Unsupported` for lists; then as `TypeMismatch` for a scalar of another kind; then as `NullFill` for null; else
+/// only as `OutOfMemory`.
 pub fn fill_rows<A: Allocator + Copy>(
     array: &ArrayRef<A>,
     value: &Scalar<A>,
@@ -40,9 +40,9 @@ pub fn fill_rows<A: Allocator + Copy>(
     Ok(array_of(filled))
 }
 
-/// The rows in the type, flat. Refused as `Unsupported` unless both types are of integers, or both of one kind
-/// that is no list; then, at the first row that is no value of the type, as `NullNotAllowed` for null and as
-/// `CastOutOfRange` for a number; else as `OutOfMemory` alone.
+/// Returns the rows in the type, flat. Refused as `Unsupported` unless both types are of integers, or both of one kind
+/// that is not a list; then, at the first row that is not a value of the type, as `NullNotAllowed` for null and as
+/// `CastOutOfRange` for a number; else only as `OutOfMemory`.
 pub fn cast_rows<A: Allocator + Copy>(
     array: &ArrayRef<A>,
     dtype: DType,

@@ -15,10 +15,10 @@ use column_ops::positions_of;
 use runend_array::{ArrayRef, ExecutionCtx};
 use std::alloc::Allocator;
 
-/// The rows of a column of any form at which the mask is true, in order and flat.
+/// Returns the rows of a column of any form at which the mask is true, in order and flat.
 ///
-/// Refused as `MaskLength`, with the mask's length and the number of rows, where they differ; else as
-/// `OutOfMemory` alone.
+/// Refused as `MaskLength`, with the mask's length and the number of rows, where they differ; else only as
+/// `OutOfMemory`.
 pub fn filter_rows<A: Allocator + Copy>(
     array: &ArrayRef<A>,
     mask: &Mask<A>,
@@ -41,11 +41,11 @@ pub fn filter_rows<A: Allocator + Copy>(
     kept.into_array(alloc)
 }
 
-/// The rows of a column of any form at the indices, null for null, flat. The type has null where the
-/// column's or the indices' has.
+/// Returns the rows of a column of any form at the indices, null for null, flat. The type has null where the column's
+/// or the indices' has.
 ///
 /// Refused as `OutOfBounds`, with the index and the number of rows, at the first valid index that is
-/// negative or not below that number; else as `OutOfMemory` alone.
+/// negative or not below that number; else only as `OutOfMemory`.
 pub fn take_rows<A: Allocator + Copy>(
     array: &ArrayRef<A>,
     indices: &PrimitiveArray<A>,

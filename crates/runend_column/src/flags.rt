@@ -11,7 +11,7 @@ use runend_array::{
 };
 use std::alloc::Allocator;
 
-/// Whether each of `count` rows is valid. Refused for want of memory alone.
+/// Returns whether each of `count` rows is valid. Refused only for memory.
 #[tactic(auto, using(crate::proofs::ListParts::flags_in_runs))]
 pub(crate) fn flags_of<A: Allocator + Copy>(
     validity: &RowValidity<A>,
@@ -44,7 +44,7 @@ fn same_flags<A: Allocator + Copy>(flag: bool, count: usize) -> ArrayRef<A>
     ArrayRef::Constant(ConstantArray::new(scalar, count))
 }
 
-// A run column in the same form. Refused for want of memory alone.
+// A run column in the same form. Refused only for memory.
 #[tactic(auto, using(crate::proofs::ListParts::copied_parts, crate::proofs::ListParts::copied_form))]
 fn copy_of_runs<A: Allocator + Copy>(
     runs: &RunEndArray<A>,

@@ -10,7 +10,7 @@ use column_core::{
 };
 use std::alloc::Allocator;
 
-/// The bytes of the items and of the validity.
+/// Returns the bytes of the items and of the validity.
 pub(crate) fn bytes_of_flat<A: Allocator>(flat: FlatView<'_, A>) -> usize
     ensures { result ≡ in_usize (leaf_bytes (leaf_in flat.entry)) }
 {
@@ -29,14 +29,14 @@ pub(crate) fn bytes_of_flat<A: Allocator>(flat: FlatView<'_, A>) -> usize
     }
 }
 
-/// The bytes of bits, 8 to a byte.
+/// Returns the bytes of bits, 8 to a byte.
 pub(crate) fn bytes_of_bits<A: Allocator>(bits: &BitBuffer<A>) -> usize
     ensures { result ≡ in_usize (bits_bytes (length bits.now)) }
 {
     bits.len().div_ceil(8)
 }
 
-/// The bytes of one value of a type; null has none.
+/// Returns the bytes of one value of a type; null has none.
 pub(crate) fn bytes_of_scalar<A: Allocator>(scalar: &Scalar<A>) -> usize
     ensures { result ≡ in_usize (value_bytes scalar.now.dtype scalar.now.value) }
 {

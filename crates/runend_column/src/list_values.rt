@@ -17,7 +17,7 @@ use column_core::{BitBuffer, Mask, Validity, VortexError, VortexResult};
 use runend_array::ListViewArray;
 use std::alloc::Allocator;
 
-/// The lists at these positions, null for null. Refused as `OutOfMemory` alone.
+/// Returns the lists at these positions, null for null. Refused only as `OutOfMemory`.
 pub(crate) fn take_lists<A: Allocator + Copy>(
     alloc: A,
     lists: &ListViewArray<A>,
@@ -69,7 +69,7 @@ fn first_lists<A: Allocator + Copy>(
     lists.slice(alloc, 0..count)
 }
 
-/// The lists at which the mask is true, in order. Refused as `OutOfMemory` alone.
+/// Returns the lists at which the mask is true, in order. Refused only as `OutOfMemory`.
 pub(crate) fn select_lists<A: Allocator + Copy>(
     alloc: A,
     lists: &ListViewArray<A>,

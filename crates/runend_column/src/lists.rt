@@ -14,11 +14,11 @@ use runend_array::{
 use std::alloc::Allocator;
 use std::rc::Rc;
 
-/// The lists of which row i has `sizes[i]` elements, from element `offsets[i]` on, and is null where the validity says
-/// so. The elements are shared, offsets and sizes copied. Refused as `Unsupported` unless the elements are flat, then
-/// as `ColumnLength`, with the number of offsets first, where there are not as many sizes, or where the validity is of
-/// another number of rows, then as `OutOfBounds`, with the row and the number of elements, for the first valid row that
-/// does not lie within the elements; else for want of memory alone.
+/// Returns the lists of which row i has `sizes[i]` elements, from element `offsets[i]` on, and is null where the
+/// validity says so. The elements are shared, offsets and sizes copied. Refused as `Unsupported` unless the elements
+/// are flat, then as `ColumnLength`, with the number of offsets first, where there are not as many sizes, or where the
+/// validity is of another number of rows, then as `OutOfBounds`, with the row and the number of elements, for the first
+/// valid row that does not lie within the elements; else only for memory.
 #[tactic(auto, using(crate::proofs::ListParts::lists_made, crate::proofs::ListParts::parts_refused, crate::proofs::ListParts::no_elements))]
 pub fn lists_over<A: Allocator + Copy>(
     elements: &ArrayRef<A>,
@@ -52,8 +52,8 @@ pub fn lists_over<A: Allocator + Copy>(
     Canonical::List(lists).into_array(alloc)
 }
 
-/// The elements of all lists, as a flat column that shares them. Refused as `Unsupported` unless the column lies as
-/// lists, else for want of memory alone.
+/// Returns the elements of all lists, as a flat column that shares them. Refused as `Unsupported` unless the column
+/// lies as lists, else only for memory.
 pub fn list_elements<A: Allocator + Copy>(
     array: &ArrayRef<A>,
     ctx: &mut ExecutionCtx<A>,
@@ -86,7 +86,7 @@ pub fn list_offsets<A: Allocator + Copy>(
     }
 }
 
-/// How many elements each list has: numbers of u64, flat or in runs, shared. Refused as `list_elements`.
+/// Returns how many elements each list has: numbers of u64, flat or in runs, shared. Refused as `list_elements`.
 pub fn list_sizes<A: Allocator + Copy>(
     array: &ArrayRef<A>,
     ctx: &mut ExecutionCtx<A>,
@@ -101,8 +101,8 @@ pub fn list_sizes<A: Allocator + Copy>(
     }
 }
 
-/// Whether each list is valid: booleans without null, one for all rows where they are alike, else flat or in runs,
-/// shared. Refused as `list_elements`.
+/// Returns whether each list is valid: booleans without null, one for all rows where they are alike, else flat or in
+/// runs, shared. Refused as `list_elements`.
 pub fn list_validity<A: Allocator + Copy>(
     array: &ArrayRef<A>,
     ctx: &mut ExecutionCtx<A>,
@@ -117,7 +117,7 @@ pub fn list_validity<A: Allocator + Copy>(
     }
 }
 
-// Offsets or sizes as a flat column. Refused for want of memory alone.
+// Offsets or sizes as a flat column. Refused only for memory.
 #[tactic(auto, using(crate::proofs::ListParts::index_of_numbers))]
 fn index_column<A: Allocator + Copy>(alloc: A, numbers: &[u64]) -> VortexResult<ArrayRef<A>>
     ensures index { IfOk result (λ column. IsIndexOf numbers.now (column_of column)) }

@@ -19,9 +19,9 @@ use runend_array::{ArrayRef, RunEnd, RunEndArray, RunEndArrayExt, RunEndArraySlo
 use runend_encode::coalesce_runs;
 use std::alloc::Allocator;
 
-/// The rows that the visible runs show over these values, one for each, as a run column with ends of the same
-/// type and flat values: of integers in minimal form, of other values over the visible runs as they are.
-/// Refused as `OutOfMemory` alone.
+/// Returns the rows that the visible runs show over these values, one for each, as a run column with ends of the same
+/// type and flat values: of integers in minimal form, of other values over the visible runs as they are. Refused only
+/// as `OutOfMemory`.
 pub fn over_runs<A: Allocator + Copy>(
     alloc: A,
     array: &RunEndArray<A>,
@@ -51,8 +51,8 @@ pub fn over_runs<A: Allocator + Copy>(
     }
 }
 
-/// The run column of the visible runs over these values, one for each, with ends of the same type. Refused
-/// as `OutOfMemory` alone.
+/// Returns the run column of the visible runs over these values, one for each, with ends of the same type. Refused only
+/// as `OutOfMemory`.
 pub fn over_visible_runs<A: Allocator + Copy>(
     alloc: A,
     array: &RunEndArray<A>,
@@ -77,8 +77,8 @@ pub fn over_visible_runs<A: Allocator + Copy>(
     ArrayRef::of_runs(alloc, part)
 }
 
-/// The rows that the visible runs show over these integers, one for each, as a run column in minimal form,
-/// with ends of the same type. Refused as `OutOfMemory` alone.
+/// Returns the rows that the visible runs show over these integers, one for each, as a run column in minimal form, with
+/// ends of the same type. Refused only as `OutOfMemory`.
 pub fn with_minimal_runs<A: Allocator + Copy>(
     alloc: A,
     array: &RunEndArray<A>,
@@ -103,8 +103,8 @@ pub fn with_minimal_runs<A: Allocator + Copy>(
     ArrayRef::of_runs(alloc, least)
 }
 
-/// The rows that runs with these ends and values show, `count` of them from position `offset` on, as a run
-/// column in minimal form, with ends of the same type. Each run has to show a row. Refused as `OutOfMemory` alone.
+/// Returns the rows that runs with these ends and values show, `count` of them from position `offset` on, as a run
+/// column in minimal form, with ends of the same type. Each run has to show a row. Refused only as `OutOfMemory`.
 pub fn minimal_runs<A: Allocator + Copy>(
     alloc: A,
     ends: PrimitiveArray<A>,

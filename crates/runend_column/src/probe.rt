@@ -26,16 +26,15 @@ impl<'a, A: Allocator> Model for RunEndProbe<'a, A> {
 }
 
 impl<'a, A: Allocator + Copy> RunEndProbe<'a, A> {
-    /// A probe of this column. Takes no memory.
+    /// Returns a probe of this column. Takes no memory.
     pub fn new(array: &'a RunEndArray<A>) -> Self
         ensures { result ≡ array.now }
     {
         RunEndProbe { array }
     }
 
-    /// The row at `index`, borrowed from the column and not from the probe, which may go first. Refused
-    /// as `OutOfBounds`, with the index and the number of rows, exactly from that number on. Takes no
-    /// memory.
+    /// Returns the row at `index`, borrowed from the column and not from the probe, which may go first. Refused as
+    /// `OutOfBounds`, with the index and the number of rows, exactly from that number on. Takes no memory.
     pub fn execute_scalar(&self, index: usize) -> VortexResult<ScalarView<'a, A>>
         ensures row { IfOk result (λ view. slice_get (column_rows (column_of_runs self.now)) index ≡ Some (sees view)) }
         ensures of_type { IfOk result (λ view. IsViewOf (column_dtype self.now.values) view) }

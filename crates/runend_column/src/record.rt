@@ -16,8 +16,8 @@ use runend_array::{
 };
 use std::alloc::Allocator;
 
-/// The bytes of the record of a run column: the number of the type of its ends, its number of runs and
-/// its offset, in the written form of `RunEndMetadata::encode_to_vec`. Refused for want of memory alone.
+/// Returns the bytes of the record of a run column: the number of the type of its ends, its number of runs and its
+/// offset, in the written form of `RunEndMetadata::encode_to_vec`. Refused only for memory.
 pub fn serialize<A: Allocator + Copy>(
     array: &RunEndArray<A>,
     ctx: &mut ExecutionCtx<A>,
@@ -30,12 +30,11 @@ pub fn serialize<A: Allocator + Copy>(
     metadata_of(array).encode_to_vec(*ctx.allocator())
 }
 
-/// The run column of ends and values whose record the bytes are: with the offset of the record, and of
-/// `length` rows of the type `dtype`. Refused, in this order, as `BadMetadata` or `EndsTypeNumber` where
-/// the bytes are no record, `TypeMismatch` where the ends are not a plain non-nullable column of the type
-/// that it states, `RunCount`, with the stated number and the number of the ends, where these differ,
-/// `TypeMismatch` where the values are not of `dtype`, and then as `RunEnd::try_new_offset_length`
-/// refuses. Takes no memory.
+/// Returns the run column of ends and values whose record the bytes are: with the offset of the record, and of `length`
+/// rows of the type `dtype`. Refused, in this order, as `BadMetadata` or `EndsTypeNumber` where the bytes are no
+/// record, `TypeMismatch` where the ends are not a plain non-nullable column of the type that it states, `RunCount`,
+/// with the stated number and the number of the ends, where these differ, `TypeMismatch` where the values are not of
+/// `dtype`, and then as `RunEnd::try_new_offset_length` refuses. Takes no memory.
 pub fn deserialize<A: Allocator + Copy>(
     dtype: DType,
     length: usize,

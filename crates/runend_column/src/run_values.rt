@@ -21,7 +21,7 @@ use column_ops::ColumnOps;
 use runend_array::{ArrayRef, Canonical};
 use std::alloc::Allocator;
 
-/// The rows of a flat column at which the mask is true. Refused as `OutOfMemory` alone.
+/// Returns the rows of a flat column at which the mask is true. Refused only as `OutOfMemory`.
 pub fn selected_by<C: ColumnOps<A>, A: Allocator + Copy>(
     alloc: A,
     column: &C,
@@ -35,8 +35,8 @@ pub fn selected_by<C: ColumnOps<A>, A: Allocator + Copy>(
     column.filter(alloc, mask)
 }
 
-/// The values at these positions, null for null, in a flat form. The type has null where that of the
-/// values or the positions have. Refused as `OutOfMemory` alone.
+/// Returns the values at these positions, null for null, in a flat form. The type has null where that of the values or
+/// the positions have. Refused only as `OutOfMemory`.
 pub fn take_values<A: Allocator + Copy>(
     alloc: A,
     values: &ArrayRef<A>,
@@ -80,7 +80,7 @@ pub fn take_values<A: Allocator + Copy>(
     }
 }
 
-/// The values at which the mask is true, in order and in a flat form. Refused as `OutOfMemory` alone.
+/// Returns the values at which the mask is true, in order and in a flat form. Refused only as `OutOfMemory`.
 pub fn select_values<A: Allocator + Copy>(
     alloc: A,
     values: &ArrayRef<A>,
@@ -147,7 +147,7 @@ fn canonical_of<A: Allocator + Copy>(alloc: A, values: &ArrayRef<A>) -> VortexRe
     values.rows_between(alloc, 0, values.len())
 }
 
-/// The rows of a flat form at these positions, null for null. Refused as `OutOfMemory` alone.
+/// Returns the rows of a flat form at these positions, null for null. Refused only as `OutOfMemory`.
 pub(crate) fn take_flat<A: Allocator + Copy>(
     alloc: A,
     values: &Canonical<A>,
@@ -177,7 +177,7 @@ pub(crate) fn take_flat<A: Allocator + Copy>(
     }
 }
 
-/// The rows of a flat form at which the mask is true. Refused as `OutOfMemory` alone.
+/// Returns the rows of a flat form at which the mask is true. Refused only as `OutOfMemory`.
 pub(crate) fn select_flat<A: Allocator + Copy>(
     alloc: A,
     values: &Canonical<A>,

@@ -10,11 +10,11 @@ use runend_array::{ArrayRef, ExecutionCtx};
 use std::alloc::Allocator;
 use std::ops::Range;
 
-/// The rows from `range.start` to `range.end - 1`: of a constant as a constant, and of any other
-/// column flat, with buffers that are shared where they can be.
+/// Returns the rows from `range.start` to `range.end - 1`: of a constant as a constant, and of any other column flat,
+/// with buffers that are shared where they can be.
 ///
 /// Refused as `BadRange`, with both bounds and the number of rows, where the range begins after its
-/// end or ends after the last row, before any memory is taken; else as `OutOfMemory` alone.
+/// end or ends after the last row, before any memory is taken; else only as `OutOfMemory`.
 pub fn slice_rows<A: Allocator + Copy>(
     column: &ArrayRef<A>,
     range: Range<usize>,

@@ -17,12 +17,12 @@ use runend_array::{
 use std::alloc::Allocator;
 use std::ops::Range;
 
-/// The rows from `range.start` to `range.end - 1`. Of no rows it is a run column without runs, of rows
-/// of one run a constant, and of rows of several runs a run column of these runs, with flat values. A
-/// slice of lists stays a run column also where one run is left.
+/// Returns the rows from `range.start` to `range.end - 1`. Of no rows it is a run column without runs, of rows of one
+/// run a constant, and of rows of several runs a run column of these runs, with flat values. A slice of lists stays a
+/// run column also where one run is left.
 ///
 /// Refused as `BadRange`, with both bounds and the number of rows, exactly where the range begins
-/// after its end or ends after the last row, before any memory is taken; else as `OutOfMemory` alone.
+/// after its end or ends after the last row, before any memory is taken; else only as `OutOfMemory`.
 pub fn slice<A: Allocator + Copy>(
     array: &RunEndArray<A>,
     range: Range<usize>,

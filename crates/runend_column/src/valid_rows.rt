@@ -7,10 +7,9 @@ ghost use Rattle.runend_array.specs.RowFlags.{IsValidityForm, IsValidityOf};
 use runend_array::{ExecutionCtx, RowValidity, RunEndArray, VortexError, VortexResult};
 use std::alloc::Allocator;
 
-/// Which rows of the column are valid, row by row; `NonNullable` exactly for values whose type has no
-/// null. The validity of the values is kept where it is `NonNullable`, `AllValid` or `AllInvalid`,
-/// else the answer is runs over the same ends and window, with flat values. Refused as `OutOfMemory`
-/// alone.
+/// Returns which rows of the column are valid, row by row; `NonNullable` exactly for values whose type has no null. The
+/// validity of the values is kept where it is `NonNullable`, `AllValid` or `AllInvalid`, else the answer is runs over
+/// the same ends and window, with flat values. Refused only as `OutOfMemory`.
 pub fn validity<A: Allocator + Copy>(
     array: &RunEndArray<A>,
     ctx: &mut ExecutionCtx<A>,

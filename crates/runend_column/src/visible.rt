@@ -22,8 +22,8 @@ pub fn visible_offset<A: Allocator + Copy>(array: &RunEndArray<A>) -> usize
     if array.is_empty() { 0 } else { array.offset() }
 }
 
-/// The ends of the visible runs, of the same type, shared where those are. Each of these runs shows a row.
-/// Refused as `OutOfMemory` alone.
+/// Returns the ends of the visible runs, of the same type, shared where those are. Each of these runs shows a row.
+/// Refused only as `OutOfMemory`.
 pub fn ends_of_visible<A: Allocator + Copy>(
     alloc: A,
     array: &RunEndArray<A>,
@@ -42,8 +42,8 @@ pub fn ends_of_visible<A: Allocator + Copy>(
     array.ends_between(alloc, runs.start, runs.end)
 }
 
-/// The values of the visible runs, one for each, as a flat column, shared where flat ones are. Refused as
-/// `OutOfMemory` alone.
+/// Returns the values of the visible runs, one for each, as a flat column, shared where flat ones are. Refused only as
+/// `OutOfMemory`.
 pub fn visible_values<A: Allocator + Copy>(
     alloc: A,
     array: &RunEndArray<A>,
@@ -61,7 +61,7 @@ pub fn visible_values<A: Allocator + Copy>(
     }
 }
 
-/// The values, borrowed, where each run is visible and they are flat integers. Takes no memory.
+/// Returns the values, borrowed, where each run is visible and they are flat integers. Takes no memory.
 pub fn borrowed_values<A: Allocator + Copy>(array: &RunEndArray<A>) -> Option<&PrimitiveArray<A>>
     ensures rows { IfSome result (λ numbers. single_rows (OfNumbers numbers.now) ≡ values_of_visible array.now) }
     ensures dtype { IfSome result (λ numbers. primitive_dtype numbers.now ≡ column_dtype array.now.values) }

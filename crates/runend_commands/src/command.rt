@@ -31,7 +31,7 @@ pub enum Command<A: Allocator> {
     /// another kind; then as `ColumnLength` for one of another number of rows.
     CompareColumn(CompareOperator, ArrayRef<A>),
     /// Each row becomes the same value of this type. Refused as `Unsupported` unless both types are of
-    /// integers, or both of one kind that is no list; then, at the first row that is no value of the
+    /// integers, or both of one kind that is not a list; then, at the first row that is not a value of the
     /// type, as `NullNotAllowed` for null and as `CastOutOfRange` for a number.
     Cast(DType),
     /// Each null becomes the scalar's value, and the column's type has null no more. Refused as
@@ -41,7 +41,7 @@ pub enum Command<A: Allocator> {
     /// The column is written as runs, as few as there can be. Refused as `OnlyPrimitive` where the
     /// rows are no integers.
     Encode,
-    /// The column is written row by row. Never refused but for want of memory.
+    /// The column is written row by row. Never refused but for memory.
     Decode,
     /// The row of this number, counted from 0, is looked up. Refused as `Unsupported` where the rows
     /// are lists, else as `OutOfBounds` from the number of rows on.

@@ -10,7 +10,7 @@ use runend_array::{ArrayRef, ExecutionCtx};
 use std::alloc::Allocator;
 use std::mem::replace;
 
-/// Does the commands one after another, each on the column that the one before it left, and answers
+/// Runs the commands one after another, each on the column that the one before it left, and answers
 /// each. A refused command leaves the column as it is, form included, and the next one is done.
 ///
 /// Rows, types, answers and refusals are those of the definitions on the plain list of rows, whatever
@@ -37,7 +37,7 @@ pub fn execute<A: Allocator + Copy>(
     Ok(answers)
 }
 
-/// Does one command, and answers it, as `execute` does each of its list. A refused command leaves the column as
+/// Runs one command, and answers it, as `execute` does each of its list. A refused command leaves the column as
 /// it is, form included. Takes no memory of its own, so there is nothing else to refuse.
 pub fn execute_one<A: Allocator + Copy>(
     command: &Command<A>,

@@ -23,7 +23,7 @@ pub enum StepResult<A: Allocator> {
     Answers(Answer<A>),
 }
 
-/// Does one command, as `execute` leaves it: a constant is written out flat, except after a slice.
+/// Runs one command, as `execute` leaves it: a constant is written out flat, except after a slice.
 pub fn outcome_of<A: Allocator + Copy>(
     command: &Command<A>,
     column: &ArrayRef<A>,
@@ -64,7 +64,7 @@ fn written_if_constant<A: Allocator + Copy>(
     Ok(StepResult::Becomes(written?))
 }
 
-/// Does one command, as the calls of `compute` leave it: a filter of a constant, a constant that has a row cast, filled
+/// Runs one command, as the calls of `compute` leave it: a filter of a constant, a constant that has a row cast, filled
 /// or compared with a value, and two constants compared leave a constant.
 pub fn kept_outcome_of<A: Allocator + Copy>(
     command: &Command<A>,
@@ -252,7 +252,7 @@ fn is_sorted_column<A: Allocator + Copy>(
     Ok(StepResult::Answers(Answer::Bool(sorted)))
 }
 
-// The value of a row. A scalar is no list, so a column of lists is refused.
+// The value of a row. A scalar is not a list, so a column of lists is refused.
 fn look_up<A: Allocator + Copy>(
     column: &ArrayRef<A>,
     index: usize,

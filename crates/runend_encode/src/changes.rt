@@ -8,8 +8,8 @@ use crate::row_changes::RowChanges;
 use column_core::{BitBuffer, BitBufferMut, VortexError, VortexResult};
 use std::alloc::Allocator;
 
-/// A bit for each row: whether it differs from the row before, null being equal to null. That of the first row is
-/// false. Refused as `OutOfMemory` alone.
+/// Returns a bit for each row: whether it differs from the row before, null being equal to null. That of the first row
+/// is false. Refused only as `OutOfMemory`.
 pub(crate) fn changes_of<R: RowChanges<A>, A: Allocator + Copy>(
     alloc: A,
     column: &R,

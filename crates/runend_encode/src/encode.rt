@@ -17,10 +17,10 @@ use column_core::{FlatColumn, FlatView, PrimitiveArray, Validity, VortexError, V
 use runend_windows::encode_plain;
 use std::alloc::Allocator;
 
-/// The ends and the values of the runs of a flat column, both flat: a run for each longest stretch of equal rows, null
-/// being equal to null. Ends are of the least unsigned type that has the last of them. Values are of the column's type,
-/// with 0, false or the view of nothing stored under null; texts and bytes share the column's buffers. Refused as
-/// `OutOfMemory` alone.
+/// Returns the ends and the values of the runs of a flat column, both flat: a run for each longest stretch of equal
+/// rows, null being equal to null. Ends are of the least unsigned type that has the last of them. Values are of the
+/// column's type, with 0, false or the view of nothing stored under null; texts and bytes share the column's buffers.
+/// Refused only as `OutOfMemory`.
 pub fn encode_flat<A: Allocator + Copy>(
     alloc: A,
     column: FlatView<'_, A>,
@@ -49,9 +49,9 @@ pub fn encode_flat<A: Allocator + Copy>(
     }
 }
 
-/// The ends and the values of the runs of the rows that runs with these ends and values show, `count` of them from
-/// position `offset` on, as `encode_flat` makes them: what is looked at and held are runs, and not rows. Each run has
-/// to show a row, so hidden runs are dropped before. Refused as `OutOfMemory` alone.
+/// Returns the ends and the values of the runs of the rows that runs with these ends and values show, `count` of them
+/// from position `offset` on, as `encode_flat` makes them: what is looked at and held are runs, and not rows. Each run
+/// has to show a row, so hidden runs are dropped before. Refused only as `OutOfMemory`.
 pub fn encode_runs<A: Allocator + Copy>(
     alloc: A,
     ends: &PrimitiveArray<A>,

@@ -9,8 +9,8 @@ ghost use Rattle.runend_encode.specs.Starts.{AreChangeBits, GoesOn};
 use column_core::Validity;
 use std::alloc::Allocator;
 
-/// A bit for each of the 64 rows from row `index` * 64 on: whether it differs from the row before, given whether its
-/// item does. Null is equal to null, over any items.
+/// Returns a bit for each of the 64 rows from row `index` * 64 on: whether it differs from the row before, given
+/// whether its item does. Null is equal to null, over any items.
 #[inline(always)]
 pub(crate) fn changed_optionals<A: Allocator>(
     validity: &Validity<A>,
@@ -36,8 +36,8 @@ pub(crate) fn changed_optionals<A: Allocator>(
     }
 }
 
-/// A bit for each bit of the word at `index`: whether it differs from the bit before. That of the first bit of all is
-/// false.
+/// Returns a bit for each bit of the word at `index`: whether it differs from the bit before. That of the first bit of
+/// all is false.
 #[inline(always)]
 pub(crate) fn changed_bits(words: &[u64], index: usize) -> u64
     requires { index < length words.now }
@@ -63,8 +63,8 @@ fn bit_before(words: &[u64], index: usize) -> u64
     }
 }
 
-/// A bit for each of up to 64 numbers from `start` on: whether it differs from the number before. That of the first
-/// number of all is false.
+/// Returns a bit for each of up to 64 numbers from `start` on: whether it differs from the number before. That of the
+/// first number of all is false.
 #[inline(always)]
 pub(crate) fn changed_numbers(numbers: &[i128], start: usize) -> u64
     requires { start < length numbers.now }

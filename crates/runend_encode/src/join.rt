@@ -23,15 +23,15 @@ use column_core::{
 use runend_windows::{last_end_of, validity_with};
 use std::alloc::Allocator;
 
-/// The ends and the values of the runs that show the same rows, `count` of them from position `offset` on, in
-/// minimal form: no two neighbours show the same number or null both, each run ends past the one before it, the
-/// last one at `count`, and the ends count rows from the first. Ends and values keep their types; the number
-/// under a null is 0. Each run has to show a row, so hidden runs are dropped before.
+/// Returns the ends and the values of the runs that show the same rows, `count` of them from position `offset` on, in
+/// minimal form: no two neighbours show the same number or null both, each run ends past the one before it, the last
+/// one at `count`, and the ends count rows from the first. Ends and values keep their types; the number under a null is
+/// 0. Each run has to show a row, so hidden runs are dropped before.
 ///
 /// Where no neighbours show the same, the values are answered as they are, and so are the ends where they are counted
 /// from the first row. Other ends are moved in the memory that they are in, or in a copy where that has another owner.
 /// Else each run is looked at once more.
-/// Refused as `OutOfMemory` alone.
+/// Refused only as `OutOfMemory`.
 pub fn coalesce_runs<A: Allocator + Copy>(
     alloc: A,
     ends: PrimitiveArray<A>,

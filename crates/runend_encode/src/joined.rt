@@ -26,7 +26,7 @@ pub(crate) struct JoinedRuns<E: Drop, T: Drop, A: Allocator> {
     pub(crate) flags: BitBufferMut<A>,
 }
 
-/// The ends and the numbers of the joined runs, where none is null.
+/// Returns the ends and the numbers of the joined runs, where none is null.
 pub(crate) fn valid_runs<E: UnsignedPType, T: NativePType, A: Allocator + Copy>(
     alloc: A,
     ends: &[E],
@@ -63,7 +63,7 @@ pub(crate) fn valid_runs<E: UnsignedPType, T: NativePType, A: Allocator + Copy>(
     Ok((joined_ends, joined_items))
 }
 
-/// The joined runs, where any may be null.
+/// Returns the joined runs, where any may be null.
 pub(crate) fn join_nullable<E: UnsignedPType, T: NativePType, A: Allocator + Copy>(
     alloc: A,
     ends: &[E],
@@ -252,7 +252,7 @@ fn end_of<E: UnsignedPType>(rows: u64) -> E
 // compares several at once, and past two equal neighbours at most so many are looked at for nothing.
 const COMPARED_AT_ONCE: usize = 256;
 
-/// Does each run show another value than the one before it?
+/// Returns whether each run shows another value than the one before it.
 pub(crate) fn differ_in<T: NativePType, A: Allocator>(items: &[T], validity: &Validity<A>) -> bool
     requires counted { HasLength (form_of validity.now) (length items.now) }
     requires zeroed { AreZeroAtNulls (map T.number items.now) (flags (form_of validity.now) (length items.now)) }

@@ -14,9 +14,9 @@ use std::alloc::Allocator;
 /// A flat column of one kind, whose changes are found 64 rows at a time. What goes over its rows is compiled for that
 /// kind alone.
 pub(crate) trait RowChanges<A: Allocator + Copy>: ColumnOps<A> + Drop {
-    /// A bit for each of the 64 rows from row `index` * 64 on, the first of them lowest: whether it differs from the
-    /// row before, null being equal to null. That of the first row of all is false. Bits behind the last row may be
-    /// any.
+    /// Returns a bit for each of the 64 rows from row `index` * 64 on, the first of them lowest: whether it differs
+    /// from the row before, null being equal to null. That of the first row of all is false. Bits behind the last row
+    /// may be any.
     fn change_word(&self, index: usize) -> u64
         requires { index * 64 < length (leaf_rows (Self.leaf self.now)) }
         ensures { (lane : ℕ) → lane < 64 → index * 64 + lane < length (leaf_rows (Self.leaf self.now)) →

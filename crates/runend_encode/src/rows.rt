@@ -10,12 +10,12 @@ use std::alloc::Allocator;
 
 /// A flat column of one kind whose rows are compared one by one.
 pub(crate) trait FlatRows<A: Allocator + Copy>: ColumnOps<A> + Drop {
-    /// The row at `index`, borrowed.
+    /// Returns the row at `index`, borrowed.
     fn row(&self, index: usize) -> ScalarView<'_, A>
         requires { index < length (leaf_rows (Self.leaf self.now)) }
         ensures { slice_get (single_rows (Self.leaf self.now)) index ≡ Some (sees result) };
 
-    /// Are the rows at `left` and at `right` equal, null being equal to null?
+    /// Returns whether the rows at `left` and at `right` are equal, null being equal to null.
     fn is_same(&self, left: usize, right: usize) -> bool
         requires left { left < length (leaf_rows (Self.leaf self.now)) }
         requires right { right < length (leaf_rows (Self.leaf self.now)) }
@@ -49,7 +49,7 @@ impl<A: Allocator + Copy> FlatRows<A> for VarBinViewArray<A> {
     }
 }
 
-/// Are two rows of flat columns equal, null being equal to null?
+/// Returns whether two rows of flat columns are equal, null being equal to null.
 pub(crate) fn is_same_row<A: Allocator>(left: &ScalarView<'_, A>, right: &ScalarView<'_, A>) -> bool
     ensures { (a b : Option FlatValue) → option_map Single a ≡ sees left.now → option_map Single b ≡ sees right.now →
         (IsTrue result ↔ (a ≡ b)) }
@@ -67,8 +67,8 @@ fn are_all(first: bool, second: bool, third: bool) -> bool
     first & second & third
 }
 
-/// Are the views at `left` and at `right` of the same bytes of the same buffer? Both are read whole, so that no branch
-/// is taken between their fields.
+/// Returns whether the views at `left` and at `right` are of the same bytes of the same buffer. Both are read whole, so
+/// that no branch is taken between their fields.
 #[inline(always)]
 pub(crate) fn are_same_views(views: &[View], left: usize, right: usize) -> bool
     requires left { left < length views.now }

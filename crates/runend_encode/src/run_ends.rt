@@ -10,8 +10,8 @@ use column_core::{BitBuffer, VortexError, VortexResult};
 use std::alloc::Allocator;
 use std::marker::Model;
 
-/// The row that each longest stretch of equal rows ends before, null being equal to null: that of each row that differs
-/// from the row before, and the number of rows. Refused as `OutOfMemory` alone.
+/// Returns the row that each longest stretch of equal rows ends before, null being equal to null: that of each row that
+/// differs from the row before, and the number of rows. Refused only as `OutOfMemory`.
 pub(crate) fn run_ends<R: RowChanges<A>, A: Allocator + Copy>(
     alloc: A,
     column: &R,
@@ -44,14 +44,14 @@ impl<A: Allocator> Model for RunBounds<A> {
 }
 
 impl<A: Allocator + Copy> RunBounds<A> {
-    /// The row that each run ends before.
+    /// Returns the row that each run ends before.
     pub(crate) fn ends(&self) -> &[u64]
         ensures { result.now ≡ self.now }
     {
         &self.rows[1..]
     }
 
-    /// The first row of each run.
+    /// Returns the first row of each run.
     pub(crate) fn starts(&self) -> &[u64]
         ensures { result.now ≡ starts_from 0 self.now }
     {

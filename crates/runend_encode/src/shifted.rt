@@ -7,7 +7,7 @@ use column_core::UnsignedPType;
 
 /// A type of ends, whose ends are moved without a wider type.
 pub(crate) trait EndsType: UnsignedPType {
-    /// The end that lies so many rows before this one.
+    /// Returns the end that lies so many rows before this one.
     fn earlier(self, rows: usize) -> Self
         requires { rows ≤ Self.natural self }
         ensures { Self.natural result ≡ Self.natural self - rows };

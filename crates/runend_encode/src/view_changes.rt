@@ -8,8 +8,8 @@ use crate::rows::{FlatRows, are_same_views};
 use column_core::View;
 use std::alloc::Allocator;
 
-/// A bit for each of up to 64 views from `start` on: whether it differs from the view before. That of the first view of
-/// all is false.
+/// Returns a bit for each of up to 64 views from `start` on: whether it differs from the view before. That of the first
+/// view of all is false.
 #[inline(always)]
 pub(crate) fn changed_views(views: &[View], start: usize) -> u64
     requires { start < length views.now }
@@ -24,8 +24,8 @@ pub(crate) fn changed_views(views: &[View], start: usize) -> u64
     }
 }
 
-/// The bits of the rows from `start` on that do differ from the row before, of those that may: bits of rows that are
-/// equal to it are cleared.
+/// Returns the bits of the rows from `start` on that do differ from the row before, of those that may: bits of rows
+/// that are equal to it are cleared.
 #[inline(always)]
 pub(crate) fn differing_rows<R: FlatRows<A>, A: Allocator + Copy>(
     column: &R,

@@ -129,7 +129,7 @@ runs_fault left count c r is none =
     ap (λ (n : ℕ). compare_column_fault left (column_dtype r.values) count n) (sym (length-run_rows r.ends (column_rows r.values) r.offset r.count))
     ∙ ap (λ (x : Column). compare_column_fault left (column_dtype x) count (length (column_rows x))) (sym is) ∙ none
 
--- what has no fault is refused for want of memory alone
+-- what has no fault is refused only for memory
 pub memory_alone : {T : Type 0} (fault : Option VortexError) (result : Result T VortexError) → fault ≡ None → IsRefusedBy fault result → IsOkUnless result OutOfMemory
 memory_alone fault (Ok value) none refused = tt
 memory_alone fault (Err error) none refused = only_memory fault error none refused

@@ -17,7 +17,7 @@ use Rattle.column_core.specs.Kinds.{is_list, is_numbers, same_kind}
 use Rattle.column_ops.specs.CompareFault.{compare_column_fault, compare_scalar_fault, length_fault}
 use Rattle.column_ops.specs.Comparing.{compare_dtype, either_nullability}
 
--- what can be refused for want of memory alone, where there is no fault
+-- what can be refused only for memory, where there is no fault
 pub no_fault : {T : Type 0} (fault : Option VortexError) (result : Result T VortexError) → fault ≡ None → IsOkUnless result OutOfMemory → IsRefusedBy fault result
 no_fault fault (Ok value) none only = none
 no_fault fault (Err error) none only = inl only
@@ -95,7 +95,7 @@ null_dtype left right h = λ i. column.Bool (either_null (nullability_of left) (
 pub only_memory : (fault : Option VortexError) (error : VortexError) → fault ≡ None → IsErrorFor fault error → error ≡ OutOfMemory
 only_memory fault error none why = elim why [ inl short ↦ short | inr has ↦ let never : ◌≡◌ {A = Option VortexError} None (Some error) = sym none ∙ has in absurd (cc) ]
 
--- an error that is passed on for want of memory alone
+-- an error that is passed on only for memory
 pub short-passed_on : {T : Type 0} (error : VortexError) (result : Result T VortexError) → IsErrAnd result (λ e. e ≡ error) → error ≡ OutOfMemory → IsOkUnless result OutOfMemory
 short-passed_on error (Ok value) passed short = absurd passed
 short-passed_on error (Err other) passed short = passed ∙ short

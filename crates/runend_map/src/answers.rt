@@ -18,8 +18,7 @@ use column_core::{
 use column_ops::item_at;
 use std::alloc::Allocator;
 
-/// What the function answers to each row, in order. It is called once for each. Refused as `OutOfMemory`
-/// alone.
+/// Returns what the function answers to each row, in order. It is called once for each. Refused only as `OutOfMemory`.
 pub(crate) fn answers<S: Copy + Drop, R: Drop, F: Fn(Option<S>) -> R, A: Allocator + Copy>(
     alloc: A,
     items: &[S],
@@ -69,7 +68,7 @@ fn bits_of<A: Allocator + Copy>(alloc: A, rows: &[Option<bool>]) -> VortexResult
     Ok(bits)
 }
 
-// Whether each row is no null.
+// Whether each row is not null.
 fn flags_of<T: Copy + Drop, A: Allocator + Copy>(
     alloc: A,
     rows: &[Option<T>],
@@ -84,7 +83,7 @@ fn flags_of<T: Copy + Drop, A: Allocator + Copy>(
     Ok(flags)
 }
 
-/// The rows as a column of a type with null, with 0 under null. Refused as `OutOfMemory` alone.
+/// Returns the rows as a column of a type with null, with 0 under null. Refused only as `OutOfMemory`.
 pub(crate) fn column_of_numbers<T: NativePType, A: Allocator + Copy>(
     alloc: A,
     rows: &[Option<T>],
@@ -100,7 +99,7 @@ pub(crate) fn column_of_numbers<T: NativePType, A: Allocator + Copy>(
     Ok(PrimitiveArray::new_unchecked(T::wrap(items), validity))
 }
 
-/// The rows as a column of booleans with null, with false under null. Refused as `OutOfMemory` alone.
+/// Returns the rows as a column of booleans with null, with false under null. Refused only as `OutOfMemory`.
 pub(crate) fn column_of_truths<A: Allocator + Copy>(
     alloc: A,
     rows: &[Option<bool>],

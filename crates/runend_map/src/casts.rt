@@ -15,13 +15,13 @@ use runend_array::{ArrayRef, ExecutionCtx, RunEndArray, RunEndArrayExt};
 use runend_column::{borrowed_values, over_runs, visible_values};
 use std::alloc::Allocator;
 
-/// The rows in the type: a run column with flat values and ends of the same type. Of integers it is
-/// in minimal form: no run is hidden, neighbours differ (null equal to null), the offset is 0 and the last end
-/// the length. Of other types it has the visible runs. Work is by visible runs, and no hidden run decides.
+/// Returns the rows in the type: a run column with flat values and ends of the same type. Of integers it is in minimal
+/// form: no run is hidden, neighbours differ (null equal to null), the offset is 0 and the last end the length. Of
+/// other types it has the visible runs. Work is by visible runs, and no hidden run decides.
 ///
-/// Refused as `Unsupported` unless both types are of integers, or both of one kind that is no list;
-/// then, at the first row that is no value of the type, as `NullNotAllowed` for null and as
-/// `CastOutOfRange` for a number; else as `OutOfMemory` alone.
+/// Refused as `Unsupported` unless both types are of integers, or both of one kind that is not a list;
+/// then, at the first row that is not a value of the type, as `NullNotAllowed` for null and as
+/// `CastOutOfRange` for a number; else only as `OutOfMemory`.
 pub fn cast<A: Allocator + Copy>(
     array: &RunEndArray<A>,
     dtype: DType,

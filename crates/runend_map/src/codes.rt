@@ -22,15 +22,15 @@ use runend_array::{ArrayRef, ExecutionCtx, RunEndArray, RunEndArrayExt, array_of
 use runend_column::{borrowed_values, over_runs, visible_values};
 use std::alloc::Allocator;
 
-/// The dictionary's row for each code, null for null, in a type with null where the dictionary's or the codes'
-/// has. Of a dictionary of integers it is a run column in minimal form: no run is hidden, neighbours differ
-/// (null equal to null), the offset is 0 and the last end the length; of one of booleans it is a run column
-/// of the visible runs; both have flat values and ends of the same type. Of any other it is a flat column.
-/// Only codes of visible runs are looked at.
+/// Returns the dictionary's row for each code, null for null, in a type with null where the dictionary's or the codes'
+/// has. Of a dictionary of integers it is a run column in minimal form: no run is hidden, neighbours differ (null equal
+/// to null), the offset is 0 and the last end the length; of one of booleans it is a run column of the visible runs;
+/// both have flat values and ends of the same type. Of any other it is a flat column. Only codes of visible runs are
+/// looked at.
 ///
 /// Refused as `TypeMismatch` unless the codes are integers; then as `OutOfBounds`, with the code and the
-/// number of rows of the dictionary, at the first code that is no null and is negative or not below that
-/// number; else as `OutOfMemory` alone.
+/// number of rows of the dictionary, at the first code that is not null and is negative or not below that
+/// number; else only as `OutOfMemory`.
 pub(crate) fn take_from_flat<A: Allocator + Copy>(
     codes: &RunEndArray<A>,
     dictionary: &FlatColumn<A>,

@@ -27,16 +27,15 @@ use runend_array::{ArrayRef, ConstantArray, ExecutionCtx, RunEndArray, RunEndArr
 use runend_column::{flat_rows, visible_values};
 use std::alloc::Allocator;
 
-/// Does the operator hold of each row and the row of `right` beside it? Null where either row is null. The
-/// answer has null where either type has. A right side that is a constant is compared with each visible run
-/// once, and the answer is a constant null where there is a row and all answers are null; else, and with
-/// every other right side, it is flat. Of a right side in runs each visible run is compared once with each
-/// visible run beside it. With a constant null no value is looked at, and no memory is taken
-/// where there is a row.
+/// Returns whether the operator holds of each row and the row of `right` beside it. Null where either row is null. The
+/// answer has null where either type has. A right side that is a constant is compared with each visible run once, and
+/// the answer is a constant null where there is a row and all answers are null; else, and with every other right side,
+/// it is flat. Of a right side in runs each visible run is compared once with each visible run beside it. With a
+/// constant null no value is looked at, and no memory is taken where there is a row.
 ///
 /// Refused as `Unsupported` for lists; then as `TypeMismatch` where the two types differ in more than
 /// nullability; then as `ColumnLength`, with the number of rows of this column and of the right one, where
-/// these differ; else as `OutOfMemory` alone.
+/// these differ; else only as `OutOfMemory`.
 pub fn compare<A: Allocator + Copy>(
     array: &RunEndArray<A>,
     operator: CompareOperator,
@@ -122,7 +121,7 @@ fn compare_to_scalar<A: Allocator + Copy>(
     shown_truths(array, truths, ctx)
 }
 
-// Each row of a flat column compared with the one beside it. Refused as `OutOfMemory` alone.
+// Each row of a flat column compared with the one beside it. Refused only as `OutOfMemory`.
 fn compare_flat<A: Allocator + Copy>(
     left: &FlatColumn<A>,
     operator: CompareOperator,

@@ -24,16 +24,15 @@ use runend_array::{ArrayRef, ConstantArray, ExecutionCtx, RunEnd, RunEndArray, R
 use runend_column::{borrowed_values, flat_rows, take_rows};
 use std::alloc::Allocator;
 
-/// The dictionary's row for each code, null for null, in a type with null where the dictionary's or the codes'
-/// has. Of a dictionary of integers it is a run column in minimal form: no run is hidden, neighbours differ
-/// (null equal to null), the offset is 0 and the last end the length; of one of booleans it is a run column
-/// of the visible runs; both have flat values and ends of the same type. Of any other it is a flat column.
-/// The dictionary may be of any form and of any kind, and of the codes only those of visible runs are looked
-/// at.
+/// Returns the dictionary's row for each code, null for null, in a type with null where the dictionary's or the codes'
+/// has. Of a dictionary of integers it is a run column in minimal form: no run is hidden, neighbours differ (null equal
+/// to null), the offset is 0 and the last end the length; of one of booleans it is a run column of the visible runs;
+/// both have flat values and ends of the same type. Of any other it is a flat column. The dictionary may be of any form
+/// and of any kind, and of the codes only those of visible runs are looked at.
 ///
 /// Refused as `TypeMismatch` unless the codes are integers, however little memory there is; then as
-/// `OutOfBounds`, with the code and the number of rows of the dictionary, at the first code that is no null
-/// and is negative or not below that number; else as `OutOfMemory` alone.
+/// `OutOfBounds`, with the code and the number of rows of the dictionary, at the first code that is not null
+/// and is negative or not below that number; else only as `OutOfMemory`.
 pub fn take_from<A: Allocator + Copy>(
     codes: &RunEndArray<A>,
     dictionary: &ArrayRef<A>,
@@ -62,13 +61,13 @@ pub fn take_from<A: Allocator + Copy>(
     taken
 }
 
-/// The dictionary's row for each code, null for null, flat, in a type with null where the dictionary's or the
+/// Returns the dictionary's row for each code, null for null, flat, in a type with null where the dictionary's or the
 /// codes' has. Both may be of any form, and the dictionary of any kind. Where the codes are in runs, only those of
 /// visible runs are looked up, each once, and a constant code once.
 ///
 /// Refused as `TypeMismatch` unless the codes are integers, however little memory there is; then as
-/// `OutOfBounds`, with the code and the number of rows of the dictionary, at the first code that is no null
-/// and is negative or not below that number; else as `OutOfMemory` alone.
+/// `OutOfBounds`, with the code and the number of rows of the dictionary, at the first code that is not null
+/// and is negative or not below that number; else only as `OutOfMemory`.
 pub fn take_from_rows<A: Allocator + Copy>(
     codes: &ArrayRef<A>,
     dictionary: &ArrayRef<A>,
@@ -129,7 +128,7 @@ fn take_one<A: Allocator + Copy>(
     taken
 }
 
-// A constant as one run. Refused as `OutOfMemory` alone.
+// A constant as one run. Refused only as `OutOfMemory`.
 fn one_run<A: Allocator + Copy>(
     alloc: A,
     constant: &ConstantArray<A>,

@@ -25,9 +25,9 @@ use column_ops::{CompareOperator, compare_views};
 use runend_array::{ArrayRef, ExecutionCtx, RunEndArray, RunEndArrayExt};
 use std::alloc::Allocator;
 
-/// Does the operator hold of each row and the row of `right` beside it? Null where either row is null. The
+/// Returns whether the operator holds of each row and the row of `right` beside it. Null where either row is null. The
 /// answer is flat. A pair of values is compared once for all rows in which both columns stay in one run, and the
-/// answers of these rows are written at once. Refused as `OutOfMemory` alone.
+/// answers of these rows are written at once. Refused only as `OutOfMemory`.
 pub(crate) fn compare_runs<A: Allocator + Copy>(
     left: &RunEndArray<A>,
     operator: CompareOperator,
@@ -117,8 +117,8 @@ fn truth_of<A: Allocator>(
     }
 }
 
-// Writes `count` times an optional boolean: its bit, false for null, and whether it is no null. Refused as
-// `OutOfMemory` alone, and then bits may be written without their flags.
+// Writes `count` times an optional boolean: its bit, false for null, and whether it is not null. Refused only as
+// `OutOfMemory`, and then bits may be written without their flags.
 fn append_truths<A: Allocator + Copy>(
     bits: &mut BitBufferMut<A>,
     flags: &mut BitBufferMut<A>,

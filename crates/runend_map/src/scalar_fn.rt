@@ -19,11 +19,11 @@ use runend_array::{ArrayRef, ExecutionCtx, Kernel, array_of};
 use runend_column::{flat_rows, over_visible_runs, visible_values};
 use std::alloc::Allocator;
 
-/// What the function answers to each row, in a type with null: of a run column, where scalar functions are
-/// registered, a run column of the visible runs with flat values, else a flat column. The function is called
-/// once for each visible run, or, of other columns, once for each row, and on no other value.
+/// Returns what the function answers to each row, in a type with null: of a run column, where scalar functions are
+/// registered, a run column of the visible runs with flat values, else a flat column. The function is called once for
+/// each visible run, or, of other columns, once for each row, and on no other value.
 ///
-/// Refused as `TypeMismatch` unless the column has native numbers of the type `S`; else as `OutOfMemory` alone.
+/// Refused as `TypeMismatch` unless the column has native numbers of the type `S`; else only as `OutOfMemory`.
 pub fn map_rows<S: NativePType, T: NativePType, F: Fn(Option<S>) -> Option<T>, A: Allocator + Copy>(
     column: &ArrayRef<A>,
     function: &F,
@@ -48,11 +48,11 @@ pub fn map_rows<S: NativePType, T: NativePType, F: Fn(Option<S>) -> Option<T>, A
     answered(column, FlatColumn::Primitive(mapped), ctx)
 }
 
-/// The boolean that the function answers to each row, in a type with null: of a run column, where scalar functions
-/// are registered, a run column of the visible runs with flat values, else a flat column. The function is called once
-/// for each visible run, or, of other columns, once for each row, and on no other value.
+/// Returns the boolean that the function answers to each row, in a type with null: of a run column, where scalar
+/// functions are registered, a run column of the visible runs with flat values, else a flat column. The function is
+/// called once for each visible run, or, of other columns, once for each row, and on no other value.
 ///
-/// Refused as `TypeMismatch` unless the column has native numbers of the type `S`; else as `OutOfMemory` alone.
+/// Refused as `TypeMismatch` unless the column has native numbers of the type `S`; else only as `OutOfMemory`.
 pub fn map_rows_bool<S: NativePType, F: Fn(Option<S>) -> Option<bool>, A: Allocator + Copy>(
     column: &ArrayRef<A>,
     function: &F,
@@ -87,7 +87,7 @@ fn is_type_of<S: NativePType>(dtype: DType) -> bool
     }
 }
 
-// The rows that a function is asked for. Refused as `OutOfMemory` alone.
+// The rows that a function is asked for. Refused only as `OutOfMemory`.
 fn asked_values<A: Allocator + Copy>(
     column: &ArrayRef<A>,
     ctx: &mut ExecutionCtx<A>,
@@ -105,7 +105,7 @@ fn asked_values<A: Allocator + Copy>(
     }
 }
 
-// What the function answers to each row. Refused as `OutOfMemory` alone.
+// What the function answers to each row. Refused only as `OutOfMemory`.
 fn answers_to<S: NativePType, R: Drop, F: Fn(Option<S>) -> R, A: Allocator + Copy>(
     alloc: A,
     values: &FlatColumn<A>,
@@ -127,7 +127,7 @@ fn answers_to<S: NativePType, R: Drop, F: Fn(Option<S>) -> R, A: Allocator + Cop
     answers(alloc, items, array.validity(), function)
 }
 
-// What the function answers to each row that it is asked for. Refused as `OutOfMemory` alone.
+// What the function answers to each row that it is asked for. Refused only as `OutOfMemory`.
 fn asked_answers<S: NativePType, R: Drop, F: Fn(Option<S>) -> R, A: Allocator + Copy>(
     column: &ArrayRef<A>,
     function: &F,
@@ -147,7 +147,7 @@ fn asked_answers<S: NativePType, R: Drop, F: Fn(Option<S>) -> R, A: Allocator + 
     answers
 }
 
-// The column of the answers. Refused as `OutOfMemory` alone.
+// The column of the answers. Refused only as `OutOfMemory`.
 fn answered<A: Allocator + Copy>(
     column: &ArrayRef<A>,
     answers: FlatColumn<A>,

@@ -27,8 +27,8 @@ pub(crate) struct ShownRuns<A: Allocator> {
 }
 
 impl<A: Allocator + Copy> ShownRuns<A> {
-    /// The visible runs of this column; ends and flat values are shared where those are. Refused as
-    /// `OutOfMemory` alone.
+    /// Returns the visible runs of this column; ends and flat values are shared where those are. Refused only as
+    /// `OutOfMemory`.
     pub(crate) fn of(alloc: A, array: &RunEndArray<A>) -> VortexResult<ShownRuns<A>>
         requires single { ¬ IsLists (column_dtype array.now.values) }
         ensures only { IsOkUnless result VortexError.OutOfMemory }
@@ -54,7 +54,7 @@ impl<A: Allocator + Copy> ShownRuns<A> {
         })
     }
 
-    /// The row that a run ends before, counted from the first row. It may be past the last row.
+    /// Returns the row that a run ends before, counted from the first row. It may be past the last row.
     pub(crate) fn stop(&self, run: usize) -> usize
         requires plain { IsEndsType (primitive_dtype self.now.ends) }
         requires there { run < length (ends_of self.now.ends) }

@@ -17,9 +17,8 @@ use runend_column::{ends_of_visible, visible_offset};
 use runend_windows::decode_flat;
 use std::alloc::Allocator;
 
-/// The rows that the visible runs show over these values, one for each, as a flat column. Of booleans, the
-/// rows start as the value of most runs from `prefill_runs` runs on; the answer is the same. Refused as
-/// `OutOfMemory` alone.
+/// Returns the rows that the visible runs show over these values, one for each, as a flat column. Of booleans, the rows
+/// start as the value of most runs from `prefill_runs` runs on; the answer is the same. Refused only as `OutOfMemory`.
 pub(crate) fn shown_rows<A: Allocator + Copy>(
     alloc: A,
     array: &RunEndArray<A>,
@@ -78,7 +77,7 @@ pub(crate) fn shown_values<A: Allocator + Copy>(
     shown
 }
 
-// The visible runs over these values, one for each. Refused as `OutOfMemory` alone.
+// The visible runs over these values, one for each. Refused only as `OutOfMemory`.
 fn over_values<A: Allocator + Copy>(
     alloc: A,
     array: &RunEndArray<A>,
@@ -102,8 +101,8 @@ fn over_values<A: Allocator + Copy>(
     Ok(RunEnd::new_unchecked(ends, values, offset, array.len()))
 }
 
-/// The booleans that the visible runs show, one for each run: a constant null where there is a run and
-/// all are null, else a flat column. Refused as `OutOfMemory` alone.
+/// Returns the booleans that the visible runs show, one for each run: a constant null where there is a run and all are
+/// null, else a flat column. Refused only as `OutOfMemory`.
 pub(crate) fn shown_truths<A: Allocator + Copy>(
     array: &RunEndArray<A>,
     truths: BoolArray<A>,

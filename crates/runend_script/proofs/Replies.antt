@@ -24,7 +24,7 @@ step_of_reply before after command Silent told = absurd told
 step_of_reply before after command Done told = inr (command, answer.Done, told)
 step_of_reply before after command Bad told = absurd told
 
--- an answer that has a line is no refusal for want of memory
+-- an answer that has a line is no refusal for memory
 pub not_short : {A : Type 0} (command : Command A) (given : Answer A) → HasLine command given → given ≢ answer.Refused OutOfMemory
 not_short command given has short = let lined : HasLine command (answer.Refused OutOfMemory) = subst (HasLine command) short has in lined refl
 

@@ -32,20 +32,22 @@ lengthening_fault before dtype count = append_fault (dtype_of before) dtype (len
 abbrev pub integer_rows : List (Option ℤ) → List (Option Value)
 integer_rows numbers = map (option_map Single) (map (option_map Number) numbers)
 
--- the rows that the words stand for in a type of integers, one for one, or none exactly where a word stands for no row of it
+-- the rows that the words stand for in a type of integers, one for one, or none exactly where a word stands for no row
+-- of it
 abbrev pub ListsRows : DType → List (List ℕ) → Option (List (Option ℤ)) → Type 0
 ListsRows (column.Primitive ptype nullability) words numbers = ReadsRows ptype nullability words numbers
 ListsRows dtype words None = Unit {0}
 ListsRows dtype words (Some numbers) = ⊥
 
--- the array has the rows that the words stand for, in the type, or there is none exactly where a word stands for no row of it
+-- the array has the rows that the words stand for, in the type, or there is none exactly where a word stands for no row
+-- of it
 abbrev pub ListsArray : {A : Type 0} → DType → List (List ℕ) → Option (ArrayRef A) → Type 0
 ListsArray dtype words None = ListsRows dtype words None
 ListsArray dtype words (Some array) = (numbers : List (Option ℤ)) × ListsRows dtype words (Some numbers) × (rows array ≡ integer_rows numbers)
 
 -- what comes of an `append` line: bad, and the column stays, where a word stands for no row of its type; done, and the
--- column is the encoding of its rows and behind them of those of the words; or refused, as a builder refuses these rows,
--- or for want of memory
+-- column is the encoding of its rows and behind them of those of the words; or refused, as a builder refuses these
+-- rows, or for memory
 abbrev pub IsAppended : {A : Type 0} → ArrayRef A → List (List ℕ) → Result (Reply A) VortexError → ArrayRef A → Type 0
 IsAppended before words (Ok Bad) after = ListsRows (dtype_of before) words None × (after ≡ before)
 IsAppended before words (Ok Done) after =

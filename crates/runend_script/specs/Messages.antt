@@ -19,7 +19,8 @@ bytes_text name bytes = name ++ behind_spaces (byte_words bytes)
 abbrev pub message_text : Column → List ℕ
 message_text c = bytes_text (codes "bytes") (column_bytes c)
 
--- the reply is the line of the column's message, unless that is refused: as `Unsupported` where there is none, or for want of memory
+-- the reply is the line of the column's message, unless that is refused: as `Unsupported` where there is none, or for
+-- memory
 abbrev pub IsMessageReply : {A : Type 0} → Column → Result (Reply A) VortexError → Type 0
 IsMessageReply c (Ok (Line text)) = IsWritable 16 c × (string_bytes text ≡ message_text c)
 IsMessageReply c (Ok reply) = ⊥

@@ -13,7 +13,7 @@ use Rattle.runend_script.specs.AnswerLine.{answer_text}
 use Rattle.runend_script.specs.declared.scripts.Reply.{Reply}
 use Rattle.runend_script.specs.declared.scripts.Reply.TheVariants.{Line, Done}
 
--- the line of an answer. A refusal for want of memory has none: it ends the script
+-- the line of an answer. A refusal for memory has none: it ends the script
 abbrev pub IsLineOf : {A : Type 0} → Command A → Answer A → List ℕ → Type 0
 IsLineOf command given text = (given ≢ answer.Refused OutOfMemory) × (text ≡ answer_text command given)
 

@@ -13,7 +13,7 @@ use runend_commands::{Answer, Command};
 use std::alloc::{AllocError, Allocator};
 use vortex_runend::{ExecutionCtx, Scalar, ScalarView, SumAnswer, SumValue};
 
-/// Does the answer to the command have a line? It has none where it holds a value that is neither null nor
+/// Returns whether the answer to the command has a line. It has none where it holds a value that is neither null nor
 /// an integer, or a truth that the command does not ask for, or where memory was refused.
 pub fn has_answer_line<A: Allocator>(command: &Command<A>, answer: &Answer<A>) -> bool
     ensures { IsTrue result ↔ HasLine command.now answer.now }
@@ -29,10 +29,10 @@ pub fn has_answer_line<A: Allocator>(command: &Command<A>, answer: &Answer<A>) -
     }
 }
 
-/// The line of what the command was answered, which has to have one: `ok`; `value V`; `sum N`, or `sum
-/// overflow` where the sum left its range, or `sum 0 empty` where all rows are null; `minmax V V`, or `minmax
-/// none` where all rows are null; `constant`, `sorted` or `strict`, and `true` or `false`; or `refused`, with
-/// the error's number and its fields in order. Refused as `OutOfMemory` alone.
+/// Returns the line of what the command was answered, which has to have one: `ok`; `value V`; `sum N`, or `sum
+/// overflow` where the sum left its range, or `sum 0 empty` where all rows are null; `minmax V V`, or `minmax none`
+/// where all rows are null; `constant`, `sorted` or `strict`, and `true` or `false`; or `refused`, with the error's
+/// number and its fields in order. Refused only as `OutOfMemory`.
 pub fn answer_line<A: Allocator + Copy>(
     command: &Command<A>,
     answer: &Answer<A>,
@@ -125,7 +125,7 @@ fn truth_line<A: Allocator + Copy>(
     format!(in alloc; "{name} {truth}")
 }
 
-/// The line `refused`, the error's number and its fields in order.
+/// Returns the line `refused`, the error's number and its fields in order.
 pub fn refusal_line<A: Allocator + Copy>(
     alloc: A,
     error: VortexError,

@@ -100,9 +100,9 @@ pub struct RunsLine<'a> {
     pub values: Words<'a>,
 }
 
-/// What the line says. The words behind the type of a `col` line are not looked at, nor are the ends
-/// and values of a `runs` line, the bits of a `filter` line, the indices of a `take` line, the rows of an
-/// `append` line, the value of a `fill` or `repeat` line and the bytes of a `read` line.
+/// Returns what the line says. The words behind the type of a `col` line are not looked at, nor are the ends and values
+/// of a `runs` line, the bits of a `filter` line, the indices of a `take` line, the rows of an `append` line, the value
+/// of a `fill` or `repeat` line and the bytes of a `read` line.
 pub fn read_line(line: &str) -> Line<'_> {
     let mut words = Words::new(line);
     let Some(name) = words.next() else {

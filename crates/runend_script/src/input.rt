@@ -28,7 +28,7 @@ impl From<AllocError> for Failure {
     }
 }
 
-/// All that is left of the input, by as many reads of 65,536 bytes as are left. Refused as `CannotRead` where a
+/// Returns all that is left of the input, by as many reads of 65,536 bytes as are left. Refused as `CannotRead` where a
 /// read fails, or where the input does not end within them, and as `OutOfMemory`.
 #[tactic(auto, using(crate::proofs::KnownInput::consumes_none, crate::proofs::KnownInput::consumes_more, crate::proofs::KnownInput::consumes_end, crate::proofs::CountedReads::none_read, crate::proofs::CountedReads::read_again, crate::proofs::CountedReads::within))]
 pub fn read_input<R: Read, A: Allocator + Copy>(

@@ -13,9 +13,9 @@ use runend_builder::RunBuilder;
 use std::alloc::Allocator;
 use vortex_runend::{ArrayRef, ExecutionCtx};
 
-/// The encoding of the rows of a column and of those of a batch behind them. Refused as `Unsupported` for a column of
-/// lists, then as a builder of the column's type and rows refuses the batch: as `TypeMismatch` for a batch of another
-/// type, then as `WindowOverflow` where there were 2^64 rows or more.
+/// Returns the encoding of the rows of a column and of those of a batch behind them. Refused as `Unsupported` for a
+/// column of lists, then as a builder of the column's type and rows refuses the batch: as `TypeMismatch` for a batch of
+/// another type, then as `WindowOverflow` where there were 2^64 rows or more.
 #[tactic(auto, using(crate::proofs::RowsBehind::first_error, crate::proofs::RowsBehind::next_error, crate::proofs::RowsBehind::by_memory, crate::proofs::RowsBehind::encoding_of_built))]
 pub fn with_batch<A: Allocator + Copy>(
     column: &ArrayRef<A>,
@@ -37,8 +37,8 @@ pub fn with_batch<A: Allocator + Copy>(
     }
 }
 
-/// The encoding of the rows of a column and of so many rows of a value behind them. Refused as `with_batch` refuses
-/// that many rows of the value's type.
+/// Returns the encoding of the rows of a column and of so many rows of a value behind them. Refused as `with_batch`
+/// refuses that many rows of the value's type.
 #[tactic(auto, using(crate::proofs::RowsBehind::first_error, crate::proofs::RowsBehind::next_error, crate::proofs::RowsBehind::by_memory, crate::proofs::RowsBehind::encoding_of_built))]
 pub fn with_value<A: Allocator + Copy>(
     column: &ArrayRef<A>,
@@ -83,7 +83,7 @@ fn builder_of<A: Allocator + Copy>(
     }
 }
 
-// The encoding of the rows of a builder. Refused as `OutOfMemory` alone.
+// The encoding of the rows of a builder. Refused only as `OutOfMemory`.
 #[tactic(auto, using(crate::proofs::RowsBehind::encoding_as))]
 fn finished<A: Allocator + Copy>(
     mut builder: RunBuilder<A>,

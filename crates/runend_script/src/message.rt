@@ -11,8 +11,8 @@ use column_bytes::write_column;
 use std::alloc::Allocator;
 use vortex_runend::ArrayRef;
 
-/// The line `bytes HH ..` of the column's message. Refused as `Unsupported` exactly for a column that has none, as
-/// `write_column` is, else as `OutOfMemory` alone.
+/// Returns the line `bytes HH ..` of the column's message. Refused as `Unsupported` exactly for a column that has none,
+/// as `write_column` is, else only as `OutOfMemory`.
 pub fn message_line<A: Allocator + Copy>(alloc: A, array: &ArrayRef<A>) -> VortexResult<String<A>>
     ensures line { IfOk result (λ line. string_bytes line ≡ message_text (column_of array.now)) }
     ensures writable { OnOk result (IsWritable 16 (column_of array.now)) }

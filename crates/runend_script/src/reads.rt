@@ -20,7 +20,7 @@ pub struct LimitedReads<'a, R: Read> {
 }
 
 impl<'a, R: Read> LimitedReads<'a, R> {
-    /// The reader, with 1,048,576 reads left.
+    /// Returns the reader, with 1,048,576 reads left.
     pub fn new(reader: &'a mut R) -> LimitedReads<'a, R>
         ensures same_reader { result.reader.ghost_name ≡ reader.entry.ghost_name }
         ensures reader { result.reader.now ≡ reader.old }
@@ -32,14 +32,14 @@ impl<'a, R: Read> LimitedReads<'a, R> {
         }
     }
 
-    /// How many reads are left.
+    /// Returns how many reads are left.
     pub fn left(&self) -> u64
         ensures { result ≡ self.now.left }
     {
         self.left
     }
 
-    /// One read into the block of 65,536 bytes, which takes one of the reads that are left.
+    /// Returns one read into the block of 65,536 bytes, which takes one of the reads that are left.
     pub fn read(&mut self, block: &mut [u8]) -> io::Result<usize>
         requires left { 0 < self.old.left }
         requires block { length block.old ≡ BLOCK_BYTES }

@@ -10,8 +10,8 @@ use column_words::{name_of, parse_bytes, push_bytes};
 use std::alloc::{AllocError, Allocator};
 use vortex_runend::{ArrayRef, ExecutionCtx, RunEndMetadata, serialize};
 
-/// The line of a run column's record, or `not runs` for a column of another form. Refused as
-/// `OutOfMemory` alone.
+/// Returns the line of a run column's record, or `not runs` for a column of another form. Refused as `OutOfMemory`
+/// alone.
 pub fn meta_line<A: Allocator + Copy>(
     array: &ArrayRef<A>,
     ctx: &mut ExecutionCtx<A>,
@@ -27,8 +27,8 @@ pub fn meta_line<A: Allocator + Copy>(
     Ok(bytes_line(alloc, "meta", &bytes)?)
 }
 
-/// The line of the record that the words spell, a byte each, or `None` where a word is no byte. Refused
-/// as `RunEndMetadata::decode` is, and as `OutOfMemory`.
+/// Returns the line of the record that the words spell, a byte each, or `None` where a word is not a byte. Refused as
+/// `RunEndMetadata::decode` is, and as `OutOfMemory`.
 pub fn read_record<A: Allocator + Copy>(
     words: Words<'_>,
     ctx: &mut ExecutionCtx<A>,

@@ -48,12 +48,12 @@ enum Reply<A: Allocator> {
     Done,
     // This answer line.
     Line(String<A>),
-    // It is no command here.
+    // It is not a command here.
     Bad,
 }
 
-/// Runs the script line by line until a line is no command. Refusals are answered, and leave the
-/// column as it is; `OutOfMemory` alone ends the script without an answer.
+/// Runs the script line by line until a line is not a command. Refusals are answered, and leave the
+/// column as it is; only `OutOfMemory` ends the script without an answer.
 pub fn script<A: Allocator + Copy>(
     text: &str,
     ctx: &mut ExecutionCtx<A>,
@@ -71,7 +71,7 @@ pub fn script<A: Allocator + Copy>(
 }
 
 /// Runs the script as `script` does, and puts its answer lines behind the answers. Does the last of them say that a
-/// line was no command? Refused as `OutOfMemory` alone, and then the lines that were answered before stand there.
+/// line was no command? Refused only as `OutOfMemory`, and then the lines that were answered before stand there.
 pub(crate) fn answer_script<A: Allocator + Copy>(
     text: &str,
     answers: &mut String<A>,
@@ -86,7 +86,7 @@ pub(crate) fn answer_script<A: Allocator + Copy>(
     ended
 }
 
-// Puts the answer lines of the script behind the answers, up to the first line that is no command. Is there one?
+// Puts the answer lines of the script behind the answers, up to the first line that is not a command. Is there one?
 #[tactic(auto, using(crate::proofs::AnswerLines::no_lines, crate::proofs::AnswerLines::more_lines))]
 fn answer_lines<A: Allocator + Copy>(
     text: &str,
@@ -455,7 +455,7 @@ fn reply_by<A: Allocator + Copy>(
 }
 
 // What tells the answer. A command that is done needs no line, so that want of memory for one leaves the column as it
-// was. `Unsupported` where there is no line, as there is none of what is no integer.
+// was. `Unsupported` where there is no line, as there is none of what is not an integer.
 #[tactic(auto, using(crate::proofs::Replies::not_short))]
 fn reply_that<A: Allocator + Copy>(
     command: &ColumnCommand<A>,

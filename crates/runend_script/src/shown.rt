@@ -10,17 +10,16 @@ use vortex_runend::{
     ArrayRef, ConstantArray, RunEndArray, RunEndArrayExt, RunEndArraySlotsExt, ScalarView,
 };
 
-/// The line `rows V ..` of all rows. Refused as `Unsupported` where a row is neither null nor an integer,
-/// and as `OutOfMemory`.
+/// Returns the line `rows V ..` of all rows. Refused as `Unsupported` where a row is neither null nor an integer, and
+/// as `OutOfMemory`.
 pub fn rows_line<A: Allocator + Copy>(alloc: A, array: &ArrayRef<A>) -> VortexResult<String<A>> {
     let mut line = String::from_str(alloc, "rows")?;
     push_rows(&mut line, array)?;
     Ok(line)
 }
 
-/// The line of the form of a column: `flat TYPE V ..`, `const TYPE V length N`, or `runs TYPE ETYPE
-/// offset N length N ends e .. values V ..`. Refused as `Unsupported` where rows are no integers,
-/// and as `OutOfMemory`.
+/// Returns the line of the form of a column: `flat TYPE V ..`, `const TYPE V length N`, or `runs TYPE ETYPE offset N
+/// length N ends e .. values V ..`. Refused as `Unsupported` where rows are no integers, and as `OutOfMemory`.
 pub fn form_line<A: Allocator + Copy>(alloc: A, array: &ArrayRef<A>) -> VortexResult<String<A>> {
     let mut line = String::new(alloc);
     match array {

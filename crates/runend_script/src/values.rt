@@ -26,8 +26,8 @@ pub struct ParsedRows<A: Allocator> {
     pub validity: Validity<A>,
 }
 
-/// The rows that the words stand for, in order, or `None` exactly where one of them stands for no row of the type.
-/// Under null the number 0 is stored. Refused as `OutOfMemory` alone.
+/// Returns the rows that the words stand for, in order, or `None` exactly where one of them stands for no row of the
+/// type. Under null the number 0 is stored. Refused only as `OutOfMemory`.
 pub fn read_values<'a, I: Iterator<Item = &'a str> + Drop, A: Allocator + Copy>(
     alloc: A,
     ptype: PType,
@@ -57,9 +57,9 @@ pub fn read_values<'a, I: Iterator<Item = &'a str> + Drop, A: Allocator + Copy>(
     }
 }
 
-/// The scalar that the word stands for: null of the nullable type for `null`, whether rows may be null or
-/// not, and otherwise the number, in the type of the rows. `None` where the word is neither `null` nor a
-/// number of the type, or the rows are no integers.
+/// Returns the scalar that the word stands for: null of the nullable type for `null`, whether rows may be null or not,
+/// and otherwise the number, in the type of the rows. `None` where the word is neither `null` nor a number of the type,
+/// or the rows are no integers.
 pub fn read_scalar<A: Allocator>(dtype: DType, word: &str) -> Option<Scalar<A>>
     ensures { ReadsScalar dtype word.now result }
 {
@@ -84,8 +84,8 @@ fn read_number<A: Allocator>(ptype: PType, word: &str) -> Option<ScalarValue<A>>
     Some(ScalarValue::Signed(i64::narrow(number)?))
 }
 
-/// The mask of the bits of the word, by `Mask::from_buffer`: a row for each `0` or `1`, selected where it
-/// is `1`. `None` where a byte is neither. Refused as `OutOfMemory` alone.
+/// Returns the mask of the bits of the word, by `Mask::from_buffer`: a row for each `0` or `1`, selected where it is
+/// `1`. `None` where a byte is neither. Refused only as `OutOfMemory`.
 pub fn read_mask<A: Allocator + Copy>(alloc: A, word: &str) -> VortexResult<Option<Mask<A>>>
     ensures only { IsOkUnless result VortexError.OutOfMemory }
     ensures bits { IfOk result (λ read. IfSome read (λ mask. (bit_word (mask_bits mask) ≡ word.now) ×
@@ -98,9 +98,9 @@ pub fn read_mask<A: Allocator + Copy>(alloc: A, word: &str) -> VortexResult<Opti
     Ok(Some(Mask::from_buffer(bits)))
 }
 
-/// The indices that the words stand for, in `i64`, where `null` is a null index over a stored 0. They are
-/// nullable where a word is `null`. `None` where a word is neither `null` nor a number of `i64`. Refused as
-/// `OutOfMemory` alone.
+/// Returns the indices that the words stand for, in `i64`, where `null` is a null index over a stored 0. They are
+/// nullable where a word is `null`. `None` where a word is neither `null` nor a number of `i64`. Refused only as
+/// `OutOfMemory`.
 pub fn read_indices<A: Allocator + Copy>(
     alloc: A,
     words: Words<'_>,

@@ -10,7 +10,7 @@ pub struct Words<'a> {
 }
 
 impl<'a> Words<'a> {
-    /// All words of the line.
+    /// Returns all words of the line.
     pub fn new(line: &'a str) -> Words<'a>
         ensures { result.rest.now ≡ line.now }
     {

@@ -10,9 +10,8 @@ use column_core::{CountedEnds, Mask, NativePType, UnsignedPType, VortexError, Vo
 use runend_windows::{first_past, first_past_four};
 use std::alloc::Allocator;
 
-/// The run of each valid index, and 0 for a null one, where `offset` is the position of row 0. For
-/// each valid index it tests no more ends than their number has binary digits. Refused as
-/// `OutOfMemory` alone, before any test.
+/// Returns the run of each valid index, and 0 for a null one, where `offset` is the position of row 0. For each valid
+/// index it tests no more ends than their number has binary digits. Refused only as `OutOfMemory`, before any test.
 pub fn physical_indices_binary<E: UnsignedPType, T: NativePType, A: Allocator + Copy>(
     alloc: A,
     ends: &mut CountedEnds<'_, E>,

@@ -20,9 +20,9 @@ use runend_array::ExecutionCtx;
 use runend_windows::reach_of;
 use std::alloc::Allocator;
 
-/// Which runs have a row that the mask selects, and the ends of these runs among the selected rows:
-/// after as many rows as are selected up to the end of the run. The runs show `length` rows from
-/// position `offset` on, and the mask has a bit for each. Refused as `OutOfMemory` alone.
+/// Returns which runs have a row that the mask selects, and the ends of these runs among the selected rows: after as
+/// many rows as are selected up to the end of the run. The runs show `length` rows from position `offset` on, and the
+/// mask has a bit for each. Refused only as `OutOfMemory`.
 pub fn filter_run_end_primitive<E: UnsignedPType, A: Allocator + Copy>(
     ends: &[E],
     offset: u64,
@@ -49,7 +49,7 @@ pub fn filter_run_end_primitive<E: UnsignedPType, A: Allocator + Copy>(
     parts
 }
 
-/// The kept runs and their ends, as `filter_run_end_primitive` makes them, for the ends of a buffer.
+/// Returns the kept runs and their ends, as `filter_run_end_primitive` makes them, for the ends of a buffer.
 pub(crate) fn filter_ends<A: Allocator + Copy>(
     alloc: A,
     ends: &PrimitiveValues<A>,

@@ -23,8 +23,8 @@ use runend_array::{ArrayRef, RunEnd, RunEndArray, RunEndArrayExt, RunEndArraySlo
 use runend_column::{minimal_runs, select_values, selected_by, visible_values, with_minimal_runs};
 use std::alloc::Allocator;
 
-/// The runs with a selected row: of integers in minimal form, of other types as they are. Refused as
-/// `OutOfMemory` alone.
+/// Returns the runs with a selected row: of integers in minimal form, of other types as they are. Refused only as
+/// `OutOfMemory`.
 pub(crate) fn selected_runs<A: Allocator + Copy>(
     alloc: A,
     array: &RunEndArray<A>,
@@ -44,7 +44,7 @@ pub(crate) fn selected_runs<A: Allocator + Copy>(
     kept_column(alloc, array, bits)
 }
 
-/// All rows of a column of integers, in minimal form. Refused as `OutOfMemory` alone.
+/// Returns all rows of a column of integers, in minimal form. Refused only as `OutOfMemory`.
 pub(crate) fn minimal_column<A: Allocator + Copy>(
     alloc: A,
     array: &RunEndArray<A>,

@@ -22,15 +22,14 @@ use runend_array::{
 use runend_column::set_bit_indices;
 use std::alloc::Allocator;
 
-/// The rows at which the mask is true, in order. Runs of integers are left in minimal form: as few as
-/// can be, none hidden and no neighbours equal (null is equal to null), at offset 0, the last end the
-/// number of rows, with ends of the same type and flat values. Of other types the column is unchanged
-/// under `AllTrue`, has no runs and offset 0 under `AllFalse`, and else the runs with a selected row are
-/// left, at offset 0 and with flat values. Where few rows are selected by the session's thresholds, a
-/// mask of bits takes them one by one into a flat column.
+/// Returns the rows at which the mask is true, in order. Runs of integers are left in minimal form: as few as can be,
+/// none hidden and no neighbours equal (null is equal to null), at offset 0, the last end the number of rows, with ends
+/// of the same type and flat values. Of other types the column is unchanged under `AllTrue`, has no runs and offset 0
+/// under `AllFalse`, and else the runs with a selected row are left, at offset 0 and with flat values. Where few rows
+/// are selected by the session's thresholds, a mask of bits takes them one by one into a flat column.
 ///
 /// Refused as `MaskLength`, with the mask's length and the number of rows, exactly where they differ,
-/// however little memory there is; else as `OutOfMemory` alone.
+/// however little memory there is; else only as `OutOfMemory`.
 pub fn filter<A: Allocator + Copy>(
     array: &RunEndArray<A>,
     mask: &Mask<A>,

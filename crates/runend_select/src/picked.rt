@@ -15,8 +15,8 @@ use crate::strategy::{Strategy, TakeThresholds};
 use column_core::{CountedEnds, Mask, NativePType, UnsignedPType, VortexError, VortexResult};
 use std::alloc::Allocator;
 
-/// The strategy for these indices over so many runs that show `length` rows: the first that the
-/// thresholds allow.
+/// Returns the strategy for these indices over so many runs that show `length` rows: the first that the thresholds
+/// allow.
 pub fn picked_strategy<T: NativePType, A: Allocator>(
     indices: &[T],
     mask: &Mask<A>,

@@ -6,8 +6,7 @@ ghost use Rattle.runend_select.specs.WordRanks.{AreWordRanks};
 use column_core::{BitBuffer, VortexError, VortexResult};
 use std::alloc::Allocator;
 
-/// How many of the bits before the word of `place` are true, where `before` of those before word `index`
-/// are.
+/// Returns how many of the bits before the word of `place` are true, where `before` of those before word `index` are.
 #[inline]
 pub(crate) fn ones_before<A: Allocator>(
     bits: &BitBuffer<A>,
@@ -37,7 +36,7 @@ fn low_mask(count: usize) -> u64
     (1 << count) - 1
 }
 
-/// How many of the bits before `place` are true, where `before` of those before its word are.
+/// Returns how many of the bits before `place` are true, where `before` of those before its word are.
 #[inline]
 pub(crate) fn rank_within_word<A: Allocator>(
     bits: &BitBuffer<A>,

@@ -6,7 +6,7 @@ ghost use Rattle.runend_select.specs.Indices.{AreInBounds, AreSorted, optional_i
 use column_core::{Mask, NativePType};
 use std::alloc::Allocator;
 
-/// The row that the index at `place` names, or `None` where the index is null.
+/// Returns the row that the index at `place` names, or `None` where the index is null.
 #[inline]
 pub fn indexed_row<T: NativePType, A: Allocator>(
     indices: &[T],
@@ -22,8 +22,8 @@ pub fn indexed_row<T: NativePType, A: Allocator>(
     named_row::<false, T, A>(indices, mask, place)
 }
 
-/// Is the mask known by its form to select all indices? Walks over indices ask it once, and then read no
-/// bit for each.
+/// Returns whether the mask is known by its form to select all indices. Walks over indices ask it once, and then read
+/// no bit for each.
 pub(crate) fn selects_all<A: Allocator>(mask: &Mask<A>) -> bool
     ensures { IsTrue result → All (λ bit. bit ≡ true) (mask_bits mask.now) }
 {
@@ -47,7 +47,7 @@ fn is_valid<const ALL: bool, A: Allocator>(mask: &Mask<A>, place: usize) -> bool
     mask.value(place)
 }
 
-/// The row that the index at `place` names, as `indexed_row`, where `ALL` says that no index is null.
+/// Returns the row that the index at `place` names, as `indexed_row`, where `ALL` says that no index is null.
 #[inline(always)]
 pub(crate) fn named_row<const ALL: bool, T: NativePType, A: Allocator>(
     indices: &[T],
@@ -68,7 +68,7 @@ pub(crate) fn named_row<const ALL: bool, T: NativePType, A: Allocator>(
     }
 }
 
-/// Is no valid index below a valid one before it?
+/// Returns whether no valid index is below a valid one before it.
 pub fn are_sorted<T: NativePType, A: Allocator>(indices: &[T], mask: &Mask<A>) -> bool
     requires masked { length (mask_bits mask.now) ≡ length indices.now }
     requires in_bounds { AreInBounds (optional_indices T.number indices.now (mask_bits mask.now)) (2 ^ 64) }

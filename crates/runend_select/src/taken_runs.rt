@@ -28,8 +28,8 @@ use runend_column::take_values;
 use runend_windows::repeated_items;
 use std::alloc::Allocator;
 
-/// The rows at the indices, null for null, in a flat form. `sorted` may say that no valid index is below a valid one
-/// before it. Refused as `OutOfMemory` alone.
+/// Returns the rows at the indices, null for null, in a flat form. `sorted` may say that no valid index is below a
+/// valid one before it. Refused only as `OutOfMemory`.
 pub(crate) fn taken_rows<T: NativePType, A: Allocator + Copy>(
     array: &RunEndArray<A>,
     indices: &[T],

@@ -24,8 +24,8 @@ use column_ops::checked_index;
 use runend_array::{ArrayRef, ConstantArray, ExecutionCtx, RunEndArray, RunEndArrayExt};
 use std::alloc::Allocator;
 
-/// The rows at the indices, null for null: a constant null where there is an index and each is null,
-/// else flat. The type has null where the column's or the indices' has. Refused as `OutOfMemory` alone.
+/// Returns the rows at the indices, null for null: a constant null where there is an index and each is null, else flat.
+/// The type has null where the column's or the indices' has. Refused only as `OutOfMemory`.
 pub fn take_indices_unchecked<T: NativePType, A: Allocator + Copy>(
     array: &RunEndArray<A>,
     indices: &[T],
@@ -47,11 +47,11 @@ pub fn take_indices_unchecked<T: NativePType, A: Allocator + Copy>(
     take_in_order(array, indices, validity, false, ctx)
 }
 
-/// The rows at the indices, null for null: a constant null where there is an index and each is null,
-/// else flat. The type has null where the column's or the indices' has.
+/// Returns the rows at the indices, null for null: a constant null where there is an index and each is null, else flat.
+/// The type has null where the column's or the indices' has.
 ///
 /// Refused as `OutOfBounds`, with the index and the number of rows, at the first valid index that is
-/// negative or not below that number, however little memory there is; else as `OutOfMemory` alone.
+/// negative or not below that number, however little memory there is; else only as `OutOfMemory`.
 pub fn take<A: Allocator + Copy>(
     array: &RunEndArray<A>,
     indices: &PrimitiveArray<A>,

@@ -29,7 +29,7 @@ impl<A: Allocator> Model for BitRuns<A> {
 }
 
 impl<A: Allocator + Copy> BitRuns<A> {
-    /// No bits, and room for `count` bits, which are appended. Refused as `OutOfMemory` alone.
+    /// Returns no bits, and room for `count` bits, which are appended. Refused only as `OutOfMemory`.
     pub fn with_room(alloc: A, count: usize) -> VortexResult<Self>
         ensures only { IsOkUnless result VortexError.OutOfMemory }
         ensures empty { IfOk result (λ runs. runs ≡ record { written = []; prefilled = [] }) }
@@ -41,8 +41,8 @@ impl<A: Allocator + Copy> BitRuns<A> {
         })
     }
 
-    /// No bits, before a background for `count` bits, of which only the others are written. Refused as
-    /// `OutOfMemory` alone.
+    /// Returns no bits, before a background for `count` bits, of which only the others are written. Refused only as
+    /// `OutOfMemory`.
     pub fn prefilled(alloc: A, background: bool, count: usize) -> VortexResult<Self>
         ensures only { IsOkUnless result VortexError.OutOfMemory }
         ensures start { IfOk result (λ runs. runs ≡ record { written = []; prefilled = replicate count background }) }
@@ -56,7 +56,7 @@ impl<A: Allocator + Copy> BitRuns<A> {
 
     /// Puts `bit` behind the last bit as often as it takes for `end` bits. Takes no memory up to the
     /// count of bits that there is room for. The background that is left is what stands behind `end`.
-    /// Refused as `OutOfMemory` alone, and then the bits stay and the background is gone.
+    /// Refused only as `OutOfMemory`, and then the bits stay and the background is gone.
     #[inline(always)]
     pub fn repeat_to(&mut self, bit: bool, end: usize) -> VortexResult<()>
         ensures ok { OnOk result (self.new.written ≡
@@ -79,7 +79,7 @@ impl<A: Allocator + Copy> BitRuns<A> {
         Ok(())
     }
 
-    /// The bits that were written. Takes no memory.
+    /// Returns the bits that were written. Takes no memory.
     pub fn finish(self) -> BitBuffer<A>
         ensures { result ≡ self.written }
     {
@@ -89,8 +89,8 @@ impl<A: Allocator + Copy> BitRuns<A> {
     }
 }
 
-/// No bits yet, of `count` rows that show the bits of these runs. From `prefill_runs` runs on each row starts
-/// as the bit of most runs, false on a tie; below, the room is empty at first. Refused as `OutOfMemory` alone.
+/// Returns no bits yet, of `count` rows that show the bits of these runs. From `prefill_runs` runs on each row starts
+/// as the bit of most runs, false on a tie; below, the room is empty at first. Refused only as `OutOfMemory`.
 pub fn start_over<A: Allocator + Copy>(
     alloc: A,
     bits: &BitBuffer<A>,
@@ -111,14 +111,14 @@ pub fn start_over<A: Allocator + Copy>(
     BitRuns::prefilled(alloc, majority, count)
 }
 
-/// Are more than half of the runs true?
+/// Returns whether more than half of the runs are true.
 pub fn is_majority(true_runs: usize, runs: usize) -> bool
     ensures { IsTrue result ↔ (runs < 2 * true_runs) }
 {
     true_runs > runs / 2
 }
 
-/// The bit of a run, false where its mark is false.
+/// Returns the bit of a run, false where its mark is false.
 pub fn marked_at<A: Allocator>(bits: &BitBuffer<A>, marks: &BitBuffer<A>, run: usize) -> bool
     requires within { run < length bits.now }
     requires paired { length marks.now ≡ length bits.now }
@@ -127,7 +127,7 @@ pub fn marked_at<A: Allocator>(bits: &BitBuffer<A>, marks: &BitBuffer<A>, run: u
     marks.value(run) && bits.value(run)
 }
 
-/// How many bits are true whose mark is true.
+/// Returns how many bits are true whose mark is true.
 pub fn count_marked<A: Allocator>(bits: &BitBuffer<A>, marks: &BitBuffer<A>) -> usize
     requires { length marks.now ≡ length bits.now }
     ensures { result ≡ count_by (λ bit. bit) (blanked false (optionals bits.now marks.now)) }

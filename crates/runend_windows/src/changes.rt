@@ -12,8 +12,8 @@ use crate::item_changes::changed_items;
 use column_core::{BitBuffer, BitBufferMut, NativePType, Validity, VortexError, VortexResult};
 use std::alloc::Allocator;
 
-/// A bit for each row of numbers: whether it differs from the row before, null being equal to null. That of the first
-/// row is false. Refused as `OutOfMemory` alone.
+/// Returns a bit for each row of numbers: whether it differs from the row before, null being equal to null. That of the
+/// first row is false. Refused only as `OutOfMemory`.
 pub(crate) fn changes_of<T: NativePType, A: Allocator + Copy>(
     alloc: A,
     items: &[T],

@@ -20,7 +20,7 @@ use column_core::{
 };
 use std::alloc::Allocator;
 
-/// How many rows of the window the runs up to this one reach.
+/// Returns how many rows of the window the runs up to this one reach.
 pub fn reach_of<E: UnsignedPType>(ends: &[E], run: usize, offset: usize, count: usize) -> usize
     requires { run < length ends.now }
     ensures { result ≡ min (slice_index (map unsigned_abs (map E.number ends.now)) run - offset) count }
@@ -143,8 +143,8 @@ fn decode_nullable<E: UnsignedPType, A: Allocator + Copy>(
     Ok(Validity::from_bits(bits.freeze()))
 }
 
-/// The validity of the rows that the runs show in the window. Where no run is null, no row is.
-/// Refused as `OutOfMemory` alone.
+/// Returns the validity of the rows that the runs show in the window. Where no run is null, no row is. Refused only as
+/// `OutOfMemory`.
 pub fn decode_validity<E: UnsignedPType, A: Allocator + Copy>(
     alloc: A,
     ends: &[E],
@@ -209,8 +209,8 @@ fn decode_under<E: UnsignedPType, T: Copy + Drop, A: Allocator + Copy>(
     }
 }
 
-/// The items and the validity of the rows that runs show, from row `offset` on, `count` many, with the
-/// blank item under null. Refused as `OutOfMemory` alone.
+/// Returns the items and the validity of the rows that runs show, from row `offset` on, `count` many, with the blank
+/// item under null. Refused only as `OutOfMemory`.
 pub fn decode_rows<T: Copy + Drop, A: Allocator + Copy>(
     alloc: A,
     ends: &PrimitiveArray<A>,
@@ -254,8 +254,8 @@ fn decode_as<T: NativePType, A: Allocator + Copy>(
     Ok(PrimitiveArray::new_unchecked(T::wrap(items), rows))
 }
 
-/// The rows that runs of integers show, from row `offset` on, `count` many, as a flat column with
-/// 0 under null. Refused as `OutOfMemory` alone.
+/// Returns the rows that runs of integers show, from row `offset` on, `count` many, as a flat column with 0 under null.
+/// Refused only as `OutOfMemory`.
 pub fn decode_numbers<A: Allocator + Copy>(
     alloc: A,
     ends: &PrimitiveArray<A>,

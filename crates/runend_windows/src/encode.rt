@@ -20,7 +20,7 @@ use column_core::{
 };
 use std::alloc::Allocator;
 
-/// The ends and the values of the runs, both flat. Refused as `OutOfMemory` alone.
+/// Returns the ends and the values of the runs, both flat. Refused only as `OutOfMemory`.
 pub fn encode_plain<A: Allocator + Copy>(
     alloc: A,
     array: &PrimitiveArray<A>,
@@ -32,7 +32,7 @@ pub fn encode_plain<A: Allocator + Copy>(
     match_each_native!(array.values(), items => encode_as(alloc, items.as_slice(), validity))
 }
 
-/// Does the validity say of at least one row that all are null?
+/// Returns whether the validity says of at least one row that all are null.
 pub fn is_all_null<A: Allocator>(array: &PrimitiveArray<A>) -> bool
     ensures { IsTrue result ↔ IsAllInvalid array.now }
 {
@@ -42,7 +42,7 @@ pub fn is_all_null<A: Allocator>(array: &PrimitiveArray<A>) -> bool
     }
 }
 
-/// The validity of rows with these flags, of a type with that nullability.
+/// Returns the validity of rows with these flags, of a type with that nullability.
 pub fn validity_with<A: Allocator>(nullability: Nullability, bits: BitBuffer<A>) -> Validity<A>
     requires { nullability ≡ NonNullable → All (λ flag. flag ≡ true) bits }
     ensures flags { flags (form_of result) (length bits) ≡ bits }

@@ -8,7 +8,7 @@ use crate::decode::reach_of;
 use column_core::{BitBufferMut, UnsignedPType};
 use std::alloc::Allocator;
 
-/// The runs, of 64, whose bit is another one than `bit`.
+/// Returns the runs, of 64, whose bit is another one than `bit`.
 #[inline(always)]
 pub fn runs_unlike(word: u64, bit: bool) -> u64
     ensures { (j : ℕ) → j < 64 → bit_at result j ≡ (if bit then 1 - bit_at word j else bit_at word j) }

@@ -8,8 +8,8 @@ ghost use Rattle.column_base.specs.Words.{digit_at};
 use column_core::Validity;
 use std::alloc::Allocator;
 
-/// A bit for each of the 64 rows from row `index` * 64 on: whether it differs from the row before, given whether its
-/// item does. Null is equal to null, over any items.
+/// Returns a bit for each of the 64 rows from row `index` * 64 on: whether it differs from the row before, given
+/// whether its item does. Null is equal to null, over any items.
 #[inline(always)]
 pub fn changed_optionals<A: Allocator>(validity: &Validity<A>, index: usize, items: u64) -> u64
     requires { HasRow (form_of validity.now) (index * 64) }
@@ -31,8 +31,8 @@ pub fn changed_optionals<A: Allocator>(validity: &Validity<A>, index: usize, ite
     }
 }
 
-/// A bit for each bit of the word at `index`: whether it differs from the bit before. That of the first bit of all is
-/// false.
+/// Returns a bit for each bit of the word at `index`: whether it differs from the bit before. That of the first bit of
+/// all is false.
 #[inline(always)]
 pub fn changed_bits(words: &[u64], index: usize) -> u64
     requires { index < length words.now }

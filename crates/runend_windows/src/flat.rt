@@ -20,10 +20,9 @@ use column_core::{
 };
 use std::alloc::Allocator;
 
-/// The rows that runs show, from row `offset` on, `count` many, as a flat column with 0, false or the
-/// view of nothing under null. The values are left as they are; of texts and bytes, the bytes are shared. Of
-/// booleans, the rows start as the value of most runs from `prefill_runs` runs on; the answer is the same.
-/// Refused as `OutOfMemory` alone.
+/// Returns the rows that runs show, from row `offset` on, `count` many, as a flat column with 0, false or the view of
+/// nothing under null. The values are left as they are; of texts and bytes, the bytes are shared. Of booleans, the rows
+/// start as the value of most runs from `prefill_runs` runs on; the answer is the same. Refused only as `OutOfMemory`.
 pub fn decode_flat<A: Allocator + Copy>(
     alloc: A,
     ends: &PrimitiveArray<A>,
@@ -63,7 +62,7 @@ pub fn decode_flat<A: Allocator + Copy>(
     }
 }
 
-/// Is there a row, and is each row null?
+/// Returns whether there is a row, and is each row null.
 pub fn has_nulls_alone<A: Allocator>(values: &FlatColumn<A>) -> bool
     ensures nulls { IsTrue result ↔ HasNullsAlone (single_rows (leaf_of values.now)) }
     ensures fits { HasLength (leaf_validity (leaf_of values.now)) (leaf_count (leaf_of values.now)) }

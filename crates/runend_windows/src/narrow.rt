@@ -8,8 +8,7 @@ ghost use Rattle.runend_windows.specs.Window.{last_end};
 use column_core::{NativePType, PrimitiveValues, VortexError, VortexResult};
 use std::alloc::Allocator;
 
-/// The ends as numbers of the least unsigned type that has the last of them. Refused as
-/// `OutOfMemory` alone.
+/// Returns the ends as numbers of the least unsigned type that has the last of them. Refused only as `OutOfMemory`.
 pub fn narrowed<A: Allocator + Copy>(alloc: A, ends: &[u64]) -> VortexResult<PrimitiveValues<A>>
     requires { IsStrictlyIncreasing ends.now }
     ensures only { IsOkUnless result VortexError.OutOfMemory }

@@ -32,7 +32,7 @@ impl<T: Drop, A: Allocator> Model for RunWriter<T, A> {
 }
 
 impl<T: Copy + Drop, A: Allocator> RunWriter<T, A> {
-    /// No rows, and room for `limit` rows. Refused as `OutOfMemory` alone.
+    /// Returns no rows, and room for `limit` rows. Refused only as `OutOfMemory`.
     pub fn with_room(alloc: A, limit: usize) -> VortexResult<Self>
         ensures only { IsOkUnless result VortexError.OutOfMemory }
         ensures empty { IfOk result (λ writer. writer ≡ record { rows = []; limit = limit }) }
@@ -66,7 +66,7 @@ impl<T: Copy + Drop, A: Allocator> RunWriter<T, A> {
         }
     }
 
-    /// The rows that were written.
+    /// Returns the rows that were written.
     pub fn finish(self) -> Vec<T, A>
         ensures { result.items ≡ self.rows }
     {
@@ -74,7 +74,7 @@ impl<T: Copy + Drop, A: Allocator> RunWriter<T, A> {
     }
 }
 
-/// The item in each of `count` rows. Refused as `OutOfMemory` alone.
+/// Returns the item in each of `count` rows. Refused only as `OutOfMemory`.
 pub fn repeated_items<T: Copy + Drop, A: Allocator + Copy>(
     alloc: A,
     item: T,

@@ -16,8 +16,8 @@ use std::alloc::Allocator;
 // is waited for longer than a branch that is guessed wrongly costs, and a right guess fetches the next end meanwhile.
 const NEAR_RUNS: usize = 1 << 18;
 
-/// The run of a row: the first run that ends past it, or the number of runs where none does. As the
-/// ends increase, that is also the number of ends at or below the row.
+/// Returns the run of a row: the first run that ends past it, or the number of runs where none does. As the ends
+/// increase, that is also the number of ends at or below the row.
 ///
 /// The search goes by halves, so it tests no more ends than their number has binary digits, as the
 /// clauses `cost` and `bound` say.
@@ -78,8 +78,8 @@ fn search_by_branch<E: UnsignedPType>(ends: &mut CountedEnds<'_, E>, row: usize)
     low
 }
 
-/// The runs of four rows, searched side by side, so that their ends are waited for together. It tests
-/// no more ends for a row than a search for that row alone.
+/// Returns the runs of four rows, searched side by side, so that their ends are waited for together. It tests no more
+/// ends for a row than a search for that row alone.
 pub fn first_past_four<E: UnsignedPType>(
     ends: &mut CountedEnds<'_, E>,
     rows: (usize, usize, usize, usize),
@@ -118,8 +118,7 @@ fn first_past_in<E: UnsignedPType>(ends: &[E], row: usize) -> usize
     first_past(&mut CountedEnds::new(ends), row)
 }
 
-/// The run of a row, over flat ends: the first run that ends past it, or the number of runs where
-/// none does.
+/// Returns the run of a row, over flat ends: the first run that ends past it, or the number of runs where none does.
 pub fn first_past_of<A: Allocator>(ends: &PrimitiveArray<A>, row: usize) -> usize
     requires plain { IsEndsType (primitive_dtype ends.now) }
     requires increasing { IsStrictlyIncreasing (ends_of ends.now) }
@@ -148,7 +147,7 @@ fn last_item<E: UnsignedPType>(ends: &[E]) -> usize
     }
 }
 
-/// The last of flat ends, or 0 where there is none.
+/// Returns the last of flat ends, or 0 where there is none.
 pub fn last_end_of<A: Allocator>(ends: &PrimitiveArray<A>) -> usize
     requires { IsEndsType (primitive_dtype ends.now) }
     ensures { result ≡ last_end (ends_of ends.now) }
@@ -156,7 +155,7 @@ pub fn last_end_of<A: Allocator>(ends: &PrimitiveArray<A>) -> usize
     match_each_unsigned!(ends.values(), items => last_item(items.as_slice()), _ => unreachable!())
 }
 
-/// How many of flat ends are below a row.
+/// Returns how many of flat ends are below a row.
 pub fn ended_before<A: Allocator>(ends: &PrimitiveArray<A>, row: usize) -> usize
     requires plain { IsEndsType (primitive_dtype ends.now) }
     requires increasing { IsStrictlyIncreasing (ends_of ends.now) }

@@ -7,7 +7,7 @@ ghost use Rattle.column_core.specs.PrimitiveForm.{optionals};
 use column_core::{NativePType, Validity};
 use std::alloc::Allocator;
 
-/// The number in a row, or `None` for null.
+/// Returns the number in a row, or `None` for null.
 pub fn shown_at<T: NativePType, A: Allocator>(
     items: &[T],
     validity: &Validity<A>,

@@ -19,7 +19,7 @@ use column_core::{
 };
 use std::alloc::Allocator;
 
-/// The next end of an iterator that does not stop here.
+/// Returns the next end of an iterator that does not stop here.
 pub fn next_end<I: Iterator<Item = usize>>(run_ends: &mut I) -> usize
     requires can { I.can_next run_ends.old }
     requires more { (after : I) → ¬ (I.next_gives run_ends.old None after) }
@@ -100,7 +100,7 @@ fn repeat_masked<T: NativePType, I: Iterator<Item = usize>, A: Allocator + Copy>
     Ok((numbers.finish(), flags.freeze()))
 }
 
-/// The validity of rows of which none is null.
+/// Returns the validity of rows of which none is null.
 pub fn no_null<A: Allocator>(nullability: Nullability) -> Validity<A>
     ensures { form_of result ≡ without_nulls nullability }
 {
@@ -110,7 +110,7 @@ pub fn no_null<A: Allocator>(nullability: Nullability) -> Validity<A>
     }
 }
 
-/// The validity of rows of which each is null, of which there may be none.
+/// Returns the validity of rows of which each is null, of which there may be none.
 pub fn no_value<A: Allocator>(count: usize) -> Validity<A>
     ensures flags { flags (form_of result) count ≡ replicate count false }
     ensures fits { HasLength (form_of result) count }
@@ -125,10 +125,10 @@ pub fn no_value<A: Allocator>(count: usize) -> Validity<A>
     }
 }
 
-/// The rows of runs whose ends come from an iterator, as a flat column of `T` with 0 under null: row i
-/// is the value of the first run that ends past it, null where the mask is false there. Ends count
-/// rows; a run that ends where the one before it does shows no row. The validity of a type with null
-/// is that which `Validity::from_bits` makes. Refused as `OutOfMemory` alone.
+/// Returns the rows of runs whose ends come from an iterator, as a flat column of `T` with 0 under null: row i is the
+/// value of the first run that ends past it, null where the mask is false there. Ends count rows; a run that ends where
+/// the one before it does shows no row. The validity of a type with null is that which `Validity::from_bits` makes.
+/// Refused only as `OutOfMemory`.
 ///
 /// The iterator gives an end for each value, none below the one before it, and the last is `count`.
 /// There is a bit of the mask for each value, and only under `Mask::AllTrue` has the type no null.

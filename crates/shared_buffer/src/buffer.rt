@@ -42,7 +42,7 @@ impl<T, A: Allocator> Model for Buffer<T, A> {
 }
 
 impl<T, A: Allocator> Buffer<T, A> {
-    /// The items of the vector, not shared: their parts and clones are copies. Takes no memory.
+    /// Returns the items of the vector, not shared: their parts and clones are copies. Takes no memory.
     pub fn from_vec(items: Vec<T, A>) -> Buffer<T, A>
         ensures { result.items ≡ items.items }
     {
@@ -51,7 +51,7 @@ impl<T, A: Allocator> Buffer<T, A> {
         }
     }
 
-    /// The items.
+    /// Returns the items.
     pub fn as_slice(&self) -> &[T]
         ensures value { result.now ≡ self.now.items }
         ensures len { length result.now ≡ length self.now.items }
@@ -62,7 +62,7 @@ impl<T, A: Allocator> Buffer<T, A> {
         }
     }
 
-    /// How many items there are.
+    /// Returns how many items there are.
     pub fn len(&self) -> usize
         ensures { result ≡ length self.now.items }
     {
@@ -72,14 +72,14 @@ impl<T, A: Allocator> Buffer<T, A> {
         }
     }
 
-    /// Are there no items?
+    /// Returns whether there are no items.
     pub fn is_empty(&self) -> bool
         ensures { IsTrue result ↔ (self.now.items ≡ []) }
     {
         self.len() == 0
     }
 
-    /// The vector itself, where this is its only owner and shows all of it. Else the buffer is handed back.
+    /// Returns the vector itself, where this is its only owner and shows all of it. Else the buffer is handed back.
     pub fn try_into_vec(self) -> Result<Vec<T, A>, Buffer<T, A>>
         ensures { MatchResult result (λ items. items.items ≡ self.items) (λ buffer. buffer.items ≡ self.items) }
     {
@@ -119,8 +119,8 @@ fn sole_vector<T, A: Allocator>(vector: Arc<Vec<T, A>, A>) -> Result<Vec<T, A>, 
 }
 
 impl<T: Drop, A: Allocator + Copy> Buffer<T, A> {
-    /// The items of the vector, shared: one small request for the count of owners. Not shared where that is refused,
-    /// and where they are so few that a copy costs no more.
+    /// Returns the items of the vector, shared: one small request for the count of owners. Not shared where that is
+    /// refused, and where they are so few that a copy costs no more.
     pub fn shared(items: Vec<T, A>) -> Buffer<T, A>
         ensures { result.items ≡ items.items }
     {
@@ -140,7 +140,7 @@ impl<T: Drop, A: Allocator + Copy> Buffer<T, A> {
         }
     }
 
-    /// The buffer with its items shared as `shared` shares them.
+    /// Returns the buffer with its items shared as `shared` shares them.
     pub fn into_shared(self) -> Buffer<T, A>
         ensures { result.items ≡ self.items }
     {
@@ -152,7 +152,7 @@ impl<T: Drop, A: Allocator + Copy> Buffer<T, A> {
 }
 
 impl<T: Copy, A: Allocator + Copy> Buffer<T, A> {
-    /// A copy of the items: shared with these where these are shared, and else in memory of its own.
+    /// Returns a copy of the items: shared with these where these are shared, and else in memory of its own.
     pub fn try_clone(&self, alloc: A) -> Result<Buffer<T, A>, AllocError>
         ensures { IfOk result (λ copy. copy.items ≡ self.now.items) }
     {
@@ -168,7 +168,8 @@ impl<T: Copy, A: Allocator + Copy> Buffer<T, A> {
         }
     }
 
-    /// The items from `range.start` to `range.end - 1`: shared with these where these are shared, and else a copy.
+    /// Returns the items from `range.start` to `range.end - 1`: shared with these where these are shared, and else a
+    /// copy.
     pub fn slice(&self, alloc: A, range: Range<usize>) -> Result<Buffer<T, A>, AllocError>
         requires ordered { range.start ≤ range.end }
         requires in_bounds { range.end ≤ length self.now.items }
@@ -189,14 +190,14 @@ impl<T: Copy, A: Allocator + Copy> Buffer<T, A> {
         }
     }
 
-    /// A copy of the items, shared with none: what these are a part of may then be freed.
+    /// Returns a copy of the items, shared with none: what these are a part of may then be freed.
     pub fn compact(&self, alloc: A) -> Result<Buffer<T, A>, AllocError>
         ensures { IfOk result (λ copy. copy.items ≡ self.now.items) }
     {
         Ok(Buffer::shared(Vec::from_slice(alloc, self.as_slice())?))
     }
 
-    /// A vector of the items: itself where this is its only owner and shows all of it, and else a copy.
+    /// Returns a vector of the items: itself where this is its only owner and shows all of it, and else a copy.
     pub fn into_vec(self, alloc: A) -> Result<Vec<T, A>, AllocError>
         ensures { IfOk result (λ items. items.items ≡ self.items) }
     {

@@ -15,8 +15,8 @@ use std::alloc::Allocator;
 use std::rc::Rc;
 use vortex_runend::{ArrayRef, DType, ExecutionCtx, FlatColumn, Mask, RowValidity, Validity, View};
 
-/// The call on copies of the columns that it names. Bad where one does not stand, or a word is none that
-/// the call can be given.
+/// Returns the call on copies of the columns that it names. Bad where one does not stand, or a word is none that the
+/// call can be given.
 pub fn prepare<A: Allocator + Copy>(
     name: &str,
     call: request::Call<'_>,
@@ -47,8 +47,8 @@ fn commanded_copy<A: Allocator + Copy>(
     on_copy(name, Task::Command(command), columns, ctx)
 }
 
-/// The commands of a list on a copy of the column of this name, but for those at the positions that are said to be
-/// left out. Bad where a part of the words is no command that can be given.
+/// Returns the commands of a list on a copy of the column of this name, but for those at the positions that are said to
+/// be left out. Bad where a part of the words is not a command that can be given.
 pub fn prepare_list<A: Allocator + Copy>(
     name: &str,
     words: &[&str],
@@ -314,7 +314,7 @@ fn elements_of<A: Allocator + Copy>(
     }
 }
 
-/// The validity of the word `nonnull`, `valid`, `invalid`, or of bits. Bad where it is none.
+/// Returns the validity of the word `nonnull`, `valid`, `invalid`, or of bits. Bad where it is none.
 pub fn read_validity<A: Allocator + Copy>(alloc: A, word: &str) -> LineResult<Validity<A>> {
     match word {
         "nonnull" => Ok(Validity::NonNullable),

@@ -93,9 +93,9 @@ pub enum Reply<A: Allocator> {
 pub struct ListReply<A: Allocator> {
     /// All answers.
     pub text: String<A>,
-    /// The answers of those that were not refused for want of memory.
+    /// The answers of those that were not refused for memory.
     pub served: String<A>,
-    /// Was the command at each position refused for want of memory?
+    /// Was the command at each position refused for memory?
     pub lacking: Vec<bool, A>,
 }
 

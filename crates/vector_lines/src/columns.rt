@@ -19,7 +19,7 @@ pub struct Columns<A: Allocator> {
 }
 
 impl<A: Allocator + Copy> Columns<A> {
-    /// No columns.
+    /// Returns no columns.
     pub fn new(alloc: A) -> Self {
         Columns {
             named: Vec::new(alloc),
@@ -38,7 +38,7 @@ impl<A: Allocator + Copy> Columns<A> {
         None
     }
 
-    /// The column of this name.
+    /// Returns the column of this name.
     pub fn get(&self, name: &str) -> Option<&ArrayRef<A>> {
         let index = self.index_of(name)?;
         Some(&self.named[index].column)

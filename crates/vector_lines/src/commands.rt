@@ -6,7 +6,7 @@ use crate::values::read_value;
 use column_ops::CompareOperator;
 use column_words::parse_count;
 
-/// The command of these words, of which the first is its verb.
+/// Returns the command of these words, of which the first is its verb.
 pub fn read_command<'a>(words: &'a [&'a str]) -> Option<VectorCommand<'a>> {
     let (verb, rest) = words.split_first()?;
     match rest.split_first() {

@@ -12,7 +12,7 @@ use vortex_runend::{
     Nullability, Scalar, ScalarValue, Validity,
 };
 
-/// The rows that the words write. Bad where a word writes none.
+/// Returns the rows that the words write. Bad where a word writes none.
 pub fn read_rows<'a, A: Allocator + Copy>(
     alloc: A,
     words: &[&'a str],
@@ -33,8 +33,7 @@ fn push_rows<'a, A: Allocator + Copy>(
     Ok(())
 }
 
-/// The flat column of these rows, with the validity made from its bits. Bad where a row is none of the
-/// type.
+/// Returns the flat column of these rows, with the validity made from its bits. Bad where a row is none of the type.
 pub fn flat_column<A: Allocator + Copy>(
     dtype: DType,
     words: &[&str],
@@ -64,8 +63,8 @@ fn array_of_rows<A: Allocator + Copy>(
     }
 }
 
-/// The flat column of what the words store, with this validity. Bad where the validity is none of the
-/// type, or a word is no stored integer, decimal or boolean of it. Refused as `try_new` is.
+/// Returns the flat column of what the words store, with this validity. Bad where the validity is none of the type, or
+/// a word is no stored integer, decimal or boolean of it. Refused as `try_new` is.
 pub fn raw_column<A: Allocator + Copy>(
     alloc: A,
     dtype: DType,
@@ -133,7 +132,7 @@ pub fn invalid_column<A: Allocator + Copy>(
     }
 }
 
-/// The scalar of a value. Bad where the value is one that no scalar has. Refused as `Scalar::try_new` is.
+/// Returns the scalar of a value. Bad where the value is one that no scalar has. Refused as `Scalar::try_new` is.
 pub fn scalar_of<A: Allocator + Copy>(
     alloc: A,
     dtype: DType,
@@ -165,7 +164,7 @@ fn number_value<A: Allocator + Copy>(dtype: DType, number: i128) -> ScalarValue<
     }
 }
 
-/// The bits of a word of 0 and 1, where `-` is none. Bad where it has another letter.
+/// Returns the bits of a word of 0 and 1, where `-` is none. Bad where it has another letter.
 pub fn bits_of_word<A: Allocator + Copy>(alloc: A, word: &str) -> LineResult<BitBuffer<A>> {
     let digits = match word {
         "-" => "",
@@ -175,7 +174,7 @@ pub fn bits_of_word<A: Allocator + Copy>(alloc: A, word: &str) -> LineResult<Bit
     parse_bits(alloc, digits)?.ok_or(LineError::Bad)
 }
 
-/// The flat column that an array is, unless it is in another form.
+/// Returns the flat column that an array is, unless it is in another form.
 pub fn flat_of<A: Allocator>(array: ArrayRef<A>) -> Option<FlatColumn<A>> {
     match array {
         ArrayRef::Primitive(array) => Some(FlatColumn::Primitive(array)),

@@ -17,8 +17,8 @@ pub struct Line<'a> {
     pub expected: &'a str,
 }
 
-/// What a line asks, and which answer it expects: what stands behind the first ` => `, or `ok` where it has none.
-/// `None` for a line that is empty or begins with `#`.
+/// Returns what a line asks, and which answer it expects: what stands behind the first ` => `, or `ok` where it has
+/// none. `None` for a line that is empty or begins with `#`.
 pub fn read_line(line: &str) -> Option<Line<'_>>
     ensures skipped { IsNone result ↔ IsSkipped line.now }
     ensures parts { IfSome result (λ l. IsLine line.now l.request.now l.expected.now) }

@@ -11,7 +11,7 @@ use vortex_runend::{
     PrimitiveValues, RowValidity, Validity,
 };
 
-/// The column of the lists that were made, with memory for its box from `alloc`.
+/// Returns the column of the lists that were made, with memory for its box from `alloc`.
 pub fn boxed_lists<A: Allocator + Copy>(
     alloc: A,
     lists: VortexResult<ListViewArray<A>>,
@@ -19,7 +19,7 @@ pub fn boxed_lists<A: Allocator + Copy>(
     Ok(ArrayRef::ListView(Box::new(alloc, lists?)?))
 }
 
-/// A validity as one that may also be told by runs.
+/// Returns a validity as one that may also be told by runs.
 pub fn row_validity<A: Allocator>(validity: Validity<A>) -> RowValidity<A> {
     match validity {
         Validity::NonNullable => RowValidity::NonNullable,
@@ -76,7 +76,7 @@ fn lists_over<A: Allocator + Copy>(
     Ok(boxed_lists(*ctx.allocator(), lists)?)
 }
 
-// The elements of all rows, and where those of each row lie. Bad where a row is no list.
+// The elements of all rows, and where those of each row lie. Bad where a row is not a list.
 fn listed_rows<'a, A: Allocator + Copy>(alloc: A, rows: &[Row<'a>]) -> LineResult<Listed<'a, A>> {
     let mut listed = Listed {
         elements: Vec::new(alloc),

@@ -12,7 +12,7 @@ use vortex_runend::{
     SumAnswer, Validity,
 };
 
-/// One word. Refused as `OutOfMemory` alone.
+/// Returns one word. Refused only as `OutOfMemory`.
 pub fn push_word<A: Allocator + Copy>(text: &mut String<A>, word: &str) -> VortexResult<()>
     ensures only { IsOkUnless result VortexError.OutOfMemory }
 {
@@ -53,14 +53,14 @@ fn push_digits<A: Allocator + Copy>(text: &mut String<A>, number: i128) -> Vorte
     Ok(())
 }
 
-/// The name of a type.
+/// Returns the name of a type.
 pub fn push_dtype<A: Allocator + Copy>(text: &mut String<A>, dtype: DType) -> VortexResult<()> {
     push_space(text)?;
     push_type(text, dtype)?;
     Ok(())
 }
 
-/// The value of a row.
+/// Returns the value of a row.
 pub fn push_row<A: Allocator + Copy>(
     text: &mut String<A>,
     row: ScalarView<'_, A>,
@@ -95,7 +95,7 @@ fn push_list<A: Allocator + Copy>(
     push_letters(text, "]")
 }
 
-// A value that is no list. Elements of lists are none.
+// A value that is not a list. Elements of lists are none.
 fn push_single<A: Allocator + Copy>(
     text: &mut String<A>,
     row: ScalarView<'_, A>,
@@ -149,7 +149,7 @@ fn push_bytes<A: Allocator + Copy>(text: &mut String<A>, bytes: &[u8]) -> Vortex
     Ok(())
 }
 
-/// The values of all rows. More rows than there is room for are refused at once.
+/// Returns the values of all rows. More rows than there is room for are refused at once.
 pub fn push_rows<A: Allocator + Copy>(
     text: &mut String<A>,
     array: &ArrayRef<A>,
@@ -162,8 +162,8 @@ pub fn push_rows<A: Allocator + Copy>(
     Ok(())
 }
 
-/// What a flat column stores, under null too, or nothing and `false` where the column is not flat, or of
-/// texts, bytes or lists.
+/// Returns what a flat column stores, under null too, or nothing and `false` where the column is not flat, or of texts,
+/// bytes or lists.
 pub fn push_stored<A: Allocator + Copy>(
     text: &mut String<A>,
     array: &ArrayRef<A>,
@@ -202,14 +202,14 @@ fn push_truths<A: Allocator + Copy>(text: &mut String<A>, bits: &BitBuffer<A>) -
     Ok(())
 }
 
-/// A boolean.
+/// Returns a boolean.
 pub fn push_truth<A: Allocator + Copy>(text: &mut String<A>, truth: bool) -> VortexResult<()> {
     push_space(text)?;
     write!(text, "{truth}")?;
     Ok(())
 }
 
-/// A sum: the number, or `overflow`, and behind it `empty` where no row is valid.
+/// Returns a sum: the number, or `overflow`, and behind it `empty` where no row is valid.
 pub fn push_sum<A: Allocator + Copy>(text: &mut String<A>, total: SumAnswer) -> VortexResult<()> {
     push_space(text)?;
     match total.sum {
@@ -223,7 +223,7 @@ pub fn push_sum<A: Allocator + Copy>(text: &mut String<A>, total: SumAnswer) -> 
     }
 }
 
-/// The form of a column.
+/// Returns the form of a column.
 pub fn push_form<A: Allocator + Copy>(
     text: &mut String<A>,
     array: &ArrayRef<A>,
@@ -367,7 +367,7 @@ fn push_elements<A: Allocator + Copy>(
     Ok(())
 }
 
-/// A validity: its word, its bits, or the form of its runs in braces.
+/// Returns a validity: its word, its bits, or the form of its runs in braces.
 pub fn push_validity<A: Allocator + Copy>(
     text: &mut String<A>,
     validity: &RowValidity<A>,
@@ -395,7 +395,7 @@ fn push_bits<A: Allocator + Copy>(text: &mut String<A>, bits: &BitBuffer<A>) -> 
     Ok(())
 }
 
-/// The bytes of a record or of a message, a word of two hexadecimal digits each, or `-` where there are none.
+/// Returns the bytes of a record or of a message, a word of two hexadecimal digits each, or `-` where there are none.
 pub fn push_byte_words<A: Allocator + Copy>(
     text: &mut String<A>,
     bytes: &[u8],
@@ -410,7 +410,7 @@ pub fn push_byte_words<A: Allocator + Copy>(
     Ok(())
 }
 
-/// What a record says: the type of the ends, the number of runs, and the offset.
+/// Returns what a record says: the type of the ends, the number of runs, and the offset.
 pub fn push_metadata<A: Allocator + Copy>(
     text: &mut String<A>,
     metadata: &RunEndMetadata,
@@ -423,7 +423,7 @@ pub fn push_metadata<A: Allocator + Copy>(
     push_number(text, i128::from(metadata.offset))
 }
 
-/// A refusal: its number and its fields in order.
+/// Returns a refusal: its number and its fields in order.
 pub fn push_refusal<A: Allocator + Copy>(
     text: &mut String<A>,
     error: VortexError,

@@ -6,7 +6,7 @@ use crate::request::{Call, Look, Request};
 use crate::session_words::{read_kernels, read_thresholds};
 use column_words::parse_count;
 
-/// What these words ask, or `None` where they cannot be read.
+/// Returns what these words ask, or `None` where they cannot be read.
 pub fn read_request<'a>(words: &'a [&'a str]) -> Option<Request<'a>> {
     let (first, rest) = words.split_first()?;
     match *first {

@@ -18,7 +18,7 @@ pub struct Report<A: Allocator> {
 }
 
 impl<A: Allocator + Copy> Report<A> {
-    /// The report of no lines.
+    /// Returns the report of no lines.
     pub fn new(alloc: A) -> Self
         ensures text { string_bytes result.text ≡ [] }
         ensures agree { result.agree ≡ 0 }
@@ -32,7 +32,7 @@ impl<A: Allocator + Copy> Report<A> {
     }
 
     /// Counts the line that comes behind so many others, and reports it, with its number from 1 and what it was
-    /// answered, where that is not what it expects. Refused for want of memory alone, and then the line is counted, but
+    /// answered, where that is not what it expects. Refused only for memory, and then the line is counted, but
     /// its report may be cut.
     pub fn count(&mut self, before: usize, expected: &str, answer: &str) -> VortexResult<()>
         ensures only { IsOkUnless result VortexError.OutOfMemory }
@@ -54,7 +54,7 @@ impl<A: Allocator + Copy> Report<A> {
         Ok(())
     }
 
-    /// Reports how many lines agree, and how many differ. Refused for want of memory alone.
+    /// Reports how many lines agree, and how many differ. Refused only for memory.
     pub fn total(&mut self) -> VortexResult<()>
         ensures only { IsOkUnless result VortexError.OutOfMemory }
         ensures reported { OnOk result (string_bytes self.new.text ≡
@@ -67,7 +67,7 @@ impl<A: Allocator + Copy> Report<A> {
         Ok(())
     }
 
-    /// The exit status: 0 where each line is answered as it expects, else 1.
+    /// Returns the exit status: 0 where each line is answered as it expects, else 1.
     pub fn status(&self) -> u8
         ensures agrees { result ≡ 0 ↔ (self.now.differ ≡ 0) }
         ensures differs { self.now.differ ≢ 0 → result ≡ 1 }

@@ -70,7 +70,7 @@ pub enum Call<'a> {
 }
 
 impl<'a> Call<'a> {
-    /// Does it make a column? Else it is done to one, or to none.
+    /// Returns whether it makes a column. Else it is done to one, or to none.
     pub fn makes(self) -> bool {
         match self {
             Call::Copy(_) | Call::Encode(_) | Call::EncodeRows(_) => true,

@@ -4,14 +4,14 @@ use crate::session_words::read_kernel;
 use std::alloc::Allocator;
 use vortex_runend::{ExecutionCtx, KERNELS, Thresholds, VortexSession, initialize};
 
-/// A session with all kernels and the thresholds of the library.
+/// Returns a session with all kernels and the thresholds of the library.
 pub fn crate_session() -> VortexSession {
     let mut session = VortexSession::empty();
     initialize(&mut session);
     session
 }
 
-/// A session as this one.
+/// Returns a session as this one.
 pub fn copy_session(session: &VortexSession) -> VortexSession {
     let mut copy = VortexSession::empty();
     for kernel in KERNELS {

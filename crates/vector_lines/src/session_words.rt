@@ -4,7 +4,7 @@ use crate::request::{Kernels, Request};
 use column_words::parse_count;
 use runend_array::{Kernel, Thresholds};
 
-/// The kernel of this name.
+/// Returns the kernel of this name.
 pub fn read_kernel(word: &str) -> Option<Kernel> {
     match word {
         "slice" => Some(Kernel::Slice),

@@ -4,7 +4,7 @@ use column_base::{DType, DecimalDType, ElementDType, NativePType, Nullability};
 use column_words::{name_of, parse_count, parse_integer, parse_ptype, push_marked, split_mark};
 use std::alloc::{AllocError, Allocator};
 
-/// The type that a word names, with a question mark behind it where rows may be null.
+/// Returns the type that a word names, with a question mark behind it where rows may be null.
 pub fn read_type(word: &str) -> Option<DType> {
     let (name, nullability) = split_mark(word);
     match between(name, "list(", ')') {
@@ -13,7 +13,7 @@ pub fn read_type(word: &str) -> Option<DType> {
     }
 }
 
-/// The type that a word names, which is no list.
+/// Returns the type that a word names, which is not a list.
 pub fn read_single(word: &str) -> Option<ElementDType> {
     let (name, nullability) = split_mark(word);
     match name {
@@ -43,7 +43,7 @@ fn decimal_of(precision: usize, scale: i128) -> Option<DecimalDType> {
     })
 }
 
-/// The type of rows that are of the type of an element.
+/// Returns the type of rows that are of the type of an element.
 pub fn dtype_of(element: ElementDType) -> DType {
     match element {
         ElementDType::Bool(nullability) => DType::Bool(nullability),
@@ -54,7 +54,7 @@ pub fn dtype_of(element: ElementDType) -> DType {
     }
 }
 
-/// The type of elements that are of the type of these rows, unless that is lists.
+/// Returns the type of elements that are of the type of these rows, unless that is lists.
 pub fn single_of(dtype: DType) -> Option<ElementDType> {
     match dtype {
         DType::Bool(nullability) => Some(ElementDType::Bool(nullability)),

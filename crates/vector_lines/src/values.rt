@@ -34,7 +34,7 @@ pub const NULL_ROW: Row<'static> = Row {
     value: Value::Null,
 };
 
-/// The value that a word writes.
+/// Returns the value that a word writes.
 pub fn read_value(word: &str) -> Option<Value<'_>> {
     match word {
         "null" => Some(Value::Null),
@@ -58,12 +58,12 @@ fn read_marked(word: &str) -> Option<Value<'_>> {
     Some(Value::Number(parse_integer(word)?))
 }
 
-/// What stands between the one and the other, at the ends of the word.
+/// Returns what stands between the one and the other, at the ends of the word.
 pub fn between<'a>(word: &'a str, before: &str, behind: char) -> Option<&'a str> {
     word.strip_prefix(before)?.strip_suffix(behind)
 }
 
-/// The row that a word writes: a value, `null`, or null over a stored value.
+/// Returns the row that a word writes: a value, `null`, or null over a stored value.
 pub fn read_row(word: &str) -> Option<Row<'_>> {
     if let Some(stored) = word.strip_prefix("null:") {
         return match read_value(stored)? {
@@ -85,7 +85,7 @@ pub fn read_row(word: &str) -> Option<Row<'_>> {
 }
 
 /// Puts the elements that stand between the brackets of a list behind the rows. Bad where one of them is
-/// no value.
+/// not a value.
 pub fn read_elements<'a, A: Allocator + Copy>(
     listed: &'a str,
     rows: &mut Vec<Row<'a>, A>,
@@ -156,7 +156,7 @@ pub fn push_row<'a, A: Allocator + Copy>(
     }
 }
 
-/// The value, where it could be read whole.
+/// Returns the value, where it could be read whole.
 pub fn unless_failed<T: Drop>(read: LineResult<()>, value: T) -> LineResult<T> {
     match read {
         Ok(()) => Ok(value),
@@ -167,7 +167,7 @@ pub fn unless_failed<T: Drop>(read: LineResult<()>, value: T) -> LineResult<T> {
     }
 }
 
-/// The two, where there is a second.
+/// Returns the two, where there is a second.
 pub fn paired<T: Drop, U>(first: T, second: LineResult<U>) -> LineResult<(T, U)> {
     match second {
         Ok(second) => Ok((first, second)),
@@ -178,7 +178,7 @@ pub fn paired<T: Drop, U>(first: T, second: LineResult<U>) -> LineResult<(T, U)>
     }
 }
 
-/// The text that stands between quotes. Bad where it has an escape that is none.
+/// Returns the text that stands between quotes. Bad where it has an escape that is none.
 pub fn text_of<A: Allocator + Copy>(alloc: A, quoted: &str) -> LineResult<String<A>> {
     let mut text = String::new(alloc);
     let mut escaped = false;
@@ -220,7 +220,7 @@ fn plain_letter(letter: char) -> Option<char> {
     if letter == '"' { None } else { Some(letter) }
 }
 
-/// The bytes of these hexadecimal digits. Bad where they are none.
+/// Returns the bytes of these hexadecimal digits. Bad where they are none.
 pub fn bytes_of<A: Allocator + Copy>(alloc: A, digits: &str) -> LineResult<Vec<u8, A>> {
     match hex::decode(alloc, digits) {
         Ok(bytes) => Ok(bytes),
@@ -229,7 +229,7 @@ pub fn bytes_of<A: Allocator + Copy>(alloc: A, digits: &str) -> LineResult<Vec<u
     }
 }
 
-/// The bytes of these words, two hexadecimal digits each. Bad where a word is none of a byte. The word of no
+/// Returns the bytes of these words, two hexadecimal digits each. Bad where a word is none of a byte. The word of no
 /// bytes is `-`.
 pub fn bytes_of_words<A: Allocator + Copy>(alloc: A, words: &[&str]) -> LineResult<Vec<u8, A>> {
     match words {

@@ -187,7 +187,7 @@ fn answer_text<A: Allocator + Copy>(
     }
 }
 
-/// The text of a reply.
+/// Returns the text of a reply.
 pub fn reply_text<A: Allocator + Copy>(alloc: A, reply: Reply<A>) -> VortexResult<String<A>>
     ensures only { IsOkUnless result VortexError.OutOfMemory }
 {

@@ -15,7 +15,7 @@ use vortex_runend::{ArrayRef, ExecutionCtx, VortexError};
 /// What came of a call with requests for memory refused.
 #[derive(Clone, Copy, PartialEq, Eq)]
 pub enum Found {
-    /// Some run was answered for want of memory by the call, and none wrongly.
+    /// Some run was answered for memory by the call, and none wrongly.
     Memory,
     /// No run was, and none wrongly.
     Nothing,
@@ -33,7 +33,7 @@ struct Shown<A: Allocator> {
 /// What a call has to show.
 #[derive(Drop)]
 struct Expected<A: Allocator> {
-    /// Where it is refused for want of memory: the column as it was.
+    /// Where it is refused for memory: the column as it was.
     refused: Shown<A>,
     /// Where it is not.
     served: Shown<A>,
@@ -42,9 +42,9 @@ struct Expected<A: Allocator> {
 /// What became of a run that may have met refused requests.
 #[derive(Clone, Copy)]
 enum Tried {
-    /// It was refused for want of memory, and left the column as it was, or so was a command of a list.
+    /// It was refused for memory, and left the column as it was, or so was a command of a list.
     Refused,
-    /// No command was begun, for want of memory, and the column is as it was; or the run answered and
+    /// No command was begun, for memory, and the column is as it was; or the run answered and
     /// left what it has to.
     Served,
     /// It answered or left something else.
@@ -65,7 +65,7 @@ pub fn refused_in_turn(
     found
 }
 
-/// What comes of the list with the first request for memory refused alone for want of which the command at this
+/// Returns what comes of the list with the first request for memory refused alone for want of which the command at this
 /// position, from 1, is refused. `None` where it is so for no request. Bad where the line asks for something that there
 /// is not.
 pub fn refused_one<'a>(
@@ -89,7 +89,7 @@ pub fn refused_one<'a>(
     Ok(None)
 }
 
-// Was the command at this position, from 1, refused for want of memory?
+// Was the command at this position, from 1, refused for memory?
 fn lacks_at<A: Allocator>(reply: &Reply<A>, position: usize) -> bool {
     match (reply, position.checked_sub(1)) {
         (Reply::ListReply(listed), Some(before)) => matches!(
@@ -241,7 +241,7 @@ fn outcome_with<'a>(
     Ok(call.run(&mut ctx, *workspace.ctx.allocator())?)
 }
 
-// What became of a call that is no list, or was not begun.
+// What became of a call that is not a list, or was not begun.
 fn tried_call<A: Allocator + Copy>(
     ample: A,
     outcome: CallResult<A>,
@@ -252,7 +252,7 @@ fn tried_call<A: Allocator + Copy>(
     Ok(judged(&shown, expected, answered))
 }
 
-// What became of a list: its commands that were not refused for want of memory answer and leave what they do alone,
+// What became of a list: its commands that were not refused for memory answer and leave what they do alone,
 // with ample memory.
 fn tried_list<'a>(
     name: &str,
@@ -278,7 +278,7 @@ fn tried_list<'a>(
     Ok(judged_list(&shown, &due, lacking.contains(&true)))
 }
 
-// What became of a run that showed this, and was answered for want of memory or not.
+// What became of a run that showed this, and was answered for memory or not.
 fn judged<A: Allocator>(shown: &Shown<A>, expected: &Expected<A>, answered: bool) -> Tried
     ensures wrong { result ≡ Tried.Wrong ↔ (¬ (IsSame shown.now expected.now.refused ⊎ IsSame shown.now
         expected.now.served)) }
@@ -297,7 +297,7 @@ fn judged<A: Allocator>(shown: &Shown<A>, expected: &Expected<A>, answered: bool
     }
 }
 
-// What became of a list whose commands that were not refused for want of memory showed this, of which this is due.
+// What became of a list whose commands that were not refused for memory showed this, of which this is due.
 fn judged_list<A: Allocator>(shown: &Shown<A>, due: &Shown<A>, lacking: bool) -> Tried
     ensures wrong { result ≡ Tried.Wrong ↔ (¬ (IsSame shown.now due.now)) }
     ensures refused { result ≡ Tried.Refused ↔ (IsSame shown.now due.now × IsTrue lacking) }

@@ -30,7 +30,7 @@ pub struct Workspace<'a> {
 }
 
 impl<'a> Workspace<'a> {
-    /// No columns, and a session with all kernels and the thresholds of the library.
+    /// Returns no columns, and a session with all kernels and the thresholds of the library.
     pub fn new(heaps: &'a Bump<Global>, global: Global) -> VortexResult<Self> {
         let ample = heaps.try_alloc(Refusing::never(global))?;
         Ok(Workspace {

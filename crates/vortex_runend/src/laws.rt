@@ -133,7 +133,7 @@ pub fn narrow_is_exact<T: NativePType>(number: i128) -> Option<T>
 }
 
 /// Encodes a plain column of integers, of any of the eight types, and decodes what comes out: the
-/// rows and the type are those of the column. Refused as `OutOfMemory` alone. For compressors.
+/// rows and the type are those of the column. Refused only as `OutOfMemory`. For compressors.
 pub fn encode_then_decode<A: Allocator + Copy>(
     array: ArrayRef<A>,
     ctx: &mut ExecutionCtx<A>,

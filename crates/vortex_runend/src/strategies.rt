@@ -10,9 +10,8 @@ use runend_array::{
 };
 use std::alloc::Allocator;
 
-/// The run of each valid index, and 0 for a null one, where `offset` is the position of row 0. For
-/// each valid index it tests no more ends than their number has binary digits. Refused as
-/// `OutOfMemory` alone, before any test.
+/// Returns the run of each valid index, and 0 for a null one, where `offset` is the position of row 0. For each valid
+/// index it tests no more ends than their number has binary digits. Refused only as `OutOfMemory`, before any test.
 pub fn physical_indices_binary<E: UnsignedPType, T: NativePType, A: Allocator + Copy>(
     ends: &mut CountedEnds<'_, E>,
     offset: usize,
@@ -34,9 +33,9 @@ pub fn physical_indices_binary<E: UnsignedPType, T: NativePType, A: Allocator + 
     runend_select::physical_indices_binary(*ctx.allocator(), ends, offset, indices, mask)
 }
 
-/// The run of each valid index, and 0 for a null one, where `offset` is the position of row 0 and no
-/// valid index is below a valid one before it. It tests an end for each valid index and one for each
-/// run but the last, at most. Refused as `OutOfMemory` alone, before any test.
+/// Returns the run of each valid index, and 0 for a null one, where `offset` is the position of row 0 and no valid
+/// index is below a valid one before it. It tests an end for each valid index and one for each run but the last, at
+/// most. Refused only as `OutOfMemory`, before any test.
 pub fn physical_indices_linear_sorted<E: UnsignedPType, T: NativePType, A: Allocator + Copy>(
     ends: &mut CountedEnds<'_, E>,
     offset: usize,
@@ -59,9 +58,9 @@ pub fn physical_indices_linear_sorted<E: UnsignedPType, T: NativePType, A: Alloc
     runend_select::physical_indices_linear_sorted(*ctx.allocator(), ends, offset, indices, mask)
 }
 
-/// The run of each valid index, and 0 for a null one, where `offset` is the position of row 0. The
-/// indices are sorted, so it tests an end for each valid index and one for each run but the last, at
-/// most. Refused as `OutOfMemory` alone, before any test.
+/// Returns the run of each valid index, and 0 for a null one, where `offset` is the position of row 0. The indices are
+/// sorted, so it tests an end for each valid index and one for each run but the last, at most. Refused as `OutOfMemory`
+/// alone, before any test.
 pub fn physical_indices_linear_unsorted<E: UnsignedPType, T: NativePType, A: Allocator + Copy>(
     ends: &mut CountedEnds<'_, E>,
     offset: usize,
@@ -83,8 +82,8 @@ pub fn physical_indices_linear_unsorted<E: UnsignedPType, T: NativePType, A: All
     runend_select::physical_indices_linear_unsorted(*ctx.allocator(), ends, offset, indices, mask)
 }
 
-/// The run of each of `length` rows, from position `offset` on. It tests an end for each row and one
-/// for each run but the last, at most. Refused as `OutOfMemory` alone, before any test.
+/// Returns the run of each of `length` rows, from position `offset` on. It tests an end for each row and one for each
+/// run but the last, at most. Refused only as `OutOfMemory`, before any test.
 pub fn run_index_table<E: UnsignedPType, A: Allocator + Copy>(
     ends: &mut CountedEnds<'_, E>,
     offset: usize,
@@ -102,8 +101,8 @@ pub fn run_index_table<E: UnsignedPType, A: Allocator + Copy>(
     runend_select::run_index_table(*ctx.allocator(), ends, offset, length)
 }
 
-/// The table's item at each valid index, and its first item at a null one. No end is tested, since
-/// none is lent. Refused as `OutOfMemory` alone.
+/// Returns the table's item at each valid index, and its first item at a null one. No end is tested, since none is
+/// lent. Refused only as `OutOfMemory`.
 pub fn physical_indices_table<T: NativePType, A: Allocator + Copy>(
     table: &[u64],
     indices: &[T],

@@ -33,21 +33,21 @@ impl<A: Allocator> Model for BitBuffer<A> {
 }
 
 impl<A: Allocator> BitBuffer<A> {
-    /// How many bits there are.
+    /// Returns how many bits there are.
     pub fn len(&self) -> usize
         ensures { result ≡ length self.now }
     {
         self.count
     }
 
-    /// Is there no bit?
+    /// Returns whether there are no bits.
     pub fn is_empty(&self) -> bool
         ensures { IsTrue result ↔ (self.now ≡ []) }
     {
         self.count == 0
     }
 
-    /// The bit at `index`.
+    /// Returns the bit at `index`.
     pub fn value(&self, index: usize) -> bool
         requires { index < length self.now }
         ensures { slice_get self.now index ≡ Some result }
@@ -55,15 +55,15 @@ impl<A: Allocator> BitBuffer<A> {
         (self.words[index / 64] >> (index % 64)) & 1 == 1
     }
 
-    /// The words that hold the bits, 64 to a word from its lowest bit up: as few words as can, and
-    /// 0 behind the last bit.
+    /// Returns the words that hold the bits, 64 to a word from its lowest bit up: as few words as can, and 0 behind the
+    /// last bit.
     pub fn words(&self) -> &[u64]
         ensures { Packs result.now self.now }
     {
         self.words.as_slice()
     }
 
-    /// How many bits are true.
+    /// Returns how many bits are true.
     pub fn true_count(&self) -> usize
         ensures { result ≡ count_by (λ bit. bit) self.now }
     {
@@ -73,7 +73,7 @@ impl<A: Allocator> BitBuffer<A> {
         ones_of(words)
     }
 
-    /// How many of the bits from `start` to `stop - 1` are true.
+    /// Returns how many of the bits from `start` to `stop - 1` are true.
     pub fn count_range(&self, start: usize, stop: usize) -> usize
         requires ordered { start ≤ stop }
         requires in_bounds { stop ≤ length self.now }
@@ -97,7 +97,7 @@ impl<A: Allocator> BitBuffer<A> {
         front + middle + back
     }
 
-    /// The places of the true bits, from the first to the last.
+    /// Returns the places of the true bits, from the first to the last.
     pub fn set_indices(&self) -> SetIndices<'_>
         ensures { result ≡ set_indices_of self.now }
     {
@@ -120,8 +120,8 @@ impl<A: Allocator + Copy> BitBuffer<A> {
         }
     }
 
-    /// The bits from `range.start` to `range.end - 1`. They are shared with these where these are shared and the range
-    /// begins with a word and ends with a word or the last bit, and else copied. Refused for want of memory alone.
+    /// Returns the bits from `range.start` to `range.end - 1`. They are shared with these where these are shared and
+    /// the range begins with a word and ends with a word or the last bit, and else copied. Refused only for memory.
     pub fn slice(&self, alloc: A, range: Range<usize>) -> VortexResult<BitBuffer<A>>
         requires ordered { range.start ≤ range.end }
         requires in_bounds { range.end ≤ length self.now }
@@ -166,8 +166,8 @@ impl<A: Allocator + Copy> BitBuffer<A> {
         Ok(BitBuffer::of_words(part, count))
     }
 
-    /// A copy of the bits: shared with these where these are shared, and else in memory of its own. Refused for want of
-    /// memory alone.
+    /// Returns a copy of the bits: shared with these where these are shared, and else in memory of its own. Refused
+    /// only for memory.
     pub fn try_clone(&self, alloc: A) -> VortexResult<BitBuffer<A>>
         ensures bits { IfOk result (λ copy. copy ≡ self.now) }
         ensures only { IsOkUnless result VortexError.OutOfMemory }
@@ -177,8 +177,8 @@ impl<A: Allocator + Copy> BitBuffer<A> {
             count: self.count,
         })
     }
-    /// A copy of the bits, shared with none: what these are a part of may then be freed. Refused for want of memory
-    /// alone.
+    /// Returns a copy of the bits, shared with none: what these are a part of may then be freed. Refused only for
+    /// memory.
     pub fn compact(&self, alloc: A) -> VortexResult<BitBuffer<A>>
         ensures bits { IfOk result (λ copy. copy ≡ self.now) }
         ensures only { IsOkUnless result VortexError.OutOfMemory }

@@ -28,7 +28,7 @@ impl<A: Allocator> Model for BitBufferMut<A> {
 }
 
 impl<A: Allocator + Copy> BitBufferMut<A> {
-    /// No bits, and room for `capacity` bits. Refused for want of memory alone.
+    /// Returns no bits, and room for `capacity` bits. Refused only for memory.
     pub fn with_capacity(alloc: A, capacity: usize) -> VortexResult<Self>
         ensures empty { IfOk result (λ buffer. buffer ≡ []) }
         ensures only { IsOkUnless result VortexError.OutOfMemory }
@@ -39,7 +39,7 @@ impl<A: Allocator + Copy> BitBufferMut<A> {
         })
     }
 
-    /// `count` bits, each of them `value`. Refused for want of memory alone.
+    /// `count` bits, each of them `value`. Refused only for memory.
     pub fn full(alloc: A, value: bool, count: usize) -> VortexResult<Self>
         ensures bits { IfOk result (λ buffer. buffer ≡ replicate count value) }
         ensures only { IsOkUnless result VortexError.OutOfMemory }
@@ -49,8 +49,8 @@ impl<A: Allocator + Copy> BitBufferMut<A> {
         Ok(BitBufferMut { words, count })
     }
 
-    /// The first `count` bits of the words, 64 to a word from its lowest bit up. What stands behind them in the words
-    /// is let go, whatever it is. Takes no memory.
+    /// Returns the first `count` bits of the words, 64 to a word from its lowest bit up. What stands behind them in the
+    /// words is let go, whatever it is. Takes no memory.
     pub fn from_words(mut words: Vec<u64, A>, count: usize) -> Self
         requires in_words { count ≤ length words.items * 64 }
         ensures { result ≡ first_bits count words.items }
@@ -60,21 +60,21 @@ impl<A: Allocator + Copy> BitBufferMut<A> {
         BitBufferMut { words, count }
     }
 
-    /// How many bits there are.
+    /// Returns how many bits there are.
     pub fn len(&self) -> usize
         ensures { result ≡ length self.now }
     {
         self.count
     }
 
-    /// Is there no bit?
+    /// Returns whether there are no bits.
     pub fn is_empty(&self) -> bool
         ensures { IsTrue result ↔ (self.now ≡ []) }
     {
         self.count == 0
     }
 
-    /// Puts `bit` behind the last bit. Refused for want of memory alone, and then the bits stay.
+    /// Puts `bit` behind the last bit. Refused only for memory, and then the bits stay.
     pub fn append(&mut self, bit: bool) -> VortexResult<()>
         ensures ok { OnOk result (self.new ≡ self.old ++ bit ∷ []) }
         ensures err { OnErr result (self.new ≡ self.old) }
@@ -96,7 +96,7 @@ impl<A: Allocator + Copy> BitBufferMut<A> {
         Ok(())
     }
 
-    /// Puts `count` times `bit` behind the last bit. Refused for want of memory alone, and then
+    /// Puts `count` times `bit` behind the last bit. Refused only for memory, and then
     /// the bits stay.
     pub fn append_n(&mut self, bit: bool, count: usize) -> VortexResult<()>
         ensures ok { OnOk result (self.new ≡ self.old ++ replicate count bit) }
@@ -144,8 +144,8 @@ impl<A: Allocator + Copy> BitBufferMut<A> {
         self.count = count;
     }
 
-    /// The bits as a buffer, in which they change no more, shared as `Buffer::shared` shares their words. Nothing is
-    /// copied, and want of memory refuses nothing.
+    /// Returns the bits as a buffer, in which they change no more, shared as `Buffer::shared` shares their words.
+    /// Nothing is copied, and want of memory refuses nothing.
     pub fn freeze(self) -> BitBuffer<A>
         ensures { result ≡ self }
     {

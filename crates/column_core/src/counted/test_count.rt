@@ -20,14 +20,14 @@ impl Model for TestCount {
 }
 
 impl TestCount {
-    /// The count of no tests.
+    /// Returns the count of no tests.
     pub(crate) fn new() -> TestCount
         ensures { result.count ≡ 0 }
     {
         TestCount {}
     }
 
-    /// The count with so many tests more. Nothing reads the number when the program runs.
+    /// Returns the count with so many tests more. Nothing reads the number when the program runs.
     #[inline]
     pub(crate) fn plus(&self, _tests: usize) -> TestCount
         ensures { result.count ≡ self.now.count + _tests }

@@ -16,7 +16,7 @@ use runend_windows::{last_end_of, validate_ends};
 use std::alloc::Allocator;
 
 impl RunEnd {
-    /// The run column of these ends and values, from the first row to the last end. Refused by
+    /// Returns the run column of these ends and values, from the first row to the last end. Refused by
     /// `EndsNotUnsigned`, `LengthsDiffer` or `EndsNotStrict`, in this order. Takes no memory.
     pub fn try_new<A: Allocator + Copy>(
         ends: ArrayRef<A>,
@@ -38,9 +38,8 @@ impl RunEnd {
         RunEnd::try_new_offset_length(ends, values, 0, length, ctx)
     }
 
-    /// The run column of these parts. Refused by the first fault: `EndsNotUnsigned`, `LengthsDiffer`,
-    /// `NoRunsWindow`, `EndsNotStrict`, `WindowOverflow`, `FirstEndBelowOffset`, `LastEndBelowWindow`.
-    /// Takes no memory.
+    /// Returns the run column of these parts. Refused by the first fault: `EndsNotUnsigned`, `LengthsDiffer`,
+    /// `NoRunsWindow`, `EndsNotStrict`, `WindowOverflow`, `FirstEndBelowOffset`, `LastEndBelowWindow`. Takes no memory.
     pub fn try_new_offset_length<A: Allocator + Copy>(
         ends: ArrayRef<A>,
         values: ArrayRef<A>,
@@ -65,7 +64,7 @@ impl RunEnd {
         }
     }
 
-    /// The run column of ends and values that `try_new` accepts. Takes no memory.
+    /// Returns the run column of ends and values that `try_new` accepts. Takes no memory.
     pub fn new<A: Allocator + Copy>(
         ends: ArrayRef<A>,
         values: ArrayRef<A>,
@@ -81,7 +80,7 @@ impl RunEnd {
         RunEnd::new_unchecked(ends, values, 0, length)
     }
 
-    /// The run column of parts that `try_new_offset_length` accepts. Takes no memory.
+    /// Returns the run column of parts that `try_new_offset_length` accepts. Takes no memory.
     pub fn new_unchecked<A: Allocator + Copy>(
         ends: ArrayRef<A>,
         values: ArrayRef<A>,
@@ -99,9 +98,8 @@ impl RunEnd {
         }
     }
 
-    /// The run column of the encoding of a plain column of integers: a tight exact cover of its
-    /// rows, with ends as narrow as can be. Refused as `OnlyPrimitive` exactly for other forms and
-    /// types, else as `OutOfMemory` alone.
+    /// Returns the run column of the encoding of a plain column of integers: a tight exact cover of its rows, with ends
+    /// as narrow as can be. Refused as `OnlyPrimitive` exactly for other forms and types, else only as `OutOfMemory`.
     pub fn encode<A: Allocator + Copy>(
         array: ArrayRef<A>,
         ctx: &mut ExecutionCtx<A>,
@@ -123,21 +121,21 @@ impl RunEnd {
         Ok(RunEnd::new_unchecked(ends, values, 0, count))
     }
 
-    /// The name of the encoding, `vortex.runend`.
+    /// Returns the name of the encoding, `vortex.runend`.
     pub fn id() -> &'static str
         ensures { result.now ≡ codes "vortex.runend" }
     {
         "vortex.runend"
     }
 
-    /// How many buffers a run column has beside its slots: none.
+    /// Returns how many buffers a run column has beside its slots: none.
     pub fn nbuffers() -> usize
         ensures { result ≡ 0 }
     {
         0
     }
 
-    /// The name of a slot: of slot 0 `ends`, of slot 1 `values`.
+    /// Returns the name of a slot: of slot 0 `ends`, of slot 1 `values`.
     pub fn slot_name(slot: usize) -> &'static str
         requires { slot < 2 }
         ensures ends { slot ≡ 0 → result.now ≡ codes "ends" }
@@ -169,7 +167,7 @@ pub fn validate_parts<A: Allocator + Copy>(
     validate_ends(plain, values.len(), offset, length)
 }
 
-/// The ends, where the column is flat, unsigned and without null.
+/// Returns the ends, where the column is flat, unsigned and without null.
 pub(crate) fn plain_ends<A: Allocator + Copy>(ends: &ArrayRef<A>) -> Option<&PrimitiveArray<A>>
     ensures { MatchOption result
         (¬ IsPlainEnds (column_of ends.now))

@@ -14,21 +14,21 @@ use runend_windows::RunWriter;
 use std::alloc::Allocator;
 
 impl<A: Allocator + Copy> RunEndArray<A> {
-    /// Is it a run column over flat u64 without null?
+    /// Returns whether it is a run column over flat u64 without null.
     pub(crate) fn is_index(&self) -> bool
         ensures { IsTrue result ↔ IsPlainIndex self.now.values }
     {
         is_plain_index(&self.values)
     }
 
-    /// Is it a run column over flat booleans without null?
+    /// Returns whether it is a run column over flat booleans without null.
     pub(crate) fn is_truths(&self) -> bool
         ensures { IsTrue result ↔ IsPlainTruths self.now.values }
     {
         is_plain_truths(&self.values)
     }
 
-    /// The number in a row of a run column over flat u64 without null.
+    /// Returns the number in a row of a run column over flat u64 without null.
     pub(crate) fn number_at(&self, index: usize) -> u64
         requires plain { IsPlainIndex self.now.values }
         requires within { index < self.now.count }
@@ -38,7 +38,7 @@ impl<A: Allocator + Copy> RunEndArray<A> {
         plain_number_at(&self.values, run)
     }
 
-    /// The boolean in a row of a run column over flat booleans without null.
+    /// Returns the boolean in a row of a run column over flat booleans without null.
     pub(crate) fn truth_at(&self, index: usize) -> bool
         requires plain { IsPlainTruths self.now.values }
         requires within { index < self.now.count }
@@ -58,8 +58,8 @@ impl<A: Allocator + Copy> RunEndArray<A> {
         ops::run_from(&self.ends, run, self.offset + index)
     }
 
-    /// The number in a row of a run column over flat u64 without null, up to where the run of this row
-    /// ends; and in `run` this run, sought from `run` on: that of an earlier row, or the first.
+    /// Returns the number in a row of a run column over flat u64 without null, up to where the run of this row ends;
+    /// and in `run` this run, sought from `run` on: that of an earlier row, or the first.
     pub(crate) fn number_from(&self, run: &mut usize, index: usize) -> Stretch<u64>
         requires plain { IsPlainIndex self.now.values }
         requires within { index < self.now.count }
@@ -77,9 +77,8 @@ impl<A: Allocator + Copy> RunEndArray<A> {
         }
     }
 
-    /// The boolean in a row of a run column over flat booleans without null, up to where the
-    /// run of this row ends; and in `run` this run, sought from `run` on: that of an earlier row, or the
-    /// first.
+    /// Returns the boolean in a row of a run column over flat booleans without null, up to where the run of this row
+    /// ends; and in `run` this run, sought from `run` on: that of an earlier row, or the first.
     pub(crate) fn truth_from(&self, run: &mut usize, index: usize) -> Stretch<bool>
         requires plain { IsPlainTruths self.now.values }
         requires within { index < self.now.count }
@@ -109,8 +108,8 @@ impl<A: Allocator + Copy> RunEndArray<A> {
             .min(stop - start)
     }
 
-    /// The numbers in the rows from `start` to `stop - 1` of a run column over flat u64 without null.
-    /// Each run is looked at once. Refused as `OutOfMemory` alone.
+    /// Returns the numbers in the rows from `start` to `stop - 1` of a run column over flat u64 without null. Each run
+    /// is looked at once. Refused only as `OutOfMemory`.
     pub(crate) fn numbers_between(
         &self,
         alloc: A,
@@ -137,8 +136,8 @@ impl<A: Allocator + Copy> RunEndArray<A> {
         Ok(rows.finish())
     }
 
-    /// The booleans in the rows from `start` to `stop - 1` of a run column over flat booleans
-    /// without null. Each run is looked at once. Refused as `OutOfMemory` alone.
+    /// Returns the booleans in the rows from `start` to `stop - 1` of a run column over flat booleans without null.
+    /// Each run is looked at once. Refused only as `OutOfMemory`.
     pub(crate) fn truths_between(
         &self,
         alloc: A,

@@ -25,14 +25,14 @@ use std::alloc::Allocator;
 use std::ops::Range;
 
 impl<A: Allocator + Copy> RunEndArray<A> {
-    /// How many rows there are.
+    /// Returns how many rows there are.
     pub fn len(&self) -> usize
         ensures { result ≡ self.now.count }
     {
         self.length
     }
 
-    /// Are there no rows?
+    /// Returns whether there are no rows.
     pub fn is_empty(&self) -> bool
         ensures { IsTrue result ↔ (self.now.count ≡ 0) }
     {
@@ -46,8 +46,8 @@ impl<A: Allocator + Copy> RunEndArray<A> {
         self.values.dtype()
     }
 
-    /// The row at `index`, borrowed from the column. Refused as `OutOfBounds`, with the index and the
-    /// number of rows, exactly from that number on. Takes no memory.
+    /// Returns the row at `index`, borrowed from the column. Refused as `OutOfBounds`, with the index and the number of
+    /// rows, exactly from that number on. Takes no memory.
     #[cycle(scalar_at)]
     pub fn row_at(&self, index: usize) -> VortexResult<ScalarView<'_, A>>
         ensures row { IfOk result (λ view. slice_get (column_rows (column_of_runs self.now)) index ≡ Some (sees view)) }
@@ -66,8 +66,8 @@ impl<A: Allocator + Copy> RunEndArray<A> {
         }
     }
 
-    /// A run column that is equal in form. Its buffers are shared with this one's where those are shared, and else
-    /// copied. Refused as `OutOfMemory` alone.
+    /// Returns a run column that is equal in form. Its buffers are shared with this one's where those are shared, and
+    /// else copied. Refused only as `OutOfMemory`.
     pub fn try_clone(&self, ctx: &mut ExecutionCtx<A>) -> VortexResult<RunEndArray<A>>
         ensures only { IsOkUnless result VortexError.OutOfMemory }
         ensures form { IfOk result (λ array. array ≡ self.now) }
@@ -116,8 +116,8 @@ impl<A: Allocator + Copy> RunEndArray<A> {
             .decode_with(alloc, ends, self.offset, self.length, prefill_runs)
     }
 
-    /// The runs of the rows from `start` to `stop - 1`, of which there is one at least: from the run of
-    /// the first of them to one past the run of the last.
+    /// Returns the runs of the rows from `start` to `stop - 1`, of which there is one at least: from the run of the
+    /// first of them to one past the run of the last.
     pub fn runs_of_rows(&self, start: usize, stop: usize) -> Range<usize>
         requires some { start < stop }
         requires within { stop ≤ self.now.count }
@@ -133,8 +133,8 @@ impl<A: Allocator + Copy> RunEndArray<A> {
         first..stop
     }
 
-    /// The visible runs: from the run of the first row to one past that of the last, and `0..0` where there
-    /// is no row.
+    /// Returns the visible runs: from the run of the first row to one past that of the last, and `0..0` where there is
+    /// no row.
     pub fn visible_runs(&self) -> Range<usize>
         ensures first { result.start ≡ first_visible self.now.ends self.now.offset self.now.count }
         ensures stop { result.end ≡ stop_visible self.now.ends self.now.offset self.now.count }
@@ -152,7 +152,7 @@ impl<A: Allocator + Copy> RunEndArray<A> {
         self.runs_of_rows(0, self.length)
     }
 
-    /// The ends of the runs from `first` to `stop - 1`. Refused as `OutOfMemory` alone.
+    /// Returns the ends of the runs from `first` to `stop - 1`. Refused only as `OutOfMemory`.
     pub fn ends_between(
         &self,
         alloc: A,
@@ -199,7 +199,7 @@ impl<A: Allocator + Copy> RunEndArray<A> {
         Ok(rows)
     }
 
-    /// Which rows are valid. Refused as `OutOfMemory` alone.
+    /// Returns which rows are valid. Refused only as `OutOfMemory`.
     #[cycle(run_validity)]
     pub fn run_validity(&self, alloc: A) -> VortexResult<RowValidity<A>>
         ensures only { IsOkUnless result VortexError.OutOfMemory }

@@ -11,7 +11,7 @@ use column_core::{
 };
 use std::alloc::Allocator;
 
-/// Is it a flat column of u64 without null?
+/// Returns whether it is a flat column of u64 without null.
 pub(crate) fn is_plain_index<A: Allocator + Copy>(column: &ArrayRef<A>) -> bool
     ensures { IsTrue result ↔ IsPlainIndex (column_of column.now) }
 {
@@ -23,7 +23,7 @@ pub(crate) fn is_plain_index<A: Allocator + Copy>(column: &ArrayRef<A>) -> bool
     }
 }
 
-/// The numbers of a flat column of u64 without null, and `None` for offsets or sizes in runs.
+/// Returns the numbers of a flat column of u64 without null, and `None` for offsets or sizes in runs.
 pub(crate) fn plain_numbers<A: Allocator + Copy>(column: &ArrayRef<A>) -> Option<&[u64]>
     requires { IsIndex (column_of column.now) }
     ensures { MatchOption result (¬ IsPlainIndex (column_of column.now))
@@ -38,7 +38,7 @@ pub(crate) fn plain_numbers<A: Allocator + Copy>(column: &ArrayRef<A>) -> Option
     }
 }
 
-/// A number of a flat column of u64.
+/// Returns a number of a flat column of u64.
 pub(crate) fn plain_number_at<A: Allocator + Copy>(column: &ArrayRef<A>, index: usize) -> u64
     requires plain { IsPlainIndex (column_of column.now) }
     requires within { index < length (end_numbers (column_of column.now)) }
@@ -53,9 +53,8 @@ pub(crate) fn plain_number_at<A: Allocator + Copy>(column: &ArrayRef<A>, index: 
     }
 }
 
-/// The numbers of a flat column of u64 from row `start` to row `stop - 1`, shared with it where it is
-/// shared. Refused as `OutOfMemory`
-/// alone.
+/// Returns the numbers of a flat column of u64 from row `start` to row `stop - 1`, shared with it where it is shared.
+/// Refused only as `OutOfMemory`.
 pub(crate) fn plain_numbers_between<A: Allocator + Copy>(
     alloc: A,
     column: &ArrayRef<A>,
@@ -98,7 +97,7 @@ pub(crate) fn plain_truths_between<A: Allocator + Copy>(
     }
 }
 
-/// Is it a flat column of booleans without null?
+/// Returns whether it is a flat column of booleans without null.
 pub(crate) fn is_plain_truths<A: Allocator + Copy>(column: &ArrayRef<A>) -> bool
     ensures { IsTrue result ↔ IsPlainTruths (column_of column.now) }
 {
@@ -108,7 +107,7 @@ pub(crate) fn is_plain_truths<A: Allocator + Copy>(column: &ArrayRef<A>) -> bool
     }
 }
 
-/// A boolean of a flat column of them.
+/// Returns a boolean of a flat column of them.
 pub(crate) fn plain_truth_at<A: Allocator + Copy>(column: &ArrayRef<A>, index: usize) -> bool
     requires plain { IsPlainTruths (column_of column.now) }
     requires within { index < length (truths_of (column_of column.now)) }
@@ -120,7 +119,7 @@ pub(crate) fn plain_truth_at<A: Allocator + Copy>(column: &ArrayRef<A>, index: u
     }
 }
 
-/// Is it a column of offsets or sizes: u64 without null, flat or in runs over flat values?
+/// Returns whether it is a column of offsets or sizes: u64 without null, flat or in runs over flat values.
 pub(crate) fn is_index<A: Allocator + Copy>(column: &ArrayRef<A>) -> bool
     ensures { IsTrue result ↔ IsIndex (column_of column.now) }
 {
@@ -131,7 +130,7 @@ pub(crate) fn is_index<A: Allocator + Copy>(column: &ArrayRef<A>) -> bool
     }
 }
 
-/// How many offsets or sizes there are.
+/// Returns how many offsets or sizes there are.
 pub(crate) fn index_len<A: Allocator + Copy>(column: &ArrayRef<A>) -> usize
     requires { IsIndex (column_of column.now) }
     ensures { result ≡ index_count (index_of (column_of column.now)) }
@@ -143,7 +142,7 @@ pub(crate) fn index_len<A: Allocator + Copy>(column: &ArrayRef<A>) -> usize
     }
 }
 
-/// The offset or size at `index`.
+/// Returns the offset or size at `index`.
 pub(crate) fn index_at<A: Allocator + Copy>(column: &ArrayRef<A>, index: usize) -> u64
     requires index { IsIndex (column_of column.now) }
     requires within { index < index_count (index_of (column_of column.now)) }
@@ -156,9 +155,8 @@ pub(crate) fn index_at<A: Allocator + Copy>(column: &ArrayRef<A>, index: usize) 
     }
 }
 
-/// The offset or size at `index`: of a flat column that row alone, of runs up to where the run of the
-/// row ends, and then with this run in `run`, sought from `run` on: that of an earlier row, or the
-/// first.
+/// Returns the offset or size at `index`: of a flat column that row alone, of runs up to where the run of the row ends,
+/// and then with this run in `run`, sought from `run` on: that of an earlier row, or the first.
 pub(crate) fn index_from<A: Allocator + Copy>(
     column: &ArrayRef<A>,
     run: &mut usize,

@@ -70,12 +70,11 @@ impl<A: Allocator> Model for ListViewArray<A> {
 }
 
 impl<A: Allocator + Copy> ListViewArray<A> {
-    /// The lists of these parts. Refused by the first fault: `TypeMismatch` unless offsets and sizes
-    /// are u64 without null, flat or in runs over flat values, and runs of the validity are over flat
-    /// booleans without null; `ColumnLength`, with the number of offsets first, where there are
-    /// not as many sizes, then where the validity is of another number of rows; `OutOfBounds`, with
-    /// the row and the number of elements, for the first valid row that does not lie within the
-    /// elements. Takes no memory.
+    /// Returns the lists of these parts. Refused by the first fault: `TypeMismatch` unless offsets and sizes are u64
+    /// without null, flat or in runs over flat values, and runs of the validity are over flat booleans without null;
+    /// `ColumnLength`, with the number of offsets first, where there are not as many sizes, then where the validity is
+    /// of another number of rows; `OutOfBounds`, with the row and the number of elements, for the first valid row that
+    /// does not lie within the elements. Takes no memory.
     pub fn try_new(
         elements: Rc<FlatColumn<A>, A>,
         offsets: ArrayRef<A>,
@@ -101,7 +100,7 @@ impl<A: Allocator + Copy> ListViewArray<A> {
         }
     }
 
-    /// The elements of all rows.
+    /// Returns the elements of all rows.
     pub fn elements(&self) -> &FlatColumn<A>
         ensures { leaf_of result.now ≡ self.now.elements }
     {
@@ -116,7 +115,7 @@ impl<A: Allocator + Copy> ListViewArray<A> {
         &self.offsets
     }
 
-    /// How many elements each row has.
+    /// Returns how many elements each row has.
     pub fn sizes(&self) -> &ArrayRef<A>
         ensures form { index_of (column_of result.now) ≡ self.now.sizes }
         ensures index { IsIndex (column_of result.now) }
@@ -124,7 +123,7 @@ impl<A: Allocator + Copy> ListViewArray<A> {
         &self.sizes
     }
 
-    /// Which rows are valid.
+    /// Returns which rows are valid.
     pub fn validity(&self) -> &RowValidity<A>
         ensures form { validity_of result.now ≡ self.now.validity }
         ensures plain { IsRowValidity result.now }
@@ -133,7 +132,7 @@ impl<A: Allocator + Copy> ListViewArray<A> {
         &self.validity
     }
 
-    /// How many rows there are.
+    /// Returns how many rows there are.
     pub fn len(&self) -> usize
         ensures offsets { result ≡ list_count self.now }
         ensures rows { result ≡ length (list_rows self.now) }
@@ -141,14 +140,14 @@ impl<A: Allocator + Copy> ListViewArray<A> {
         index_len(&self.offsets)
     }
 
-    /// Are there no rows?
+    /// Returns whether there are no rows.
     pub fn is_empty(&self) -> bool
         ensures { IsTrue result ↔ (list_count self.now ≡ 0) }
     {
         self.len() == 0
     }
 
-    /// The type of the rows.
+    /// Returns the type of the rows.
     pub fn dtype(&self) -> DType
         ensures { result ≡ list_dtype self.now }
     {
@@ -158,7 +157,7 @@ impl<A: Allocator + Copy> ListViewArray<A> {
         )
     }
 
-    /// The row at `index`, borrowed from the elements. Takes no memory.
+    /// Returns the row at `index`, borrowed from the elements. Takes no memory.
     pub fn get(&self, index: usize) -> ScalarView<'_, A>
         requires { index < list_count self.now }
         ensures row { sees result ≡ list_at self.now index }
@@ -177,7 +176,7 @@ impl<A: Allocator + Copy> ListViewArray<A> {
         }
     }
 
-    /// The lists of parts that `try_new` accepts. Takes no memory.
+    /// Returns the lists of parts that `try_new` accepts. Takes no memory.
     pub(crate) fn new_unchecked(
         elements: Rc<FlatColumn<A>, A>,
         offsets: ArrayRef<A>,
@@ -195,9 +194,8 @@ impl<A: Allocator + Copy> ListViewArray<A> {
         }
     }
 
-    /// The rows that runs of these lists show, from row `offset` on, `count` many: lists over the same
-    /// elements, with offsets, sizes and, where it is stored, validity in runs. Refused as
-    /// `OutOfMemory` alone.
+    /// Returns the rows that runs of these lists show, from row `offset` on, `count` many: lists over the same
+    /// elements, with offsets, sizes and, where it is stored, validity in runs. Refused only as `OutOfMemory`.
     pub fn decode_with(
         &self,
         alloc: A,
@@ -289,10 +287,10 @@ impl<A: Allocator + Copy> ListViewArray<A> {
         }
     }
 
-    /// The rows at these positions, null for null, where the valid positions are below the number of
-    /// rows: lists over the same elements, with flat offsets and sizes as they are stored, 0 for null,
-    /// and bits of validity only where some row is null and some is not. The type has null where that of
-    /// the lists or the positions have. Refused as `OutOfMemory` alone.
+    /// Returns the rows at these positions, null for null, where the valid positions are below the number of rows:
+    /// lists over the same elements, with flat offsets and sizes as they are stored, 0 for null, and bits of validity
+    /// only where some row is null and some is not. The type has null where that of the lists or the positions have.
+    /// Refused only as `OutOfMemory`.
     pub fn take_at(
         &self,
         alloc: A,
@@ -327,7 +325,7 @@ impl<A: Allocator + Copy> ListViewArray<A> {
         }
     }
 
-    /// The lists in the same form; the elements are shared. Refused as `OutOfMemory` alone.
+    /// Returns the lists in the same form; the elements are shared. Refused only as `OutOfMemory`.
     #[cycle(clone_in)]
     pub(crate) fn clone_in(&self, alloc: A, buffers: Buffers) -> VortexResult<ListViewArray<A>>
         ensures only { IsOkUnless result VortexError.OutOfMemory }

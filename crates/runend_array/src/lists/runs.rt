@@ -18,8 +18,8 @@ use column_core::{
 };
 use std::alloc::Allocator;
 
-/// The numbers of an index in runs: a run column over them, with these ends and this window. Refused
-/// as `OutOfMemory` alone.
+/// Returns the numbers of an index in runs: a run column over them, with these ends and this window. Refused only as
+/// `OutOfMemory`.
 pub(crate) fn index_in_runs<A: Allocator + Copy>(
     alloc: A,
     ends: &PrimitiveArray<A>,
@@ -89,8 +89,8 @@ fn flags_in_runs<A: Allocator + Copy>(
     Ok(RowValidity::Runs(boxed))
 }
 
-/// The validity of the rows that runs show in a window: as it stands where it serves any number of
-/// rows, else runs with these ends and this window. Refused as `OutOfMemory` alone.
+/// Returns the validity of the rows that runs show in a window: as it stands where it serves any number of rows, else
+/// runs with these ends and this window. Refused only as `OutOfMemory`.
 pub(crate) fn run_validity_of_lists<A: Allocator + Copy>(
     alloc: A,
     ends: &PrimitiveArray<A>,

@@ -16,7 +16,7 @@ use column_core::{
 use std::alloc::Allocator;
 
 /// The numbers of an index from row `start` to row `stop - 1`, shared with a flat one where that is
-/// shared. Of runs each is looked at once. Refused as `OutOfMemory` alone.
+/// shared. Of runs each is looked at once. Refused only as `OutOfMemory`.
 pub(super) fn numbers_between<A: Allocator + Copy>(
     alloc: A,
     index: &ArrayRef<A>,
@@ -41,7 +41,7 @@ pub(super) fn numbers_between<A: Allocator + Copy>(
 }
 
 /// Whether each row from `start` to `stop - 1` is valid, of `count` rows. Of runs each is looked at
-/// once. Refused as `OutOfMemory` alone.
+/// once. Refused only as `OutOfMemory`.
 pub(super) fn flags_between<A: Allocator + Copy>(
     alloc: A,
     validity: &RowValidity<A>,

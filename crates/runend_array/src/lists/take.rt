@@ -17,7 +17,7 @@ use column_core::{
 };
 use std::alloc::Allocator;
 
-/// The numbers of an index at the positions, 0 for null, flat. Refused as `OutOfMemory` alone.
+/// Returns the numbers of an index at the positions, 0 for null, flat. Refused only as `OutOfMemory`.
 pub(crate) fn index_taken<A: Allocator + Copy>(
     alloc: A,
     index: &ArrayRef<A>,
@@ -81,8 +81,8 @@ fn number_at<A: Allocator + Copy>(
     }
 }
 
-/// The validity of the rows at the positions, of `count` rows, with bits only where some of these rows
-/// is null and some is not. Refused as `OutOfMemory` alone.
+/// Returns the validity of the rows at the positions, of `count` rows, with bits only where some of these rows is null
+/// and some is not. Refused only as `OutOfMemory`.
 pub(crate) fn validity_taken<A: Allocator + Copy>(
     alloc: A,
     validity: &RowValidity<A>,

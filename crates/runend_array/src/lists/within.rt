@@ -12,7 +12,7 @@ use crate::validities::RowValidity;
 use column_core::FlatColumn;
 use std::alloc::Allocator;
 
-/// The first valid row that does not lie within the elements.
+/// Returns the first valid row that does not lie within the elements.
 pub(crate) fn first_outside<A: Allocator + Copy>(
     elements: &FlatColumn<A>,
     offsets: &ArrayRef<A>,

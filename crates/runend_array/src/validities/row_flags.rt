@@ -13,7 +13,7 @@ use crate::validities::RowValidity;
 use column_core::{Nullability, ScalarView, Validity, VortexError, VortexResult};
 use std::alloc::Allocator;
 
-/// A validity that is told row by row.
+/// Returns a validity that is told row by row.
 pub(crate) fn rows_of_validity<A: Allocator>(validity: Validity<A>) -> RowValidity<A>
     ensures form { validity_of result ≡ ByRows (form_of validity) }
     ensures plain { IsRowValidity result }
@@ -52,7 +52,7 @@ fn validity_of_constant<A: Allocator>(constant: &ConstantArray<A>) -> RowValidit
 }
 
 impl<A: Allocator + Copy> ArrayRef<A> {
-    /// Which rows are valid. Refused as `OutOfMemory` alone.
+    /// Returns which rows are valid. Refused only as `OutOfMemory`.
     #[cycle(run_validity)]
     pub(crate) fn run_validity(&self, alloc: A) -> VortexResult<RowValidity<A>>
         ensures only { IsOkUnless result VortexError.OutOfMemory }

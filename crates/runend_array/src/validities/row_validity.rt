@@ -27,7 +27,7 @@ pub enum RowValidity<A: Allocator> {
 }
 
 impl<A: Allocator + Copy> RowValidity<A> {
-    /// Are its runs, where it has any, over flat booleans without null?
+    /// Returns whether its runs, where it has any, over flat booleans without are null.
     pub(crate) fn is_plain(&self) -> bool
         ensures { IsTrue result ↔ IsRowValidity self.now }
     {
@@ -37,7 +37,7 @@ impl<A: Allocator + Copy> RowValidity<A> {
         }
     }
 
-    /// Whether the type of the rows has null.
+    /// Returns whether the type of the rows has null.
     pub fn nullability(&self) -> Nullability
         ensures { result ≡ row_nullability (validity_of self.now) }
     {
@@ -47,7 +47,7 @@ impl<A: Allocator + Copy> RowValidity<A> {
         }
     }
 
-    /// How many rows it speaks of, and `None` where it serves any number of rows.
+    /// Returns how many rows it speaks of, and `None` where it serves any number of rows.
     pub fn len(&self) -> Option<usize>
         ensures { result ≡ rows_told (validity_of self.now) }
     {
@@ -60,14 +60,14 @@ impl<A: Allocator + Copy> RowValidity<A> {
         }
     }
 
-    /// Does its form say that all rows are there, whatever their number?
+    /// Returns whether its form says that all rows are there, whatever their number.
     pub(crate) fn is_all_valid(&self) -> bool
         ensures { IsTrue result ↔ IsAllValid (validity_of self.now) }
     {
         matches!(self, RowValidity::NonNullable | RowValidity::AllValid)
     }
 
-    /// Is the row at `index` there, of `count` rows?
+    /// Returns whether the row at `index` is there, of `count` rows.
     pub(crate) fn is_valid(&self, index: usize, count: usize) -> bool
         requires plain { IsRowValidity self.now }
         requires counted { HasRows (validity_of self.now) count }
@@ -84,9 +84,9 @@ impl<A: Allocator + Copy> RowValidity<A> {
         }
     }
 
-    /// Is the row at `index` there, of `count` rows? Of bits that row alone, of runs up to where the run
-    /// of the row ends, and else all rows. Of runs, with this run in `run`, sought from `run` on: that
-    /// of an earlier row, or the first.
+    /// Returns whether the row at `index` is there, of `count` rows. Of bits that row alone, of runs up to where the
+    /// run of the row ends, and else all rows. Of runs, with this run in `run`, sought from `run` on: that of an
+    /// earlier row, or the first.
     pub(crate) fn valid_from(&self, run: &mut usize, index: usize, count: usize) -> Stretch<bool>
         requires plain { IsRowValidity self.now }
         requires counted { HasRows (validity_of self.now) count }
@@ -118,7 +118,7 @@ impl<A: Allocator + Copy> RowValidity<A> {
         }
     }
 
-    /// A copy of the validity in its form. Refused as `OutOfMemory` alone.
+    /// Returns a copy of the validity in its form. Refused only as `OutOfMemory`.
     #[cycle(clone_in)]
     pub(crate) fn clone_in(&self, alloc: A, buffers: Buffers) -> VortexResult<RowValidity<A>>
         ensures only { IsOkUnless result VortexError.OutOfMemory }

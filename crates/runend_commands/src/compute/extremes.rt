@@ -21,9 +21,9 @@ use runend_array::{ArrayRef, ConstantArray, ExecutionCtx, Kernel, RunEndArray, R
 use runend_column::flat_rows;
 use std::alloc::Allocator;
 
-/// The least and the greatest row that are not null, in memory of their own, or `None` where all are null. But for
-/// texts and bytes it takes no memory where the array is flat, or is runs or a constant and the kernel is registered.
-/// Refused as `Unsupported` for lists.
+/// Returns the least and the greatest row that are not null, in memory of their own, or `None` where all are null. But
+/// for texts and bytes it takes no memory where the array is flat, or is runs or a constant and the kernel is
+/// registered. Refused as `Unsupported` for lists.
 pub fn min_max<A: Allocator + Copy>(
     column: &ArrayRef<A>,
     ctx: &mut ExecutionCtx<A>,

@@ -7,8 +7,8 @@ ghost use Rattle.runend_commands.specs.KernelForms.{HasConstantKernel, HasKernel
 use runend_array::{ArrayRef, ConstantArray, ExecutionCtx, Kernel, RunEndArray};
 use std::alloc::Allocator;
 
-/// The run column that the kernel is to serve, or `None` where the column is no run column or the
-/// kernel is not registered.
+/// Returns the run column that the kernel is to serve, or `None` where the column is not a run column or the kernel is
+/// not registered.
 pub fn runs_for<'a, A: Allocator + Copy>(
     column: &'a ArrayRef<A>,
     kernel: Kernel,
@@ -24,8 +24,8 @@ pub fn runs_for<'a, A: Allocator + Copy>(
     }
 }
 
-/// The constant that the kernel of an aggregate is to serve, as one run of all its rows, or `None` where
-/// the column is no constant or the kernel is not registered.
+/// Returns the constant that the kernel of an aggregate is to serve, as one run of all its rows, or `None` where the
+/// column is not a constant or the kernel is not registered.
 pub fn constant_for<'a, A: Allocator + Copy>(
     column: &'a ArrayRef<A>,
     kernel: Kernel,

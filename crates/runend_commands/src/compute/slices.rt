@@ -14,8 +14,8 @@ use runend_column::slice_rows;
 use std::alloc::Allocator;
 use std::ops::Range;
 
-/// The rows from `range.start` to `range.end` - 1. The kernel serves a run column where it is registered: it leaves
-/// the runs of these rows. Else a constant stays one, and any other array is written flat. Refused as `BadRange`
+/// Returns the rows from `range.start` to `range.end` - 1. The kernel serves a run column where it is registered: it
+/// leaves the runs of these rows. Else a constant stays one, and any other array is written flat. Refused as `BadRange`
 /// where the start is past the end, or the end past the rows.
 pub fn slice<A: Allocator + Copy>(
     column: &ArrayRef<A>,

@@ -16,8 +16,8 @@ use runend_array::{ArrayRef, ExecutionCtx, Kernel};
 use runend_select::take_rows;
 use std::alloc::Allocator;
 
-/// The row at each index, null at a null index: flat, or a constant where the kernel serves a run column and all
-/// indices are null. Refused as `OutOfBounds`, with the index and the number of rows, at the first valid index that
+/// Returns the row at each index, null at a null index: flat, or a constant where the kernel serves a run column and
+/// all indices are null. Refused as `OutOfBounds`, with the index and the number of rows, at the first valid index that
 /// is negative or of no row.
 #[tactic(auto, using(crate::proofs::FlatForms::flat_if_computed))]
 pub fn take<A: Allocator + Copy>(

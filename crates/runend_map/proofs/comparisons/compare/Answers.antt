@@ -17,7 +17,7 @@ use Rattle.runend_map.proofs.OneKind.{no_column_fault, no_fault}
 use Rattle.runend_map.specs.ComparisonForm.{IsComparisonForm}
 use Rattle.runend_map.proofs.comparisons.compare.Goals as goal
 
--- beside a column that is no constant the answers are flat
+-- beside a column that is not a constant the answers are flat
 beside_form : {A : Type 0} (right : ArrayRef A) (truths : Column) → ((constant : _) → ¬ (right ≡ Constant constant)) → IsComputedFlat truths → IsComparisonForm (column_of right) truths
 beside_form (Constant constant) truths other flat = absurd (other constant refl)
 beside_form right truths other flat = flat

@@ -12,7 +12,7 @@ use Rattle.runend_map.proofs.MapResultRows.{mapped_form}
 use Rattle.runend_column.proofs.PassedOn.{no_value, only_error}
 use Rattle.runend_map.proofs.scalar_fn.answered.Goals as goal
 
--- answers to a column that is no run column are flat
+-- answers to a column that is not a run column are flat
 flat_answers : {A : Type 0} (array : ArrayRef A) (session : SessionForm) (mapped : Column) → ((runs : _) → ¬ (array ≡ RunEnd runs)) → IsComputedFlat mapped → IsMappedForm session (column_of array) mapped
 flat_answers (RunEnd runs) session mapped other flat = absurd (other runs refl)
 flat_answers array session mapped other flat = flat

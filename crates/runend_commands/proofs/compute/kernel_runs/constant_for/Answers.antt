@@ -9,7 +9,7 @@ use Rattle.runend_commands.specs.KernelForms.{HasConstantKernel}
 use Rattle.runend_commands.proofs.compute.kernel_runs.constant_for.Goals as goal
 use Rattle.runend_commands.proofs.compute.kernel_runs.constant_for.Goals.{in_default-via-in-Constant+else-is_registered, in_default-via-in_default}
 
--- a column that is no constant has none
+-- a column that is not a constant has none
 no_constant : {A : Type 0} (array : ArrayRef A) (session : SessionForm) (kernel : Kernel) → ((constant : _) → ¬ (array ≡ Constant constant)) → ¬ HasConstantKernel session kernel (column_of array)
 no_constant (Constant constant) session kernel other served = other constant refl
 no_constant array session kernel other served = served

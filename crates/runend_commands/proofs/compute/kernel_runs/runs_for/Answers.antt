@@ -10,7 +10,7 @@ use Rattle.runend_commands.specs.KernelForms.{HasKernel}
 use Rattle.runend_commands.proofs.compute.kernel_runs.runs_for.Goals as goal
 use Rattle.runend_commands.proofs.compute.kernel_runs.runs_for.Goals.{in_default-via-in-RunEnd+else-is_registered, in_default-via-in_default}
 
--- a column that is no run column has no kernel
+-- a column that is not a run column has no kernel
 no_kernel : {A : Type 0} (array : ArrayRef A) (session : SessionForm) (kernel : Kernel) → ((runs : _) → ¬ (array ≡ RunEnd runs)) → ¬ HasKernel session kernel (column_of array)
 no_kernel (RunEnd runs) session kernel other served = other runs refl
 no_kernel array session kernel other served = served
