@@ -4,11 +4,11 @@ ghost use Rattle.column_floats.specs.Formats.{bits_fault, constant_fault, double
 ghost use Rattle.c_columns.specs.Ending.{WhereBoth};
 ghost use Rattle.c_columns.specs.Flags.{flag_of};
 ghost use Rattle.c_columns.specs.Kinds.{operator_by};
-ghost use Rattle.c_floats.specs.Floats.{AreBitsOf, AreComparedBy, AreExtremesShown, AreFloatsOf, EndsOnFloats, EndsOnLookUp, IsFloatAt, IsSumShown};
+ghost use Rattle.c_kernels.specs.Floats.{AreBitsOf, AreComparedBy, AreExtremesShown, AreFloatsOf, EndsOnFloats, EndsOnLookUp, IsFloatAt, IsSumShown};
 
 use c_columns::error_fields::ErrorFields;
 use c_columns::handle::Handle;
-use c_floats::{
+use c_kernels::{
     compare_handle, decode_handle, encode_handle, float_in_handle, min_max_in_handle, sum_in_handle,
 };
 use std::alloc::Global;

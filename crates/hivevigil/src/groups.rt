@@ -1,10 +1,10 @@
 //! The call that groups the rows of one column by runs of equal rows of another.
 ghost use Rattle.std.specs.Prelude.{◌≡◌, ◌≢◌, IsSomeAnd, MatchOption, pos};
-ghost use Rattle.c_pairs.specs.Grouped.{fold_numbered, AreMade, EndsOnGroups};
+ghost use Rattle.c_kernels.specs.Grouped.{fold_numbered, AreMade, EndsOnGroups};
 
 use c_columns::error_fields::ErrorFields;
 use c_columns::handle::Handle;
-use c_pairs::fold_handles;
+use c_kernels::fold_handles;
 use std::alloc::Global;
 
 /// Makes the keys of the groups of rows with equal neighbouring keys, and what the fold of this number answers of the

@@ -3,16 +3,16 @@ ghost use Rattle.std.specs.Prelude.{◌≡◌, ◌≢◌, IsSomeAnd, MatchOption
 ghost use Rattle.c_columns.specs.Ending.{WhereAll, WhereBoth};
 ghost use Rattle.c_columns.specs.Flags.{Tells};
 ghost use Rattle.c_columns.specs.TwoColumns.{EndsOnTwo};
-ghost use Rattle.c_pairs.specs.Chosen.{AreChosenOf, EndsOnThree};
-ghost use Rattle.c_pairs.specs.Combined.{operator_numbered, AreCombined, EndsOnPairs};
-ghost use Rattle.c_pairs.specs.Equal.{equal_fault, AreEqual};
-ghost use Rattle.c_pairs.specs.Hashed.{EndsOnHash, HasHash};
-ghost use Rattle.c_pairs.specs.Tested.{EndsOnTested, IsTested};
-ghost use Rattle.c_pairs.specs.declared.tested.RowTest.TheVariants.{Not, Null, Valid};
+ghost use Rattle.c_kernels.specs.Chosen.{AreChosenOf, EndsOnThree};
+ghost use Rattle.c_kernels.specs.Combined.{operator_numbered, AreCombined, EndsOnPairs};
+ghost use Rattle.c_kernels.specs.Equal.{equal_fault, AreEqual};
+ghost use Rattle.c_kernels.specs.Hashed.{EndsOnHash, HasHash};
+ghost use Rattle.c_kernels.specs.Tested.{EndsOnTested, IsTested};
+ghost use Rattle.c_kernels.specs.declared.tested.RowTest.TheVariants.{Not, Null, Valid};
 
 use c_columns::error_fields::ErrorFields;
 use c_columns::handle::Handle;
-use c_pairs::{RowTest, choose_handles, combine_handles, equal_handles, hash_handle, test_handle};
+use c_kernels::{RowTest, choose_handles, combine_handles, equal_handles, hash_handle, test_handle};
 use std::alloc::Global;
 
 /// Makes what the operator of this number answers of the two rows at each place, in runs, as few as possible, or in a

@@ -1,0 +1,4 @@
+pub mod PairEndings
+pub mod Answered
+pub mod GroupEndings
+pub mod FloatEndings

@@ -1,0 +1,99 @@
+-- Two columns in handles worked row by row: what is made of them, and how the call ends.
+use Rattle.std.specs.Prelude.{◌≡◌, ◌⊎◌, ℕ, zero, suc, ℤ, pos, length, Option, Some, None}
+use Rattle.std.specs.Global.{Global}
+use Rattle.column_base.specs.declared.dtype.DType.{DType}
+use Rattle.column_base.specs.declared.error.VortexError.{VortexError}
+use Rattle.column_base.specs.declared.error.VortexError.TheVariants.{OutOfMemory}
+use Rattle.column_core.specs.Value.{Value}
+use Rattle.column_ops.specs.Comparing.{compare_dtype, compared}
+use Rattle.column_ops.specs.declared.operator.CompareOperator.TheVariants.{Eq, NotEq, Gt, Gte, Lt, Lte}
+use Rattle.runend_array.specs.Array.{column_of, dtype_of, rows}
+use Rattle.runend_array.specs.declared.array_ref.ArrayRef.{ArrayRef}
+use Rattle.runend_pairs.specs.Faults.{boolean_fault, numeric_fault, pick_fault}
+use Rattle.runend_pairs.specs.Operations.{boolean_of, extreme_dtype, first_valid, first_valid_dtype, greater, lesser, numeric_dtype, numeric_of, ptype_in, IsNumberOrNull}
+use Rattle.runend_pairs.specs.Zipped.{are_constant, zip_rows, IsAnswerColumn, IsFirstWithout}
+use Rattle.runend_pairs.specs.declared.booleans.BooleanOperator.TheVariants.{And, Or}
+use Rattle.runend_pairs.specs.declared.fault.ZipError.{ZipError}
+use Rattle.runend_pairs.specs.declared.fault.ZipError.TheVariants.{Refused, Overflow}
+use Rattle.runend_pairs.specs.declared.numerics.NumericOperator.TheVariants.{Add, Subtract, Multiply}
+use Rattle.c_columns.specs.Ending.{AreFields, EndsBy, IsRefusedAs}
+use Rattle.c_columns.specs.TwoColumns.{beside_fault}
+use Rattle.c_columns.specs.declared.error_fields.ErrorFields.{ErrorFields}
+use Rattle.c_kernels.specs.declared.operators.PairOperator.{PairOperator}
+use Rattle.c_kernels.specs.declared.operators.PairOperator.TheVariants.{Compare, Calculate, Connect, Coalesce, Least, Greatest}
+
+-- the operator of a number, from 0 to 13: comparisons have the numbers that they have where they are all that is asked
+abbrev pub operator_numbered : ℕ → Option PairOperator
+operator_numbered zero = Some (Compare Eq)
+operator_numbered (suc zero) = Some (Compare NotEq)
+operator_numbered (suc (suc zero)) = Some (Compare Gt)
+operator_numbered (suc (suc (suc zero))) = Some (Compare Gte)
+operator_numbered (suc (suc (suc (suc zero)))) = Some (Compare Lt)
+operator_numbered (suc (suc (suc (suc (suc zero))))) = Some (Compare Lte)
+operator_numbered (suc (suc (suc (suc (suc (suc zero)))))) = Some (Calculate Add)
+operator_numbered (suc (suc (suc (suc (suc (suc (suc zero))))))) = Some (Calculate Subtract)
+operator_numbered (suc (suc (suc (suc (suc (suc (suc (suc zero)))))))) = Some (Calculate Multiply)
+operator_numbered (suc (suc (suc (suc (suc (suc (suc (suc (suc zero))))))))) = Some (Connect And)
+operator_numbered (suc (suc (suc (suc (suc (suc (suc (suc (suc (suc zero)))))))))) = Some (Connect Or)
+operator_numbered (suc (suc (suc (suc (suc (suc (suc (suc (suc (suc (suc zero))))))))))) = Some Coalesce
+operator_numbered (suc (suc (suc (suc (suc (suc (suc (suc (suc (suc (suc (suc zero)))))))))))) = Some Least
+operator_numbered (suc (suc (suc (suc (suc (suc (suc (suc (suc (suc (suc (suc (suc zero))))))))))))) = Some Greatest
+operator_numbered (suc (suc (suc (suc (suc (suc (suc (suc (suc (suc (suc (suc (suc (suc k)))))))))))))) = None
+
+-- the answer of two rows, of which either may be null
+abbrev pub pair_answer : PairOperator → Option Value → Option Value → Option Value
+pair_answer (Compare operator) = compared operator
+pair_answer (Calculate operator) = numeric_of operator
+pair_answer (Connect operator) = boolean_of operator
+pair_answer Coalesce = first_valid
+pair_answer Least = lesser
+pair_answer Greatest = greater
+
+-- the type of the answers
+abbrev pub pair_dtype : PairOperator → DType → DType → DType
+pair_dtype (Compare operator) = compare_dtype
+pair_dtype (Calculate operator) = numeric_dtype
+pair_dtype (Connect operator) = compare_dtype
+pair_dtype Coalesce = first_valid_dtype
+pair_dtype Least = extreme_dtype
+pair_dtype Greatest = extreme_dtype
+
+-- the answers for the rows of two columns, in runs, as few as possible, or in a constant where both are constants
+abbrev pub AreCombined : PairOperator → ArrayRef Global → ArrayRef Global → ArrayRef Global → Type 0
+AreCombined operator left right made =
+    IsAnswerColumn (are_constant (column_of left) (column_of right)) (zip_rows (pair_answer operator) (rows left) (rows right)) (pair_dtype operator (dtype_of left) (dtype_of right)) (column_of made)
+
+-- why two columns are not worked row by row
+abbrev pub pair_fault : PairOperator → ArrayRef Global → ArrayRef Global → Option VortexError
+pair_fault (Compare operator) left right = beside_fault left right
+pair_fault (Calculate operator) left right = numeric_fault (dtype_of left) (dtype_of right) (length (rows left)) (length (rows right))
+pair_fault (Connect operator) left right = boolean_fault (dtype_of left) (dtype_of right) (length (rows left)) (length (rows right))
+pair_fault operator left right = pick_fault (dtype_of left) (dtype_of right) (length (rows left)) (length (rows right))
+
+-- the first row whose answer the type of the left column does not have: only an integer can be too large
+abbrev pub row_without : PairOperator → ArrayRef Global → ArrayRef Global → ℕ → Type 0
+row_without (Calculate operator) left right row = IsFirstWithout (IsNumberOrNull (ptype_in (dtype_of left))) (zip_rows (numeric_of operator) (rows left) (rows right)) row
+row_without operator left right row = ⊥
+
+-- refused by the fault where there is one, else by such a row where there is one, and else for memory only
+abbrev pub IsPairRefusal : Option VortexError → (ℕ → Type 0) → ZipError → Type 0
+IsPairRefusal fault without (Refused error) = (error ≡ OutOfMemory) ⊎ (fault ≡ Some error)
+IsPairRefusal fault without (Overflow row) = (fault ≡ None) × without row
+
+-- a refusal by its number and its fields: with 14, and the row as the first field, for an integer that does not fit
+abbrev pub IsToldAs : ZipError → ℤ → ErrorFields → Type 0
+IsToldAs (Refused error) code fields = IsRefusedAs error code fields
+IsToldAs (Overflow row) code fields = (code ≡ pos 14) × AreFields fields row 0 0
+
+-- answers are refused with the first row whose answer the type does not have
+pub record EndsByRow (operator : PairOperator) (left right : ArrayRef Global) (code : ℤ) (fields : ErrorFields) : Type 0 where
+  pub row : ℕ
+  pub none : pair_fault operator left right ≡ None
+  pub without : row_without operator left right row
+  pub told : IsToldAs (Overflow row) code fields
+
+-- how the call ends: with 22 where one of the two handles is empty
+abbrev pub EndsOnPairs : PairOperator → Option (ArrayRef Global) → Option (ArrayRef Global) → ℤ → ErrorFields → Type 0
+EndsOnPairs operator None right code fields = code ≡ pos 22
+EndsOnPairs operator (Some left) None code fields = code ≡ pos 22
+EndsOnPairs operator (Some left) (Some right) code fields = EndsBy (pair_fault operator left right) code fields ⊎ EndsByRow operator left right code fields

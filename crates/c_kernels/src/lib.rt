@@ -1,0 +1,34 @@
+//! Two columns that C holds, worked row by row at the cost of the runs of both, or one grouped by the other; and
+//! columns of floats, stored by their keys in columns of integers.
+#![tactic(auto)]
+
+mod chosen;
+mod combined;
+mod equal;
+mod float_answers;
+mod float_calls;
+mod float_columns;
+mod float_questions;
+mod group_calls;
+mod grouped;
+mod hashed;
+mod named;
+mod operators;
+mod pair_calls;
+mod tested;
+
+pub use chosen::choose_handles;
+pub use combined::combine;
+pub use equal::{are_equal, equal_handles};
+pub use float_calls::{
+    compare_handle, decode_handle, encode_handle, float_in_handle, min_max_in_handle, sum_in_handle,
+};
+pub use float_columns::{compared, decoded, encoded};
+pub use float_questions::{FloatExtremes, RoundedSum, extremes, float_of_row, sum_of};
+pub use group_calls::fold_handles;
+pub use grouped::{BoxedGroups, groups_of};
+pub use hashed::{hash_handle, hash_of};
+pub use named::fold_named;
+pub use operators::{PairOperator, pair_operator_by};
+pub use pair_calls::combine_handles;
+pub use tested::{RowTest, test_handle};

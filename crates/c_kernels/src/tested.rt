@@ -1,0 +1,76 @@
+//! The answers for the rows of one column, on the heap, and the call on a handle.
+ghost use Rattle.std.specs.Prelude.{◌≡◌, ◌≢◌, IfOk, pos};
+ghost use Rattle.column_core.specs.Refusal.{IsRefusedBy};
+ghost use Rattle.c_columns.specs.Ending.{WhereBoth};
+ghost use Rattle.c_kernels.specs.Tested.{test_fault, EndsOnTested, IsTested};
+
+use c_columns::commands::answer;
+use c_columns::error_fields::{ErrorFields, NO_COLUMN};
+use c_columns::flat::{Boxed, boxed};
+use c_columns::handle::Handle;
+use c_columns::sessions::plain_context;
+use column_core::VortexResult;
+use runend_array::ArrayRef;
+use runend_pairs::{is_null, is_valid, not};
+use std::alloc::Global;
+
+/// Says what is answered of each row.
+#[derive(Debug, Clone, Copy, PartialEq, Eq)]
+pub enum RowTest {
+    /// Answers the other boolean, null for null.
+    Not,
+    /// Says whether it is null.
+    Null,
+    /// Says whether it is not null.
+    Valid,
+}
+
+/// Puts what is answered of each row into a handle, and returns 0. Else returns the number of an error, and leaves that
+/// handle: 22 for an empty handle, else as `tested` is refused.
+pub fn test_handle(
+    alloc: Global,
+    column: &mut Handle,
+    test: RowTest,
+    out: &mut Handle,
+    error: &mut ErrorFields,
+) -> i32
+    ensures same { column.new.column ≡ column.old.column }
+    ensures made { result ≡ pos 0 → WhereBoth (IsTested test) column.old.column out.new.column }
+    ensures kept { result ≢ pos 0 → out.new.column ≡ out.old.column }
+    ensures ended { EndsOnTested test column.old.column result error.new }
+{
+    let Some(array) = column.take(alloc) else {
+        return NO_COLUMN;
+    };
+    let outcome = tested(alloc, &array, test);
+    column.put(array);
+    answer(outcome, out, error)
+}
+
+/// Returns what is answered of each row: a constant where the column is one that has a row, else runs, as few as
+/// possible. Refused as `Unsupported` unless the rows are booleans, of a test for null exactly for lists, and for
+/// memory.
+pub fn tested(alloc: Global, array: &ArrayRef<Global>, test: RowTest) -> VortexResult<Boxed>
+    ensures made { IfOk result (λ made. IsTested test array.now made.value) }
+    ensures refused { IsRefusedBy (test_fault test array.now) result }
+{
+    let answers = answers_of(alloc, array, test)?;
+    boxed(alloc, answers)
+}
+
+// The same, not yet on the heap.
+fn answers_of(
+    alloc: Global,
+    array: &ArrayRef<Global>,
+    test: RowTest,
+) -> VortexResult<ArrayRef<Global>>
+    ensures made { IfOk result (λ made. IsTested test array.now made) }
+    ensures refused { IsRefusedBy (test_fault test array.now) result }
+{
+    let mut ctx = plain_context(alloc);
+    match test {
+        RowTest::Not => not(array, &mut ctx),
+        RowTest::Null => is_null(array, &mut ctx),
+        RowTest::Valid => is_valid(array, &mut ctx),
+    }
+}

@@ -1,3 +1,0 @@
-pub mod PairEndings
-pub mod Answered
-pub mod GroupEndings

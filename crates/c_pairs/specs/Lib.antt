@@ -1,6 +1,0 @@
-pub mod Combined
-pub mod Tested
-pub mod Equal
-pub mod Chosen
-pub mod Hashed
-pub mod Grouped
