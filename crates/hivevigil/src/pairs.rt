@@ -12,7 +12,9 @@ ghost use Rattle.c_kernels.specs.declared.tested.RowTest.TheVariants.{Not, Null,
 
 use c_columns::error_fields::ErrorFields;
 use c_columns::handle::Handle;
-use c_kernels::{RowTest, choose_handles, combine_handles, equal_handles, hash_handle, test_handle};
+use c_kernels::{
+    RowTest, choose_handles, combine_handles, equal_handles, hash_handle, test_handle,
+};
 use std::alloc::Global;
 
 /// Makes what the operator of this number answers of the two rows at each place, in runs, as few as possible, or in a
