@@ -1,5 +1,5 @@
 #!/usr/bin/env python3
-"""How the inside of the crates is built: what may only become less, and figures that say where it stands.
+"""How the inside of the crates is built: what may only become less, and further figures.
 
     python3 tools/house.py              holds the counts of tools/house.txt; ends in 'N passed, M failed'
     python3 tools/house.py --figures    prints these and further figures

@@ -1,7 +1,7 @@
 //! Many rows of a flat column at once, borrowed. What is stored under null is read as it stands.
 ghost use Rattle.std.specs.Prelude.{◌≡◌, ℕ, ◌+◌, ◌<◌, ◌≤◌, pos, length, map, slice_range, slice_index_or, IfOk};
-ghost use Rattle.column_base.specs.Validity.{form_of};
-ghost use Rattle.column_base.specs.ValidityForm.{HasLength, flags};
+ghost use Rattle.column_base.specs.Validity.{form_of, validity_flags};
+ghost use Rattle.column_base.specs.ValidityForm.{HasLength};
 ghost use Rattle.column_base.specs.Words.{Packs};
 ghost use Rattle.column_core.specs.FlatView.{leaf_in};
 ghost use Rattle.column_core.specs.Leaf.{leaf_count};
@@ -108,7 +108,7 @@ fn copy_pairs(stored: &[i128], start: usize, pairs: &mut [Pair])
 // The bits of a validity of so many rows.
 fn put_validity(validity: &Validity<Global>, count: usize, words: &mut [u64]) -> VortexResult<()>
     requires { HasLength (form_of validity.now) count }
-    ensures packed { IfOk result (λ _. Packs words.new (flags (form_of validity.now) count)) }
+    ensures packed { IfOk result (λ _. Packs words.new (validity_flags validity.now count)) }
     ensures refused { IsRefusedOnlyBy (words_fault count (length words.old)) result }
     ensures len { length words.new ≡ length words.old }
 {

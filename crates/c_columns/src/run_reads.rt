@@ -147,7 +147,7 @@ fn stop_among(ends: &PrimitiveValues<Global>, run: usize, offset: usize, count: 
     requires there { run < length (numbers ends.now) }
     ensures { result ≡ slice_index_or (trimmed_ends (map unsigned_abs (numbers ends.now)) offset count) run 0 }
 {
-    match_each_unsigned!(ends, items => trimmed_at(items.as_slice(), run, offset, count), _ => unreachable!())
+    match_each_unsigned!(ends, items => trimmed_at(items.as_slice(), run, offset, count))
 }
 
 #[tactic(auto, using(crate::proofs::RunsTold::stops_at))]

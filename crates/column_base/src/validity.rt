@@ -1,7 +1,7 @@
 //! Which rows are there, and which are null.
 ghost use Rattle.std.specs.Prelude.{◌≡◌, ◌-◌, ◌<◌, ◌≤◌, ◌↔◌, ℕ, true, false, length, slice_range, All, IfOk, IfSome, IsNone, IsOkUnless, IsTrue, count_by};
 ghost use Rattle.column_base.specs.ValidityForm.{NoneNull, AllNull, HasLength, HasRow, IsNormal, flags, flag_at, length_of, nullability_in};
-ghost use Rattle.column_base.specs.Validity.{form_of};
+ghost use Rattle.column_base.specs.Validity.{form_of, validity_flags};
 
 use crate::bits::BitBuffer;
 use crate::dtype::Nullability;
@@ -27,7 +27,7 @@ impl<A: Allocator> Validity<A> {
     /// false, `AllInvalid` where no bit is true and there is one. Takes no memory. Where the first 64 bits are of both
     /// kinds, no other is read.
     pub fn from_bits(bits: BitBuffer<A>) -> Self
-        ensures flags { flags (form_of result) (length bits) ≡ bits }
+        ensures flags { validity_flags result (length bits) ≡ bits }
         ensures fits { HasLength (form_of result) (length bits) }
         ensures normal { IsNormal (form_of result) }
         ensures all_valid { (form_of result ≡ NoneNull) ↔ All (λ bit. bit ≡ true) bits }
@@ -118,8 +118,8 @@ impl<A: Allocator + Copy> Validity<A> {
         requires ordered { range.start ≤ range.end }
         requires in_bounds { IfSome (length_of (form_of self.now)) (λ count. range.end ≤ count) }
         ensures flags { IfOk result (λ part. (count : ℕ) → HasLength (form_of self.now) count → range.end ≤ count →
-            flags (form_of part) (range.end - range.start) ≡
-            slice_range (flags (form_of self.now) count) range.start range.end) }
+            validity_flags part (range.end - range.start) ≡
+            slice_range (validity_flags self.now count) range.start range.end) }
         ensures fits { IfOk result (λ part. HasLength (form_of part) (range.end - range.start)) }
         ensures normal { IfOk result (λ part. IsNormal (form_of part)) }
         ensures empty { IfOk result (λ part. form_of part ≡ AllNull → range.start < range.end) }

@@ -39,7 +39,8 @@ macro_rules! match_each_native {
     };
 }
 
-/// The first body at the `Buffer` of numbers of an unsigned type, else the second.
+/// Evaluates the first body at the `Buffer` of numbers of an unsigned type, else the second. Without a second body the
+/// numbers are known to be of an unsigned type.
 #[macro_export]
 macro_rules! match_each_unsigned {
     ($values:expr, $items:ident => $body:expr, _ => $other:expr) => {
@@ -49,6 +50,15 @@ macro_rules! match_each_unsigned {
             $crate::PrimitiveValues::U32($items) => $body,
             $crate::PrimitiveValues::U64($items) => $body,
             _ => $other,
+        }
+    };
+    ($values:expr, $items:ident => $body:expr) => {
+        match $values {
+            $crate::PrimitiveValues::U8($items) => $body,
+            $crate::PrimitiveValues::U16($items) => $body,
+            $crate::PrimitiveValues::U32($items) => $body,
+            $crate::PrimitiveValues::U64($items) => $body,
+            _ => unreachable!(),
         }
     };
 }

@@ -1,8 +1,8 @@
 //! Views of rows that stand one behind the other.
 ghost use Rattle.std.specs.Prelude.{◌≡◌, ◌^◌, ◌<◌, ◌≤◌, length, vec_capacity, IfOk, IfErr, IsErrOf, IsTrue, IsFalse};
 ghost use Rattle.std.specs.Bool.{OnTrue, OnFalse};
-ghost use Rattle.column_base.specs.Validity.{form_of};
-ghost use Rattle.column_base.specs.ValidityForm.{HasLength, flags};
+ghost use Rattle.column_base.specs.Validity.{form_of, validity_flags};
+ghost use Rattle.column_base.specs.ValidityForm.{HasLength};
 ghost use Rattle.column_core.specs.Optionals.{AreBlankAtNulls};
 ghost use Rattle.column_fields.specs.Refusal.{IsBadOrMemory};
 ghost use Rattle.column_bytes.specs.TextReading.{AreRowsOf, AreNoRowsOf, AreViewsOf, AreNoViewsOf};
@@ -81,9 +81,9 @@ fn load_views<A: Allocator>(
 fn is_empty_at_nulls<A: Allocator>(validity: &Validity<A>, views: &[View]) -> bool
     requires { HasLength (form_of validity.now) (length views.now) }
     ensures yes { let count = length views.now in
-        OnTrue result (AreBlankAtNulls 0 (sizes_in views.now) (flags (form_of validity.now) count)) }
+        OnTrue result (AreBlankAtNulls 0 (sizes_in views.now) (validity_flags validity.now count)) }
     ensures no { let count = length views.now in
-        OnFalse result (¬ AreBlankAtNulls 0 (sizes_in views.now) (flags (form_of validity.now) count)) }
+        OnFalse result (¬ AreBlankAtNulls 0 (sizes_in views.now) (validity_flags validity.now count)) }
 {
     for row in 0..views.len() {
         if views[row].size != 0 && !validity.is_valid(row) {

@@ -23,10 +23,7 @@ pub fn lengths_size<A: Allocator>(ends: &PrimitiveValues<A>) -> VortexResult<usi
     ensures past { IfErr result
         (λ error. IsPast (length (lengths_bytes 0 (map unsigned_abs (numbers ends.now)))) error) }
 {
-    let total = match_each_unsigned!(ends,
-        items => measure(items.as_slice()),
-        _ => unreachable!()
-    );
+    let total = match_each_unsigned!(ends, items => measure(items.as_slice()));
     size_of_total(total)
 }
 

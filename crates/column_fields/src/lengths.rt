@@ -52,10 +52,7 @@ fn put_lengths_of<A: Allocator, W: BufMut>(
     ensures kept { StaysInFront (W.written out.old) (W.written out.new) }
     ensures only { IsOkUnless result VortexError.OutOfMemory }
 {
-    match_each_unsigned!(ends,
-        items => put_lengths(out, items.as_slice()),
-        _ => unreachable!()
-    )
+    match_each_unsigned!(ends, items => put_lengths(out, items.as_slice()))
 }
 
 // Writes the lengths of runs with these ends at the end, eight in one step.

@@ -1,8 +1,8 @@
 //! Bits taken at positions, 64 to a word.
 ghost use Rattle.std.specs.Prelude.{◌≡◌, ℕ, ◌+◌, ◌*◌, ◌/◌, ◌<◌, ◌≤◌, IfOk, IsOkUnless, length, map, slice_index, if◌then◌else◌};
 ghost use Rattle.std.specs.Int.{bit_at};
-ghost use Rattle.column_base.specs.ValidityForm.{HasLength, HasRow, flag_at, flags};
-ghost use Rattle.column_base.specs.Validity.{form_of};
+ghost use Rattle.column_base.specs.ValidityForm.{HasLength, HasRow, flag_at};
+ghost use Rattle.column_base.specs.Validity.{form_of, validity_flags};
 ghost use Rattle.column_base.specs.Words.{digit_at, one_if};
 ghost use Rattle.column_core.specs.Optionals.{optionals};
 ghost use Rattle.column_ops.specs.Take.{taken_bit};
@@ -21,7 +21,7 @@ pub(crate) fn bits_at<A: Allocator + Copy>(
     requires { HasLength (form_of places.now) (length positions.now) }
     ensures only { IsOkUnless result VortexError.OutOfMemory }
     ensures bits { IfOk result (λ taken. taken ≡
-        map (taken_bit bits.now) (optionals positions.now (flags (form_of places.now) (length positions.now)))) }
+        map (taken_bit bits.now) (optionals positions.now (validity_flags places.now (length positions.now)))) }
 {
     let words = words_at(alloc, bits.words(), positions, places)?;
     Ok(BitBufferMut::from_words(words, positions.len()).freeze())

@@ -1,6 +1,6 @@
 //! Columns of booleans that a comparison writes, and which of its answers are valid.
 ghost use Rattle.std.specs.Prelude.{◌≡◌, ◌<◌, ◌++◌, ◌∷◌, [], All, length, replicate, true, false, is_some, option_map, unwrap_or, IfOk, OnOk, IsOkUnless};
-ghost use Rattle.column_base.specs.Validity.{form_of};
+ghost use Rattle.column_base.specs.Validity.{form_of, validity_flags};
 ghost use Rattle.column_base.specs.ValidityForm.{AllNull, HasLength, IsNormal, flags, nullability_in};
 ghost use Rattle.column_base.specs.declared.dtype.DType.TheVariants as column;
 ghost use Rattle.column_base.specs.declared.dtype.Nullability.TheVariants.{NonNullable, Nullable};
@@ -79,7 +79,7 @@ pub(crate) fn validity_of_answers<A: Allocator + Copy>(
 ) -> VortexResult<Validity<A>>
     requires { HasLength (form_of rows.now) count }
     ensures only { IsOkUnless result VortexError.OutOfMemory }
-    ensures flags { IfOk result (λ validity. flags (form_of validity) count ≡ flags (form_of rows.now) count) }
+    ensures flags { IfOk result (λ validity. validity_flags validity count ≡ validity_flags rows.now count) }
     ensures fits { IfOk result (λ validity. HasLength (form_of validity) count) }
     ensures normal { IfOk result (λ validity. IsNormal (form_of validity)) }
     ensures some { IfOk result (λ validity. form_of validity ≡ AllNull → 0 < count) }
@@ -94,7 +94,7 @@ pub(crate) fn validity_of_answers<A: Allocator + Copy>(
 
 /// Returns the validity of `count` answers that are all null. Takes no memory.
 pub(crate) fn validity_of_nulls<A: Allocator>(count: usize) -> Validity<A>
-    ensures flags { flags (form_of result) count ≡ replicate count false }
+    ensures flags { validity_flags result count ≡ replicate count false }
     ensures fits { HasLength (form_of result) count }
     ensures normal { IsNormal (form_of result) }
     ensures some { form_of result ≡ AllNull → 0 < count }

@@ -1,8 +1,8 @@
 //! The validity of rows that are kept in a type that may lack null.
 ghost use Rattle.std.specs.Prelude.{◌≡◌, ◌≢◌, ℕ, ◌<◌, true, false, Err, IfOk, IsOkUnless, count_by, length, replicate};
 ghost use Rattle.column_base.specs.declared.dtype.Nullability.TheVariants.{NonNullable, Nullable};
-ghost use Rattle.column_base.specs.ValidityForm.{HasLength, flags, nullability_in};
-ghost use Rattle.column_base.specs.Validity.{form_of};
+ghost use Rattle.column_base.specs.ValidityForm.{HasLength, nullability_in};
+ghost use Rattle.column_base.specs.Validity.{form_of, validity_flags};
 ghost use Rattle.column_core.specs.Optionals.{optionals};
 ghost use Rattle.column_core.specs.Refusal.{IsRefusedBy};
 ghost use Rattle.column_ops.specs.Cast.{null_row_fault};
@@ -14,7 +14,7 @@ use std::alloc::Allocator;
 
 /// Returns whether no row is null by the form alone. Bits are not read.
 pub(crate) fn is_all_valid<A: Allocator>(validity: &Validity<A>) -> bool
-    ensures valid { (count : ℕ) → result ≡ true → flags (form_of validity.now) count ≡ replicate count true }
+    ensures valid { (count : ℕ) → result ≡ true → validity_flags validity.now count ≡ replicate count true }
     ensures nullable { result ≡ false → nullability_in (form_of validity.now) ≡ Nullable }
 {
     match validity {
@@ -33,9 +33,9 @@ pub(crate) fn check_nulls<T: Copy + Drop, A: Allocator>(
 ) -> VortexResult<()>
     requires { HasLength (form_of validity.now) (length items.now) }
     ensures refused { IsRefusedBy (first_fault (null_row_fault nullability) (optionals items.now
-        (flags (form_of validity.now) (length items.now)))) result }
+        (validity_flags validity.now (length items.now)))) result }
     ensures no_memory { result ≢ Err VortexError.OutOfMemory }
-    ensures valid { IfOk result (λ _. nullability ≡ NonNullable → flags (form_of validity.now) (length items.now) ≡
+    ensures valid { IfOk result (λ _. nullability ≡ NonNullable → validity_flags validity.now (length items.now) ≡
         replicate (length items.now) true) }
 {
     match nullability {
@@ -52,8 +52,8 @@ pub(crate) fn check_nulls<T: Copy + Drop, A: Allocator>(
 // Is one of so many rows null?
 fn has_null<A: Allocator>(validity: &Validity<A>, count: usize) -> bool
     requires { HasLength (form_of validity.now) count }
-    ensures null { result ≡ true → count_by (λ valid. valid) (flags (form_of validity.now) count) < count }
-    ensures valid { result ≡ false → flags (form_of validity.now) count ≡ replicate count true }
+    ensures null { result ≡ true → count_by (λ valid. valid) (validity_flags validity.now count) < count }
+    ensures valid { result ≡ false → validity_flags validity.now count ≡ replicate count true }
 {
     match validity {
         Validity::NonNullable => false,
@@ -72,9 +72,9 @@ pub(crate) fn computed_validity<A: Allocator + Copy>(
     nullability: Nullability,
 ) -> VortexResult<Validity<A>>
     requires fits { HasLength (form_of validity.now) count }
-    requires valid { nullability ≡ NonNullable → flags (form_of validity.now) count ≡ replicate count true }
+    requires valid { nullability ≡ NonNullable → validity_flags validity.now count ≡ replicate count true }
     ensures only { IsOkUnless result VortexError.OutOfMemory }
-    ensures kept { IfOk result (λ kept. IsValidityOf (flags (form_of validity.now) count) nullability count
+    ensures kept { IfOk result (λ kept. IsValidityOf (validity_flags validity.now count) nullability count
         (form_of kept)) }
 {
     match nullability {
@@ -91,7 +91,7 @@ fn nullable_validity<A: Allocator + Copy>(
 ) -> VortexResult<Validity<A>>
     requires { HasLength (form_of validity.now) count }
     ensures only { IsOkUnless result VortexError.OutOfMemory }
-    ensures kept { IfOk result (λ kept. IsValidityOf (flags (form_of validity.now) count) Nullable count
+    ensures kept { IfOk result (λ kept. IsValidityOf (validity_flags validity.now count) Nullable count
         (form_of kept)) }
 {
     match validity {

@@ -4,8 +4,8 @@ ghost use Rattle.std.specs.Prelude.{◌≡◌, false, is_none, length, map, IfOk
 ghost use Rattle.std.specs.Ordering.{int_cmp};
 ghost use Rattle.column_base.specs.Numbers.{numbers, ptype_of};
 ghost use Rattle.column_base.specs.Types.{HasNumber};
-ghost use Rattle.column_base.specs.Validity.{form_of};
-ghost use Rattle.column_base.specs.ValidityForm.{HasLength, flags};
+ghost use Rattle.column_base.specs.Validity.{form_of, validity_flags};
+ghost use Rattle.column_base.specs.ValidityForm.{HasLength};
 ghost use Rattle.column_core.specs.FlatView.{leaf_in};
 ghost use Rattle.column_core.specs.Leaf.{leaf_dtype, single_rows};
 ghost use Rattle.column_core.specs.Optionals.{optionals};
@@ -83,7 +83,7 @@ fn bits_of_numbers<A: Allocator + Copy>(
     requires has { HasNumber (ptype_of values.now) right }
     ensures only { IsOkUnless result VortexError.OutOfMemory }
     ensures bits { IfOk result (λ bits. bits ≡ map (is_held (λ number. holds_of operator (int_cmp number right)))
-        (optionals (numbers values.now) (flags (form_of validity.now) (length (numbers values.now))))) }
+        (optionals (numbers values.now) (validity_flags validity.now (length (numbers values.now))))) }
 {
     match_each_native!(values, items => bits_of_native(alloc, items.as_slice(), validity, operator, right))
 }
@@ -100,7 +100,7 @@ fn bits_of_native<T: NativePType, A: Allocator + Copy>(
     requires has { HasNumber T.PTYPE right }
     ensures only { IsOkUnless result VortexError.OutOfMemory }
     ensures bits { IfOk result (λ bits. bits ≡ map (is_held (λ number. holds_of operator (int_cmp number right)))
-        (optionals (map T.number items.now) (flags (form_of validity.now) (length items.now)))) }
+        (optionals (map T.number items.now) (validity_flags validity.now (length items.now)))) }
 {
     let Some(right) = T::narrow(right) else {
         unreachable!()
@@ -119,7 +119,7 @@ fn bits_of_items<T: Copy + Ord + Drop, A: Allocator + Copy>(
     requires { HasLength (form_of validity.now) (length items.now) }
     ensures only { IsOkUnless result VortexError.OutOfMemory }
     ensures bits { IfOk result (λ bits. bits ≡ map (is_held (λ item. holds_of operator (T.cmp item right)))
-        (optionals items.now (flags (form_of validity.now) (length items.now)))) }
+        (optionals items.now (validity_flags validity.now (length items.now)))) }
 {
     match validity {
         Validity::NonNullable => bits_of_all(alloc, items, operator, right),

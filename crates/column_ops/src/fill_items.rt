@@ -1,8 +1,8 @@
 //! Rows whose nulls are filled, of any kind of item.
 ghost use Rattle.std.specs.Prelude.{◌≡◌, ◌≢◌, Err, Some, IfOk, IsOkUnless, length};
 ghost use Rattle.column_base.specs.declared.dtype.Nullability.TheVariants.{NonNullable};
-ghost use Rattle.column_base.specs.ValidityForm.{HasLength, flags};
-ghost use Rattle.column_base.specs.Validity.{form_of};
+ghost use Rattle.column_base.specs.ValidityForm.{HasLength};
+ghost use Rattle.column_base.specs.Validity.{form_of, validity_flags};
 ghost use Rattle.column_core.specs.Optionals.{optionals};
 ghost use Rattle.column_core.specs.Scalar.{flat_of, IsOwnedOf};
 ghost use Rattle.column_core.specs.Refusal.{IsRefusedBy};
@@ -26,7 +26,7 @@ pub(crate) fn fill_items<T: Copy + Drop, A: Allocator + Copy>(
     requires { HasLength (form_of validity.now) (length items.now) }
     ensures only { IsOkUnless result VortexError.OutOfMemory }
     ensures filled { IfOk result (λ parts. AreStoredAs blank
-        (fill_rows (optionals items.now (flags (form_of validity.now) (length items.now))) value)
+        (fill_rows (optionals items.now (validity_flags validity.now (length items.now))) value)
         NonNullable parts.0.items (form_of parts.1)) }
 {
     let filled = items_or(alloc, items, validity, value)?;

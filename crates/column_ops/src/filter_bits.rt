@@ -3,7 +3,7 @@ ghost use Rattle.std.specs.Prelude.{◌≡◌, ◌<◌, true, false, Some, IfOk,
 ghost use Rattle.column_base.specs.declared.dtype.Nullability.TheVariants.{Nullable};
 ghost use Rattle.column_base.specs.Mask.{mask_bits};
 ghost use Rattle.column_base.specs.ValidityForm.{HasLength, flags, nullability_in};
-ghost use Rattle.column_base.specs.Validity.{form_of};
+ghost use Rattle.column_base.specs.Validity.{form_of, validity_flags};
 ghost use Rattle.column_core.specs.Optionals.{optionals};
 ghost use Rattle.column_ops.specs.Filter.{filter_rows};
 ghost use Rattle.column_ops.specs.Written.{AreStoredAs};
@@ -24,7 +24,7 @@ pub(crate) fn filter_bits<A: Allocator + Copy>(
     requires masked { length (mask_bits mask.now) ≡ length bits.now }
     ensures only { IsOkUnless result VortexError.OutOfMemory }
     ensures filtered { IfOk result (λ parts. AreStoredAs false
-        (filter_rows (mask_bits mask.now) (optionals bits.now (flags (form_of validity.now) (length bits.now))))
+        (filter_rows (mask_bits mask.now) (optionals bits.now (validity_flags validity.now (length bits.now))))
         (nullability_in (form_of validity.now)) parts.0 (form_of parts.1)) }
 {
     match mask {
@@ -63,7 +63,7 @@ fn filter_alike<A: Allocator + Copy>(
     requires { HasLength (form_of validity.now) (length bits.now) }
     ensures only { IsOkUnless result VortexError.OutOfMemory }
     ensures filtered { IfOk result (λ parts. AreStoredAs false
-        (filter_rows (replicate (length bits.now) selected) (optionals bits.now (flags (form_of validity.now)
+        (filter_rows (replicate (length bits.now) selected) (optionals bits.now (validity_flags validity.now
         (length bits.now))))
         (nullability_in (form_of validity.now)) parts.0 (form_of parts.1)) }
 {
@@ -85,7 +85,7 @@ fn filter_by<A: Allocator + Copy>(
     requires masked { length mask.now ≡ length bits.now }
     ensures only { IsOkUnless result VortexError.OutOfMemory }
     ensures filtered { IfOk result (λ parts. AreStoredAs false
-        (filter_rows mask.now (optionals bits.now (flags (form_of validity.now) (length bits.now))))
+        (filter_rows mask.now (optionals bits.now (validity_flags validity.now (length bits.now))))
         (nullability_in (form_of validity.now)) parts.0 (form_of parts.1)) }
 {
     match validity {

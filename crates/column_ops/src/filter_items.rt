@@ -3,7 +3,7 @@ ghost use Rattle.std.specs.Prelude.{◌≡◌, IfOk, IsOkUnless, is_some, length
 ghost use Rattle.column_base.specs.declared.dtype.Nullability.TheVariants.{Nullable};
 ghost use Rattle.column_base.specs.Mask.{mask_bits};
 ghost use Rattle.column_base.specs.ValidityForm.{HasLength, flags, nullability_in};
-ghost use Rattle.column_base.specs.Validity.{form_of};
+ghost use Rattle.column_base.specs.Validity.{form_of, validity_flags};
 ghost use Rattle.column_core.specs.Optionals.{optionals};
 ghost use Rattle.column_ops.specs.Filter.{filter_rows};
 ghost use Rattle.column_ops.specs.Written.{AreStoredAs, IsValidityOf};
@@ -27,7 +27,7 @@ pub(crate) fn filter_items<T: Copy + Drop, A: Allocator + Copy>(
     requires masked { length (mask_bits mask.now) ≡ length items.now }
     ensures only { IsOkUnless result VortexError.OutOfMemory }
     ensures filtered { IfOk result (λ parts. AreStoredAs blank
-        (filter_rows (mask_bits mask.now) (optionals items.now (flags (form_of validity.now) (length items.now))))
+        (filter_rows (mask_bits mask.now) (optionals items.now (validity_flags validity.now (length items.now))))
         (nullability_in (form_of validity.now)) parts.0.items (form_of parts.1)) }
 {
     if let Mask::Values(bits) = mask {
@@ -78,7 +78,7 @@ fn filter_parts<T: Copy + Drop, A: Allocator + Copy>(
     requires masked { length (mask_bits mask.now) ≡ length items.now }
     ensures only { IsOkUnless result VortexError.OutOfMemory }
     ensures filtered { IfOk result (λ parts. AreStoredAs blank
-        (filter_rows (mask_bits mask.now) (optionals items.now (flags (form_of validity.now) (length items.now))))
+        (filter_rows (mask_bits mask.now) (optionals items.now (validity_flags validity.now (length items.now))))
         (nullability_in (form_of validity.now)) parts.0.items (form_of parts.1)) }
 {
     let kept = kept_items(alloc, items, validity, blank, mask)?;
@@ -104,7 +104,7 @@ fn kept_items<T: Copy + Drop, A: Allocator + Copy>(
     requires masked { length (mask_bits mask.now) ≡ length items.now }
     ensures only { IsOkUnless result VortexError.OutOfMemory }
     ensures items { IfOk result (λ kept. kept.items ≡ map (λ row. unwrap_or row blank)
-        (filter_rows (mask_bits mask.now) (optionals items.now (flags (form_of validity.now) (length items.now))))) }
+        (filter_rows (mask_bits mask.now) (optionals items.now (validity_flags validity.now (length items.now))))) }
 {
     match mask {
         Mask::AllTrue(_) => items_or(alloc, items, validity, blank),
@@ -147,7 +147,7 @@ fn selected_rows<T: Copy + Drop, A: Allocator + Copy>(
     requires masked { length bits.now ≡ length items.now }
     ensures only { IsOkUnless result VortexError.OutOfMemory }
     ensures items { IfOk result (λ kept. kept.items ≡ map (λ row. unwrap_or row blank)
-        (filter_rows bits.now (optionals items.now (flags (form_of validity.now) (length items.now))))) }
+        (filter_rows bits.now (optionals items.now (validity_flags validity.now (length items.now))))) }
 {
     let mut kept = Vec::with_capacity(alloc, bits.true_count())?;
     for row in bits.set_indices() {
@@ -167,10 +167,10 @@ fn selected_validity<T: Copy + Drop, A: Allocator + Copy>(
     requires masked { length (mask_bits mask.now) ≡ length items.now }
     ensures only { IsOkUnless result VortexError.OutOfMemory }
     ensures flags { IfOk result (λ rows. IsValidityOf
-        (map is_some (filter_rows (mask_bits mask.now) (optionals items.now (flags (form_of validity.now)
+        (map is_some (filter_rows (mask_bits mask.now) (optionals items.now (validity_flags validity.now
         (length items.now)))))
         (nullability_in (form_of validity.now))
-        (length (filter_rows (mask_bits mask.now) (optionals items.now (flags (form_of validity.now)
+        (length (filter_rows (mask_bits mask.now) (optionals items.now (validity_flags validity.now
         (length items.now)))))
         (form_of rows)) }
 {
@@ -195,7 +195,7 @@ fn selected_flags<T: Copy + Drop, A: Allocator + Copy>(
     requires masked { length (mask_bits mask.now) ≡ length items.now }
     ensures only { IsOkUnless result VortexError.OutOfMemory }
     ensures flags { IfOk result (λ kept. kept ≡ map is_some
-        (filter_rows (mask_bits mask.now) (optionals items.now (flags (form_of validity.now) (length items.now))))) }
+        (filter_rows (mask_bits mask.now) (optionals items.now (validity_flags validity.now (length items.now))))) }
 {
     let mut kept = BitBufferMut::with_capacity(alloc, mask.true_count())?;
     for row in 0..items.len() {

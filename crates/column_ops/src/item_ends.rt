@@ -2,7 +2,7 @@
 ghost use Rattle.std.specs.Prelude.{◌≡◌, ◌≢◌, ◌+◌, ◌/◌, ◌%◌, ◌<◌, ◌≤◌, ℕ, All, IfNone, IfSome, None, length, slice_index, slice_range, MatchOption};
 ghost use Rattle.std.specs.Int.{bit_at};
 ghost use Rattle.column_base.specs.ValidityForm.{HasLength, flags};
-ghost use Rattle.column_base.specs.Validity.{form_of};
+ghost use Rattle.column_base.specs.Validity.{form_of, validity_flags};
 ghost use Rattle.column_base.specs.declared.dtype.DecimalDType.{DecimalDType};
 ghost use Rattle.column_base.specs.declared.dtype.Nullability.{Nullability};
 ghost use Rattle.column_ops.specs.Items.{flagged_rows, item_row, item_rows, IsFirstValid};
@@ -25,7 +25,7 @@ pub(crate) fn min_max_of<'a, T: FlatItem, A: Allocator>(
     requires ordered { range.start ≤ range.end }
     requires in_bounds { range.end ≤ length items.now }
     ensures { (decimal : DecimalDType) (nullability : Nullability) →
-        let rows = slice_range (flagged_rows T.value items.now (flags (form_of validity.now) (length items.now)))
+        let rows = slice_range (flagged_rows T.value items.now (validity_flags validity.now (length items.now)))
         range.start range.end in
         MatchOption result (All (λ row. row ≡ None) rows) (λ ends.
         AreEnds (T.dtype decimal nullability) rows ends.0 ends.1) }
@@ -45,12 +45,12 @@ fn item_ends<T: FlatItem, A: Allocator>(
     requires ordered { start ≤ stop }
     requires in_bounds { stop ≤ length items.now }
     ensures none { IfNone result (All (λ row. row ≡
-        None) (slice_range (flagged_rows T.value items.now (flags (form_of validity.now) (length items.now))) start
+        None) (slice_range (flagged_rows T.value items.now (validity_flags validity.now (length items.now))) start
         stop)) }
     ensures least { IfSome result (λ ends. IsLeast (slice_range (flagged_rows T.value items.now
-        (flags (form_of validity.now) (length items.now))) start stop) (item_row T.value ends.0)) }
+        (validity_flags validity.now (length items.now))) start stop) (item_row T.value ends.0)) }
     ensures greatest { IfSome result (λ ends. IsGreatest (slice_range (flagged_rows T.value items.now
-        (flags (form_of validity.now) (length items.now))) start stop) (item_row T.value ends.1)) }
+        (validity_flags validity.now (length items.now))) start stop) (item_row T.value ends.1)) }
 {
     match validity {
         Validity::NonNullable => ends_of_valid(items, start, stop),

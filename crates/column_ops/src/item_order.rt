@@ -1,7 +1,7 @@
 //! Whether the items of a flat column are constant, and whether they are in order.
 ghost use Rattle.std.specs.Prelude.{◌≡◌, ◌<◌, ◌≤◌, ◌↔◌, true, false, IsTrue, length, slice_range};
 ghost use Rattle.column_base.specs.ValidityForm.{HasLength, flags};
-ghost use Rattle.column_base.specs.Validity.{form_of};
+ghost use Rattle.column_base.specs.Validity.{form_of, validity_flags};
 ghost use Rattle.column_ops.specs.Items.{flagged_rows, item_row, item_rows, AreAll};
 ghost use Rattle.column_ops.specs.OrderFacts.{IsConstant, IsSorted};
 ghost use Rattle.column_ops.specs.Steps.{is_step_of, AreSteps};
@@ -26,7 +26,7 @@ pub(crate) fn is_constant_of<T: FlatItem, A: Allocator>(
     requires fits { HasLength (form_of validity.now) (length items.now) }
     requires ordered { range.start ≤ range.end }
     requires in_bounds { range.end ≤ length items.now }
-    ensures { IsTrue result ↔ IsConstant (slice_range (flagged_rows T.value items.now (flags (form_of validity.now)
+    ensures { IsTrue result ↔ IsConstant (slice_range (flagged_rows T.value items.now (validity_flags validity.now
         (length items.now))) range.start range.end) }
 {
     match validity {
@@ -104,7 +104,7 @@ pub(crate) fn is_sorted_of<T: FlatItem, A: Allocator>(
     requires fits { HasLength (form_of validity.now) (length items.now) }
     requires ordered { range.start ≤ range.end }
     requires in_bounds { range.end ≤ length items.now }
-    ensures { IsTrue result ↔ IsSorted strict (slice_range (flagged_rows T.value items.now (flags (form_of validity.now)
+    ensures { IsTrue result ↔ IsSorted strict (slice_range (flagged_rows T.value items.now (validity_flags validity.now
         (length items.now))) range.start range.end) }
 {
     match validity {

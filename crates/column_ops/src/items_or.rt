@@ -1,7 +1,7 @@
 //! Items with another one in place of each null, of any kind of item.
 ghost use Rattle.std.specs.Prelude.{◌≡◌, IfOk, IsOkUnless, length, map, replicate, unwrap_or};
-ghost use Rattle.column_base.specs.ValidityForm.{HasLength, flags};
-ghost use Rattle.column_base.specs.Validity.{form_of};
+ghost use Rattle.column_base.specs.ValidityForm.{HasLength};
+ghost use Rattle.column_base.specs.Validity.{form_of, validity_flags};
 ghost use Rattle.column_core.specs.Optionals.{optionals};
 
 use crate::blanks::put_at_zeros;
@@ -18,7 +18,7 @@ pub(crate) fn items_or<T: Copy + Drop, A: Allocator + Copy>(
     requires { HasLength (form_of validity.now) (length items.now) }
     ensures only { IsOkUnless result VortexError.OutOfMemory }
     ensures items { IfOk result (λ shown. shown.items ≡
-        map (λ row. unwrap_or row instead) (optionals items.now (flags (form_of validity.now) (length items.now)))) }
+        map (λ row. unwrap_or row instead) (optionals items.now (validity_flags validity.now (length items.now)))) }
 {
     match validity {
         Validity::NonNullable => Ok(Vec::from_slice(alloc, items)?),

@@ -1,8 +1,8 @@
 //! Rows kept as they are in a type that may lack null, of any kind of item.
 ghost use Rattle.std.specs.Prelude.{◌≡◌, ◌≢◌, Err, None, IfOk, length};
 ghost use Rattle.column_base.specs.declared.dtype.Nullability.TheVariants.{NonNullable};
-ghost use Rattle.column_base.specs.ValidityForm.{HasLength, flags};
-ghost use Rattle.column_base.specs.Validity.{form_of};
+ghost use Rattle.column_base.specs.ValidityForm.{HasLength};
+ghost use Rattle.column_base.specs.Validity.{form_of, validity_flags};
 ghost use Rattle.column_core.specs.Optionals.{optionals};
 ghost use Rattle.column_core.specs.Refusal.{IsRefusedBy};
 ghost use Rattle.column_ops.specs.Cast.{null_fault, null_row_fault};
@@ -39,9 +39,9 @@ pub(crate) fn keep_items<T: Copy + Drop, A: Allocator + Copy>(
 ) -> VortexResult<(Vec<T, A>, Validity<A>)>
     requires { HasLength (form_of validity.now) (length items.now) }
     ensures refused { IsRefusedBy (first_fault (null_row_fault nullability) (optionals items.now
-        (flags (form_of validity.now) (length items.now)))) result }
+        (validity_flags validity.now (length items.now)))) result }
     ensures kept { IfOk result (λ parts. AreStoredAs blank
-        (optionals items.now (flags (form_of validity.now) (length items.now)))
+        (optionals items.now (validity_flags validity.now (length items.now)))
         nullability parts.0.items (form_of parts.1)) }
 {
     check_nulls(items, validity, nullability)?;

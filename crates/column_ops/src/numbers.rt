@@ -6,8 +6,8 @@ ghost use Rattle.column_base.specs.Types.{HasNumber};
 ghost use Rattle.column_core.specs.Value.{Number};
 ghost use Rattle.column_ops.specs.Fill.{fill_rows};
 ghost use Rattle.column_base.specs.Mask.{mask_bits};
-ghost use Rattle.column_base.specs.ValidityForm.{HasLength, flags, nullability_in};
-ghost use Rattle.column_base.specs.Validity.{form_of};
+ghost use Rattle.column_base.specs.ValidityForm.{HasLength, nullability_in};
+ghost use Rattle.column_base.specs.Validity.{form_of, validity_flags};
 ghost use Rattle.column_core.specs.Leaf.{OfNumbers};
 ghost use Rattle.column_core.specs.Optionals.{optionals};
 ghost use Rattle.column_core.specs.PrimitiveForm.{primitive_dtype, primitive_rows, primitive_with};
@@ -85,12 +85,12 @@ fn take_numbers<T: NativePType, A: Allocator + Copy>(
 ) -> VortexResult<PrimitiveArray<A>>
     requires fits { HasLength (form_of validity.now) (length items.now) }
     requires counted { HasLength (form_of places.now) (length positions.now) }
-    requires within { ArePositions (optionals positions.now (flags (form_of places.now) (length positions.now)))
+    requires within { ArePositions (optionals positions.now (validity_flags places.now (length positions.now)))
         (length items.now) }
     ensures only { IsOkUnless result VortexError.OutOfMemory }
     ensures made { IfOk result (λ array. IsMade
         (take_rows (primitive_rows (primitive_with T.PTYPE (map T.number items.now) (form_of validity.now)))
-        (position_numbers (optionals positions.now (flags (form_of places.now) (length positions.now)))))
+        (position_numbers (optionals positions.now (validity_flags places.now (length positions.now)))))
         (column.Primitive T.PTYPE (either_nullable (nullability_in (form_of validity.now))
         (nullability_in (form_of places.now))))
         (OfNumbers array)) }

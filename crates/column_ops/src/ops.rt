@@ -3,8 +3,8 @@ ghost use Rattle.std.specs.Prelude.{◌≡◌, true, IfOk, IfSome, IsErrOf, IsOk
 ghost use Rattle.column_base.specs.declared.error.VortexError.{VortexError};
 ghost use Rattle.column_base.specs.Mask.{mask_bits};
 ghost use Rattle.column_base.specs.Types.{nullability_of, with_nullability as dtype_with};
-ghost use Rattle.column_base.specs.ValidityForm.{HasLength, flags, nullability_in};
-ghost use Rattle.column_base.specs.Validity.{form_of};
+ghost use Rattle.column_base.specs.ValidityForm.{HasLength, nullability_in};
+ghost use Rattle.column_base.specs.Validity.{form_of, validity_flags};
 ghost use Rattle.column_core.specs.FlatColumn.{leaf_of};
 ghost use Rattle.column_core.specs.Leaf.{Leaf, leaf_dtype, leaf_rows, plain_leaf, single_rows};
 ghost use Rattle.column_core.specs.Optionals.{optionals};
@@ -47,12 +47,12 @@ pub trait ColumnOps<A: Allocator + Copy>: Sized {
     /// type has null where the column's or the positions' has. Refused only as `OutOfMemory`.
     fn take_at(&self, alloc: A, positions: &[u64], validity: &Validity<A>) -> VortexResult<Self>
         requires counted { HasLength (form_of validity.now) (length positions.now) }
-        requires within { ArePositions (optionals positions.now (flags (form_of validity.now) (length positions.now)))
+        requires within { ArePositions (optionals positions.now (validity_flags validity.now (length positions.now)))
             (length (leaf_rows (leaf self.now))) }
         ensures only { IsOkUnless result VortexError.OutOfMemory }
         ensures made { IfOk result (λ column. IsMade
             (take_rows (leaf_rows (leaf self.now)) (position_numbers (optionals positions.now
-            (flags (form_of validity.now) (length positions.now)))))
+            (validity_flags validity.now (length positions.now)))))
             (dtype_with (leaf_dtype (leaf self.now)) (either_nullable (nullability_of (leaf_dtype (leaf self.now)))
             (nullability_in (form_of validity.now))))
             (leaf column)) };

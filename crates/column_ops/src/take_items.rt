@@ -1,7 +1,7 @@
 //! Rows taken by their numbers, of any kind of item.
 ghost use Rattle.std.specs.Prelude.{◌≡◌, ◌<◌, false, All, IfOk, IsOkUnless, Some, is_some, length, map, slice_get, slice_index_or, unwrap_or};
 ghost use Rattle.column_base.specs.ValidityForm.{HasLength, flags, nullability_in};
-ghost use Rattle.column_base.specs.Validity.{form_of};
+ghost use Rattle.column_base.specs.Validity.{form_of, validity_flags};
 ghost use Rattle.column_core.specs.Optionals.{optionals};
 ghost use Rattle.column_ops.specs.Nullable.{either_nullable};
 ghost use Rattle.column_ops.specs.Take.{ArePositions, position_numbers, take_rows, taken_bit};
@@ -25,12 +25,12 @@ pub(crate) fn take_items<T: Copy + Drop, A: Allocator + Copy>(
 ) -> VortexResult<(Vec<T, A>, Validity<A>)>
     requires fits { HasLength (form_of validity.now) (length items.now) }
     requires counted { HasLength (form_of places.now) (length positions.now) }
-    requires within { ArePositions (optionals positions.now (flags (form_of places.now) (length positions.now)))
+    requires within { ArePositions (optionals positions.now (validity_flags places.now (length positions.now)))
         (length items.now) }
     ensures only { IsOkUnless result VortexError.OutOfMemory }
     ensures taken { IfOk result (λ parts. AreStoredAs blank
-        (take_rows (optionals items.now (flags (form_of validity.now) (length items.now)))
-        (position_numbers (optionals positions.now (flags (form_of places.now) (length positions.now)))))
+        (take_rows (optionals items.now (validity_flags validity.now (length items.now)))
+        (position_numbers (optionals positions.now (validity_flags places.now (length positions.now)))))
         (either_nullable (nullability_in (form_of validity.now)) (nullability_in (form_of places.now)))
         parts.0.items (form_of parts.1)) }
 {
@@ -56,12 +56,12 @@ pub(crate) fn take_bits<A: Allocator + Copy>(
 ) -> VortexResult<(BitBuffer<A>, Validity<A>)>
     requires fits { HasLength (form_of validity.now) (length bits.now) }
     requires counted { HasLength (form_of places.now) (length positions.now) }
-    requires within { ArePositions (optionals positions.now (flags (form_of places.now) (length positions.now)))
+    requires within { ArePositions (optionals positions.now (validity_flags places.now (length positions.now)))
         (length bits.now) }
     ensures only { IsOkUnless result VortexError.OutOfMemory }
     ensures taken { IfOk result (λ parts. AreStoredAs false
-        (take_rows (optionals bits.now (flags (form_of validity.now) (length bits.now)))
-        (position_numbers (optionals positions.now (flags (form_of places.now) (length positions.now)))))
+        (take_rows (optionals bits.now (validity_flags validity.now (length bits.now)))
+        (position_numbers (optionals positions.now (validity_flags places.now (length positions.now)))))
         (either_nullable (nullability_in (form_of validity.now)) (nullability_in (form_of places.now)))
         parts.0 (form_of parts.1)) }
 {
@@ -99,16 +99,16 @@ fn taken_items<T: Copy + Drop, A: Allocator + Copy>(
 ) -> VortexResult<Vec<T, A>>
     requires fits { HasLength (form_of validity.now) (length items.now) }
     requires counted { HasLength (form_of places.now) (length positions.now) }
-    requires within { ArePositions (optionals positions.now (flags (form_of places.now) (length positions.now)))
+    requires within { ArePositions (optionals positions.now (validity_flags places.now (length positions.now)))
         (length items.now) }
     requires sized { HasLength (form_of rows.now) (length positions.now) }
-    requires shown { flags (form_of rows.now) (length positions.now) ≡
-        map (taken_bit (flags (form_of validity.now) (length items.now)))
-        (optionals positions.now (flags (form_of places.now) (length positions.now))) }
+    requires shown { validity_flags rows.now (length positions.now) ≡
+        map (taken_bit (validity_flags validity.now (length items.now)))
+        (optionals positions.now (validity_flags places.now (length positions.now))) }
     ensures only { IsOkUnless result VortexError.OutOfMemory }
     ensures items { IfOk result (λ taken. taken.items ≡ map (λ row. unwrap_or row blank)
-        (take_rows (optionals items.now (flags (form_of validity.now) (length items.now)))
-        (position_numbers (optionals positions.now (flags (form_of places.now) (length positions.now)))))) }
+        (take_rows (optionals items.now (validity_flags validity.now (length items.now)))
+        (position_numbers (optionals positions.now (validity_flags places.now (length positions.now)))))) }
 {
     if is_all_valid(validity) && is_all_valid(places) {
         return items_at(alloc, items, positions);
@@ -147,7 +147,7 @@ fn shown_items<T: Copy + Drop, A: Allocator + Copy>(
     ensures only { IsOkUnless result VortexError.OutOfMemory }
     ensures items { IfOk result (λ taken. taken.items ≡ map (λ row. unwrap_or row blank)
         (optionals (map (λ position. slice_index_or items.now position blank) positions.now)
-        (flags (form_of rows.now) (length positions.now)))) }
+        (validity_flags rows.now (length positions.now)))) }
 {
     match rows {
         Validity::NonNullable => items_or_blank(alloc, items, blank, positions),
@@ -200,13 +200,13 @@ fn taken_validity<A: Allocator + Copy>(
 ) -> VortexResult<Validity<A>>
     requires fits { HasLength (form_of validity.now) count }
     requires counted { HasLength (form_of places.now) (length positions.now) }
-    requires within { ArePositions (optionals positions.now (flags (form_of places.now) (length positions.now))) count }
+    requires within { ArePositions (optionals positions.now (validity_flags places.now (length positions.now))) count }
     requires wanted { nullability ≡ either_nullable (nullability_in (form_of validity.now))
         (nullability_in (form_of places.now)) }
     ensures only { IsOkUnless result VortexError.OutOfMemory }
     ensures flags { IfOk result (λ rows. IsValidityOf
-        (map (taken_bit (flags (form_of validity.now) count))
-        (optionals positions.now (flags (form_of places.now) (length positions.now))))
+        (map (taken_bit (validity_flags validity.now count))
+        (optionals positions.now (validity_flags places.now (length positions.now))))
         nullability (length positions.now) (form_of rows)) }
 {
     match validity {

@@ -31,7 +31,7 @@ pub(crate) fn sum_unsigned_visible<A: Allocator + Copy>(
     ensures valid { AreRuns array.now }
 {
     let ends = visible::plain_ends(array);
-    match_each_unsigned!(ends.values(), items => sum_over(array, items.as_slice(), sum), _ => unreachable!())
+    match_each_unsigned!(ends.values(), items => sum_over(array, items.as_slice(), sum))
 }
 
 // The sum of the rows, over these ends.

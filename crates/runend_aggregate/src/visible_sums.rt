@@ -1,7 +1,7 @@
 //! Sums of numbers of either sign over the visible runs, whose types were matched before: the loop reads slices.
 ghost use Rattle.std.specs.Prelude.{◌≡◌, ◌+◌, ◌++◌, ◌-◌, ◌≤◌, length, map, pos};
 ghost use Rattle.column_base.specs.ValidityForm.{flags};
-ghost use Rattle.column_base.specs.Validity.{form_of};
+ghost use Rattle.column_base.specs.Validity.{validity_flags};
 ghost use Rattle.column_core.specs.Optionals.{optionals};
 ghost use Rattle.column_sums.specs.RunSum.{calls_of, rows_of_runs, valid_runs};
 ghost use Rattle.column_sums.specs.SumAnswer.{answer_of, number_in};
@@ -35,7 +35,7 @@ where
     T: SummedIn<V>,
     A: Allocator + Copy,
     requires ends { map E.natural ends.now ≡ array.now.ends }
-    requires items { optionals (map T.number items.now) (flags (form_of validity.now) (length items.now)) ≡
+    requires items { optionals (map T.number items.now) (validity_flags validity.now (length items.now)) ≡
         map number_in (column_rows array.now.values) }
     requires zero { (S.state sum.old).value ≡ pos 0 }
     ensures answer { result ≡ answer_of (sum_range V.PTYPE) (rows_of_runs (visible_runs array.now)) }

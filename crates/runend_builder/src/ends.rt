@@ -15,7 +15,7 @@ pub(crate) fn push_ends<A: Allocator>(ends: &mut Vec<u64, A>, part: &PrimitiveAr
     requires small { All (λ end. count + end < 2 ^ 64) (ends_of part.now) }
     ensures { ends.new.items ≡ ends.old.items ++ behind count (ends_of part.now) }
 {
-    match_each_unsigned!(part.values(), items => push_stored(ends, items.as_slice(), count), _ => unreachable!())
+    match_each_unsigned!(part.values(), items => push_stored(ends, items.as_slice(), count))
 }
 
 // The same of ends as they are stored.

@@ -3,8 +3,8 @@
 ghost use Rattle.std.specs.Prelude.{◌≡◌, IfOk, IsOkUnless, length, replicate};
 ghost use Rattle.column_base.specs.Mask.{mask_bits};
 ghost use Rattle.column_base.specs.Types.{nullability_of, with_nullability as dtype_with};
-ghost use Rattle.column_base.specs.ValidityForm.{HasLength, flags, nullability_in};
-ghost use Rattle.column_base.specs.Validity.{form_of};
+ghost use Rattle.column_base.specs.ValidityForm.{HasLength, nullability_in};
+ghost use Rattle.column_base.specs.Validity.{form_of, validity_flags};
 ghost use Rattle.column_core.specs.Optionals.{optionals};
 ghost use Rattle.column_ops.specs.Filter.{filter_rows};
 ghost use Rattle.column_ops.specs.Nullable.{either_nullable};
@@ -30,11 +30,11 @@ pub(crate) fn take_constant<A: Allocator + Copy>(
 ) -> VortexResult<Canonical<A>>
     requires constant { column_of values.now ≡ OfConstant constant.now }
     requires counted { HasLength (form_of places.now) (length positions.now) }
-    requires within { ArePositions (optionals positions.now (flags (form_of places.now) (length positions.now)))
+    requires within { ArePositions (optionals positions.now (validity_flags places.now (length positions.now)))
         (length (rows values.now)) }
     ensures only { IsOkUnless result VortexError.OutOfMemory }
     ensures made { IfOk result (λ taken. IsComputedAs
-        (take_rows (rows values.now) (position_numbers (optionals positions.now (flags (form_of places.now)
+        (take_rows (rows values.now) (position_numbers (optionals positions.now (validity_flags places.now
         (length positions.now)))))
         (dtype_with (dtype_of values.now) (either_nullable (nullability_of (dtype_of values.now))
         (nullability_in (form_of places.now))))
@@ -54,12 +54,12 @@ fn take_first<A: Allocator + Copy>(
     places: &Validity<A>,
 ) -> VortexResult<Canonical<A>>
     requires counted { HasLength (form_of places.now) count }
-    requires within { ArePositions (optionals (replicate count 0) (flags (form_of places.now) count))
+    requires within { ArePositions (optionals (replicate count 0) (validity_flags places.now count))
         (length (column_rows (canonical_column one.now))) }
     ensures only { IsOkUnless result VortexError.OutOfMemory }
     ensures made { IfOk result (λ taken. IsComputedAs
         (take_rows (column_rows (canonical_column one.now)) (position_numbers (optionals (replicate count 0)
-        (flags (form_of places.now) count))))
+        (validity_flags places.now count))))
         (dtype_with (column_dtype (canonical_column one.now)) (either_nullable
         (nullability_of (column_dtype (canonical_column one.now))) (nullability_in (form_of places.now))))
         (canonical_column taken)) }

@@ -2,8 +2,8 @@
 ghost use Rattle.std.specs.Prelude.{◌≡◌, ◌≤◌, IfOk, IsOkUnless, length, slice_range};
 ghost use Rattle.column_base.specs.Mask.{mask_bits};
 ghost use Rattle.column_base.specs.Types.{nullability_of, with_nullability as dtype_with};
-ghost use Rattle.column_base.specs.ValidityForm.{HasLength, flags, nullability_in};
-ghost use Rattle.column_base.specs.Validity.{form_of};
+ghost use Rattle.column_base.specs.ValidityForm.{HasLength, nullability_in};
+ghost use Rattle.column_base.specs.Validity.{form_of, validity_flags};
 ghost use Rattle.column_core.specs.Optionals.{optionals};
 ghost use Rattle.column_ops.specs.Filter.{filter_rows};
 ghost use Rattle.column_ops.specs.Nullable.{either_nullable};
@@ -25,11 +25,11 @@ pub(crate) fn take_lists<A: Allocator + Copy>(
     places: &Validity<A>,
 ) -> VortexResult<ListViewArray<A>>
     requires counted { HasLength (form_of places.now) (length positions.now) }
-    requires within { ArePositions (optionals positions.now (flags (form_of places.now) (length positions.now)))
+    requires within { ArePositions (optionals positions.now (validity_flags places.now (length positions.now)))
         (length (list_rows lists.now)) }
     ensures only { IsOkUnless result VortexError.OutOfMemory }
     ensures made { IfOk result (λ taken. IsComputedAs
-        (take_rows (list_rows lists.now) (position_numbers (optionals positions.now (flags (form_of places.now)
+        (take_rows (list_rows lists.now) (position_numbers (optionals positions.now (validity_flags places.now
         (length positions.now)))))
         (dtype_with (list_dtype lists.now) (either_nullable (nullability_of (list_dtype lists.now))
         (nullability_in (form_of places.now))))

@@ -2,8 +2,8 @@
 ghost use Rattle.std.specs.Prelude.{◌≡◌, IfOk, IsOkUnless, length};
 ghost use Rattle.column_base.specs.Mask.{mask_bits};
 ghost use Rattle.column_base.specs.Types.{nullability_of, with_nullability as dtype_with};
-ghost use Rattle.column_base.specs.ValidityForm.{HasLength, flags, nullability_in};
-ghost use Rattle.column_base.specs.Validity.{form_of};
+ghost use Rattle.column_base.specs.ValidityForm.{HasLength, nullability_in};
+ghost use Rattle.column_base.specs.Validity.{form_of, validity_flags};
 ghost use Rattle.column_core.specs.Leaf.{leaf_dtype, single_rows};
 ghost use Rattle.column_core.specs.Optionals.{optionals};
 ghost use Rattle.column_ops.specs.Filter.{filter_rows};
@@ -44,11 +44,11 @@ pub fn take_values<A: Allocator + Copy>(
     places: &Validity<A>,
 ) -> VortexResult<Canonical<A>>
     requires counted { HasLength (form_of places.now) (length positions.now) }
-    requires within { ArePositions (optionals positions.now (flags (form_of places.now) (length positions.now)))
+    requires within { ArePositions (optionals positions.now (validity_flags places.now (length positions.now)))
         (length (rows values.now)) }
     ensures only { IsOkUnless result VortexError.OutOfMemory }
     ensures made { IfOk result (λ taken. IsComputedAs
-        (take_rows (rows values.now) (position_numbers (optionals positions.now (flags (form_of places.now)
+        (take_rows (rows values.now) (position_numbers (optionals positions.now (validity_flags places.now
         (length positions.now)))))
         (dtype_with (dtype_of values.now) (either_nullable (nullability_of (dtype_of values.now))
         (nullability_in (form_of places.now))))
@@ -125,12 +125,12 @@ fn taken_at<C: ColumnOps<A>, A: Allocator + Copy>(
     places: &Validity<A>,
 ) -> VortexResult<C>
     requires counted { HasLength (form_of places.now) (length positions.now) }
-    requires within { ArePositions (optionals positions.now (flags (form_of places.now) (length positions.now)))
+    requires within { ArePositions (optionals positions.now (validity_flags places.now (length positions.now)))
         (length (single_rows (C.leaf column.now))) }
     ensures only { IsOkUnless result VortexError.OutOfMemory }
     ensures made { IfOk result (λ taken. IsComputedAs
         (take_rows (single_rows (C.leaf column.now)) (position_numbers (optionals positions.now
-        (flags (form_of places.now) (length positions.now)))))
+        (validity_flags places.now (length positions.now)))))
         (dtype_with (leaf_dtype (C.leaf column.now)) (either_nullable (nullability_of (leaf_dtype (C.leaf column.now)))
         (nullability_in (form_of places.now))))
         (OfLeaf (C.leaf taken))) }
@@ -155,12 +155,12 @@ pub(crate) fn take_flat<A: Allocator + Copy>(
     places: &Validity<A>,
 ) -> VortexResult<Canonical<A>>
     requires counted { HasLength (form_of places.now) (length positions.now) }
-    requires within { ArePositions (optionals positions.now (flags (form_of places.now) (length positions.now)))
+    requires within { ArePositions (optionals positions.now (validity_flags places.now (length positions.now)))
         (length (column_rows (canonical_column values.now))) }
     ensures only { IsOkUnless result VortexError.OutOfMemory }
     ensures made { IfOk result (λ taken. IsComputedAs
         (take_rows (column_rows (canonical_column values.now)) (position_numbers (optionals positions.now
-        (flags (form_of places.now) (length positions.now)))))
+        (validity_flags places.now (length positions.now)))))
         (dtype_with (column_dtype (canonical_column values.now)) (either_nullable
         (nullability_of (column_dtype (canonical_column values.now))) (nullability_in (form_of places.now))))
         (canonical_column taken)) }
@@ -208,11 +208,11 @@ fn take_flattened<A: Allocator + Copy>(
     places: &Validity<A>,
 ) -> VortexResult<Canonical<A>>
     requires counted { HasLength (form_of places.now) (length positions.now) }
-    requires within { ArePositions (optionals positions.now (flags (form_of places.now) (length positions.now)))
+    requires within { ArePositions (optionals positions.now (validity_flags places.now (length positions.now)))
         (length (rows values.now)) }
     ensures only { IsOkUnless result VortexError.OutOfMemory }
     ensures made { IfOk result (λ taken. IsComputedAs
-        (take_rows (rows values.now) (position_numbers (optionals positions.now (flags (form_of places.now)
+        (take_rows (rows values.now) (position_numbers (optionals positions.now (validity_flags places.now
         (length positions.now)))))
         (dtype_with (dtype_of values.now) (either_nullable (nullability_of (dtype_of values.now))
         (nullability_in (form_of places.now))))

@@ -1,16 +1,16 @@
 //! Runs of flat columns of integers, joined where neighbours are equal.
-ghost use Rattle.std.specs.Prelude.{◌≡◌, ◌≢◌, ◌-◌, pos, true, All, IfOk, IsOkUnless, IsTrue, length, map, min, replicate, unsigned_abs};
+ghost use Rattle.std.specs.Prelude.{◌≡◌, ◌≢◌, ◌-◌, pos, true, All, IfOk, IsOkUnless, IsTrue, length, map, min, replicate};
 ghost use Rattle.std.specs.List.{AllAdjacentBelow};
 ghost use Rattle.column_base.specs.declared.dtype.Nullability.TheVariants.{NonNullable};
 ghost use Rattle.column_base.specs.declared.dtype.DType.TheVariants as column;
 ghost use Rattle.column_base.specs.Types.{HasNumber};
 ghost use Rattle.column_base.specs.ValidityForm.{HasLength, NeverNull, flags};
-ghost use Rattle.column_base.specs.Validity.{form_of};
+ghost use Rattle.column_base.specs.Validity.{form_of, validity_flags};
 ghost use Rattle.column_core.specs.Computed.{IsComputed};
 ghost use Rattle.column_core.specs.PrimitiveForm.{AreZeroAtNulls, optional_numbers, optionals, primitive_dtype, primitive_with};
 ghost use Rattle.runend_windows.specs.Cover.{IsTightCover};
 ghost use Rattle.runend_windows.specs.Ends.{IsEndsType, ends_of};
-ghost use Rattle.runend_windows.specs.Window.{run_rows, IsWindow};
+ghost use Rattle.runend_windows.specs.Window.{run_rows, IsWindow, typed_ends};
 ghost use Rattle.runend_encode.specs.Joined.{AreJoined, AllHaveRows};
 
 use crate::joined::{JoinedRuns, differ_in, join_nullable, valid_runs};
@@ -80,7 +80,7 @@ fn ends_in_window<A: Allocator + Copy>(
     match_each_unsigned!(stored, items => {
         let items = items.into_vec(alloc)?;
         Ok(stored_in_window(items, offset, count))
-    }, _ => unreachable!())
+    })
 }
 
 // The ends of runs, counted from the first row of the window, of ends as they are stored.
@@ -89,9 +89,9 @@ fn stored_in_window<E: EndsType, A: Allocator + Copy>(
     offset: usize,
     count: usize,
 ) -> PrimitiveArray<A>
-    requires window { IsWindow (map unsigned_abs (map E.number ends.items)) offset count }
-    requires shown { AllHaveRows (map unsigned_abs (map E.number ends.items)) offset count }
-    ensures ends { ends_of result ≡ map (λ end. min (end - offset) count) (map unsigned_abs (map E.number ends.items)) }
+    requires window { IsWindow (typed_ends E.number ends.items) offset count }
+    requires shown { AllHaveRows (typed_ends E.number ends.items) offset count }
+    ensures ends { ends_of result ≡ map (λ end. min (end - offset) count) (typed_ends E.number ends.items) }
     ensures dtype { primitive_dtype result ≡ column.Primitive E.PTYPE NonNullable }
 {
     shift_ends(&mut ends, offset, count);
@@ -128,7 +128,7 @@ fn join_parts<A: Allocator + Copy>(
     match_each_unsigned!(ends.values(), items => {
         let stored = items.as_slice();
         join_values(alloc, stored, values, offset, count)
-    }, _ => unreachable!())
+    })
 }
 
 // The joined runs, over ends as they are stored, with values of any type.
@@ -140,9 +140,9 @@ fn join_values<E: UnsignedPType, A: Allocator + Copy>(
     count: usize,
 ) -> VortexResult<(PrimitiveArray<A>, PrimitiveArray<A>)>
     requires fits { All (λ end. HasNumber E.PTYPE (E.number end)) ends.now }
-    requires window { IsWindow (map unsigned_abs (map E.number ends.now)) offset count }
+    requires window { IsWindow (typed_ends E.number ends.now) offset count }
     requires paired { length values.now.numbers ≡ length ends.now }
-    requires shown { AllHaveRows (map unsigned_abs (map E.number ends.now)) offset count }
+    requires shown { AllHaveRows (typed_ends E.number ends.now) offset count }
     requires computed { IsComputed values.now }
     ensures only { IsOkUnless result VortexError.OutOfMemory }
     ensures joined { IfOk result (λ parts. AreJoined (primitive_with E.PTYPE (map E.number ends.now) NeverNull)
@@ -162,11 +162,11 @@ fn join_as<E: UnsignedPType, T: NativePType, A: Allocator + Copy>(
     count: usize,
 ) -> VortexResult<(PrimitiveArray<A>, PrimitiveArray<A>)>
     requires fits { All (λ end. HasNumber E.PTYPE (E.number end)) ends.now }
-    requires window { IsWindow (map unsigned_abs (map E.number ends.now)) offset count }
+    requires window { IsWindow (typed_ends E.number ends.now) offset count }
     requires paired { length items.now ≡ length ends.now }
-    requires shown { AllHaveRows (map unsigned_abs (map E.number ends.now)) offset count }
+    requires shown { AllHaveRows (typed_ends E.number ends.now) offset count }
     requires counted { HasLength (form_of validity.now) (length items.now) }
-    requires zeroed { AreZeroAtNulls (map T.number items.now) (flags (form_of validity.now) (length items.now)) }
+    requires zeroed { AreZeroAtNulls (map T.number items.now) (validity_flags validity.now (length items.now)) }
     ensures only { IsOkUnless result VortexError.OutOfMemory }
     ensures joined { IfOk result (λ parts. AreJoined (primitive_with E.PTYPE (map E.number ends.now) NeverNull)
         (primitive_with T.PTYPE (map T.number items.now) (form_of validity.now)) offset count parts.0 parts.1) }
@@ -193,16 +193,16 @@ fn join_items<E: UnsignedPType, T: NativePType, A: Allocator + Copy>(
     count: usize,
 ) -> VortexResult<JoinedRuns<E, T, A>>
     requires fits { All (λ end. HasNumber E.PTYPE (E.number end)) ends.now }
-    requires window { IsWindow (map unsigned_abs (map E.number ends.now)) offset count }
+    requires window { IsWindow (typed_ends E.number ends.now) offset count }
     requires paired { length items.now ≡ length ends.now }
-    requires shown { AllHaveRows (map unsigned_abs (map E.number ends.now)) offset count }
+    requires shown { AllHaveRows (typed_ends E.number ends.now) offset count }
     requires counted { HasLength (form_of validity.now) (length items.now) }
-    requires zeroed { AreZeroAtNulls (map T.number items.now) (flags (form_of validity.now) (length items.now)) }
+    requires zeroed { AreZeroAtNulls (map T.number items.now) (validity_flags validity.now (length items.now)) }
     ensures only { IsOkUnless result VortexError.OutOfMemory }
     ensures cover { IfOk result (λ runs. IsTightCover
-        (run_rows (map unsigned_abs (map E.number ends.now)) (optionals (map T.number items.now)
-        (flags (form_of validity.now) (length items.now))) offset count)
-        (map unsigned_abs (map E.number runs.ends.items)) (optionals (map T.number runs.values.items) runs.flags)) }
+        (run_rows (typed_ends E.number ends.now) (optionals (map T.number items.now)
+        (validity_flags validity.now (length items.now))) offset count)
+        (typed_ends E.number runs.ends.items) (optionals (map T.number runs.values.items) runs.flags)) }
     ensures paired { IfOk result (λ runs. length runs.flags ≡ length runs.values.items) }
     ensures zeroed { IfOk result (λ runs. AreZeroAtNulls (map T.number runs.values.items) runs.flags) }
     ensures never { form_of validity.now ≡ NeverNull → IfOk result (λ runs. All (λ flag. flag ≡ true) runs.flags) }
@@ -224,14 +224,14 @@ fn join_valid<E: UnsignedPType, T: NativePType, A: Allocator + Copy>(
     count: usize,
 ) -> VortexResult<JoinedRuns<E, T, A>>
     requires fits { All (λ end. HasNumber E.PTYPE (E.number end)) ends.now }
-    requires window { IsWindow (map unsigned_abs (map E.number ends.now)) offset count }
+    requires window { IsWindow (typed_ends E.number ends.now) offset count }
     requires paired { length items.now ≡ length ends.now }
-    requires shown { AllHaveRows (map unsigned_abs (map E.number ends.now)) offset count }
+    requires shown { AllHaveRows (typed_ends E.number ends.now) offset count }
     ensures only { IsOkUnless result VortexError.OutOfMemory }
     ensures cover { IfOk result (λ runs. IsTightCover
-        (run_rows (map unsigned_abs (map E.number ends.now)) (optionals (map T.number items.now)
+        (run_rows (typed_ends E.number ends.now) (optionals (map T.number items.now)
         (replicate (length items.now) true)) offset count)
-        (map unsigned_abs (map E.number runs.ends.items)) (optionals (map T.number runs.values.items) runs.flags)) }
+        (typed_ends E.number runs.ends.items) (optionals (map T.number runs.values.items) runs.flags)) }
     ensures paired { IfOk result (λ runs. length runs.flags ≡ length runs.values.items) }
     ensures zeroed { IfOk result (λ runs. AreZeroAtNulls (map T.number runs.values.items) runs.flags) }
     ensures valid { IfOk result (λ runs. All (λ flag. flag ≡ true) runs.flags) }

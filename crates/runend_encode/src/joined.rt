@@ -1,13 +1,13 @@
 //! The loops that join runs: each run shows a row, and is looked at once.
-ghost use Rattle.std.specs.Prelude.{◌≡◌, ◌+◌, ◌-◌, ◌<◌, ◌≤◌, ◌++◌, ◌↔◌, [], ◌∷◌, ℕ, Some, pos, true, false, All, IfOk, IsOkUnless, IsTrue, drop, length, map, min, replicate, slice_get, slice_index, take, unsigned_abs};
+ghost use Rattle.std.specs.Prelude.{◌≡◌, ◌+◌, ◌-◌, ◌<◌, ◌≤◌, ◌++◌, ◌↔◌, [], ◌∷◌, ℕ, Some, pos, true, false, All, IfOk, IsOkUnless, IsTrue, drop, length, map, min, replicate, slice_get, slice_index, take};
 ghost use Rattle.std.specs.Prelude.{◌≢◌};
 ghost use Rattle.std.specs.List.{AllAdjacentBelow};
 ghost use Rattle.column_base.specs.Types.{HasNumber};
 ghost use Rattle.column_base.specs.ValidityForm.{HasLength, flags};
-ghost use Rattle.column_base.specs.Validity.{form_of};
+ghost use Rattle.column_base.specs.Validity.{form_of, validity_flags};
 ghost use Rattle.column_core.specs.PrimitiveForm.{AreZeroAtNulls, optionals};
 ghost use Rattle.runend_windows.specs.Cover.{IsTightCover};
-ghost use Rattle.runend_windows.specs.Window.{run_rows, IsWindow};
+ghost use Rattle.runend_windows.specs.Window.{run_rows, IsWindow, typed_ends};
 ghost use Rattle.runend_encode.specs.Joined.{AllHaveRows};
 
 use column_core::{
@@ -35,13 +35,13 @@ pub(crate) fn valid_runs<E: UnsignedPType, T: NativePType, A: Allocator + Copy>(
     count: usize,
 ) -> VortexResult<(Vec<E, A>, Vec<T, A>)>
     requires fits { All (λ end. HasNumber E.PTYPE (E.number end)) ends.now }
-    requires window { IsWindow (map unsigned_abs (map E.number ends.now)) offset count }
+    requires window { IsWindow (typed_ends E.number ends.now) offset count }
     requires paired { length items.now ≡ length ends.now }
-    requires shown { AllHaveRows (map unsigned_abs (map E.number ends.now)) offset count }
+    requires shown { AllHaveRows (typed_ends E.number ends.now) offset count }
     ensures only { IsOkUnless result VortexError.OutOfMemory }
     ensures cover { IfOk result (λ runs. IsTightCover
-        (run_rows (map unsigned_abs (map E.number ends.now)) (map (λ n. Some n) (map T.number items.now)) offset count)
-        (map unsigned_abs (map E.number runs.0.items)) (map (λ n. Some n) (map T.number runs.1.items))) }
+        (run_rows (typed_ends E.number ends.now) (map (λ n. Some n) (map T.number items.now)) offset count)
+        (typed_ends E.number runs.0.items) (map (λ n. Some n) (map T.number runs.1.items))) }
 {
     let runs = items.len();
     let mut joined_ends = Vec::with_capacity(alloc, runs)?;
@@ -73,16 +73,16 @@ pub(crate) fn join_nullable<E: UnsignedPType, T: NativePType, A: Allocator + Cop
     count: usize,
 ) -> VortexResult<JoinedRuns<E, T, A>>
     requires fits { All (λ end. HasNumber E.PTYPE (E.number end)) ends.now }
-    requires window { IsWindow (map unsigned_abs (map E.number ends.now)) offset count }
+    requires window { IsWindow (typed_ends E.number ends.now) offset count }
     requires paired { length items.now ≡ length ends.now }
-    requires shown { AllHaveRows (map unsigned_abs (map E.number ends.now)) offset count }
+    requires shown { AllHaveRows (typed_ends E.number ends.now) offset count }
     requires counted { HasLength (form_of validity.now) (length items.now) }
-    requires zeroed { AreZeroAtNulls (map T.number items.now) (flags (form_of validity.now) (length items.now)) }
+    requires zeroed { AreZeroAtNulls (map T.number items.now) (validity_flags validity.now (length items.now)) }
     ensures only { IsOkUnless result VortexError.OutOfMemory }
     ensures cover { IfOk result (λ runs. IsTightCover
-        (run_rows (map unsigned_abs (map E.number ends.now)) (optionals (map T.number items.now)
-        (flags (form_of validity.now) (length items.now))) offset count)
-        (map unsigned_abs (map E.number runs.ends.items)) (optionals (map T.number runs.values.items) runs.flags)) }
+        (run_rows (typed_ends E.number ends.now) (optionals (map T.number items.now)
+        (validity_flags validity.now (length items.now))) offset count)
+        (typed_ends E.number runs.ends.items) (optionals (map T.number runs.values.items) runs.flags)) }
     ensures paired { IfOk result (λ runs. length runs.flags ≡ length runs.values.items) }
     ensures zeroed { IfOk result (λ runs. AreZeroAtNulls (map T.number runs.values.items) runs.flags) }
 {
@@ -104,15 +104,15 @@ fn join_alike<E: UnsignedPType, T: NativePType, A: Allocator + Copy>(
     count: usize,
 ) -> VortexResult<JoinedRuns<E, T, A>>
     requires fits { All (λ end. HasNumber E.PTYPE (E.number end)) ends.now }
-    requires window { IsWindow (map unsigned_abs (map E.number ends.now)) offset count }
+    requires window { IsWindow (typed_ends E.number ends.now) offset count }
     requires paired { length items.now ≡ length ends.now }
-    requires shown { AllHaveRows (map unsigned_abs (map E.number ends.now)) offset count }
+    requires shown { AllHaveRows (typed_ends E.number ends.now) offset count }
     requires zeroed { AreZeroAtNulls (map T.number items.now) (replicate (length items.now) valid) }
     ensures only { IsOkUnless result VortexError.OutOfMemory }
     ensures cover { IfOk result (λ runs. IsTightCover
-        (run_rows (map unsigned_abs (map E.number ends.now)) (optionals (map T.number items.now)
+        (run_rows (typed_ends E.number ends.now) (optionals (map T.number items.now)
         (replicate (length items.now) valid)) offset count)
-        (map unsigned_abs (map E.number runs.ends.items)) (optionals (map T.number runs.values.items) runs.flags)) }
+        (typed_ends E.number runs.ends.items) (optionals (map T.number runs.values.items) runs.flags)) }
     ensures paired { IfOk result (λ runs. length runs.flags ≡ length runs.values.items) }
     ensures zeroed { IfOk result (λ runs. AreZeroAtNulls (map T.number runs.values.items) runs.flags) }
 {
@@ -130,16 +130,16 @@ fn join_marked<E: UnsignedPType, T: NativePType, A: Allocator + Copy>(
     count: usize,
 ) -> VortexResult<JoinedRuns<E, T, A>>
     requires fits { All (λ end. HasNumber E.PTYPE (E.number end)) ends.now }
-    requires window { IsWindow (map unsigned_abs (map E.number ends.now)) offset count }
+    requires window { IsWindow (typed_ends E.number ends.now) offset count }
     requires paired { length items.now ≡ length ends.now }
-    requires shown { AllHaveRows (map unsigned_abs (map E.number ends.now)) offset count }
+    requires shown { AllHaveRows (typed_ends E.number ends.now) offset count }
     requires counted { length marks.now ≡ length items.now }
     requires zeroed { AreZeroAtNulls (map T.number items.now) marks.now }
     ensures only { IsOkUnless result VortexError.OutOfMemory }
     ensures cover { IfOk result (λ runs. IsTightCover
-        (run_rows (map unsigned_abs (map E.number ends.now))
+        (run_rows (typed_ends E.number ends.now)
         (optionals (map T.number items.now) marks.now) offset count)
-        (map unsigned_abs (map E.number runs.ends.items)) (optionals (map T.number runs.values.items) runs.flags)) }
+        (typed_ends E.number runs.ends.items) (optionals (map T.number runs.values.items) runs.flags)) }
     ensures paired { IfOk result (λ runs. length runs.flags ≡ length runs.values.items) }
     ensures zeroed { IfOk result (λ runs. AreZeroAtNulls (map T.number runs.values.items) runs.flags) }
 {
@@ -234,7 +234,7 @@ fn put_flag<A: Allocator + Copy>(flags: &mut BitBufferMut<A>, place: usize, flag
 fn end_in_window<E: UnsignedPType>(ends: &[E], run: usize, offset: usize, count: usize) -> E
     requires within { run < length ends.now }
     requires fits { All (λ end. HasNumber E.PTYPE (E.number end)) ends.now }
-    ensures { E.number result ≡ pos (min (slice_index (map unsigned_abs (map E.number ends.now)) run - offset) count) }
+    ensures { E.number result ≡ pos (min (slice_index (typed_ends E.number ends.now) run - offset) count) }
 {
     let rows = ends[run].to_u64().saturating_sub(offset as u64);
     end_of(rows.min(count as u64))
@@ -255,9 +255,9 @@ const COMPARED_AT_ONCE: usize = 256;
 /// Returns whether each run shows another value than the one before it.
 pub(crate) fn differ_in<T: NativePType, A: Allocator>(items: &[T], validity: &Validity<A>) -> bool
     requires counted { HasLength (form_of validity.now) (length items.now) }
-    requires zeroed { AreZeroAtNulls (map T.number items.now) (flags (form_of validity.now) (length items.now)) }
+    requires zeroed { AreZeroAtNulls (map T.number items.now) (validity_flags validity.now (length items.now)) }
     ensures { IsTrue result → AllAdjacentBelow (λ x y. x ≢
-        y) (optionals (map T.number items.now) (flags (form_of validity.now) (length items.now))) (length items.now) }
+        y) (optionals (map T.number items.now) (validity_flags validity.now (length items.now))) (length items.now) }
 {
     let mut start = 1;
     while start < items.len() {
@@ -299,10 +299,10 @@ fn differ_between<T: NativePType, A: Allocator>(
     requires within { stop ≤ length items.now }
     requires ordered { start ≤ stop }
     requires counted { HasLength (form_of validity.now) (length items.now) }
-    requires zeroed { AreZeroAtNulls (map T.number items.now) (flags (form_of validity.now) (length items.now)) }
+    requires zeroed { AreZeroAtNulls (map T.number items.now) (validity_flags validity.now (length items.now)) }
     ensures { IsTrue result → AllAdjacentBelow (λ x y. x ≢
-        y) (optionals (map T.number items.now) (flags (form_of validity.now) (length items.now))) start
-        → AllAdjacentBelow (λ x y. x ≢ y) (optionals (map T.number items.now) (flags (form_of validity.now)
+        y) (optionals (map T.number items.now) (validity_flags validity.now (length items.now))) start
+        → AllAdjacentBelow (λ x y. x ≢ y) (optionals (map T.number items.now) (validity_flags validity.now
         (length items.now))) stop }
 {
     for run in start..stop {

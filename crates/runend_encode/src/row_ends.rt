@@ -22,8 +22,7 @@ pub(crate) fn row_ends<A: Allocator + Copy>(
     ensures only { IsOkUnless result VortexError.OutOfMemory }
     ensures rows { IfOk result (λ rows. rows.items ≡ map (start_in (ends_of ends.now) offset count) runs.now) }
 {
-    match_each_unsigned!(ends.values(), items => rows_of(alloc, items.as_slice(), runs, offset, count),
-    _ => unreachable!())
+    match_each_unsigned!(ends.values(), items => rows_of(alloc, items.as_slice(), runs, offset, count))
 }
 
 // The rows before which runs start, and before which the last ends, over ends as they are stored.

@@ -4,7 +4,7 @@ ghost use Rattle.std.specs.List.{AllZip};
 ghost use Rattle.column_base.specs.declared.dtype.DType.TheVariants as column;
 ghost use Rattle.column_base.specs.declared.dtype.Nullability.TheVariants.{Nullable};
 ghost use Rattle.column_base.specs.ValidityForm.{HasLength, flags};
-ghost use Rattle.column_base.specs.Validity.{form_of};
+ghost use Rattle.column_base.specs.Validity.{form_of, validity_flags};
 ghost use Rattle.column_core.specs.BoolForm.{bool_dtype};
 ghost use Rattle.column_core.specs.Computed.{IsComputed, IsComputedLeaf};
 ghost use Rattle.column_core.specs.Leaf.{OfNumbers, OfTruths, single_rows};
@@ -26,11 +26,11 @@ pub(crate) fn answers<S: Copy + Drop, R: Drop, F: Fn(Option<S>) -> R, A: Allocat
     function: &F,
 ) -> VortexResult<Vec<R, A>>
     requires fits { HasLength (form_of validity.now) (length items.now) }
-    requires callable { All (λ row. F.pre function.now row) (optionals items.now (flags (form_of validity.now)
+    requires callable { All (λ row. F.pre function.now row) (optionals items.now (validity_flags validity.now
         (length items.now))) }
     ensures only { IsOkUnless result VortexError.OutOfMemory }
     ensures each { IfOk result (λ answers. AllZip (λ row answer. F.post function.now row answer) (optionals items.now
-        (flags (form_of validity.now) (length items.now))) answers.items) }
+        (validity_flags validity.now (length items.now))) answers.items) }
 {
     let mut answers = Vec::with_capacity(alloc, items.len())?;
     for row in 0..items.len() {

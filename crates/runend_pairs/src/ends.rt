@@ -28,7 +28,7 @@ fn end_among<A: Allocator>(ends: &PrimitiveValues<A>, run: usize) -> usize
     ensures end { result ≡ slice_index (map unsigned_abs (numbers ends.now)) run }
     ensures bounded { run < usize.MAX }
 {
-    match_each_unsigned!(ends, items => end_at(items.as_slice(), run), _ => unreachable!())
+    match_each_unsigned!(ends, items => end_at(items.as_slice(), run))
 }
 
 // The same, of ends of one type.

@@ -3,7 +3,7 @@ ghost use Rattle.std.specs.Prelude.{◌≡◌, ◌+◌, ◌^◌, ◌<◌, ◌≤
 ghost use Rattle.column_base.specs.declared.dtype.Nullability.TheVariants.{Nullable};
 ghost use Rattle.column_base.specs.declared.dtype.DType.TheVariants as column;
 ghost use Rattle.column_base.specs.ValidityForm.{flags};
-ghost use Rattle.column_base.specs.Validity.{form_of};
+ghost use Rattle.column_base.specs.Validity.{form_of, validity_flags};
 ghost use Rattle.column_core.specs.Computed.{IsComputed};
 ghost use Rattle.column_core.specs.PrimitiveForm.{optional_numbers, primitive_dtype};
 ghost use Rattle.runend_windows.specs.Ends.{ends_of};
@@ -56,12 +56,12 @@ pub(crate) fn fold_groups<T: NativePType, N: NativePType, S: Fold<T, N>, A: Allo
     requires whole { last_end (ends_of groups.now) ≡ last_end (ends_of values.now.ends.now) }
     ensures answers { IfOk result (λ answers. AreGroupAnswers S.answer_of (ends_of groups.now)
         (shown_numbers (ends_of values.now.ends.now) (map T.number values.now.items.now)
-        (flags (form_of values.now.validity.now) (length values.now.items.now))) (optional_numbers answers)) }
+        (validity_flags values.now.validity.now (length values.now.items.now))) (optional_numbers answers)) }
     ensures dtype { IfOk result (λ answers. primitive_dtype answers ≡ column.Primitive N.PTYPE Nullable) }
     ensures computed { IfOk result (λ answers. IsComputed answers) }
     ensures refused { IfErr result (IsFoldRefusal S.gives S.answer_of (ends_of groups.now)
         (shown_numbers (ends_of values.now.ends.now) (map T.number values.now.items.now)
-        (flags (form_of values.now.validity.now) (length values.now.items.now)))) }
+        (validity_flags values.now.validity.now (length values.now.items.now)))) }
 {
     let count = groups.len();
     let mut items = room_for(alloc, count)?;
@@ -117,7 +117,7 @@ fn fold_between<T: NativePType, N: NativePType, S: Fold<T, N>, A: Allocator>(
     requires within { stop ≤ last_end (ends_of values.now.ends.now) }
     requires here { first ≡ run_at (ends_of values.now.ends.now) start }
     ensures kept { S.keeps (slice_range (shown_numbers (ends_of values.now.ends.now) (map T.number values.now.items.now)
-        (flags (form_of values.now.validity.now) (length values.now.items.now))) start stop) result.0 }
+        (validity_flags values.now.validity.now (length values.now.items.now))) start stop) result.0 }
     ensures next { result.1 ≡ run_at (ends_of values.now.ends.now) stop }
 {
     let mut fold = S::start();

@@ -136,7 +136,7 @@ fn stop_among<A: Allocator + Copy>(ends: &PrimitiveValues<A>, run: usize, offset
     ensures stop { result ≡ slice_index (map unsigned_abs (numbers ends.now)) run - offset }
     ensures bounded { run < usize.MAX }
 {
-    match_each_unsigned!(ends, items => stop_at(items.as_slice(), run, offset), _ => unreachable!())
+    match_each_unsigned!(ends, items => stop_at(items.as_slice(), run, offset))
 }
 
 // The same, of ends of one type.

@@ -1,7 +1,6 @@
 //! Runs of integers of one type, to be walked along.
 ghost use Rattle.std.specs.Prelude.{◌≡◌, ◌<◌, Some, length, map, option_map, slice_get, slice_index};
-ghost use Rattle.column_base.specs.ValidityForm.{flags};
-ghost use Rattle.column_base.specs.Validity.{form_of};
+ghost use Rattle.column_base.specs.Validity.{form_of, validity_flags};
 ghost use Rattle.column_core.specs.Optionals.{optionals};
 ghost use Rattle.runend_windows.specs.Ends.{ends_of};
 ghost use Rattle.runend_pairs.specs.Groups.{AreValueRuns};
@@ -35,7 +34,7 @@ impl<'a, T: NativePType, A: Allocator> ValueRuns<'a, T, A> {
     pub(crate) fn value(&self, run: usize) -> Option<T>
         requires runs { AreValueRuns self.now.ends.now (length self.now.items.now) (form_of self.now.validity.now) }
         requires there { run < length (ends_of self.now.ends.now) }
-        ensures { slice_get (optionals (map T.number self.now.items.now) (flags (form_of self.now.validity.now)
+        ensures { slice_get (optionals (map T.number self.now.items.now) (validity_flags self.now.validity.now
             (length self.now.items.now))) run ≡ Some (option_map T.number result) }
     {
         let items = self.items;

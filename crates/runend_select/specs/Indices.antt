@@ -1,6 +1,8 @@
 -- Indices of rows, of which some are null, and the runs of the rows that they name. A null index names no row.
 use Rattle.std.specs.Prelude.{◌≡◌, ◌≤ℤ◌, ◌<ℤ◌, ◌+◌, ◌<◌, ℕ, ℤ, pos, List, map, Bool, Option, Some, None, All, IfSome, count_by, is_some, slice_get, slice_index, unsigned_abs}
 use Rattle.std.specs.List.{range_with_len}
+use Rattle.column_base.specs.declared.mask.Mask.{Mask}
+use Rattle.column_base.specs.Mask.{mask_bits}
 use Rattle.column_core.specs.Optionals.{optionals}
 use Rattle.runend_windows.specs.Window.{IsWindow, run_at}
 
@@ -41,3 +43,7 @@ runs_of_rows ends offset count = map (run_at ends) (range_with_len offset count)
 abbrev pub item_of : List ℕ → Option ℤ → ℕ
 item_of table None = slice_index table 0
 item_of table (Some n) = slice_index table (unsigned_abs n)
+
+-- the number of each index, and null where a mask is false
+abbrev pub masked_indices : {T A : Type 0} → (T → ℤ) → List T → Mask A → List (Option ℤ)
+masked_indices number indices mask = optional_indices number indices (mask_bits mask)

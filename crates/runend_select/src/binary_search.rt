@@ -3,7 +3,7 @@ ghost use Rattle.std.specs.Prelude.{◌≡◌, ◌+◌, ◌*◌, ◌^◌, ◌<�
 ghost use Rattle.std.specs.List.Sorted.{IsStrictlyIncreasing};
 ghost use Rattle.column_base.specs.Mask.{mask_bits};
 ghost use Rattle.column_core.specs.Digits.{digits};
-ghost use Rattle.runend_select.specs.Indices.{AreInBounds, AreInWindow, optional_indices, run_of, runs_of, valid_count};
+ghost use Rattle.runend_select.specs.Indices.{AreInBounds, AreInWindow, optional_indices, run_of, runs_of, valid_count, masked_indices};
 
 use crate::rows::{named_row, selects_all};
 use column_core::{CountedEnds, Mask, NativePType, UnsignedPType, VortexError, VortexResult};
@@ -20,10 +20,10 @@ pub fn physical_indices_binary<E: UnsignedPType, T: NativePType, A: Allocator + 
     mask: &Mask<A>,
 ) -> VortexResult<Vec<u64, A>>
     requires masked { length (mask_bits mask.now) ≡ length indices.now }
-    requires in_window { AreInWindow ends.old.ends offset (optional_indices T.number indices.now (mask_bits mask.now)) }
+    requires in_window { AreInWindow ends.old.ends offset (masked_indices T.number indices.now mask.now) }
     ensures only { IsOkUnless result VortexError.OutOfMemory }
     ensures runs { IfOk result (λ runs. runs.items ≡
-        runs_of ends.old.ends offset 0 (optional_indices T.number indices.now (mask_bits mask.now))) }
+        runs_of ends.old.ends offset 0 (masked_indices T.number indices.now mask.now)) }
     ensures same { ends.new.ends ≡ ends.old.ends }
     ensures cost { ends.new.tests ≤ ends.old.tests + valid_count (optional_indices T.number indices.now
         (mask_bits mask.now)) * digits (length ends.old.ends) }
@@ -46,10 +46,10 @@ fn searched_runs<const ALL: bool, E: UnsignedPType, T: NativePType, A: Allocator
 ) -> VortexResult<Vec<u64, A>>
     requires masked { length (mask_bits mask.now) ≡ length indices.now }
     requires all { ALL ≡ true → All (λ bit. bit ≡ true) (mask_bits mask.now) }
-    requires in_window { AreInWindow ends.old.ends offset (optional_indices T.number indices.now (mask_bits mask.now)) }
+    requires in_window { AreInWindow ends.old.ends offset (masked_indices T.number indices.now mask.now) }
     ensures only { IsOkUnless result VortexError.OutOfMemory }
     ensures runs { IfOk result (λ runs. runs.items ≡
-        runs_of ends.old.ends offset 0 (optional_indices T.number indices.now (mask_bits mask.now))) }
+        runs_of ends.old.ends offset 0 (masked_indices T.number indices.now mask.now)) }
     ensures same { ends.new.ends ≡ ends.old.ends }
     ensures cost { ends.new.tests ≤ ends.old.tests + valid_count (optional_indices T.number indices.now
         (mask_bits mask.now)) * digits (length ends.old.ends) }
@@ -93,14 +93,14 @@ fn four_rows<const ALL: bool, T: NativePType, A: Allocator>(
     requires within { place < length indices.now }
     requires masked { length (mask_bits mask.now) ≡ length indices.now }
     requires all { ALL ≡ true → All (λ bit. bit ≡ true) (mask_bits mask.now) }
-    requires in_bounds { AreInBounds (optional_indices T.number indices.now (mask_bits mask.now)) (2 ^ 64) }
+    requires in_bounds { AreInBounds (masked_indices T.number indices.now mask.now) (2 ^ 64) }
     ensures first { IfSome result (λ rows. slice_get (optional_indices T.number indices.now
         (mask_bits mask.now)) place ≡ Some (Some (pos rows.0))) }
-    ensures second { IfSome result (λ rows. slice_get (optional_indices T.number indices.now (mask_bits mask.now))
+    ensures second { IfSome result (λ rows. slice_get (masked_indices T.number indices.now mask.now)
         (place + 1) ≡ Some (Some (pos rows.1))) }
-    ensures third { IfSome result (λ rows. slice_get (optional_indices T.number indices.now (mask_bits mask.now))
+    ensures third { IfSome result (λ rows. slice_get (masked_indices T.number indices.now mask.now)
         (place + 2) ≡ Some (Some (pos rows.2))) }
-    ensures fourth { IfSome result (λ rows. slice_get (optional_indices T.number indices.now (mask_bits mask.now))
+    ensures fourth { IfSome result (λ rows. slice_get (masked_indices T.number indices.now mask.now)
         (place + 3) ≡ Some (Some (pos rows.3))) }
 {
     if indices.len() - place < 4 {

@@ -2,7 +2,7 @@
 ghost use Rattle.std.specs.Prelude.{◌≡◌, ◌+◌, ◌-◌, ◌*◌, ◌^◌, ◌<◌, ◌≤◌, All, IfOk, IsOkUnless, OnErr, length as item_count, map, true, vec_capacity, []};
 ghost use Rattle.column_base.specs.Mask.{mask_bits};
 ghost use Rattle.runend_windows.specs.Window.{IsWindow, run_at};
-ghost use Rattle.runend_select.specs.Indices.{AreInBounds, optional_indices, runs_of};
+ghost use Rattle.runend_select.specs.Indices.{AreInBounds, runs_of, masked_indices};
 ghost use Rattle.runend_select.specs.Ranks.{AreCounted, rank_at};
 
 use crate::ranks::{rank_of, run_ranks};
@@ -24,10 +24,10 @@ pub(crate) fn runs_by_rank<E: UnsignedPType, T: NativePType, A: Allocator + Copy
     requires window { IsWindow ends.old.ends offset length }
     requires some { 0 < length }
     requires masked { item_count (mask_bits mask.now) ≡ item_count indices.now }
-    requires in_bounds { AreInBounds (optional_indices T.number indices.now (mask_bits mask.now)) length }
+    requires in_bounds { AreInBounds (masked_indices T.number indices.now mask.now) length }
     ensures only { IsOkUnless result VortexError.OutOfMemory }
     ensures runs { IfOk result (λ runs. runs.items ≡ runs_of ends.old.ends offset (run_at ends.old.ends offset)
-        (optional_indices T.number indices.now (mask_bits mask.now))) }
+        (masked_indices T.number indices.now mask.now)) }
     ensures same { ends.new.ends ≡ ends.old.ends }
     ensures cost { ends.new.tests ≤ ends.old.tests + (item_count ends.old.ends - 1 + length) }
     ensures untested { OnErr result (ends.new.tests ≡ ends.old.tests) }
@@ -54,10 +54,10 @@ fn ranked<T: NativePType, A: Allocator>(
     requires empty { room.items ≡ [] }
     requires room { item_count indices.now ≤ vec_capacity room }
     requires masked { item_count (mask_bits mask.now) ≡ item_count indices.now }
-    requires in_bounds { AreInBounds (optional_indices T.number indices.now (mask_bits mask.now)) (2 ^ 64) }
-    requires in_words { AreInBounds (optional_indices T.number indices.now (mask_bits mask.now))
+    requires in_bounds { AreInBounds (masked_indices T.number indices.now mask.now) (2 ^ 64) }
+    requires in_words { AreInBounds (masked_indices T.number indices.now mask.now)
         (item_count words.now * 64) }
-    ensures { result.items ≡ map (rank_at words.now) (optional_indices T.number indices.now (mask_bits mask.now)) }
+    ensures { result.items ≡ map (rank_at words.now) (masked_indices T.number indices.now mask.now) }
 {
     if selects_all(mask) {
         ranks_of::<true, T, A>(words, counts, room, indices, mask)
@@ -80,10 +80,10 @@ fn ranks_of<const ALL: bool, T: NativePType, A: Allocator>(
     requires room { item_count indices.now ≤ vec_capacity ranks }
     requires masked { item_count (mask_bits mask.now) ≡ item_count indices.now }
     requires all { ALL ≡ true → All (λ bit. bit ≡ true) (mask_bits mask.now) }
-    requires in_bounds { AreInBounds (optional_indices T.number indices.now (mask_bits mask.now)) (2 ^ 64) }
-    requires in_words { AreInBounds (optional_indices T.number indices.now (mask_bits mask.now))
+    requires in_bounds { AreInBounds (masked_indices T.number indices.now mask.now) (2 ^ 64) }
+    requires in_words { AreInBounds (masked_indices T.number indices.now mask.now)
         (item_count words.now * 64) }
-    ensures { result.items ≡ map (rank_at words.now) (optional_indices T.number indices.now (mask_bits mask.now)) }
+    ensures { result.items ≡ map (rank_at words.now) (masked_indices T.number indices.now mask.now) }
 {
     for place in 0..indices.len() {
         let row = named_row::<ALL, T, A>(indices, mask, place).unwrap_or(0);

@@ -6,7 +6,7 @@ ghost use Rattle.column_base.specs.Numbers.{numbers, ptype_of};
 ghost use Rattle.column_base.specs.Types.{HasNumber, IsUnsigned};
 ghost use Rattle.column_base.specs.ValidityForm.{NeverNull};
 ghost use Rattle.runend_windows.specs.Ends.{ends_of};
-ghost use Rattle.runend_windows.specs.Window.{last_end};
+ghost use Rattle.runend_windows.specs.Window.{last_end, typed_ends};
 ghost use Rattle.runend_select.specs.KeptRuns.{AreKept};
 
 use crate::rank::{ones_before, rank_within_word};
@@ -71,7 +71,7 @@ pub(crate) fn filter_ends<A: Allocator + Copy>(
     match_each_unsigned!(ends, items => {
         let stored = items.as_slice();
         filter_stored(alloc, stored, offset, count, mask)
-    }, _ => unreachable!())
+    })
 }
 
 fn filter_stored<E: UnsignedPType, A: Allocator + Copy>(
@@ -82,11 +82,11 @@ fn filter_stored<E: UnsignedPType, A: Allocator + Copy>(
     mask: &BitBuffer<A>,
 ) -> VortexResult<(PrimitiveArray<A>, Mask<A>)>
     requires fits { All (λ end. HasNumber E.PTYPE (E.number end)) ends.now }
-    requires increasing { IsStrictlyIncreasing (map unsigned_abs (map E.number ends.now)) }
-    requires last { 0 < count → offset + count ≤ last_end (map unsigned_abs (map E.number ends.now)) }
+    requires increasing { IsStrictlyIncreasing (typed_ends E.number ends.now) }
+    requires last { 0 < count → offset + count ≤ last_end (typed_ends E.number ends.now) }
     requires masked { item_count mask.now ≡ count }
     ensures only { IsOkUnless result VortexError.OutOfMemory }
-    ensures kept { IfOk result (λ parts. AreKept (map unsigned_abs (map E.number ends.now)) offset mask.now
+    ensures kept { IfOk result (λ parts. AreKept (typed_ends E.number ends.now) offset mask.now
         (mask_bits parts.1) (ends_of parts.0)) }
     ensures typed { IfOk result (λ parts. parts.0.ptype ≡ E.PTYPE) }
     ensures required { IfOk result (λ parts. parts.0.validity ≡ NeverNull) }
@@ -106,12 +106,12 @@ fn filtered_ends<E: UnsignedPType, A: Allocator + Copy>(
     mask: &BitBuffer<A>,
 ) -> VortexResult<(Vec<E, A>, BitBufferMut<A>)>
     requires fits { All (λ end. HasNumber E.PTYPE (E.number end)) ends.now }
-    requires increasing { IsStrictlyIncreasing (map unsigned_abs (map E.number ends.now)) }
-    requires last { 0 < count → offset + count ≤ last_end (map unsigned_abs (map E.number ends.now)) }
+    requires increasing { IsStrictlyIncreasing (typed_ends E.number ends.now) }
+    requires last { 0 < count → offset + count ≤ last_end (typed_ends E.number ends.now) }
     requires masked { item_count mask.now ≡ count }
     ensures only { IsOkUnless result VortexError.OutOfMemory }
-    ensures kept { IfOk result (λ parts. AreKept (map unsigned_abs (map E.number ends.now)) offset mask.now parts.1
-        (map unsigned_abs (map E.number parts.0.items))) }
+    ensures kept { IfOk result (λ parts. AreKept (typed_ends E.number ends.now) offset mask.now parts.1
+        (typed_ends E.number parts.0.items)) }
 {
     let mut kept_ends = Vec::with_capacity(alloc, ends.len())?;
     let mut kept = BitWriter::with_capacity(alloc, ends.len())?;

@@ -1,14 +1,14 @@
 //! The runs of integers of which a mask selects rows, in minimal form, made while the runs pass once.
-ghost use Rattle.std.specs.Prelude.{◌≡◌, pos, true, All, IfOk, IsOkUnless, length as item_count, map, replicate, unsigned_abs};
+ghost use Rattle.std.specs.Prelude.{◌≡◌, pos, true, All, IfOk, IsOkUnless, length as item_count, map, replicate};
 ghost use Rattle.column_base.specs.Types.{HasNumber};
 ghost use Rattle.column_base.specs.ValidityForm.{HasLength, NeverNull, flags};
-ghost use Rattle.column_base.specs.Validity.{form_of};
+ghost use Rattle.column_base.specs.Validity.{form_of, validity_flags};
 ghost use Rattle.column_core.specs.PrimitiveForm.{AreZeroAtNulls, optionals, primitive_dtype, primitive_with};
 ghost use Rattle.column_ops.specs.Filter.{filter_rows};
 ghost use Rattle.runend_windows.specs.Cover.{IsTightCover};
 ghost use Rattle.runend_windows.specs.Encoding.{number_rows};
 ghost use Rattle.runend_windows.specs.Ends.{IsEndsType, ends_of};
-ghost use Rattle.runend_windows.specs.Window.{run_rows, IsWindow};
+ghost use Rattle.runend_windows.specs.Window.{run_rows, IsWindow, typed_ends};
 ghost use Rattle.runend_select.specs.LeastSelected.{AreLeastSelected};
 
 use crate::one_pass::{nullable_runs, valid_runs};
@@ -42,7 +42,7 @@ pub(crate) fn least_selected<A: Allocator + Copy>(
     match_each_unsigned!(ends.values(), items => {
         let stored = items.as_slice();
         least_of_values(alloc, stored, values, offset, count, mask)
-    }, _ => unreachable!())
+    })
 }
 
 // The runs over ends as they are stored, with values of any type.
@@ -55,7 +55,7 @@ fn least_of_values<E: UnsignedPType, A: Allocator + Copy>(
     mask: &BitBuffer<A>,
 ) -> VortexResult<(PrimitiveArray<A>, PrimitiveArray<A>)>
     requires fits { All (λ end. HasNumber E.PTYPE (E.number end)) ends.now }
-    requires window { IsWindow (map unsigned_abs (map E.number ends.now)) offset count }
+    requires window { IsWindow (typed_ends E.number ends.now) offset count }
     requires paired { item_count (number_rows values.now) ≡ item_count ends.now }
     requires masked { item_count mask.now ≡ count }
     ensures only { IsOkUnless result VortexError.OutOfMemory }
@@ -79,7 +79,7 @@ fn least_of_stored<E: UnsignedPType, T: NativePType, A: Allocator + Copy>(
     mask: &BitBuffer<A>,
 ) -> VortexResult<(PrimitiveArray<A>, PrimitiveArray<A>)>
     requires fits { All (λ end. HasNumber E.PTYPE (E.number end)) ends.now }
-    requires window { IsWindow (map unsigned_abs (map E.number ends.now)) offset count }
+    requires window { IsWindow (typed_ends E.number ends.now) offset count }
     requires paired { item_count items.now ≡ item_count ends.now }
     requires counted { HasLength (form_of validity.now) (item_count items.now) }
     requires masked { item_count mask.now ≡ count }
@@ -122,15 +122,15 @@ fn least_runs<E: UnsignedPType, T: NativePType, A: Allocator + Copy>(
     mask: &BitBuffer<A>,
 ) -> VortexResult<LeastRuns<E, T, A>>
     requires fits { All (λ end. HasNumber E.PTYPE (E.number end)) ends.now }
-    requires window { IsWindow (map unsigned_abs (map E.number ends.now)) offset count }
+    requires window { IsWindow (typed_ends E.number ends.now) offset count }
     requires paired { item_count items.now ≡ item_count ends.now }
     requires counted { HasLength (form_of validity.now) (item_count items.now) }
     requires masked { item_count mask.now ≡ count }
     ensures only { IsOkUnless result VortexError.OutOfMemory }
     ensures cover { IfOk result (λ runs. IsTightCover (filter_rows mask.now
-        (run_rows (map unsigned_abs (map E.number ends.now)) (optionals (map T.number items.now)
-        (flags (form_of validity.now) (item_count items.now))) offset count))
-        (map unsigned_abs (map E.number runs.ends.items)) (optionals (map T.number runs.values.items) runs.flags)) }
+        (run_rows (typed_ends E.number ends.now) (optionals (map T.number items.now)
+        (validity_flags validity.now (item_count items.now))) offset count))
+        (typed_ends E.number runs.ends.items) (optionals (map T.number runs.values.items) runs.flags)) }
     ensures paired { IfOk result (λ runs. item_count runs.flags ≡ item_count runs.values.items) }
     ensures zeroed { IfOk result (λ runs. AreZeroAtNulls (map T.number runs.values.items) runs.flags) }
     ensures never { form_of validity.now ≡ NeverNull → IfOk result (λ runs. All (λ flag. flag ≡ true) runs.flags) }
@@ -156,14 +156,14 @@ fn least_valid<E: UnsignedPType, T: NativePType, A: Allocator + Copy>(
     mask: &BitBuffer<A>,
 ) -> VortexResult<LeastRuns<E, T, A>>
     requires fits { All (λ end. HasNumber E.PTYPE (E.number end)) ends.now }
-    requires window { IsWindow (map unsigned_abs (map E.number ends.now)) offset count }
+    requires window { IsWindow (typed_ends E.number ends.now) offset count }
     requires paired { item_count items.now ≡ item_count ends.now }
     requires masked { item_count mask.now ≡ count }
     ensures only { IsOkUnless result VortexError.OutOfMemory }
     ensures cover { IfOk result (λ runs. IsTightCover (filter_rows mask.now
-        (run_rows (map unsigned_abs (map E.number ends.now)) (optionals (map T.number items.now)
+        (run_rows (typed_ends E.number ends.now) (optionals (map T.number items.now)
         (replicate (item_count items.now) true)) offset count))
-        (map unsigned_abs (map E.number runs.ends.items)) (optionals (map T.number runs.values.items) runs.flags)) }
+        (typed_ends E.number runs.ends.items) (optionals (map T.number runs.values.items) runs.flags)) }
     ensures paired { IfOk result (λ runs. item_count runs.flags ≡ item_count runs.values.items) }
     ensures zeroed { IfOk result (λ runs. AreZeroAtNulls (map T.number runs.values.items) runs.flags) }
     ensures valid { IfOk result (λ runs. All (λ flag. flag ≡ true) runs.flags) }

@@ -1,11 +1,11 @@
 //! The loops that keep the runs with selected rows and join equal neighbours while the runs pass once. No branch
 //! depends on the mask or on a value, which nobody foresees.
-ghost use Rattle.std.specs.Prelude.{◌≡◌, ◌≢◌, ◌<◌, ◌≤◌, Some, pos, true, false, All, IfOk, IsOkUnless, length as item_count, map, unsigned_abs};
+ghost use Rattle.std.specs.Prelude.{◌≡◌, ◌≢◌, ◌<◌, ◌≤◌, Some, pos, true, false, All, IfOk, IsOkUnless, length as item_count, map};
 ghost use Rattle.column_base.specs.Types.{HasNumber};
 ghost use Rattle.column_core.specs.PrimitiveForm.{AreZeroAtNulls, optionals};
 ghost use Rattle.column_ops.specs.Filter.{filter_rows};
 ghost use Rattle.runend_windows.specs.Cover.{IsTightCover};
-ghost use Rattle.runend_windows.specs.Window.{run_rows, IsWindow};
+ghost use Rattle.runend_windows.specs.Window.{run_rows, IsWindow, typed_ends};
 ghost use Rattle.runend_select.specs.Shown.{shown_of};
 
 use crate::filtered_ends::{end_of, push_where};
@@ -26,13 +26,13 @@ pub(crate) fn valid_runs<E: UnsignedPType, T: NativePType, A: Allocator + Copy>(
     mask: &BitBuffer<A>,
 ) -> VortexResult<(Vec<E, A>, Vec<T, A>)>
     requires fits { All (λ end. HasNumber E.PTYPE (E.number end)) ends.now }
-    requires window { IsWindow (map unsigned_abs (map E.number ends.now)) offset count }
+    requires window { IsWindow (typed_ends E.number ends.now) offset count }
     requires paired { item_count items.now ≡ item_count ends.now }
     requires masked { item_count mask.now ≡ count }
     ensures only { IsOkUnless result VortexError.OutOfMemory }
     ensures cover { IfOk result (λ runs. IsTightCover (filter_rows mask.now
-        (run_rows (map unsigned_abs (map E.number ends.now)) (map (λ n. Some n) (map T.number items.now)) offset count))
-        (map unsigned_abs (map E.number runs.0.items)) (map (λ n. Some n) (map T.number runs.1.items))) }
+        (run_rows (typed_ends E.number ends.now) (map (λ n. Some n) (map T.number items.now)) offset count))
+        (typed_ends E.number runs.0.items) (map (λ n. Some n) (map T.number runs.1.items))) }
 {
     let ranks = word_ranks(alloc, mask)?;
     let mut least_ends = Vec::with_capacity(alloc, ends.len())?;
@@ -92,15 +92,15 @@ pub(crate) fn nullable_runs<E: UnsignedPType, T: NativePType, A: Allocator + Cop
     mask: &BitBuffer<A>,
 ) -> VortexResult<LeastRuns<E, T, A>>
     requires fits { All (λ end. HasNumber E.PTYPE (E.number end)) ends.now }
-    requires window { IsWindow (map unsigned_abs (map E.number ends.now)) offset count }
+    requires window { IsWindow (typed_ends E.number ends.now) offset count }
     requires paired { item_count items.now ≡ item_count ends.now }
     requires counted { item_count marks.now ≡ item_count items.now }
     requires masked { item_count mask.now ≡ count }
     ensures only { IsOkUnless result VortexError.OutOfMemory }
     ensures cover { IfOk result (λ runs. IsTightCover (filter_rows mask.now
-        (run_rows (map unsigned_abs (map E.number ends.now))
+        (run_rows (typed_ends E.number ends.now)
         (optionals (map T.number items.now) marks.now) offset count))
-        (map unsigned_abs (map E.number runs.ends.items)) (optionals (map T.number runs.values.items) runs.flags)) }
+        (typed_ends E.number runs.ends.items) (optionals (map T.number runs.values.items) runs.flags)) }
     ensures paired { IfOk result (λ runs. item_count runs.flags ≡ item_count runs.values.items) }
     ensures zeroed { IfOk result (λ runs. AreZeroAtNulls (map T.number runs.values.items) runs.flags) }
 {
@@ -125,15 +125,15 @@ fn marked_runs<E: UnsignedPType, T: NativePType, A: Allocator + Copy>(
     mask: &BitBuffer<A>,
 ) -> VortexResult<(Vec<E, A>, Vec<T, A>, Vec<bool, A>)>
     requires fits { All (λ end. HasNumber E.PTYPE (E.number end)) ends.now }
-    requires window { IsWindow (map unsigned_abs (map E.number ends.now)) offset count }
+    requires window { IsWindow (typed_ends E.number ends.now) offset count }
     requires paired { item_count items.now ≡ item_count ends.now }
     requires counted { item_count marks.now ≡ item_count items.now }
     requires masked { item_count mask.now ≡ count }
     ensures only { IsOkUnless result VortexError.OutOfMemory }
     ensures cover { IfOk result (λ runs. IsTightCover (filter_rows mask.now
-        (run_rows (map unsigned_abs (map E.number ends.now))
+        (run_rows (typed_ends E.number ends.now)
         (optionals (map T.number items.now) marks.now) offset count))
-        (map unsigned_abs (map E.number runs.0.items)) (optionals (map T.number runs.1.items) runs.2.items)) }
+        (typed_ends E.number runs.0.items) (optionals (map T.number runs.1.items) runs.2.items)) }
     ensures paired { IfOk result (λ runs. item_count runs.2.items ≡ item_count runs.1.items) }
     ensures zeroed { IfOk result (λ runs. AreZeroAtNulls (map T.number runs.1.items) runs.2.items) }
 {

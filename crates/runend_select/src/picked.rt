@@ -4,7 +4,7 @@ ghost use Rattle.column_base.specs.Mask.{mask_bits};
 ghost use Rattle.runend_windows.specs.Window.{IsWindow};
 ghost use Rattle.runend_select.specs.declared.strategy.Strategy.{Strategy};
 ghost use Rattle.runend_select.specs.declared.strategy.Strategy.TheVariants.{SortedMerge};
-ghost use Rattle.runend_select.specs.Indices.{AreInBounds, AreSorted, optional_indices, valid_count};
+ghost use Rattle.runend_select.specs.Indices.{AreInBounds, AreSorted, optional_indices, valid_count, masked_indices};
 ghost use Rattle.runend_select.specs.Pick.{IsPicked, PrefersSortedMerge, answer_of, most_tests};
 
 use crate::binary_search::physical_indices_binary;
@@ -25,8 +25,8 @@ pub fn picked_strategy<T: NativePType, A: Allocator>(
     thresholds: TakeThresholds,
 ) -> Strategy
     requires masked { item_count (mask_bits mask.now) ≡ item_count indices.now }
-    requires in_bounds { AreInBounds (optional_indices T.number indices.now (mask_bits mask.now)) (2 ^ 64) }
-    ensures { IsPicked (optional_indices T.number indices.now (mask_bits mask.now)) runs length thresholds result }
+    requires in_bounds { AreInBounds (masked_indices T.number indices.now mask.now) (2 ^ 64) }
+    ensures { IsPicked (masked_indices T.number indices.now mask.now) runs length thresholds result }
 {
     let count = mask.true_count();
     if prefers_sorted_merge(indices, mask, count, runs, thresholds) {
@@ -57,9 +57,9 @@ pub fn physical_indices<E: UnsignedPType, T: NativePType, A: Allocator + Copy>(
     requires window { IsWindow ends.old.ends offset length }
     requires some { 0 < length }
     requires masked { item_count (mask_bits mask.now) ≡ item_count indices.now }
-    requires in_bounds { AreInBounds (optional_indices T.number indices.now (mask_bits mask.now)) length }
+    requires in_bounds { AreInBounds (masked_indices T.number indices.now mask.now) length }
     ensures only { IsOkUnless result VortexError.OutOfMemory }
-    ensures picked { let places = optional_indices T.number indices.now (mask_bits mask.now) in (strategy : Strategy)
+    ensures picked { let places = masked_indices T.number indices.now mask.now in (strategy : Strategy)
         × IsPicked places (item_count ends.old.ends) length thresholds strategy
         × IfOk result (λ runs. runs.items ≡ answer_of strategy ends.old.ends offset places)
         × (ends.new.tests ≤ ends.old.tests + most_tests strategy (valid_count places)
@@ -86,8 +86,8 @@ fn prefers_sorted_merge<T: NativePType, A: Allocator>(
     thresholds: TakeThresholds,
 ) -> bool
     requires masked { item_count (mask_bits mask.now) ≡ item_count indices.now }
-    requires counted { count ≡ valid_count (optional_indices T.number indices.now (mask_bits mask.now)) }
-    requires in_bounds { AreInBounds (optional_indices T.number indices.now (mask_bits mask.now)) (2 ^ 64) }
+    requires counted { count ≡ valid_count (masked_indices T.number indices.now mask.now) }
+    requires in_bounds { AreInBounds (masked_indices T.number indices.now mask.now) (2 ^ 64) }
     ensures { IsTrue result ↔ PrefersSortedMerge (optional_indices T.number indices.now
         (mask_bits mask.now)) runs thresholds }
 {
@@ -120,14 +120,14 @@ fn physical_indices_by<E: UnsignedPType, T: NativePType, A: Allocator + Copy>(
     requires window { IsWindow ends.old.ends offset length }
     requires some { 0 < length }
     requires masked { item_count (mask_bits mask.now) ≡ item_count indices.now }
-    requires in_bounds { AreInBounds (optional_indices T.number indices.now (mask_bits mask.now)) length }
-    requires sorted { strategy ≡ SortedMerge → AreSorted (optional_indices T.number indices.now (mask_bits mask.now)) }
+    requires in_bounds { AreInBounds (masked_indices T.number indices.now mask.now) length }
+    requires sorted { strategy ≡ SortedMerge → AreSorted (masked_indices T.number indices.now mask.now) }
     ensures only { IsOkUnless result VortexError.OutOfMemory }
     ensures runs { IfOk result (λ runs. runs.items ≡
-        answer_of strategy ends.old.ends offset (optional_indices T.number indices.now (mask_bits mask.now))) }
+        answer_of strategy ends.old.ends offset (masked_indices T.number indices.now mask.now)) }
     ensures same { ends.new.ends ≡ ends.old.ends }
     ensures cost { ends.new.tests ≤ ends.old.tests
-        + most_tests strategy (valid_count (optional_indices T.number indices.now (mask_bits mask.now)))
+        + most_tests strategy (valid_count (masked_indices T.number indices.now mask.now))
         (item_count ends.old.ends) length }
     ensures untested { OnErr result (ends.new.tests ≡ ends.old.tests) }
 {

@@ -3,7 +3,7 @@ ghost use Rattle.std.specs.Prelude.{◌≡◌, ◌+◌, ◌<◌, ◌≤◌, IfOk
 ghost use Rattle.column_base.specs.Mask.{mask_bits};
 ghost use Rattle.runend_windows.specs.Window.{IsWindow};
 ghost use Rattle.runend_select.specs.declared.strategy.Strategy.{Strategy};
-ghost use Rattle.runend_select.specs.Indices.{AreInBounds, optional_indices, valid_count};
+ghost use Rattle.runend_select.specs.Indices.{AreInBounds, valid_count, masked_indices};
 ghost use Rattle.runend_select.specs.Pick.{IsPicked, answer_of, most_tests};
 ghost use Rattle.runend_select.specs.SessionPicks.{picks_of};
 
@@ -27,9 +27,9 @@ pub fn physical_indices<E: UnsignedPType, T: NativePType, A: Allocator + Copy>(
     requires window { IsWindow ends.old.ends offset length }
     requires some { 0 < length }
     requires masked { item_count (mask_bits mask.now) ≡ item_count indices.now }
-    requires in_bounds { AreInBounds (optional_indices T.number indices.now (mask_bits mask.now)) length }
+    requires in_bounds { AreInBounds (masked_indices T.number indices.now mask.now) length }
     ensures only { IsOkUnless result VortexError.OutOfMemory }
-    ensures picked { let places = optional_indices T.number indices.now (mask_bits mask.now) in (strategy : Strategy)
+    ensures picked { let places = masked_indices T.number indices.now mask.now in (strategy : Strategy)
         × IsPicked places (item_count ends.old.ends) length (picks_of ctx.old.thresholds) strategy
         × IfOk result (λ runs. runs.items ≡ answer_of strategy ends.old.ends offset places)
         × (ends.new.tests ≤ ends.old.tests + most_tests strategy (valid_count places)

@@ -1,7 +1,7 @@
 //! The rows that indices name.
 ghost use Rattle.std.specs.Prelude.{◌≡◌, ◌^◌, ◌<◌, ◌↔◌, All, IsTrue, Some, length, option_map, pos, slice_get, true};
 ghost use Rattle.column_base.specs.Mask.{mask_bits};
-ghost use Rattle.runend_select.specs.Indices.{AreInBounds, AreSorted, optional_indices};
+ghost use Rattle.runend_select.specs.Indices.{AreInBounds, AreSorted, masked_indices};
 
 use column_core::{Mask, NativePType};
 use std::alloc::Allocator;
@@ -15,8 +15,8 @@ pub fn indexed_row<T: NativePType, A: Allocator>(
 ) -> Option<usize>
     requires within { place < length indices.now }
     requires masked { length (mask_bits mask.now) ≡ length indices.now }
-    requires in_bounds { AreInBounds (optional_indices T.number indices.now (mask_bits mask.now)) (2 ^ 64) }
-    ensures { slice_get (optional_indices T.number indices.now (mask_bits mask.now)) place ≡
+    requires in_bounds { AreInBounds (masked_indices T.number indices.now mask.now) (2 ^ 64) }
+    ensures { slice_get (masked_indices T.number indices.now mask.now) place ≡
         Some (option_map (λ row. pos row) result) }
 {
     named_row::<false, T, A>(indices, mask, place)
@@ -57,8 +57,8 @@ pub(crate) fn named_row<const ALL: bool, T: NativePType, A: Allocator>(
     requires within { place < length indices.now }
     requires masked { length (mask_bits mask.now) ≡ length indices.now }
     requires all { ALL ≡ true → All (λ bit. bit ≡ true) (mask_bits mask.now) }
-    requires in_bounds { AreInBounds (optional_indices T.number indices.now (mask_bits mask.now)) (2 ^ 64) }
-    ensures { slice_get (optional_indices T.number indices.now (mask_bits mask.now)) place ≡
+    requires in_bounds { AreInBounds (masked_indices T.number indices.now mask.now) (2 ^ 64) }
+    ensures { slice_get (masked_indices T.number indices.now mask.now) place ≡
         Some (option_map (λ row. pos row) result) }
 {
     if is_valid::<ALL, A>(mask, place) {
@@ -71,8 +71,8 @@ pub(crate) fn named_row<const ALL: bool, T: NativePType, A: Allocator>(
 /// Returns whether no valid index is below a valid one before it.
 pub fn are_sorted<T: NativePType, A: Allocator>(indices: &[T], mask: &Mask<A>) -> bool
     requires masked { length (mask_bits mask.now) ≡ length indices.now }
-    requires in_bounds { AreInBounds (optional_indices T.number indices.now (mask_bits mask.now)) (2 ^ 64) }
-    ensures { IsTrue result ↔ AreSorted (optional_indices T.number indices.now (mask_bits mask.now)) }
+    requires in_bounds { AreInBounds (masked_indices T.number indices.now mask.now) (2 ^ 64) }
+    ensures { IsTrue result ↔ AreSorted (masked_indices T.number indices.now mask.now) }
 {
     if selects_all(mask) {
         never_fall::<true, T, A>(indices, mask)
@@ -85,8 +85,8 @@ pub fn are_sorted<T: NativePType, A: Allocator>(indices: &[T], mask: &Mask<A>) -
 fn never_fall<const ALL: bool, T: NativePType, A: Allocator>(indices: &[T], mask: &Mask<A>) -> bool
     requires masked { length (mask_bits mask.now) ≡ length indices.now }
     requires all { ALL ≡ true → All (λ bit. bit ≡ true) (mask_bits mask.now) }
-    requires in_bounds { AreInBounds (optional_indices T.number indices.now (mask_bits mask.now)) (2 ^ 64) }
-    ensures { IsTrue result ↔ AreSorted (optional_indices T.number indices.now (mask_bits mask.now)) }
+    requires in_bounds { AreInBounds (masked_indices T.number indices.now mask.now) (2 ^ 64) }
+    ensures { IsTrue result ↔ AreSorted (masked_indices T.number indices.now mask.now) }
 {
     let mut last = 0;
     for place in 0..indices.len() {

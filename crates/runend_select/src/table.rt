@@ -2,7 +2,7 @@
 ghost use Rattle.std.specs.Prelude.{◌≡◌, ◌+◌, ◌-◌, ◌<◌, ◌≤◌, All, IfOk, IsOkUnless, OnErr, length as item_count, map, true, vec_capacity, []};
 ghost use Rattle.column_base.specs.Mask.{mask_bits};
 ghost use Rattle.runend_windows.specs.Window.{IsWindow};
-ghost use Rattle.runend_select.specs.Indices.{AreInBounds, item_of, optional_indices, runs_of_rows};
+ghost use Rattle.runend_select.specs.Indices.{AreInBounds, item_of, runs_of_rows, masked_indices};
 
 use crate::rows::{named_row, selects_all};
 use column_core::{CountedEnds, Mask, NativePType, UnsignedPType, VortexError, VortexResult};
@@ -46,11 +46,11 @@ pub fn physical_indices_table<T: NativePType, A: Allocator + Copy>(
 ) -> VortexResult<Vec<u64, A>>
     requires some { 0 < item_count table.now }
     requires masked { item_count (mask_bits mask.now) ≡ item_count indices.now }
-    requires in_bounds { AreInBounds (optional_indices T.number indices.now (mask_bits mask.now))
+    requires in_bounds { AreInBounds (masked_indices T.number indices.now mask.now)
         (item_count table.now) }
     ensures only { IsOkUnless result VortexError.OutOfMemory }
     ensures items { IfOk result (λ runs. runs.items ≡
-        map (item_of table.now) (optional_indices T.number indices.now (mask_bits mask.now))) }
+        map (item_of table.now) (masked_indices T.number indices.now mask.now)) }
 {
     let runs = Vec::with_capacity(alloc, indices.len())?;
     if selects_all(mask) {
@@ -72,9 +72,9 @@ fn looked_up<const ALL: bool, T: NativePType, A: Allocator>(
     requires some { 0 < item_count table.now }
     requires masked { item_count (mask_bits mask.now) ≡ item_count indices.now }
     requires all { ALL ≡ true → All (λ bit. bit ≡ true) (mask_bits mask.now) }
-    requires in_bounds { AreInBounds (optional_indices T.number indices.now (mask_bits mask.now))
+    requires in_bounds { AreInBounds (masked_indices T.number indices.now mask.now)
         (item_count table.now) }
-    ensures { result.items ≡ map (item_of table.now) (optional_indices T.number indices.now (mask_bits mask.now)) }
+    ensures { result.items ≡ map (item_of table.now) (masked_indices T.number indices.now mask.now) }
 {
     for place in 0..indices.len() {
         let row = named_row::<ALL, T, A>(indices, mask, place).unwrap_or(0);

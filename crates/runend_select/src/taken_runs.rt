@@ -3,14 +3,14 @@ ghost use Rattle.std.specs.Prelude.{◌≡◌, ◌*◌, ◌<◌, ◌≤◌, ◌�
 ghost use Rattle.column_base.specs.Mask.{mask_bits};
 ghost use Rattle.column_base.specs.Numbers.{numbers, ptype_of};
 ghost use Rattle.column_base.specs.Types.{IsUnsigned, nullability_of, with_nullability as dtype_with};
-ghost use Rattle.column_base.specs.ValidityForm.{HasLength, flags, nullability_in};
-ghost use Rattle.column_base.specs.Validity.{form_of};
+ghost use Rattle.column_base.specs.ValidityForm.{HasLength, nullability_in};
+ghost use Rattle.column_base.specs.Validity.{form_of, validity_flags};
 ghost use Rattle.column_ops.specs.Nullable.{either_nullable};
 ghost use Rattle.column_ops.specs.Take.{take_rows};
 ghost use Rattle.runend_array.specs.Canonical.{canonical_column};
 ghost use Rattle.runend_array.specs.Column.{column_dtype, column_of_runs, column_rows};
-ghost use Rattle.runend_windows.specs.Window.{IsWindow};
-ghost use Rattle.runend_select.specs.Indices.{AreInBounds, AreSorted, optional_indices};
+ghost use Rattle.runend_windows.specs.Window.{IsWindow, typed_ends};
+ghost use Rattle.runend_select.specs.Indices.{AreInBounds, AreSorted, optional_indices, masked_indices};
 ghost use Rattle.runend_select.specs.RunsOf.{AreRunsOf};
 ghost use Rattle.runend_column.specs.Computed.{IsComputedAs};
 
@@ -38,14 +38,14 @@ pub(crate) fn taken_rows<T: NativePType, A: Allocator + Copy>(
     ctx: &mut ExecutionCtx<A>,
 ) -> VortexResult<Canonical<A>>
     requires fits { HasLength (form_of validity.now) (length indices.now) }
-    requires in_bounds { AreInBounds (optional_indices T.number indices.now (flags (form_of validity.now)
+    requires in_bounds { AreInBounds (optional_indices T.number indices.now (validity_flags validity.now
         (length indices.now))) array.now.count }
     requires sorted { IsTrue sorted →
-        AreSorted (optional_indices T.number indices.now (flags (form_of validity.now) (length indices.now))) }
+        AreSorted (optional_indices T.number indices.now (validity_flags validity.now (length indices.now))) }
     ensures only { IsOkUnless result VortexError.OutOfMemory }
     ensures made { IfOk result (λ taken. IsComputedAs
         (take_rows (column_rows (column_of_runs array.now)) (optional_indices T.number indices.now
-        (flags (form_of validity.now) (length indices.now))))
+        (validity_flags validity.now (length indices.now))))
         (dtype_with (column_dtype array.now.values) (either_nullable (nullability_of (column_dtype array.now.values))
         (nullability_in (form_of validity.now))))
         (canonical_column taken)) }
@@ -66,7 +66,7 @@ fn mask_of<A: Allocator + Copy>(
 ) -> VortexResult<Mask<A>>
     requires { HasLength (form_of validity.now) count }
     ensures only { IsOkUnless result VortexError.OutOfMemory }
-    ensures bits { IfOk result (λ mask. mask_bits mask ≡ flags (form_of validity.now) count) }
+    ensures bits { IfOk result (λ mask. mask_bits mask ≡ validity_flags validity.now count) }
 {
     match validity {
         Validity::NonNullable => Ok(Mask::AllTrue(count)),
@@ -98,14 +98,14 @@ fn runs_by<E: UnsignedPType, T: NativePType, A: Allocator + Copy>(
     sorted: bool,
     ctx: &mut ExecutionCtx<A>,
 ) -> VortexResult<Vec<u64, A>>
-    requires window { IsWindow (map unsigned_abs (map E.number ends.now)) offset count }
+    requires window { IsWindow (typed_ends E.number ends.now) offset count }
     requires some { 0 < count }
     requires masked { length (mask_bits mask.now) ≡ length indices.now }
-    requires in_bounds { AreInBounds (optional_indices T.number indices.now (mask_bits mask.now)) count }
-    requires sorted { IsTrue sorted → AreSorted (optional_indices T.number indices.now (mask_bits mask.now)) }
+    requires in_bounds { AreInBounds (masked_indices T.number indices.now mask.now) count }
+    requires sorted { IsTrue sorted → AreSorted (masked_indices T.number indices.now mask.now) }
     ensures only { IsOkUnless result VortexError.OutOfMemory }
-    ensures runs { IfOk result (λ runs. AreRunsOf (map unsigned_abs (map E.number ends.now)) offset
-        (optional_indices T.number indices.now (mask_bits mask.now)) runs.items) }
+    ensures runs { IfOk result (λ runs. AreRunsOf (typed_ends E.number ends.now) offset
+        (masked_indices T.number indices.now mask.now) runs.items) }
     ensures session { ctx.new ≡ ctx.old }
 {
     let mut counted = CountedEnds::new(ends);
@@ -130,15 +130,14 @@ fn runs_among<T: NativePType, A: Allocator + Copy>(
     requires window { IsWindow (map unsigned_abs (numbers ends.now)) offset count }
     requires some { 0 < count }
     requires masked { length (mask_bits mask.now) ≡ length indices.now }
-    requires in_bounds { AreInBounds (optional_indices T.number indices.now (mask_bits mask.now)) count }
-    requires sorted { IsTrue sorted → AreSorted (optional_indices T.number indices.now (mask_bits mask.now)) }
+    requires in_bounds { AreInBounds (masked_indices T.number indices.now mask.now) count }
+    requires sorted { IsTrue sorted → AreSorted (masked_indices T.number indices.now mask.now) }
     ensures only { IsOkUnless result VortexError.OutOfMemory }
     ensures runs { IfOk result (λ runs. AreRunsOf (map unsigned_abs (numbers ends.now)) offset
-        (optional_indices T.number indices.now (mask_bits mask.now)) runs.items) }
+        (masked_indices T.number indices.now mask.now) runs.items) }
     ensures session { ctx.new ≡ ctx.old }
 {
-    match_each_unsigned!(ends, items => runs_by(items.as_slice(), offset, count, indices, mask, sorted, ctx),
-    _ => unreachable!())
+    match_each_unsigned!(ends, items => runs_by(items.as_slice(), offset, count, indices, mask, sorted, ctx))
 }
 
 // The run of each valid index.
@@ -150,13 +149,13 @@ fn runs_of_indices<T: NativePType, A: Allocator + Copy>(
     ctx: &mut ExecutionCtx<A>,
 ) -> VortexResult<Vec<u64, A>>
     requires fits { HasLength (form_of validity.now) (length indices.now) }
-    requires in_bounds { AreInBounds (optional_indices T.number indices.now (flags (form_of validity.now)
+    requires in_bounds { AreInBounds (optional_indices T.number indices.now (validity_flags validity.now
         (length indices.now))) array.now.count }
     requires sorted { IsTrue sorted →
-        AreSorted (optional_indices T.number indices.now (flags (form_of validity.now) (length indices.now))) }
+        AreSorted (optional_indices T.number indices.now (validity_flags validity.now (length indices.now))) }
     ensures only { IsOkUnless result VortexError.OutOfMemory }
     ensures runs { IfOk result (λ runs. AreRunsOf array.now.ends array.now.offset (optional_indices T.number indices.now
-        (flags (form_of validity.now) (length indices.now))) runs.items) }
+        (validity_flags validity.now (length indices.now))) runs.items) }
     ensures session { ctx.new ≡ ctx.old }
 {
     let alloc = *ctx.allocator();

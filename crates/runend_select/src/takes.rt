@@ -3,8 +3,8 @@ ghost use Rattle.std.specs.Prelude.{◌≡◌, ◌↔◌, ◌<◌, None, Some, I
 ghost use Rattle.column_base.specs.declared.error.VortexError.{VortexError};
 ghost use Rattle.column_base.specs.Types.{nullability_of, with_nullability as dtype_with};
 ghost use Rattle.column_base.specs.declared.dtype.Nullability.TheVariants.{Nullable};
-ghost use Rattle.column_base.specs.ValidityForm.{HasLength, HasRow, flag_at, flags, nullability_in};
-ghost use Rattle.column_base.specs.Validity.{form_of};
+ghost use Rattle.column_base.specs.ValidityForm.{HasLength, HasRow, flag_at, nullability_in};
+ghost use Rattle.column_base.specs.Validity.{form_of, validity_flags};
 ghost use Rattle.column_core.specs.PrimitiveForm.{optional_numbers, primitive_dtype, primitive_with};
 ghost use Rattle.column_core.specs.Refusal.{IsRefusedBy};
 ghost use Rattle.column_ops.specs.Nullable.{either_nullable, take_dtype};
@@ -33,14 +33,14 @@ pub fn take_indices_unchecked<T: NativePType, A: Allocator + Copy>(
     ctx: &mut ExecutionCtx<A>,
 ) -> VortexResult<ArrayRef<A>>
     requires fits { HasLength (form_of validity.now) (length indices.now) }
-    requires in_bounds { AreInBounds (optional_indices T.number indices.now (flags (form_of validity.now)
+    requires in_bounds { AreInBounds (optional_indices T.number indices.now (validity_flags validity.now
         (length indices.now))) (length (column_rows (column_of_runs array.now))) }
     ensures only { IsOkUnless result VortexError.OutOfMemory }
     ensures rows { IfOk result (λ taken. rows taken ≡ take_rows (column_rows (column_of_runs array.now))
-        (optional_indices T.number indices.now (flags (form_of validity.now) (length indices.now)))) }
+        (optional_indices T.number indices.now (validity_flags validity.now (length indices.now)))) }
     ensures dtype { IfOk result (λ taken. dtype_of taken ≡ dtype_with (column_dtype array.now.values)
         (either_nullable (nullability_of (column_dtype array.now.values)) (nullability_in (form_of validity.now)))) }
-    ensures form { IfOk result (λ taken. TakeLeaves (optional_indices T.number indices.now (flags (form_of validity.now)
+    ensures form { IfOk result (λ taken. TakeLeaves (optional_indices T.number indices.now (validity_flags validity.now
         (length indices.now))) (column_of taken)) }
     ensures session { ctx.new ≡ ctx.old }
 {
@@ -97,7 +97,7 @@ fn checked_row<const ALL: bool, T: NativePType, A: Allocator>(
     requires there { place < length indices.now }
     requires fits { HasLength (form_of validity.now) (length indices.now) }
     requires all { ALL ≡ true → (row : ℕ) → flag_at (form_of validity.now) row ≡ true }
-    ensures { (index : Option ℤ) × (slice_get (optional_indices T.number indices.now (flags (form_of validity.now)
+    ensures { (index : Option ℤ) × (slice_get (optional_indices T.number indices.now (validity_flags validity.now
         (length indices.now))) place ≡ Some index)
         × IsRefusedExactlyBy (index_fault count index) result × IfOk result (λ row. index ≡ option_map pos row) }
 {
@@ -119,10 +119,10 @@ fn check_each<const ALL: bool, T: NativePType, A: Allocator>(
 ) -> VortexResult<bool>
     requires fits { HasLength (form_of validity.now) (length indices.now) }
     requires all { ALL ≡ true → (row : ℕ) → flag_at (form_of validity.now) row ≡ true }
-    ensures told { IsRefusedExactlyBy (take_fault (optional_indices T.number indices.now (flags (form_of validity.now)
+    ensures told { IsRefusedExactlyBy (take_fault (optional_indices T.number indices.now (validity_flags validity.now
         (length indices.now))) count) result }
     ensures sorted { IfOk result (λ sorted. IsTrue sorted →
-        AreSorted (optional_indices T.number indices.now (flags (form_of validity.now) (length indices.now)))) }
+        AreSorted (optional_indices T.number indices.now (validity_flags validity.now (length indices.now)))) }
 {
     let mut last = 0;
     let mut sorted = true;
@@ -143,10 +143,10 @@ fn check_indices<T: NativePType, A: Allocator>(
     count: usize,
 ) -> VortexResult<bool>
     requires fits { HasLength (form_of validity.now) (length indices.now) }
-    ensures told { IsRefusedExactlyBy (take_fault (optional_indices T.number indices.now (flags (form_of validity.now)
+    ensures told { IsRefusedExactlyBy (take_fault (optional_indices T.number indices.now (validity_flags validity.now
         (length indices.now))) count) result }
     ensures sorted { IfOk result (λ sorted. IsTrue sorted →
-        AreSorted (optional_indices T.number indices.now (flags (form_of validity.now) (length indices.now)))) }
+        AreSorted (optional_indices T.number indices.now (validity_flags validity.now (length indices.now)))) }
 {
     match validity {
         Validity::NonNullable => check_each::<true, T, A>(indices, validity, count),
@@ -165,16 +165,16 @@ fn take_in_order<T: NativePType, A: Allocator + Copy>(
     ctx: &mut ExecutionCtx<A>,
 ) -> VortexResult<ArrayRef<A>>
     requires fits { HasLength (form_of validity.now) (length indices.now) }
-    requires in_bounds { AreInBounds (optional_indices T.number indices.now (flags (form_of validity.now)
+    requires in_bounds { AreInBounds (optional_indices T.number indices.now (validity_flags validity.now
         (length indices.now))) (length (column_rows (column_of_runs array.now))) }
     requires sorted { IsTrue sorted →
-        AreSorted (optional_indices T.number indices.now (flags (form_of validity.now) (length indices.now))) }
+        AreSorted (optional_indices T.number indices.now (validity_flags validity.now (length indices.now))) }
     ensures only { IsOkUnless result VortexError.OutOfMemory }
     ensures rows { IfOk result (λ taken. rows taken ≡ take_rows (column_rows (column_of_runs array.now))
-        (optional_indices T.number indices.now (flags (form_of validity.now) (length indices.now)))) }
+        (optional_indices T.number indices.now (validity_flags validity.now (length indices.now)))) }
     ensures dtype { IfOk result (λ taken. dtype_of taken ≡ dtype_with (column_dtype array.now.values)
         (either_nullable (nullability_of (column_dtype array.now.values)) (nullability_in (form_of validity.now)))) }
-    ensures form { IfOk result (λ taken. TakeLeaves (optional_indices T.number indices.now (flags (form_of validity.now)
+    ensures form { IfOk result (λ taken. TakeLeaves (optional_indices T.number indices.now (validity_flags validity.now
         (length indices.now))) (column_of taken)) }
     ensures session { ctx.new ≡ ctx.old }
 {
@@ -190,7 +190,7 @@ fn take_in_order<T: NativePType, A: Allocator + Copy>(
 // Is there a row, and is each null?
 fn are_all_null<A: Allocator>(validity: &Validity<A>, count: usize) -> bool
     requires { HasLength (form_of validity.now) count }
-    ensures { IsTrue result ↔ ((0 < count) × (count_by (λ bit. bit) (flags (form_of validity.now) count) ≡ 0)) }
+    ensures { IsTrue result ↔ ((0 < count) × (count_by (λ bit. bit) (validity_flags validity.now count) ≡ 0)) }
 {
     match validity {
         Validity::NonNullable => false,

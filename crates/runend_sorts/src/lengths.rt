@@ -32,7 +32,7 @@ fn lengths_among<A: Allocator + Copy>(
     ensures only { IsOkUnless result VortexError.OutOfMemory }
     ensures lengths { IfOk result (λ lengths. lengths.items ≡ lengths_in (map unsigned_abs (numbers ends.now))) }
 {
-    match_each_unsigned!(ends, items => lengths_as(alloc, items.as_slice()), _ => unreachable!())
+    match_each_unsigned!(ends, items => lengths_as(alloc, items.as_slice()))
 }
 
 // The same, of ends of one type.

@@ -1,5 +1,5 @@
 -- Windows over runs: which run a position is in, and which windows are valid. Ends and positions count rows.
-use Rattle.std.specs.Prelude.{◌≡◌, ℕ, ◌+◌, ◌-◌, ◌^◌, ◌<◌, ◌≤◌, List, length, map, nat_lt, slice_index, slice_index_or, Option, None}
+use Rattle.std.specs.Prelude.{◌≡◌, ℕ, ◌+◌, ◌-◌, ◌^◌, ◌<◌, ◌≤◌, List, length, map, nat_lt, slice_index, slice_index_or, Option, None, unsigned_abs, ℤ}
 use Rattle.std.specs.List.{position_or_len, range_with_len}
 use Rattle.std.specs.List.Sorted.{IsStrictlyIncreasing}
 
@@ -28,3 +28,7 @@ pub record IsWindow (ends : List ℕ) (offset count : ℕ) : Type 0 where
 -- the rows of a window: each shows the value of its run
 abbrev pub run_rows : {B : Type 0} → List ℕ → List (Option B) → ℕ → ℕ → List (Option B)
 run_rows ends values offset count = map (λ position. slice_index_or values (run_at ends position) None) (range_with_len offset count)
+
+-- the ends of items of a native type
+abbrev pub typed_ends : {E : Type 0} → (E → ℤ) → List E → List ℕ
+typed_ends number ends = map unsigned_abs (map number ends)

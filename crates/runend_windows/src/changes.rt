@@ -1,8 +1,8 @@
 //! Which rows of numbers differ from the row before.
 ghost use Rattle.std.specs.Prelude.{◌≡◌, ◌↔◌, ◌+◌, ◌*◌, ◌/◌, ◌<◌, ℕ, IfOk, IsOkUnless, length, map};
 ghost use Rattle.std.specs.Int.{bit_at};
-ghost use Rattle.column_base.specs.ValidityForm.{HasLength, flags};
-ghost use Rattle.column_base.specs.Validity.{form_of};
+ghost use Rattle.column_base.specs.ValidityForm.{HasLength};
+ghost use Rattle.column_base.specs.Validity.{form_of, validity_flags};
 ghost use Rattle.column_base.specs.Words.{digit_at};
 ghost use Rattle.column_core.specs.PrimitiveForm.{optionals};
 ghost use Rattle.runend_windows.specs.Starts.{AreChanges, GoesOn};
@@ -22,7 +22,7 @@ pub(crate) fn changes_of<T: NativePType, A: Allocator + Copy>(
     requires { HasLength (form_of validity.now) (length items.now) }
     ensures only { IsOkUnless result VortexError.OutOfMemory }
     ensures changes { IfOk result (λ bits. AreChanges
-        (optionals (map T.number items.now) (flags (form_of validity.now) (length items.now))) bits) }
+        (optionals (map T.number items.now) (validity_flags validity.now (length items.now))) bits) }
 {
     let words = change_words(alloc, items, validity)?;
     Ok(BitBufferMut::from_words(words, items.len()).freeze())
@@ -38,7 +38,7 @@ fn change_words<T: NativePType, A: Allocator + Copy>(
     ensures only { IsOkUnless result VortexError.OutOfMemory }
     ensures len { IfOk result (λ words. length words.items ≡ (length items.now + 63) / 64) }
     ensures digits { IfOk result (λ words. (row : ℕ) → row < length items.now → ((digit_at words.items row ≡ 0) ↔
-        GoesOn (optionals (map T.number items.now) (flags (form_of validity.now) (length items.now))) row)) }
+        GoesOn (optionals (map T.number items.now) (validity_flags validity.now (length items.now))) row)) }
 {
     let count = items.len().div_ceil(64);
     let mut words = Vec::with_capacity(alloc, count)?;
@@ -59,7 +59,7 @@ fn change_word<T: NativePType, A: Allocator>(
     requires fits { HasLength (form_of validity.now) (length items.now) }
     requires within { index * 64 < length items.now }
     ensures { (lane : ℕ) → lane < 64 → index * 64 + lane < length items.now → ((bit_at result lane ≡ 0) ↔
-        GoesOn (optionals (map T.number items.now) (flags (form_of validity.now) (length items.now)))
+        GoesOn (optionals (map T.number items.now) (validity_flags validity.now (length items.now)))
         (index * 64 + lane)) }
 {
     changed_optionals(validity, index, changed_items(items, index))

@@ -1,12 +1,12 @@
 //! The decoder: each run's value is repeated up to where the run reaches in the window.
-ghost use Rattle.std.specs.Prelude.{◌≡◌, ◌-◌, ◌<◌, ◌≤◌, IfOk, IsOkUnless, length, map, min, slice_get, slice_index, unsigned_abs, Some};
+ghost use Rattle.std.specs.Prelude.{◌≡◌, ◌-◌, ◌<◌, ◌≤◌, IfOk, IsOkUnless, length, map, min, slice_get, slice_index, Some};
 ghost use Rattle.column_base.specs.declared.dtype.Nullability.TheVariants.{Nullable};
-ghost use Rattle.column_base.specs.ValidityForm.{HasLength, IsNormal, flags, nullability_in};
-ghost use Rattle.column_base.specs.Validity.{form_of};
+ghost use Rattle.column_base.specs.ValidityForm.{HasLength, IsNormal, nullability_in};
+ghost use Rattle.column_base.specs.Validity.{form_of, validity_flags};
 ghost use Rattle.column_core.specs.Computed.{HasRowIfAllNull};
 ghost use Rattle.column_core.specs.Optionals.{optionals};
 ghost use Rattle.column_core.specs.PrimitiveForm.{primitive_dtype, primitive_with};
-ghost use Rattle.runend_windows.specs.Window.{IsWindow};
+ghost use Rattle.runend_windows.specs.Window.{IsWindow, typed_ends};
 ghost use Rattle.runend_windows.specs.Cover.{Covers};
 ghost use Rattle.runend_windows.specs.Ends.{IsEndsType, ends_of};
 ghost use Rattle.runend_windows.specs.Decoding.{AreDecoded};
@@ -23,7 +23,7 @@ use std::alloc::Allocator;
 /// Returns how many rows of the window the runs up to this one reach.
 pub fn reach_of<E: UnsignedPType>(ends: &[E], run: usize, offset: usize, count: usize) -> usize
     requires { run < length ends.now }
-    ensures { result ≡ min (slice_index (map unsigned_abs (map E.number ends.now)) run - offset) count }
+    ensures { result ≡ min (slice_index (typed_ends E.number ends.now) run - offset) count }
 {
     let rows = ends[run].to_u64().saturating_sub(offset as u64);
     rows.min(count as u64) as usize
@@ -37,11 +37,11 @@ fn decode_valid<E: UnsignedPType, T: Copy + Drop, A: Allocator + Copy>(
     offset: usize,
     count: usize,
 ) -> VortexResult<Vec<T, A>>
-    requires window { IsWindow (map unsigned_abs (map E.number ends.now)) offset count }
+    requires window { IsWindow (typed_ends E.number ends.now) offset count }
     requires paired { length values.now ≡ length ends.now }
     ensures only { IsOkUnless result VortexError.OutOfMemory }
     ensures cover { IfOk result (λ items. Covers items.items
-        (map unsigned_abs (map E.number ends.now)) values.now offset count) }
+        (typed_ends E.number ends.now) values.now offset count) }
 {
     let mut rows = RunWriter::with_room(alloc, count)?;
     for run in 0..ends.len() {
@@ -75,13 +75,13 @@ fn decode_marked<E: UnsignedPType, T: Copy + Drop, A: Allocator + Copy>(
     offset: usize,
     count: usize,
 ) -> VortexResult<(Vec<T, A>, BitBufferMut<A>)>
-    requires window { IsWindow (map unsigned_abs (map E.number ends.now)) offset count }
+    requires window { IsWindow (typed_ends E.number ends.now) offset count }
     requires paired { length values.now ≡ length ends.now }
     requires fits { length marks.now ≡ length values.now }
     ensures only { IsOkUnless result VortexError.OutOfMemory }
-    ensures items { IfOk result (λ parts. Covers parts.0.items (map unsigned_abs (map E.number ends.now))
+    ensures items { IfOk result (λ parts. Covers parts.0.items (typed_ends E.number ends.now)
         (blanked blank (optionals values.now marks.now)) offset count) }
-    ensures bits { IfOk result (λ parts. Covers parts.1 (map unsigned_abs (map E.number ends.now)) marks.now offset
+    ensures bits { IfOk result (λ parts. Covers parts.1 (typed_ends E.number ends.now) marks.now offset
         count) }
 {
     let mut rows = RunWriter::with_room(alloc, count)?;
@@ -107,11 +107,11 @@ fn decode_flags<E: UnsignedPType, A: Allocator + Copy>(
     offset: usize,
     count: usize,
 ) -> VortexResult<BitBufferMut<A>>
-    requires window { IsWindow (map unsigned_abs (map E.number ends.now)) offset count }
+    requires window { IsWindow (typed_ends E.number ends.now) offset count }
     requires fits { HasLength (form_of validity.now) (length ends.now) }
     ensures only { IsOkUnless result VortexError.OutOfMemory }
-    ensures cover { IfOk result (λ bits. Covers bits (map unsigned_abs (map E.number ends.now))
-        (flags (form_of validity.now) (length ends.now)) offset count) }
+    ensures cover { IfOk result (λ bits. Covers bits (typed_ends E.number ends.now)
+        (validity_flags validity.now (length ends.now)) offset count) }
 {
     let mut rows = BitBufferMut::with_capacity(alloc, count)?;
     for run in 0..ends.len() {
@@ -129,11 +129,11 @@ fn decode_nullable<E: UnsignedPType, A: Allocator + Copy>(
     offset: usize,
     count: usize,
 ) -> VortexResult<Validity<A>>
-    requires window { IsWindow (map unsigned_abs (map E.number ends.now)) offset count }
+    requires window { IsWindow (typed_ends E.number ends.now) offset count }
     requires fits { HasLength (form_of validity.now) (length ends.now) }
     ensures only { IsOkUnless result VortexError.OutOfMemory }
-    ensures cover { IfOk result (λ rows. Covers (flags (form_of rows) count) (map unsigned_abs (map E.number ends.now))
-        (flags (form_of validity.now) (length ends.now)) offset count) }
+    ensures cover { IfOk result (λ rows. Covers (validity_flags rows count) (typed_ends E.number ends.now)
+        (validity_flags validity.now (length ends.now)) offset count) }
     ensures fits { IfOk result (λ rows. HasLength (form_of rows) count) }
     ensures normal { IfOk result (λ rows. IsNormal (form_of rows)) }
     ensures nullable { IfOk result (λ rows. nullability_in (form_of rows) ≡ Nullable) }
@@ -152,11 +152,11 @@ pub fn decode_validity<E: UnsignedPType, A: Allocator + Copy>(
     offset: usize,
     count: usize,
 ) -> VortexResult<Validity<A>>
-    requires window { IsWindow (map unsigned_abs (map E.number ends.now)) offset count }
+    requires window { IsWindow (typed_ends E.number ends.now) offset count }
     requires fits { HasLength (form_of validity.now) (length ends.now) }
     ensures only { IsOkUnless result VortexError.OutOfMemory }
-    ensures cover { IfOk result (λ rows. Covers (flags (form_of rows) count) (map unsigned_abs (map E.number ends.now))
-        (flags (form_of validity.now) (length ends.now)) offset count) }
+    ensures cover { IfOk result (λ rows. Covers (validity_flags rows count) (typed_ends E.number ends.now)
+        (validity_flags validity.now (length ends.now)) offset count) }
     ensures fits { IfOk result (λ rows. HasLength (form_of rows) count) }
     ensures normal { IfOk result (λ rows. IsNormal (form_of rows)) }
     ensures nullability { IfOk result (λ rows. nullability_in (form_of rows) ≡ nullability_in (form_of validity.now)) }
@@ -180,11 +180,11 @@ fn decode_under<E: UnsignedPType, T: Copy + Drop, A: Allocator + Copy>(
     offset: usize,
     count: usize,
 ) -> VortexResult<(Vec<T, A>, Validity<A>)>
-    requires window { IsWindow (map unsigned_abs (map E.number ends.now)) offset count }
+    requires window { IsWindow (typed_ends E.number ends.now) offset count }
     requires paired { length values.now ≡ length ends.now }
     requires fits { HasLength (form_of validity.now) (length values.now) }
     ensures only { IsOkUnless result VortexError.OutOfMemory }
-    ensures decoded { IfOk result (λ parts. AreDecoded blank (map unsigned_abs (map E.number ends.now)) values.now
+    ensures decoded { IfOk result (λ parts. AreDecoded blank (typed_ends E.number ends.now) values.now
         (form_of validity.now) offset count
         parts.0.items (form_of parts.1)) }
 {
@@ -230,7 +230,7 @@ pub fn decode_rows<T: Copy + Drop, A: Allocator + Copy>(
         parts.0.items (form_of parts.1)) }
 {
     match_each_unsigned!(ends.values(), items => decode_under(alloc, items.as_slice(), values, validity, blank, offset,
-    count), _ => unreachable!())
+    count))
 }
 
 fn decode_as<T: NativePType, A: Allocator + Copy>(

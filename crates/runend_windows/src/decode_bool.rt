@@ -1,11 +1,11 @@
 //! The decoder of booleans.
-ghost use Rattle.std.specs.Prelude.{◌≡◌, ◌≤◌, ◌↔◌, IfOk, IsOkUnless, IsTrue, length as item_count, map, unsigned_abs, false};
+ghost use Rattle.std.specs.Prelude.{◌≡◌, ◌≤◌, ◌↔◌, IfOk, IsOkUnless, IsTrue, length as item_count, false};
 ghost use Rattle.column_base.specs.ValidityForm.{HasLength};
 ghost use Rattle.column_base.specs.Validity.{form_of};
 ghost use Rattle.column_core.specs.Optionals.{optionals};
 ghost use Rattle.column_core.specs.PrimitiveForm.{primitive_dtype};
 ghost use Rattle.column_core.specs.Leaf.{OfTruths};
-ghost use Rattle.runend_windows.specs.Window.{IsWindow};
+ghost use Rattle.runend_windows.specs.Window.{IsWindow, typed_ends};
 ghost use Rattle.runend_windows.specs.Cover.{Covers};
 ghost use Rattle.runend_windows.specs.Ends.{IsEndsType, ends_of};
 ghost use Rattle.runend_windows.specs.Decoding.{AreDecoded};
@@ -41,7 +41,7 @@ pub fn decode_truths<A: Allocator + Copy>(
         (OfTruths array)) }
 {
     match_each_unsigned!(ends.values(), items => decode_under(alloc, items.as_slice(), values, offset, count,
-    prefill_runs), _ => unreachable!())
+    prefill_runs))
 }
 
 fn decode_under<E: UnsignedPType, A: Allocator + Copy>(
@@ -52,10 +52,10 @@ fn decode_under<E: UnsignedPType, A: Allocator + Copy>(
     count: usize,
     prefill_runs: usize,
 ) -> VortexResult<BoolArray<A>>
-    requires window { IsWindow (map unsigned_abs (map E.number ends.now)) offset count }
+    requires window { IsWindow (typed_ends E.number ends.now) offset count }
     requires paired { item_count values.now.bits ≡ item_count ends.now }
     ensures only { IsOkUnless result VortexError.OutOfMemory }
-    ensures flat { IfOk result (λ array. IsDecodedLeaf (map unsigned_abs (map E.number ends.now))
+    ensures flat { IfOk result (λ array. IsDecodedLeaf (typed_ends E.number ends.now)
         (OfTruths values.now) offset count (OfTruths array)) }
 {
     let (bits, rows) = decode_parts(
@@ -80,11 +80,11 @@ fn decode_parts<E: UnsignedPType, A: Allocator + Copy>(
     count: usize,
     prefill_runs: usize,
 ) -> VortexResult<(BitBuffer<A>, Validity<A>)>
-    requires window { IsWindow (map unsigned_abs (map E.number ends.now)) offset count }
+    requires window { IsWindow (typed_ends E.number ends.now) offset count }
     requires paired { item_count values.now ≡ item_count ends.now }
     requires fits { HasLength (form_of validity.now) (item_count values.now) }
     ensures only { IsOkUnless result VortexError.OutOfMemory }
-    ensures decoded { IfOk result (λ parts. AreDecoded false (map unsigned_abs (map E.number ends.now)) values.now
+    ensures decoded { IfOk result (λ parts. AreDecoded false (typed_ends E.number ends.now) values.now
         (form_of validity.now) offset count
         parts.0 (form_of parts.1)) }
 {
@@ -133,10 +133,10 @@ fn decode_bits<E: UnsignedPType, A: Allocator + Copy>(
     count: usize,
     prefill_runs: usize,
 ) -> VortexResult<BitBuffer<A>>
-    requires window { IsWindow (map unsigned_abs (map E.number ends.now)) offset count }
+    requires window { IsWindow (typed_ends E.number ends.now) offset count }
     requires paired { item_count values.now ≡ item_count ends.now }
     ensures only { IsOkUnless result VortexError.OutOfMemory }
-    ensures cover { IfOk result (λ bits. Covers bits (map unsigned_abs (map E.number ends.now)) values.now offset
+    ensures cover { IfOk result (λ bits. Covers bits (typed_ends E.number ends.now) values.now offset
         count) }
 {
     let start = starts_true(values, prefill_runs);
@@ -160,13 +160,13 @@ fn decode_marked<E: UnsignedPType, A: Allocator + Copy>(
     count: usize,
     prefill_runs: usize,
 ) -> VortexResult<(BitBuffer<A>, BitBuffer<A>)>
-    requires window { IsWindow (map unsigned_abs (map E.number ends.now)) offset count }
+    requires window { IsWindow (typed_ends E.number ends.now) offset count }
     requires paired { item_count values.now ≡ item_count ends.now }
     requires fits { item_count marks.now ≡ item_count values.now }
     ensures only { IsOkUnless result VortexError.OutOfMemory }
-    ensures bits { IfOk result (λ parts. Covers parts.0 (map unsigned_abs (map E.number ends.now))
+    ensures bits { IfOk result (λ parts. Covers parts.0 (typed_ends E.number ends.now)
         (blanked false (optionals values.now marks.now)) offset count) }
-    ensures flags { IfOk result (λ parts. Covers parts.1 (map unsigned_abs (map E.number ends.now)) marks.now offset
+    ensures flags { IfOk result (λ parts. Covers parts.1 (typed_ends E.number ends.now) marks.now offset
         count) }
 {
     let start = starts_true(values, prefill_runs);

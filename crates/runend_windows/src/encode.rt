@@ -3,7 +3,7 @@ ghost use Rattle.std.specs.Prelude.{◌≡◌, ◌<◌, ◌++◌, ◌↔◌, tru
 ghost use Rattle.column_base.specs.Bits.{set_indices_of};
 ghost use Rattle.column_base.specs.declared.dtype.Nullability.TheVariants.{NonNullable};
 ghost use Rattle.column_base.specs.ValidityForm.{NeverNull, HasLength, IsNormal, flags, nullability_in};
-ghost use Rattle.column_base.specs.Validity.{form_of};
+ghost use Rattle.column_base.specs.Validity.{form_of, validity_flags};
 ghost use Rattle.column_core.specs.Computed.{HasRowIfAllNull};
 ghost use Rattle.column_core.specs.PrimitiveForm.{AreZeroAtNulls, optionals, primitive_with};
 ghost use Rattle.runend_windows.specs.Cover.{IsTightCover};
@@ -45,7 +45,7 @@ pub fn is_all_null<A: Allocator>(array: &PrimitiveArray<A>) -> bool
 /// Returns the validity of rows with these flags, of a type with that nullability.
 pub fn validity_with<A: Allocator>(nullability: Nullability, bits: BitBuffer<A>) -> Validity<A>
     requires { nullability ≡ NonNullable → All (λ flag. flag ≡ true) bits }
-    ensures flags { flags (form_of result) (length bits) ≡ bits }
+    ensures flags { validity_flags result (length bits) ≡ bits }
     ensures fits { HasLength (form_of result) (length bits) }
     ensures normal { IsNormal (form_of result) }
     ensures nullability { nullability_in (form_of result) ≡ nullability }
@@ -88,7 +88,7 @@ fn encode_items<T: NativePType, A: Allocator + Copy>(
 ) -> VortexResult<Encoder<T, A>>
     requires { HasLength (form_of validity.now) (length items.now) }
     ensures only { IsOkUnless result VortexError.OutOfMemory }
-    ensures cover { IfOk result (λ runs. IsTightCover (optionals (map T.number items.now) (flags (form_of validity.now)
+    ensures cover { IfOk result (λ runs. IsTightCover (optionals (map T.number items.now) (validity_flags validity.now
         (length items.now)))
         runs.ends.items (optionals (map T.number runs.values.items) runs.flags)) }
     ensures paired { IfOk result (λ runs. length runs.flags ≡ length runs.values.items) }
@@ -223,7 +223,7 @@ fn encode_nullable<T: NativePType, A: Allocator + Copy>(
 ) -> VortexResult<Encoder<T, A>>
     requires { HasLength (form_of validity.now) (length items.now) }
     ensures only { IsOkUnless result VortexError.OutOfMemory }
-    ensures cover { IfOk result (λ runs. IsTightCover (optionals (map T.number items.now) (flags (form_of validity.now)
+    ensures cover { IfOk result (λ runs. IsTightCover (optionals (map T.number items.now) (validity_flags validity.now
         (length items.now)))
         runs.ends.items (optionals (map T.number runs.values.items) runs.flags)) }
     ensures paired { IfOk result (λ runs. length runs.flags ≡ length runs.values.items) }
@@ -252,7 +252,7 @@ fn first_rows<T: NativePType, A: Allocator + Copy>(
     ensures only { IsOkUnless result VortexError.OutOfMemory }
     ensures ends { IfOk result (λ runs. runs.ends.items ≡ set_indices_of changes.now ++ length items.now ∷ []) }
     ensures values { IfOk result (λ runs. optionals (map T.number runs.values.items) runs.flags ≡ items_at None
-        (optionals (map T.number items.now) (flags (form_of validity.now) (length items.now)))
+        (optionals (map T.number items.now) (validity_flags validity.now (length items.now)))
         (starts_from 0 runs.ends.items)) }
     ensures paired { IfOk result (λ runs. length runs.flags ≡ length runs.values.items) }
     ensures zeroed { IfOk result (λ runs. AreZeroAtNulls (map T.number runs.values.items) runs.flags) }

@@ -1,8 +1,8 @@
 //! Rows of booleans that start alike, of which runs are filled: those of 64 runs at a time.
 ghost use Rattle.std.specs.Prelude.{◌≡◌, ◌≢◌, ℕ, ◌+◌, ◌-◌, ◌^◌, ◌<◌, ◌≤◌, Some, if◌then◌else◌};
-ghost use Rattle.std.specs.Prelude.{length, map, min, nat_eq, slice_get, slice_index, unsigned_abs};
+ghost use Rattle.std.specs.Prelude.{length, min, nat_eq, slice_get, slice_index};
 ghost use Rattle.std.specs.Int.{bit_at};
-ghost use Rattle.runend_windows.specs.Window.{IsWindow, run_at};
+ghost use Rattle.runend_windows.specs.Window.{IsWindow, run_at, typed_ends};
 
 use crate::decode::reach_of;
 use column_core::{BitBufferMut, UnsignedPType};
@@ -28,19 +28,19 @@ pub fn fill_runs<E: UnsignedPType, A: Allocator + Copy>(
     offset: usize,
     count: usize,
 )
-    requires window { IsWindow (map unsigned_abs (map E.number ends.now)) offset count }
+    requires window { IsWindow (typed_ends E.number ends.now) offset count }
     requires long { length rows.old ≡ count }
     requires counts { first + 64 ≤ 2 ^ 64 }
     ensures len { length rows.new ≡ count }
-    ensures put { (i : ℕ) → i < count → (j : ℕ) → run_at (map unsigned_abs (map E.number ends.now)) (offset + i) ≡
+    ensures put { (i : ℕ) → i < count → (j : ℕ) → run_at (typed_ends E.number ends.now) (offset + i) ≡
         first + j
         → bit_at runs j ≡ 1 → slice_get rows.new i ≡ Some bit }
-    ensures kept { (i : ℕ) → i < count → (j : ℕ) → run_at (map unsigned_abs (map E.number ends.now)) (offset + i) ≡
+    ensures kept { (i : ℕ) → i < count → (j : ℕ) → run_at (typed_ends E.number ends.now) (offset + i) ≡
         first + j
         → bit_at runs j ≡ 0 → slice_get rows.new i ≡ slice_get rows.old i }
-    ensures before { (i : ℕ) → i < count → run_at (map unsigned_abs (map E.number ends.now)) (offset + i) < first
+    ensures before { (i : ℕ) → i < count → run_at (typed_ends E.number ends.now) (offset + i) < first
         → slice_get rows.new i ≡ slice_get rows.old i }
-    ensures behind { (i : ℕ) → i < count → first + 64 ≤ run_at (map unsigned_abs (map E.number ends.now)) (offset + i)
+    ensures behind { (i : ℕ) → i < count → first + 64 ≤ run_at (typed_ends E.number ends.now) (offset + i)
         → slice_get rows.new i ≡ slice_get rows.old i }
 {
     let mut left = runs;
@@ -56,7 +56,7 @@ pub fn fill_runs<E: UnsignedPType, A: Allocator + Copy>(
 fn start_of<E: UnsignedPType>(ends: &[E], run: usize, offset: usize, count: usize) -> usize
     requires { run < length ends.now }
     ensures { result ≡ (if nat_eq run 0 then 0
-        else min (slice_index (map unsigned_abs (map E.number ends.now)) (run - 1) - offset) count) }
+        else min (slice_index (typed_ends E.number ends.now) (run - 1) - offset) count) }
 {
     if run == 0 {
         return 0;
@@ -74,12 +74,12 @@ fn fill_run<E: UnsignedPType, A: Allocator + Copy>(
     offset: usize,
     count: usize,
 )
-    requires window { IsWindow (map unsigned_abs (map E.number ends.now)) offset count }
+    requires window { IsWindow (typed_ends E.number ends.now) offset count }
     requires long { length rows.old ≡ count }
     ensures len { length rows.new ≡ count }
-    ensures here { (i : ℕ) → i < count → run_at (map unsigned_abs (map E.number ends.now)) (offset + i) ≡ run
+    ensures here { (i : ℕ) → i < count → run_at (typed_ends E.number ends.now) (offset + i) ≡ run
         → slice_get rows.new i ≡ Some bit }
-    ensures others { (i : ℕ) → i < count → run_at (map unsigned_abs (map E.number ends.now)) (offset + i) ≢ run
+    ensures others { (i : ℕ) → i < count → run_at (typed_ends E.number ends.now) (offset + i) ≢ run
         → slice_get rows.new i ≡ slice_get rows.old i }
 {
     if run >= ends.len() {

@@ -135,7 +135,7 @@ fn first_past_among<A: Allocator>(ends: &PrimitiveValues<A>, row: usize) -> usiz
     ensures place { result ≡ run_at (map unsigned_abs (numbers ends.now)) row }
     ensures count { result ≡ count_by (λ e. nat_le e row) (map unsigned_abs (numbers ends.now)) }
 {
-    match_each_unsigned!(ends, items => first_past_in(items.as_slice(), row), _ => unreachable!())
+    match_each_unsigned!(ends, items => first_past_in(items.as_slice(), row))
 }
 
 fn last_item<E: UnsignedPType>(ends: &[E]) -> usize
@@ -152,7 +152,7 @@ pub fn last_end_of<A: Allocator>(ends: &PrimitiveArray<A>) -> usize
     requires { IsEndsType (primitive_dtype ends.now) }
     ensures { result ≡ last_end (ends_of ends.now) }
 {
-    match_each_unsigned!(ends.values(), items => last_item(items.as_slice()), _ => unreachable!())
+    match_each_unsigned!(ends.values(), items => last_item(items.as_slice()))
 }
 
 /// Returns how many of flat ends are below a row.

@@ -4,7 +4,7 @@ ghost use Rattle.column_base.specs.declared.dtype.Nullability.TheVariants.{Nulla
 ghost use Rattle.column_base.specs.declared.dtype.DType.TheVariants as column;
 ghost use Rattle.column_base.specs.Mask.{mask_bits};
 ghost use Rattle.column_base.specs.ValidityForm.{HasLength, IsNormal, flags, nullability_in};
-ghost use Rattle.column_base.specs.Validity.{form_of};
+ghost use Rattle.column_base.specs.Validity.{form_of, validity_flags};
 ghost use Rattle.column_core.specs.PrimitiveForm.{optionals, primitive_dtype};
 ghost use Rattle.runend_windows.specs.Window.{run_rows};
 ghost use Rattle.column_core.specs.Computed.{IsComputed, without_nulls};
@@ -112,7 +112,7 @@ pub fn no_null<A: Allocator>(nullability: Nullability) -> Validity<A>
 
 /// Returns the validity of rows of which each is null, of which there may be none.
 pub fn no_value<A: Allocator>(count: usize) -> Validity<A>
-    ensures flags { flags (form_of result) count ≡ replicate count false }
+    ensures flags { validity_flags result count ≡ replicate count false }
     ensures fits { HasLength (form_of result) count }
     ensures normal { IsNormal (form_of result) }
     ensures nullable { nullability_in (form_of result) ≡ Nullable }

@@ -2,7 +2,7 @@
 ghost use Rattle.std.specs.Prelude.{◌≡◌, [], count_by, ◌<◌, ◌↔◌, IsTrue, ℕ, List, Some, false, slice_get, IfOk, IsOkUnless, length, length as item_count};
 ghost use Rattle.column_base.specs.Mask.{mask_bits};
 ghost use Rattle.column_base.specs.ValidityForm.{HasLength, IsNormal, flags, nullability_in};
-ghost use Rattle.column_base.specs.Validity.{form_of};
+ghost use Rattle.column_base.specs.Validity.{form_of, validity_flags};
 ghost use Rattle.column_core.specs.Optionals.{AreBlankAtNulls, optionals};
 ghost use Rattle.runend_windows.specs.Window.{run_rows};
 ghost use Rattle.runend_windows.specs.RunEnds.{AreRunEnds, Fills, FitsMask, masked_truths};
@@ -43,9 +43,9 @@ pub fn decode_typed_bits<I: Iterator<Item = usize>, A: Allocator + Copy>(
     ensures only { IsOkUnless result VortexError.OutOfMemory }
     ensures rows { IfOk result (λ rows. (ends : List ℕ) →
         AreRunEnds I.next_gives run_ends (length values.now) count ends →
-        optionals rows.0 (flags (form_of rows.1) count) ≡
+        optionals rows.0 (validity_flags rows.1 count) ≡
         run_rows ends (optionals values.now (mask_bits mask.now)) 0 count) }
-    ensures blanks { IfOk result (λ rows. AreBlankAtNulls false rows.0 (flags (form_of rows.1) count)) }
+    ensures blanks { IfOk result (λ rows. AreBlankAtNulls false rows.0 (validity_flags rows.1 count)) }
     ensures counted { IfOk result (λ rows. length rows.0 ≡ count) }
     ensures fits { IfOk result (λ rows. HasLength (form_of rows.1) count) }
     ensures normal { IfOk result (λ rows. IsNormal (form_of rows.1)) }

@@ -104,8 +104,5 @@ fn validate_among<A: Allocator>(
         (λ _. IsWindow places offset count × (values ≡ length places))
         (λ error. WindowFault places values offset count error) }
 {
-    match_each_unsigned!(ends,
-        items => validate_window(items.as_slice(), values, offset, count),
-        _ => unreachable!()
-    )
+    match_each_unsigned!(ends, items => validate_window(items.as_slice(), values, offset, count))
 }

@@ -3,7 +3,7 @@ ghost use Rattle.std.specs.Prelude.{◌≡◌, ◌+◌, ◌-◌, ◌*◌, ◌<�
 ghost use Rattle.column_base.specs.Mask.{mask_bits};
 ghost use Rattle.column_core.specs.Digits.{digits};
 ghost use Rattle.runend_windows.specs.Window.{IsWindow};
-ghost use Rattle.runend_select.specs.Indices.{AreInBounds, AreInWindow, AreSorted, item_of, optional_indices, runs_of, runs_of_rows, valid_count};
+ghost use Rattle.runend_select.specs.Indices.{AreInBounds, AreInWindow, AreSorted, item_of, optional_indices, runs_of, runs_of_rows, valid_count, masked_indices};
 
 use runend_array::{
     CountedEnds, ExecutionCtx, Mask, NativePType, UnsignedPType, VortexError, VortexResult,
@@ -20,10 +20,10 @@ pub fn physical_indices_binary<E: UnsignedPType, T: NativePType, A: Allocator + 
     ctx: &mut ExecutionCtx<A>,
 ) -> VortexResult<Vec<u64, A>>
     requires masked { item_count (mask_bits mask.now) ≡ item_count indices.now }
-    requires in_window { AreInWindow ends.old.ends offset (optional_indices T.number indices.now (mask_bits mask.now)) }
+    requires in_window { AreInWindow ends.old.ends offset (masked_indices T.number indices.now mask.now) }
     ensures only { IsOkUnless result VortexError.OutOfMemory }
     ensures runs { IfOk result (λ runs. runs.items ≡
-        runs_of ends.old.ends offset 0 (optional_indices T.number indices.now (mask_bits mask.now))) }
+        runs_of ends.old.ends offset 0 (masked_indices T.number indices.now mask.now)) }
     ensures same { ends.new.ends ≡ ends.old.ends }
     ensures cost { ends.new.tests ≤ ends.old.tests + valid_count (optional_indices T.number indices.now
         (mask_bits mask.now)) * digits (item_count ends.old.ends) }
@@ -44,14 +44,14 @@ pub fn physical_indices_linear_sorted<E: UnsignedPType, T: NativePType, A: Alloc
     ctx: &mut ExecutionCtx<A>,
 ) -> VortexResult<Vec<u64, A>>
     requires masked { item_count (mask_bits mask.now) ≡ item_count indices.now }
-    requires in_window { AreInWindow ends.old.ends offset (optional_indices T.number indices.now (mask_bits mask.now)) }
-    requires sorted { AreSorted (optional_indices T.number indices.now (mask_bits mask.now)) }
+    requires in_window { AreInWindow ends.old.ends offset (masked_indices T.number indices.now mask.now) }
+    requires sorted { AreSorted (masked_indices T.number indices.now mask.now) }
     ensures only { IsOkUnless result VortexError.OutOfMemory }
     ensures runs { IfOk result (λ runs. runs.items ≡
-        runs_of ends.old.ends offset 0 (optional_indices T.number indices.now (mask_bits mask.now))) }
+        runs_of ends.old.ends offset 0 (masked_indices T.number indices.now mask.now)) }
     ensures same { ends.new.ends ≡ ends.old.ends }
     ensures cost { ends.new.tests ≤ ends.old.tests + (item_count ends.old.ends - 1 + valid_count
-        (optional_indices T.number indices.now (mask_bits mask.now))) }
+        (masked_indices T.number indices.now mask.now)) }
     ensures untested { OnErr result (ends.new.tests ≡ ends.old.tests) }
     ensures session { ctx.new ≡ ctx.old }
 {
@@ -69,13 +69,13 @@ pub fn physical_indices_linear_unsorted<E: UnsignedPType, T: NativePType, A: All
     ctx: &mut ExecutionCtx<A>,
 ) -> VortexResult<Vec<u64, A>>
     requires masked { item_count (mask_bits mask.now) ≡ item_count indices.now }
-    requires in_window { AreInWindow ends.old.ends offset (optional_indices T.number indices.now (mask_bits mask.now)) }
+    requires in_window { AreInWindow ends.old.ends offset (masked_indices T.number indices.now mask.now) }
     ensures only { IsOkUnless result VortexError.OutOfMemory }
     ensures runs { IfOk result (λ runs. runs.items ≡
-        runs_of ends.old.ends offset 0 (optional_indices T.number indices.now (mask_bits mask.now))) }
+        runs_of ends.old.ends offset 0 (masked_indices T.number indices.now mask.now)) }
     ensures same { ends.new.ends ≡ ends.old.ends }
     ensures cost { ends.new.tests ≤ ends.old.tests + (item_count ends.old.ends - 1 + valid_count
-        (optional_indices T.number indices.now (mask_bits mask.now))) }
+        (masked_indices T.number indices.now mask.now)) }
     ensures untested { OnErr result (ends.new.tests ≡ ends.old.tests) }
     ensures session { ctx.new ≡ ctx.old }
 {
@@ -111,11 +111,11 @@ pub fn physical_indices_table<T: NativePType, A: Allocator + Copy>(
 ) -> VortexResult<Vec<u64, A>>
     requires some { 0 < item_count table.now }
     requires masked { item_count (mask_bits mask.now) ≡ item_count indices.now }
-    requires in_bounds { AreInBounds (optional_indices T.number indices.now (mask_bits mask.now))
+    requires in_bounds { AreInBounds (masked_indices T.number indices.now mask.now)
         (item_count table.now) }
     ensures only { IsOkUnless result VortexError.OutOfMemory }
     ensures items { IfOk result (λ runs. runs.items ≡
-        map (item_of table.now) (optional_indices T.number indices.now (mask_bits mask.now))) }
+        map (item_of table.now) (masked_indices T.number indices.now mask.now)) }
     ensures session { ctx.new ≡ ctx.old }
 {
     runend_select::physical_indices_table(*ctx.allocator(), table, indices, mask)

@@ -2,7 +2,7 @@
 ghost use Rattle.std.specs.Prelude.{◌≡◌, ℕ, ◌+◌, ◌≤◌, IfOk, IsOkUnless, length as item_count};
 ghost use Rattle.column_base.specs.Mask.{mask_bits};
 ghost use Rattle.runend_windows.specs.Window.{IsWindow};
-ghost use Rattle.runend_select.specs.Indices.{AreInBounds, AreInWindow, AreSorted, optional_indices, runs_of, valid_count};
+ghost use Rattle.runend_select.specs.Indices.{AreInBounds, AreInWindow, AreSorted, optional_indices, runs_of, valid_count, masked_indices};
 
 use crate::binary_search::physical_indices_binary;
 use crate::linear_scan::{physical_indices_linear_sorted, physical_indices_linear_unsorted};
@@ -21,13 +21,13 @@ pub fn merge_of_six_indices<E: UnsignedPType, T: NativePType, A: Allocator + Cop
 ) -> VortexResult<Vec<u64, A>>
     requires four { item_count four_runs.old.ends ≡ 4 }
     requires masked { item_count (mask_bits mask.now) ≡ item_count indices.now }
-    requires six { valid_count (optional_indices T.number indices.now (mask_bits mask.now)) ≡ 6 }
+    requires six { valid_count (masked_indices T.number indices.now mask.now) ≡ 6 }
     requires in_window { AreInWindow four_runs.old.ends offset (optional_indices T.number indices.now
         (mask_bits mask.now)) }
-    requires sorted { AreSorted (optional_indices T.number indices.now (mask_bits mask.now)) }
+    requires sorted { AreSorted (masked_indices T.number indices.now mask.now) }
     ensures only { IsOkUnless result VortexError.OutOfMemory }
     ensures runs { IfOk result (λ runs. runs.items ≡
-        runs_of four_runs.old.ends offset 0 (optional_indices T.number indices.now (mask_bits mask.now))) }
+        runs_of four_runs.old.ends offset 0 (masked_indices T.number indices.now mask.now)) }
     ensures same { four_runs.new.ends ≡ four_runs.old.ends }
     ensures cost { four_runs.new.tests ≤ four_runs.old.tests + 9 }
 {
@@ -44,12 +44,12 @@ pub fn search_of_six_indices<E: UnsignedPType, T: NativePType, A: Allocator + Co
 ) -> VortexResult<Vec<u64, A>>
     requires four { item_count four_runs.old.ends ≡ 4 }
     requires masked { item_count (mask_bits mask.now) ≡ item_count indices.now }
-    requires six { valid_count (optional_indices T.number indices.now (mask_bits mask.now)) ≡ 6 }
+    requires six { valid_count (masked_indices T.number indices.now mask.now) ≡ 6 }
     requires in_window { AreInWindow four_runs.old.ends offset (optional_indices T.number indices.now
         (mask_bits mask.now)) }
     ensures only { IsOkUnless result VortexError.OutOfMemory }
     ensures runs { IfOk result (λ runs. runs.items ≡
-        runs_of four_runs.old.ends offset 0 (optional_indices T.number indices.now (mask_bits mask.now))) }
+        runs_of four_runs.old.ends offset 0 (masked_indices T.number indices.now mask.now)) }
     ensures same { four_runs.new.ends ≡ four_runs.old.ends }
     ensures cost { four_runs.new.tests ≤ four_runs.old.tests + 18 }
 {
@@ -66,12 +66,12 @@ pub fn sort_of_four_indices<E: UnsignedPType, T: NativePType, A: Allocator + Cop
 ) -> VortexResult<Vec<u64, A>>
     requires four { item_count four_runs.old.ends ≡ 4 }
     requires masked { item_count (mask_bits mask.now) ≡ item_count indices.now }
-    requires four_valid { valid_count (optional_indices T.number indices.now (mask_bits mask.now)) ≡ 4 }
+    requires four_valid { valid_count (masked_indices T.number indices.now mask.now) ≡ 4 }
     requires in_window { AreInWindow four_runs.old.ends offset (optional_indices T.number indices.now
         (mask_bits mask.now)) }
     ensures only { IsOkUnless result VortexError.OutOfMemory }
     ensures runs { IfOk result (λ runs. runs.items ≡
-        runs_of four_runs.old.ends offset 0 (optional_indices T.number indices.now (mask_bits mask.now))) }
+        runs_of four_runs.old.ends offset 0 (masked_indices T.number indices.now mask.now)) }
     ensures same { four_runs.new.ends ≡ four_runs.old.ends }
     ensures cost { four_runs.new.tests ≤ four_runs.old.tests + 7 }
 {
@@ -88,12 +88,12 @@ pub fn search_of_four_indices<E: UnsignedPType, T: NativePType, A: Allocator + C
 ) -> VortexResult<Vec<u64, A>>
     requires four { item_count four_runs.old.ends ≡ 4 }
     requires masked { item_count (mask_bits mask.now) ≡ item_count indices.now }
-    requires four_valid { valid_count (optional_indices T.number indices.now (mask_bits mask.now)) ≡ 4 }
+    requires four_valid { valid_count (masked_indices T.number indices.now mask.now) ≡ 4 }
     requires in_window { AreInWindow four_runs.old.ends offset (optional_indices T.number indices.now
         (mask_bits mask.now)) }
     ensures only { IsOkUnless result VortexError.OutOfMemory }
     ensures runs { IfOk result (λ runs. runs.items ≡
-        runs_of four_runs.old.ends offset 0 (optional_indices T.number indices.now (mask_bits mask.now))) }
+        runs_of four_runs.old.ends offset 0 (masked_indices T.number indices.now mask.now)) }
     ensures same { four_runs.new.ends ≡ four_runs.old.ends }
     ensures cost { four_runs.new.tests ≤ four_runs.old.tests + 12 }
 {
@@ -111,12 +111,12 @@ pub fn physical_indices_by_table<E: UnsignedPType, T: NativePType, A: Allocator 
 ) -> VortexResult<Vec<u64, A>>
     requires four { item_count four_runs.old.ends ≡ 4 }
     requires masked { item_count (mask_bits mask.now) ≡ item_count indices.now }
-    requires four_valid { valid_count (optional_indices T.number indices.now (mask_bits mask.now)) ≡ 4 }
+    requires four_valid { valid_count (masked_indices T.number indices.now mask.now) ≡ 4 }
     requires window { IsWindow four_runs.old.ends offset 12 }
-    requires in_bounds { AreInBounds (optional_indices T.number indices.now (mask_bits mask.now)) 12 }
+    requires in_bounds { AreInBounds (masked_indices T.number indices.now mask.now) 12 }
     ensures only { IsOkUnless result VortexError.OutOfMemory }
     ensures runs { IfOk result (λ runs. (null : ℕ) × (runs.items ≡
-        runs_of four_runs.old.ends offset null (optional_indices T.number indices.now (mask_bits mask.now)))) }
+        runs_of four_runs.old.ends offset null (masked_indices T.number indices.now mask.now))) }
     ensures same { four_runs.new.ends ≡ four_runs.old.ends }
     ensures cost { four_runs.new.tests ≤ four_runs.old.tests + 15 }
 {
@@ -140,12 +140,12 @@ pub fn physical_indices_by_halves<E: UnsignedPType, T: NativePType, A: Allocator
 ) -> VortexResult<Vec<u64, A>>
     requires four { item_count four_runs.old.ends ≡ 4 }
     requires masked { item_count (mask_bits mask.now) ≡ item_count indices.now }
-    requires four_valid { valid_count (optional_indices T.number indices.now (mask_bits mask.now)) ≡ 4 }
+    requires four_valid { valid_count (masked_indices T.number indices.now mask.now) ≡ 4 }
     requires window { IsWindow four_runs.old.ends offset 12 }
-    requires in_bounds { AreInBounds (optional_indices T.number indices.now (mask_bits mask.now)) 12 }
+    requires in_bounds { AreInBounds (masked_indices T.number indices.now mask.now) 12 }
     ensures only { IsOkUnless result VortexError.OutOfMemory }
     ensures runs { IfOk result (λ runs. runs.items ≡
-        runs_of four_runs.old.ends offset 0 (optional_indices T.number indices.now (mask_bits mask.now))) }
+        runs_of four_runs.old.ends offset 0 (masked_indices T.number indices.now mask.now)) }
     ensures same { four_runs.new.ends ≡ four_runs.old.ends }
     ensures cost { four_runs.new.tests ≤ four_runs.old.tests + 12 }
 {

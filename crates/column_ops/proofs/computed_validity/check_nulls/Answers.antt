@@ -1,7 +1,7 @@
 use Rattle.std.proofs.Common.{◌∙◌, length, ap, inr}
 use Rattle.column_base.specs.declared.dtype.Nullability.TheVariants.{NonNullable}
 use Rattle.column_base.specs.ValidityForm.{flags}
-use Rattle.column_base.specs.Validity.{form_of}
+use Rattle.column_base.specs.Validity.{form_of, validity_flags}
 use Rattle.column_base.proofs.ValidityRows.{length-flags}
 use Rattle.column_core.specs.Optionals.{optionals}
 use Rattle.column_ops.specs.Cast.{null_row_fault}
@@ -19,12 +19,12 @@ returns-then-has_null-clause-refused g c =
 
 pub returns-in-Nullable-clause-refused : goal.returns-in-Nullable-clause-refused
 returns-in-Nullable-clause-refused g c =
-    let rows = optionals c.args.items.now (flags (form_of c.args.validity.now) (length c.args.items.now)) in
+    let rows = optionals c.args.items.now (validity_flags c.args.validity.now (length c.args.items.now)) in
     ap (λ nullability. first_fault (null_row_fault nullability) rows) c.in-Nullable.is ∙ no_nulls-nullable rows
 
 pub returns-else-has_null-clause-refused : goal.returns-else-has_null-clause-refused
 returns-else-has_null-clause-refused g c =
     let items = c.args.items.now in
     let valid = c.has_null.ensures.valid c.if-has_null.false in
-    ap (λ nullability. first_fault (null_row_fault nullability) (optionals items (flags (form_of c.args.validity.now) (length items)))) c.in-NonNullable.is
+    ap (λ nullability. first_fault (null_row_fault nullability) (optionals items (validity_flags c.args.validity.now (length items)))) c.in-NonNullable.is
     ∙ ap (λ bits. first_fault (null_row_fault NonNullable) (optionals items bits)) valid ∙ no_nulls-valid items

@@ -1,7 +1,6 @@
 use Rattle.std.proofs.Common.{◌≡◌, ◌∙◌, Bool, List, length, map, sym, ap, subst}
 use Rattle.std.specs.Prelude.{IfOk}
-use Rattle.column_base.specs.Validity.{form_of}
-use Rattle.column_base.specs.ValidityForm.{flags}
+use Rattle.column_base.specs.Validity.{validity_flags}
 use Rattle.column_core.specs.Optionals.{optionals}
 use Rattle.column_ops.specs.Comparing.{holds_of, is_held}
 use Rattle.column_ops.proofs.ConstantBits.{is_held-all, is_held-none}
@@ -12,18 +11,18 @@ returns-in-NonNullable-clause-bits g c =
     let items = c.args.items.now in
     let test = λ (item : g.row.T.Denot). holds_of c.args.operator (g.T.Ord.cmp item c.args.right) in
     subst (λ (told : List Bool). IfOk c.bits_of_all.result (λ bits. bits ≡ told))
-    (sym (is_held-all test items) ∙ ap (λ v. map (is_held test) (optionals items (flags (form_of v) (length items)))) (sym c.in-NonNullable.is)) c.bits_of_all.ensures.bits
+    (sym (is_held-all test items) ∙ ap (λ v. map (is_held test) (optionals items (validity_flags v (length items)))) (sym c.in-NonNullable.is)) c.bits_of_all.ensures.bits
 
 pub returns-in-AllValid-clause-bits : goal.returns-in-AllValid-clause-bits
 returns-in-AllValid-clause-bits g c =
     let items = c.args.items.now in
     let test = λ (item : g.row.T.Denot). holds_of c.args.operator (g.T.Ord.cmp item c.args.right) in
     subst (λ (told : List Bool). IfOk c.bits_of_all-in-AllValid.result (λ bits. bits ≡ told))
-    (sym (is_held-all test items) ∙ ap (λ v. map (is_held test) (optionals items (flags (form_of v) (length items)))) (sym c.in-AllValid.is)) c.bits_of_all-in-AllValid.ensures.bits
+    (sym (is_held-all test items) ∙ ap (λ v. map (is_held test) (optionals items (validity_flags v (length items)))) (sym c.in-AllValid.is)) c.bits_of_all-in-AllValid.ensures.bits
 
 pub returns-in-AllInvalid-clause-bits : goal.returns-in-AllInvalid-clause-bits
 returns-in-AllInvalid-clause-bits g c =
     let items = c.args.items.now in
     let test = λ (item : g.row.T.Denot). holds_of c.args.operator (g.T.Ord.cmp item c.args.right) in
     subst (λ (told : List Bool). IfOk c.full.result (λ bits. bits ≡ told))
-    (sym (is_held-none test items) ∙ ap (λ v. map (is_held test) (optionals items (flags (form_of v) (length items)))) (sym c.in-AllInvalid.is)) c.full.ensures.bits
+    (sym (is_held-none test items) ∙ ap (λ v. map (is_held test) (optionals items (validity_flags v (length items)))) (sym c.in-AllInvalid.is)) c.full.ensures.bits

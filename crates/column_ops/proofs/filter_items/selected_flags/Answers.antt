@@ -2,8 +2,7 @@ use Rattle.std.proofs.Common.{◌≤◌, ◌∙◌, ◌++◌, ◌∷◌, [], len
 use Rattle.std.specs.Prelude.{is_some}
 use Rattle.std.proofs.lemmas.List.{map_push, take_all}
 use Rattle.column_base.specs.Mask.{mask_bits}
-use Rattle.column_base.specs.ValidityForm.{flags}
-use Rattle.column_base.specs.Validity.{form_of}
+use Rattle.column_base.specs.Validity.{validity_flags}
 use Rattle.column_core.specs.Optionals.{optionals}
 use Rattle.column_ops.specs.Filter.{filter_rows}
 use Rattle.column_ops.proofs.Passed.{passed_all, filter_rows-selected, filter_rows-passed}
@@ -12,7 +11,7 @@ use Rattle.column_ops.proofs.filter_items.selected_flags.Goals.{then-value+in_ok
 
 pub loop-row-preserved : goal.loop-row-preserved
 loop-row-preserved g c =
-    let rows = optionals c.args.items.now (flags (form_of c.args.validity.now) (length c.args.items.now)) in
+    let rows = optionals c.args.items.now (validity_flags c.args.validity.now (length c.args.items.now)) in
     let mask = mask_bits c.args.mask.now in
     let before = filter_rows (take c.loop-row.row mask) (take c.loop-row.row rows) in
     elim c.if-value.branch [
@@ -26,9 +25,9 @@ loop-row-preserved g c =
 
 pub returns-clause-flags : goal.returns-clause-flags
 returns-clause-flags g c =
-    let rows = optionals c.args.items.now (flags (form_of c.args.validity.now) (length c.args.items.now)) in
+    let rows = optionals c.args.items.now (validity_flags c.args.validity.now (length c.args.items.now)) in
     let row = c.loop-row.row in
-    let all = passed_all c.args.items.now (flags (form_of c.args.validity.now) (length c.args.items.now)) row (omega arith) in
+    let all = passed_all c.args.items.now (validity_flags c.args.validity.now (length c.args.items.now)) row (omega arith) in
     let masked : length (mask_bits c.args.mask.now) ≤ row = omega (arith, c.requires.masked) in
     let all_bits = take_all row (mask_bits c.args.mask.now) masked in
     c.freeze.ensures ∙ c.loop-row.invariant ∙ ap (λ bits. map is_some (filter_rows bits (take row rows))) all_bits ∙ ap (λ xs. map is_some (filter_rows (mask_bits c.args.mask.now) xs)) all

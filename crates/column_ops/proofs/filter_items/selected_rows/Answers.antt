@@ -3,7 +3,7 @@ use Rattle.std.specs.Prelude.{unwrap_or}
 use Rattle.std.proofs.lemmas.List.{length_push, map_push}
 use Rattle.std.proofs.lemmas.Option.{get_or_from_slice_get}
 use Rattle.column_base.specs.ValidityForm.{flags}
-use Rattle.column_base.specs.Validity.{form_of}
+use Rattle.column_base.specs.Validity.{form_of, validity_flags}
 use Rattle.column_base.proofs.ValidityRows.{length-flags}
 use Rattle.column_core.specs.Optionals.{optionals}
 use Rattle.column_core.proofs.OptionalRows.{length-optionals}
@@ -22,7 +22,7 @@ push_reserved-requires g c =
 
 pub loop-row-preserved : goal.loop-row-preserved
 loop-row-preserved g c =
-    let rows = optionals c.args.items.now (flags (form_of c.args.validity.now) (length c.args.items.now)) in
+    let rows = optionals c.args.items.now (validity_flags c.args.validity.now (length c.args.items.now)) in
     let row = c.in-Some.row in
     let yielded = c.loop-row.yielded in
     let inv = c.loop-row.invariant in

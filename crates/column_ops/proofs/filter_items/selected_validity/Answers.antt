@@ -3,8 +3,8 @@ use Rattle.std.specs.Prelude.{is_some}
 use Rattle.std.proofs.lemmas.List.{length-map}
 use Rattle.column_base.specs.declared.dtype.Nullability.TheVariants.{Nullable}
 use Rattle.column_base.specs.Mask.{mask_bits}
-use Rattle.column_base.specs.ValidityForm.{flags, nullability_in}
-use Rattle.column_base.specs.Validity.{form_of}
+use Rattle.column_base.specs.ValidityForm.{nullability_in}
+use Rattle.column_base.specs.Validity.{form_of, validity_flags}
 use Rattle.column_core.specs.Optionals.{optionals}
 use Rattle.column_ops.specs.Filter.{filter_rows}
 use Rattle.column_ops.specs.Written.{IsValidityOf}
@@ -20,7 +20,7 @@ returns-in-AllValid-clause-flags g c = IsValidityOf-selected_none (mask_bits c.a
 
 pub returns-in_ok-flags-in_default-clause-flags : goal.returns-in_ok-flags-in_default-clause-flags
 returns-in_ok-flags-in_default-clause-flags g c =
-    let rows = filter_rows (mask_bits c.args.mask.now) (optionals c.args.items.now (flags (form_of c.args.validity.now) (length c.args.items.now))) in
+    let rows = filter_rows (mask_bits c.args.mask.now) (optionals c.args.items.now (validity_flags c.args.validity.now (length c.args.items.now))) in
     let bits = c.in_ok-flags-in_default.flags in
     let same : bits ≡ map is_some rows = c.in_ok-flags-in_default.ensures.flags in
     let wanted = nullability_in (form_of c.args.validity.now) in

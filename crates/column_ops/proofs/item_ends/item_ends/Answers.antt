@@ -1,7 +1,7 @@
 use Rattle.std.proofs.Common.{◌∙◌, List, Option, Some, length, sym, ap, subst, arith}
 use Rattle.std.specs.Prelude.{IfSome}
 use Rattle.column_base.specs.ValidityForm.{flag_at, flags}
-use Rattle.column_base.specs.Validity.{form_of}
+use Rattle.column_base.specs.Validity.{form_of, validity_flags}
 use Rattle.column_base.proofs.ValidityRows.{flags-at, length-flags}
 use Rattle.column_core.specs.Value.{Value}
 use Rattle.column_ops.specs.Items.{flagged_rows, item_row}
@@ -13,28 +13,28 @@ pub returns-in-NonNullable-clause-least : goal.returns-in-NonNullable-clause-lea
 returns-in-NonNullable-clause-least g c =
     let value = g.T.FlatItem.value in
     let items = c.args.items.now in
-    let same = no-nulls value items (flags (form_of c.args.validity.now) (length items)) c.args.start c.args.stop (ap (λ v. flags (form_of v) (length items)) c.in-NonNullable.is) in
+    let same = no-nulls value items (validity_flags c.args.validity.now (length items)) c.args.start c.args.stop (ap (λ v. validity_flags v (length items)) c.in-NonNullable.is) in
     subst (λ (rows : List (Option Value)). IfSome c.ends_of_valid.result (λ ends. IsLeast rows (item_row value ends.0))) (sym same) c.ends_of_valid.ensures.least
 
 pub returns-in-NonNullable-clause-greatest : goal.returns-in-NonNullable-clause-greatest
 returns-in-NonNullable-clause-greatest g c =
     let value = g.T.FlatItem.value in
     let items = c.args.items.now in
-    let same = no-nulls value items (flags (form_of c.args.validity.now) (length items)) c.args.start c.args.stop (ap (λ v. flags (form_of v) (length items)) c.in-NonNullable.is) in
+    let same = no-nulls value items (validity_flags c.args.validity.now (length items)) c.args.start c.args.stop (ap (λ v. validity_flags v (length items)) c.in-NonNullable.is) in
     subst (λ (rows : List (Option Value)). IfSome c.ends_of_valid.result (λ ends. IsGreatest rows (item_row value ends.1))) (sym same) c.ends_of_valid.ensures.greatest
 
 pub returns-in-AllValid-clause-least : goal.returns-in-AllValid-clause-least
 returns-in-AllValid-clause-least g c =
     let value = g.T.FlatItem.value in
     let items = c.args.items.now in
-    let same = no-nulls value items (flags (form_of c.args.validity.now) (length items)) c.args.start c.args.stop (ap (λ v. flags (form_of v) (length items)) c.in-AllValid.is) in
+    let same = no-nulls value items (validity_flags c.args.validity.now (length items)) c.args.start c.args.stop (ap (λ v. validity_flags v (length items)) c.in-AllValid.is) in
     subst (λ (rows : List (Option Value)). IfSome c.ends_of_valid-in-AllValid.result (λ ends. IsLeast rows (item_row value ends.0))) (sym same) c.ends_of_valid-in-AllValid.ensures.least
 
 pub returns-in-AllValid-clause-greatest : goal.returns-in-AllValid-clause-greatest
 returns-in-AllValid-clause-greatest g c =
     let value = g.T.FlatItem.value in
     let items = c.args.items.now in
-    let same = no-nulls value items (flags (form_of c.args.validity.now) (length items)) c.args.start c.args.stop (ap (λ v. flags (form_of v) (length items)) c.in-AllValid.is) in
+    let same = no-nulls value items (validity_flags c.args.validity.now (length items)) c.args.start c.args.stop (ap (λ v. validity_flags v (length items)) c.in-AllValid.is) in
     subst (λ (rows : List (Option Value)). IfSome c.ends_of_valid-in-AllValid.result (λ ends. IsGreatest rows (item_row value ends.1))) (sym same) c.ends_of_valid-in-AllValid.ensures.greatest
 
 pub returns-in-AllInvalid-clause-none : goal.returns-in-AllInvalid-clause-none

@@ -1,7 +1,7 @@
 use Rattle.std.proofs.Common.{◌≡◌, ◌∙◌, ◌<◌, ◌≤◌, ℕ, List, Option, Some, None, length, refl, sym, ap, subst, arith}
 use Rattle.std.specs.Prelude.{◌↔◌, slice_get, slice_range, IsTrue}
 use Rattle.column_base.specs.ValidityForm.{flag_at, flags}
-use Rattle.column_base.specs.Validity.{form_of}
+use Rattle.column_base.specs.Validity.{form_of, validity_flags}
 use Rattle.column_base.proofs.ValidityRows.{flags-at, length-flags}
 use Rattle.column_core.specs.Value.{Value}
 use Rattle.column_ops.specs.Items.{flagged_rows}
@@ -13,13 +13,13 @@ use Rattle.column_ops.proofs.item_order.is_constant_of.Goals as goal
 pub returns-in-NonNullable : goal.returns-in-NonNullable
 returns-in-NonNullable g c =
     let items = c.args.items.now in
-    let same = no-nulls g.T.FlatItem.value items (flags (form_of c.args.validity.now) (length items)) c.args.range.start c.args.range.end (ap (λ v. flags (form_of v) (length items)) c.in-NonNullable.is) in
+    let same = no-nulls g.T.FlatItem.value items (validity_flags c.args.validity.now (length items)) c.args.range.start c.args.range.end (ap (λ v. validity_flags v (length items)) c.in-NonNullable.is) in
     subst (λ (rows : List (Option Value)). IsTrue c.is_constant_valid.result ↔ IsConstant rows) (sym same) c.is_constant_valid.ensures
 
 pub returns-in-AllValid : goal.returns-in-AllValid
 returns-in-AllValid g c =
     let items = c.args.items.now in
-    let same = no-nulls g.T.FlatItem.value items (flags (form_of c.args.validity.now) (length items)) c.args.range.start c.args.range.end (ap (λ v. flags (form_of v) (length items)) c.in-AllValid.is) in
+    let same = no-nulls g.T.FlatItem.value items (validity_flags c.args.validity.now (length items)) c.args.range.start c.args.range.end (ap (λ v. validity_flags v (length items)) c.in-AllValid.is) in
     subst (λ (rows : List (Option Value)). IsTrue c.is_constant_valid-in-AllValid.result ↔ IsConstant rows) (sym same) c.is_constant_valid-in-AllValid.ensures
 
 pub returns-in-AllInvalid : goal.returns-in-AllInvalid

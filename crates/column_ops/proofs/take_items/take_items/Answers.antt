@@ -1,7 +1,7 @@
 use Rattle.std.proofs.Common.{◌≡◌, ◌∙◌, Bool, List, length, sym, ap, subst}
 use Rattle.column_base.specs.declared.dtype.Nullability.{Nullability}
-use Rattle.column_base.specs.ValidityForm.{flags, nullability_in}
-use Rattle.column_base.specs.Validity.{form_of}
+use Rattle.column_base.specs.ValidityForm.{nullability_in}
+use Rattle.column_base.specs.Validity.{form_of, validity_flags}
 use Rattle.column_base.proofs.ValidityRows.{length-flags}
 use Rattle.column_core.specs.Optionals.{optionals}
 use Rattle.column_ops.specs.Nullable.{either_nullable}
@@ -14,9 +14,9 @@ pub returns-in-Ok-clause-taken : goal.returns-in-Ok-clause-taken
 returns-in-Ok-clause-taken g c =
     let items = c.args.items.now in
     let positions = c.args.positions.now in
-    let bits = flags (form_of c.args.validity.now) (length items) in
+    let bits = validity_flags c.args.validity.now (length items) in
     let rows = optionals items bits in
-    let marks = flags (form_of c.args.places.now) (length positions) in
+    let marks = validity_flags c.args.places.now (length positions) in
     let wanted : c.either-nullability.result ≡ either_nullable (nullability_in (form_of c.args.validity.now)) (nullability_in (form_of c.args.places.now)) =
     c.either-nullability.ensures ∙ ap (λ (n : Nullability). either_nullable n c.nullability-2.result) c.nullability.ensures
     ∙ ap (either_nullable (nullability_in (form_of c.args.validity.now))) c.nullability-2.ensures in

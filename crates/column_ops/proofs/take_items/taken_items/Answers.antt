@@ -1,7 +1,6 @@
 use Rattle.std.proofs.Common.{◌≡◌, ◌∙◌, get_or, length, map, sym, ap}
 use Rattle.std.specs.Prelude.{unwrap_or}
-use Rattle.column_base.specs.ValidityForm.{flags}
-use Rattle.column_base.specs.Validity.{form_of}
+use Rattle.column_base.specs.Validity.{form_of, validity_flags}
 use Rattle.column_base.proofs.ValidityRows.{length-flags}
 use Rattle.column_core.specs.Optionals.{optionals}
 use Rattle.column_ops.specs.Take.{position_numbers, take_rows}
@@ -12,15 +11,15 @@ use Rattle.column_ops.proofs.take_items.taken_items.Goals as goal
 pub items_at-requires : goal.items_at-requires
 items_at-requires g c =
     let positions = c.args.positions.now in
-    let marks = flags (form_of c.args.places.now) (length positions) in
+    let marks = validity_flags c.args.places.now (length positions) in
     positions-valid positions marks (length c.args.items.now) (c.is_all_valid-then-is_all_valid.ensures.valid (length positions) c.if-is_all_valid-2.true) c.requires.within
 
 pub returns-then-is_all_valid-2-clause-items : goal.returns-then-is_all_valid-2-clause-items
 returns-then-is_all_valid-2-clause-items g c =
     let items = c.args.items.now in
     let positions = c.args.positions.now in
-    let bits = flags (form_of c.args.validity.now) (length items) in
-    let marks = flags (form_of c.args.places.now) (length positions) in
+    let bits = validity_flags c.args.validity.now (length items) in
+    let marks = validity_flags c.args.places.now (length positions) in
     let all_items = c.is_all_valid.ensures.valid (length items) c.if-is_all_valid.true in
     let all_marks = c.is_all_valid-then-is_all_valid.ensures.valid (length positions) c.if-is_all_valid-2.true in
     IfOk-since c.items_at.result _ (λ taken. taken.items ≡ map (λ row. unwrap_or row c.args.blank) (take_rows (optionals items bits) (position_numbers (optionals positions marks))))
@@ -30,8 +29,8 @@ pub returns-clause-items : goal.returns-clause-items
 returns-clause-items g c =
     let items = c.args.items.now in
     let positions = c.args.positions.now in
-    let bits = flags (form_of c.args.validity.now) (length items) in
-    let marks = flags (form_of c.args.places.now) (length positions) in
+    let bits = validity_flags c.args.validity.now (length items) in
+    let marks = validity_flags c.args.places.now (length positions) in
     let all = map (λ k. get_or items k c.args.blank) positions in
     let told = ap (λ rows. items_or all rows c.args.blank) c.requires.shown ∙ items-shown c.args.blank items bits positions marks (length-flags (form_of c.args.validity.now) (length items) c.requires.fits) in
     IfOk-since c.shown_items.result _ (λ taken. taken.items ≡ map (λ row. unwrap_or row c.args.blank) (take_rows (optionals items bits) (position_numbers (optionals positions marks))))

@@ -2,8 +2,8 @@ use Rattle.std.proofs.Common.{◌≡◌, ◌∙◌, ◌≤◌, length, min, repl
 use Rattle.std.specs.Prelude.{IfOk, option_map, slice_range}
 use Rattle.std.proofs.lemmas.List.{length-replicate}
 use Rattle.column_base.specs.Types.{nullability_of, with_nullability as dtype_with}
-use Rattle.column_base.specs.ValidityForm.{flags, nullability_in}
-use Rattle.column_base.specs.Validity.{form_of}
+use Rattle.column_base.specs.ValidityForm.{nullability_in}
+use Rattle.column_base.specs.Validity.{form_of, validity_flags}
 use Rattle.column_core.specs.Optionals.{optionals}
 use Rattle.column_core.specs.Value.{Single}
 use Rattle.column_ops.specs.Nullable.{either_nullable}
@@ -36,7 +36,7 @@ take_first-taken-requires-clause-within g c =
     let values = c.args.values.now in
     let one = canonical_column c.in_ok-one.one in
     let positions = c.args.positions.now in
-    let marks = flags (form_of c.args.places.now) (length positions) in
+    let marks = validity_flags c.args.places.now (length positions) in
     let long : length (rows values) ≡ n = ap (λ column. length (column_rows column)) c.requires.constant ∙ length-replicate n v in
     let rows_are : rows values ≡ replicate n v = ap column_rows c.requires.constant in
     let least : c.min.result ≡ min n 1 = omega (arith, c.min.ensures, c.len.ensures) in
@@ -55,7 +55,7 @@ returns-clause-made g c =
     let values = c.args.values.now in
     let one = canonical_column c.in_ok-one.one in
     let positions = c.args.positions.now in
-    let marks = flags (form_of c.args.places.now) (length positions) in
+    let marks = validity_flags c.args.places.now (length positions) in
     let long : length (rows values) ≡ n = ap (λ column. length (column_rows column)) c.requires.constant ∙ length-replicate n v in
     let rows_are : rows values ≡ replicate n v = ap column_rows c.requires.constant in
     let least : c.min.result ≡ min n 1 = omega (arith, c.min.ensures, c.len.ensures) in

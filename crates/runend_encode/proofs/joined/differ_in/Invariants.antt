@@ -1,14 +1,13 @@
 use Rattle.std.proofs.Common.{◌≢◌, ◌-◌, ◌<◌, length, map}
 use Rattle.std.specs.List.{AllAdjacentBelow}
-use Rattle.column_base.specs.ValidityForm.{flags}
-use Rattle.column_base.specs.Validity.{form_of}
+use Rattle.column_base.specs.Validity.{validity_flags}
 use Rattle.column_core.specs.PrimitiveForm.{optionals}
 use Rattle.runend_encode.proofs.joined.differ_in.Given as goal
 
 abbrev pub invariant-loop-start : goal.invariant-loop-start
 invariant-loop-start g l = record {
   later : 0 < l.start;
-  differ : AllAdjacentBelow (λ x y. x ≢ y) (optionals (map g.T.NativePType.number l.items) (flags (form_of l.validity) (length l.items))) l.start;
+  differ : AllAdjacentBelow (λ x y. x ≢ y) (optionals (map g.T.NativePType.number l.items) (validity_flags l.validity (length l.items))) l.start;
 }
 
 abbrev pub decreases-loop-start : goal.decreases-loop-start

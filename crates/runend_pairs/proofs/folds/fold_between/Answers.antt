@@ -1,7 +1,6 @@
 use Rattle.std.proofs.Common.{◌∙◌, ◌<◌, ◌≤◌, ℤ, List, Option, arith, length, map, subst, sym}
 use Rattle.std.specs.Prelude.{option_map, slice_index, slice_range}
-use Rattle.column_base.specs.ValidityForm.{flags}
-use Rattle.column_base.specs.Validity.{form_of}
+use Rattle.column_base.specs.Validity.{form_of, validity_flags}
 use Rattle.column_base.proofs.Ranges.{length-slice_range}
 use Rattle.column_core.specs.Optionals.{optionals}
 use Rattle.runend_windows.specs.Ends.{ends_of}
@@ -33,7 +32,7 @@ pub loop-row-preserved : goal.loop-row-preserved
 loop-row-preserved g c =
     let own = c.args.values.now in
     let ends = ends_of own.ends.now in
-    let marks = flags (form_of own.validity.now) (length own.items.now) in
+    let marks = validity_flags own.validity.now (length own.items.now) in
     let values = optionals (map g.T.NativePType.number own.items.now) marks in
     let rows = shown_numbers ends (map g.T.NativePType.number own.items.now) marks in
     let window = c.requires.runs.whole.window in

@@ -3,8 +3,7 @@ use Rattle.std.specs.Prelude.{slice_range}
 use Rattle.std.proofs.lemmas.List.{length-map}
 use Rattle.column_base.specs.declared.dtype.DType.TheVariants as column
 use Rattle.column_base.specs.Numbers.{numbers, ptype_of}
-use Rattle.column_base.specs.ValidityForm.{flags}
-use Rattle.column_base.specs.Validity.{form_of}
+use Rattle.column_base.specs.Validity.{form_of, validity_flags}
 use Rattle.column_core.specs.Optionals.{optionals, AreBlankAtNulls}
 use Rattle.column_core.specs.PrimitiveForm.{primitive_dtype}
 use Rattle.runend_windows.specs.Ends.{ends_of}
@@ -25,7 +24,7 @@ pub returns-in_default-clause-refused : goal.returns-in_default-clause-refused
 returns-in_default-clause-refused g c =
     let own = c.args.values.now in
     let ends = ends_of c.args.groups.now in
-    let rows = shown_numbers (ends_of own.ends.now) (map g.T.NativePType.number own.items.now) (flags (form_of own.validity.now) (length own.items.now)) in
+    let rows = shown_numbers (ends_of own.ends.now) (map g.T.NativePType.number own.items.now) (validity_flags own.validity.now (length own.items.now)) in
     let group = c.loop-group.group in
     let fold = c.fold_between-fold.result.0 in
     let number = g.N.NativePType.number in
@@ -42,7 +41,7 @@ pub loop-group-preserved : goal.loop-group-preserved
 loop-group-preserved g c =
     let own = c.args.values.now in
     let ends = ends_of c.args.groups.now in
-    let rows = shown_numbers (ends_of own.ends.now) (map g.T.NativePType.number own.items.now) (flags (form_of own.validity.now) (length own.items.now)) in
+    let rows = shown_numbers (ends_of own.ends.now) (map g.T.NativePType.number own.items.now) (validity_flags own.validity.now (length own.items.now)) in
     let group = c.loop-group.group in
     let fold = c.fold_between-fold.result.0 in
     let number = g.N.NativePType.number in
@@ -64,7 +63,7 @@ pub returns-clause-answers : goal.returns-clause-answers
 returns-clause-answers g c =
     let own = c.args.values.now in
     let ends = ends_of c.args.groups.now in
-    let rows = shown_numbers (ends_of own.ends.now) (map g.T.NativePType.number own.items.now) (flags (form_of own.validity.now) (length own.items.now)) in
+    let rows = shown_numbers (ends_of own.ends.now) (map g.T.NativePType.number own.items.now) (validity_flags own.validity.now (length own.items.now)) in
     let number = g.N.NativePType.number in
     let has = g.S.Fold.gives in
     let answer_of = g.S.Fold.answer_of in

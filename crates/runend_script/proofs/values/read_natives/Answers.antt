@@ -1,7 +1,7 @@
 use Rattle.std.proofs.Common.{◌≡◌, ◌⊎◌, length, map, [], inl, inr, refl}
 use Rattle.column_base.specs.Numbers.{numbers}
-use Rattle.column_base.specs.Validity.{form_of}
-use Rattle.column_base.specs.ValidityForm.{NeverNull, flags}
+use Rattle.column_base.specs.Validity.{form_of, validity_flags}
+use Rattle.column_base.specs.ValidityForm.{NeverNull}
 use Rattle.column_base.specs.declared.dtype.Nullability.TheVariants.{NonNullable}
 use Rattle.column_base.proofs.ValidityRows.{nullable-of_bits}
 use Rattle.column_core.specs.Optionals.{optionals}
@@ -23,7 +23,7 @@ returns-in-Ok-true-clause-rows g c taken given =
     let before = optionals (map g.T.NativePType.number c.new-items.result.items) c.in_ok-valid.valid in
     let none : before ≡ [] = rw c.new-items.ensures.items refl in
     let read = behind_none g.T.NativePType.PTYPE c.args.nullability taken before (optionals (map g.T.NativePType.number items) valid) (rw c.in-Ok-true.field-0-test at (c.in-Ok-true.ensures.rows taken given)) none in
-    let told : ((c.args.nullability ≡ NonNullable) × (form_of c.match-nullability.validity ≡ NeverNull)) ⊎ (flags (form_of c.match-nullability.validity) (length valid) ≡ valid) =
+    let told : ((c.args.nullability ≡ NonNullable) × (form_of c.match-nullability.validity ≡ NeverNull)) ⊎ (validity_flags c.match-nullability.validity (length valid) ≡ valid) =
     elim c.match-nullability.branch [
       | in-NonNullable w ↦ inl (w.in-NonNullable.is, rw w.validity-is refl)
       | in-Nullable w ↦ inr (rw w.validity-is (rw w.freeze.ensures at w.from_bits-validity.ensures.flags))

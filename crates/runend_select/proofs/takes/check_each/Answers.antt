@@ -2,7 +2,7 @@ use Rattle.std.proofs.Common.{◌≡◌, ◌∙◌, Some, None, ap, sym, length,
 use Rattle.std.specs.Prelude.{nat_le, option_map, slice_get}
 use Rattle.std.proofs.lemmas.Bool.{and_parts, leb-true}
 use Rattle.std.proofs.lemmas.List.{length-map, take_all}
-use Rattle.column_base.specs.Validity.{form_of}
+use Rattle.column_base.specs.Validity.{form_of, validity_flags}
 use Rattle.column_base.specs.ValidityForm.{flags}
 use Rattle.column_base.proofs.ValidityRows.{length-flags}
 use Rattle.column_ops.specs.Take.{index_fault, take_fault}
@@ -17,7 +17,7 @@ use Rattle.runend_select.proofs.takes.check_each.Goals.{in-Some, in_default}
 
 pub loop-place-preserved : goal.loop-place-preserved
 loop-place-preserved g c =
-    let indices = optional_indices g.T.NativePType.number c.args.indices.now (flags (form_of c.args.validity.now) (length c.args.indices.now)) in
+    let indices = optional_indices g.T.NativePType.number c.args.indices.now (validity_flags c.args.validity.now (length c.args.indices.now)) in
     let place = c.loop-place.place in
     let last = c.loop-place.last in
     let inv = c.loop-place.invariant in
@@ -43,7 +43,7 @@ loop-place-preserved g c =
 
 pub returns-in_err-row-clause-told : goal.returns-in_err-row-clause-told
 returns-in_err-row-clause-told g c =
-    let indices = optional_indices g.T.NativePType.number c.args.indices.now (flags (form_of c.args.validity.now) (length c.args.indices.now)) in
+    let indices = optional_indices g.T.NativePType.number c.args.indices.now (validity_flags c.args.validity.now (length c.args.indices.now)) in
     let at = c.in_err-row.ensures in
     let refused = first_fault-here (index_fault c.args.count) indices c.loop-place.place at.0 c.in_err-row.field-0.0 c.loop-place.invariant.sound at.1 at.2 in
     told-passed_on (take_fault indices c.args.count) c.in_err-row.field-0.0 c.from_residual.result c.from_residual.ensures.1 refused

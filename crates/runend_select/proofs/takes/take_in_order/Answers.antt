@@ -1,6 +1,5 @@
 use Rattle.std.proofs.Common.{◌∙◌, ap, length, refl, subst, sym}
-use Rattle.column_base.specs.Validity.{form_of}
-use Rattle.column_base.specs.ValidityForm.{flags}
+use Rattle.column_base.specs.Validity.{form_of, validity_flags}
 use Rattle.runend_array.specs.Canonical.{canonical_column}
 use Rattle.runend_array.specs.Column.{Column, column_dtype, column_of_runs, column_rows}
 use Rattle.runend_windows.proofs.RunRows.{length-run_rows}
@@ -51,7 +50,7 @@ returns-clause-dtype g c = ok_then c.into_array.result _ _ (λ array same. ap co
 
 pub returns-clause-form : goal.returns-clause-form
 returns-clause-form g c =
-    let indices = optional_indices g.T.NativePType.number c.args.indices.now (flags (form_of c.args.validity.now) (length c.args.indices.now)) in
+    let indices = optional_indices g.T.NativePType.number c.args.indices.now (validity_flags c.args.validity.now (length c.args.indices.now)) in
     let not = not_all_null g.T.NativePType.number c.args.indices.now (form_of c.args.validity.now) c.requires.fits (λ h. let yes = c.are_all_null.ensures.1 h in let no = c.if-are_all_null.false in cc) in
     let taken = flat-taken indices (canonical_column c.in_ok-taken.taken) c.in_ok-taken.ensures.made.form not in
     ok_then c.into_array.result _ _ (λ array same. subst (λ (column : Column). TakeLeaves indices column) (sym same) taken) c.into_array.ensures.form

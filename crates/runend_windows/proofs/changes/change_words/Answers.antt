@@ -3,8 +3,7 @@ use Rattle.std.specs.Prelude.{◌↔◌}
 use Rattle.std.specs.Int.{bit_at}
 use Rattle.std.proofs.lemmas.Bool.{cases_lt}
 use Rattle.std.proofs.lemmas.List.{length_push}
-use Rattle.column_base.specs.ValidityForm.{flags}
-use Rattle.column_base.specs.Validity.{form_of}
+use Rattle.column_base.specs.Validity.{validity_flags}
 use Rattle.column_base.specs.Words.{digit_at}
 use Rattle.column_base.proofs.WordDigits.{digit_left, digit_push}
 use Rattle.column_core.specs.PrimitiveForm.{optionals}
@@ -14,7 +13,7 @@ use Rattle.runend_windows.proofs.changes.change_words.Goals as goal
 pub loop-index-preserved : goal.loop-index-preserved
 loop-index-preserved g c =
     let inv = c.loop-index.invariant in
-    let rows = optionals (map g.T.NativePType.number c.args.items.now) (flags (form_of c.args.validity.now) (length c.args.items.now)) in
+    let rows = optionals (map g.T.NativePType.number c.args.items.now) (validity_flags c.args.validity.now (length c.args.items.now)) in
     let start : ℕ = c.loop-index.index * 64 in
     let words = c.loop-index.words.items in
     let word : ℕ = c.change_word.result in

@@ -1,8 +1,8 @@
 use Rattle.std.proofs.Common.{◌≡◌, ℕ, length, map, refl, sym, ◌∙◌, ap, subst}
 use Rattle.std.proofs.lemmas.List.{length-map}
 use Rattle.column_base.specs.Numbers.{numbers, ptype_of}
-use Rattle.column_base.specs.ValidityForm.{NeverNull, flags}
-use Rattle.column_base.specs.Validity.{form_of}
+use Rattle.column_base.specs.ValidityForm.{NeverNull}
+use Rattle.column_base.specs.Validity.{form_of, validity_flags}
 use Rattle.column_core.specs.PrimitiveForm.{optionals, primitive_with}
 use Rattle.runend_windows.proofs.FlatColumns.{IsFlatEncoding-made}
 use Rattle.column_base.specs.ValidityForm.{ValidityForm, HasLength, NoneNull, AllNull, ByBits, nullability_in}
@@ -24,7 +24,7 @@ returns-clause-encoding g c =
     let ends = primitive_with (ptype_of c.in_ok-ends-2.ends) (numbers c.in_ok-ends-2.ends) NeverNull in
     let form = form_of c.validity_with-validity.result in
     let values = primitive_with (ptype_of c.wrap.result) (numbers c.wrap.result) form in
-    let rows = ap (λ n. optionals (map number c.args.items.now) (flags (form_of c.args.validity.now) n)) (length-map c.args.items.now number) in
+    let rows = ap (λ n. optionals (map number c.args.items.now) (validity_flags c.args.validity.now n)) (length-map c.args.items.now number) in
     let stored = c.as_slice.ensures.value in
     let frozen = c.freeze.ensures in
     rw (c.new_unchecked.ensures, c.new_unchecked-2.ensures)

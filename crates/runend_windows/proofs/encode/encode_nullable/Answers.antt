@@ -2,7 +2,7 @@ use Rattle.std.proofs.Common.{◌≡◌, ◌∙◌, ◌<◌, ◌^◌, ◌++◌, 
 use Rattle.std.proofs.lemmas.List.{length-map}
 use Rattle.column_base.specs.Bits.{set_indices_of}
 use Rattle.column_base.specs.ValidityForm.{flags}
-use Rattle.column_base.specs.Validity.{form_of}
+use Rattle.column_base.specs.Validity.{form_of, validity_flags}
 use Rattle.column_base.proofs.ValidityRows.{length-flags}
 use Rattle.column_core.specs.PrimitiveForm.{optionals}
 use Rattle.column_core.proofs.OptionalRows.{length-optionals}
@@ -36,7 +36,7 @@ pub first_rows-requires-clause-long : goal.first_rows-requires-clause-long
 first_rows-requires-clause-long g c =
     let number = g.T.NativePType.number in
     let items = c.args.items.now in
-    let marks = flags (form_of c.args.validity.now) (length items) in
+    let marks = validity_flags c.args.validity.now (length items) in
     let long = length-map items number in
     let marked = length-flags (form_of c.args.validity.now) (length items) c.requires in
     c.in_ok-changes.ensures.changes.counted ∙ length-optionals (map number items) marks (omega arith) ∙ long
@@ -44,7 +44,7 @@ first_rows-requires-clause-long g c =
 pub returns-then-total-eq0-clause-cover : goal.returns-then-total-eq0-clause-cover
 returns-then-total-eq0-clause-cover g c =
     let items = c.args.items.now in
-    let marks = flags (form_of c.args.validity.now) (length items) in
+    let marks = validity_flags c.args.validity.now (length items) in
     let long = length-map items g.T.NativePType.number in
     let marked = length-flags (form_of c.args.validity.now) (length items) c.requires in
     let none : length (optionals (map g.T.NativePType.number items) marks) ≡ 0 = length-optionals (map g.T.NativePType.number items) marks (omega arith) ∙ long ∙ c.if-total-eq0.true in

@@ -1,8 +1,7 @@
 use Rattle.std.proofs.Common.{None, length, map, sym, arith}
 use Rattle.std.specs.Prelude.{option_map, slice_index_or}
 use Rattle.std.proofs.lemmas.Option.{get_or_from_slice_get}
-use Rattle.column_base.specs.ValidityForm.{flags}
-use Rattle.column_base.specs.Validity.{form_of}
+use Rattle.column_base.specs.Validity.{validity_flags}
 use Rattle.column_core.specs.PrimitiveForm.{optionals}
 use Rattle.runend_windows.proofs.ChangedRows.{place-next, place-within}
 use Rattle.runend_windows.proofs.Starts.{start_behind-push, taken-push}
@@ -12,7 +11,7 @@ pub loop-end-preserved : goal.loop-end-preserved
 loop-end-preserved g c =
     let number = g.T.NativePType.number in
     let items = c.args.items.now in
-    let rows = optionals (map number items) (flags (form_of c.args.validity.now) (length items)) in
+    let rows = optionals (map number items) (validity_flags c.args.validity.now (length items)) in
     let inv = c.loop-end.invariant in
     let old = c.loop-end.runs in
     let start = c.loop-end.start in
@@ -32,7 +31,7 @@ pub returns-clause-values : goal.returns-clause-values
 returns-clause-values g c =
     let number = g.T.NativePType.number in
     let items = c.args.items.now in
-    let rows = optionals (map number items) (flags (form_of c.args.validity.now) (length items)) in
+    let rows = optionals (map number items) (validity_flags c.args.validity.now (length items)) in
     let inv = c.loop-end.invariant in
     let old = c.loop-end.runs in
     let shown = option_map number c.shown_at-2.result in

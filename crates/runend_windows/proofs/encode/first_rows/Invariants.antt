@@ -1,7 +1,6 @@
 use Rattle.std.proofs.Common.{◌≡◌, ◌++◌, ◌<◌, None, length, map}
 use Rattle.column_base.specs.Bits.{set_indices_of}
-use Rattle.column_base.specs.ValidityForm.{flags}
-use Rattle.column_base.specs.Validity.{form_of}
+use Rattle.column_base.specs.Validity.{validity_flags}
 use Rattle.column_core.specs.PrimitiveForm.{optionals, AreZeroAtNulls}
 use Rattle.runend_windows.specs.Starts.{items_at, starts_from}
 use Rattle.runend_windows.proofs.Starts.{start_behind}
@@ -15,7 +14,7 @@ invariant-loop-end g l =
       left : l.runs.ends.items ++ l.end-iterator ≡ set_indices_of l.changes;
       start : l.start ≡ start_behind 0 l.runs.ends.items;
       within : l.start < length l.items;
-      taken : optionals (map number l.runs.values.items) l.runs.flags ≡ items_at None (optionals (map number l.items) (flags (form_of l.validity) (length l.items))) (starts_from 0 l.runs.ends.items);
+      taken : optionals (map number l.runs.values.items) l.runs.flags ≡ items_at None (optionals (map number l.items) (validity_flags l.validity (length l.items))) (starts_from 0 l.runs.ends.items);
       paired : length l.runs.flags ≡ length l.runs.values.items;
       zeroed : AreZeroAtNulls (map number l.runs.values.items) l.runs.flags;
     }

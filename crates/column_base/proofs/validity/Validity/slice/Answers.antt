@@ -1,6 +1,6 @@
 use Rattle.std.proofs.Common.{◌≡◌, ◌-◌, ◌≤◌, ℕ, length, true, false, refl, sym, ap, subst, ◌∙◌, arith}
 use Rattle.std.specs.Prelude.{slice_range, IfSome, IsNone}
-use Rattle.column_base.specs.Validity.{form_of}
+use Rattle.column_base.specs.Validity.{form_of, validity_flags}
 use Rattle.column_base.specs.ValidityForm.{ValidityForm, HasLength, flags, length_of, nullability_in}
 use Rattle.column_base.specs.declared.error.VortexError.TheVariants.{OutOfMemory}
 use Rattle.column_base.proofs.Ranges.{slice_range-replicate, length-slice_range}
@@ -71,7 +71,7 @@ pub returns-in_ok-slice-in-Bits-clause-flags : goal.returns-in_ok-slice-in-Bits-
 returns-in_ok-slice-in-Bits-clause-flags g c count fits enough =
     let within = subst (λ (form : ValidityForm). IfSome (length_of form) (λ count. c.args.range.end ≤ count)) (ap form_of c.in-Bits.is) c.requires.in_bounds in
     let long = ap length c.in_ok-slice-in-Bits.ensures.bits ∙ length-slice_range c.in-Bits.bits c.args.range.start c.args.range.end c.requires.ordered within in
-    ap (flags (form_of c.from_bits.result)) (sym long) ∙ c.from_bits.ensures.flags ∙ c.in_ok-slice-in-Bits.ensures.bits
+    ap (validity_flags c.from_bits.result) (sym long) ∙ c.from_bits.ensures.flags ∙ c.in_ok-slice-in-Bits.ensures.bits
     ∙ ap (λ form. slice_range (flags form count) c.args.range.start c.args.range.end) (sym (ap form_of c.in-Bits.is))
 
 pub returns-in_ok-slice-in-Bits-clause-fits : goal.returns-in_ok-slice-in-Bits-clause-fits

@@ -1,6 +1,6 @@
 use Rattle.std.proofs.Common.{ℤ, length, sym, ap, subst, ◌∙◌}
-use Rattle.column_base.specs.ValidityForm.{flags, nullability_in}
-use Rattle.column_base.specs.Validity.{form_of}
+use Rattle.column_base.specs.ValidityForm.{nullability_in}
+use Rattle.column_base.specs.Validity.{form_of, validity_flags}
 use Rattle.column_core.specs.Value.{DecimalNumber}
 use Rattle.column_core.specs.DecimalForm.{optional_decimals}
 use Rattle.column_core.specs.Optionals.{optionals}
@@ -14,7 +14,7 @@ use Rattle.column_ops.proofs.decimals.DecimalArrayColumnOps.take_at.Goals as goa
 pub returns-clause-made : goal.returns-clause-made
 returns-clause-made g c =
     let own = c.args.self.now in
-    let indices = position_numbers (optionals c.args.positions.now (flags (form_of c.args.validity.now) (length c.args.positions.now))) in
+    let indices = position_numbers (optionals c.args.positions.now (validity_flags c.args.validity.now (length c.args.positions.now))) in
     let wanted = either_nullable (nullability_in own.validity) (nullability_in (form_of c.args.validity.now)) in
     let written = rw (c.values.ensures, c.validity-own.ensures.form) at c.in_ok-taken.ensures.taken in
     rw (c.new_unchecked.ensures, c.decimal_dtype.ensures, take_rows-map (λ (n : ℤ). DecimalNumber n) (optional_decimals own) indices)
@@ -28,7 +28,7 @@ take_items-requires-clause-counted g c = c.requires.counted
 
 pub take_items-requires-clause-within : goal.take_items-requires-clause-within
 take_items-requires-clause-within g c =
-    subst (ArePositions (optionals c.args.positions.now (flags (form_of c.args.validity.now) (length c.args.positions.now))))
+    subst (ArePositions (optionals c.args.positions.now (validity_flags c.args.validity.now (length c.args.positions.now))))
     (length-rows (λ (n : ℤ). DecimalNumber n) c.args.self.now.numbers c.args.self.now.validity c.validity-own.ensures.counted ∙ sym (ap length c.values.ensures)) c.requires.within
 
 pub new_unchecked-requires : goal.new_unchecked-requires

@@ -1,6 +1,6 @@
 use Rattle.std.proofs.Common.{Bool, length, sym, ap, subst, ◌∙◌}
-use Rattle.column_base.specs.ValidityForm.{flags, nullability_in}
-use Rattle.column_base.specs.Validity.{form_of}
+use Rattle.column_base.specs.ValidityForm.{nullability_in}
+use Rattle.column_base.specs.Validity.{form_of, validity_flags}
 use Rattle.column_core.specs.Value.{Truth}
 use Rattle.column_base.specs.declared.dtype.DType.TheVariants as column
 use Rattle.column_core.specs.BoolForm.{BoolForm, bool_rows, optional_truths}
@@ -16,13 +16,13 @@ use Rattle.column_ops.proofs.truths.BoolArrayColumnOps.take_at.Goals as goal
 
 pub take_bits-requires-clause-within : goal.take_bits-requires-clause-within
 take_bits-requires-clause-within g c =
-    subst (ArePositions (optionals c.args.positions.now (flags (form_of c.args.validity.now) (length c.args.positions.now))))
+    subst (ArePositions (optionals c.args.positions.now (validity_flags c.args.validity.now (length c.args.positions.now))))
     (length-rows (λ (b : Bool). Truth b) c.args.self.now.bits c.args.self.now.validity c.validity-own.ensures.counted ∙ sym (ap length c.values.ensures)) c.requires.within
 
 pub returns-clause-made : goal.returns-clause-made
 returns-clause-made g c =
     let own = c.args.self.now in
-    let indices = position_numbers (optionals c.args.positions.now (flags (form_of c.args.validity.now) (length c.args.positions.now))) in
+    let indices = position_numbers (optionals c.args.positions.now (validity_flags c.args.validity.now (length c.args.positions.now))) in
     let wanted = either_nullable (nullability_in own.validity) (nullability_in (form_of c.args.validity.now)) in
     let written = rw (c.values.ensures, c.validity-own.ensures.form) at c.in_ok-bits.ensures.taken in
     subst (λ (made : BoolForm). IsMade (take_rows (bool_rows own) indices) (column.Bool wanted) (OfTruths made)) (sym c.new_unchecked.ensures)
