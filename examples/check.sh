@@ -264,9 +264,11 @@ sqlite_loaded() {
 if echo '#include <sqlite3ext.h>' | $cc -E - >/dev/null 2>&1; then
     run "sqlite/test.c$arrow_how" with_sqlite test "$arrow_flags"
     run "sqlite/test_steps.c$arrow_how" with_sqlite test_steps "$arrow_flags"
+    run "sqlite/test_floats.c$arrow_how" with_sqlite test_floats "$arrow_flags"
     run "sqlite/memory.c" with_sqlite memory "-O2 $wraps"
     run "sqlite, the extension as it is loaded" sqlite_loaded test
     run "sqlite, the same of test_steps.c" sqlite_loaded test_steps
+    run "sqlite, the same of test_floats.c" sqlite_loaded test_floats
     if "$python" -c 'import sqlite3; sqlite3.connect(":memory:").enable_load_extension(True)' 2>/dev/null; then
         run "sqlite/figures.py" timeout 200 "$python" examples/sqlite/figures.py --rows 20000
     elif /usr/bin/python3 -c 'import sqlite3; sqlite3.connect(":memory:").enable_load_extension(True)' 2>/dev/null; then

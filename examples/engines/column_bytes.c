@@ -1,4 +1,5 @@
 #include "column_bytes.h"
+#include "float_columns.h"
 #include "hivevigil_helpers.h"
 #include <stdlib.h>
 
@@ -58,20 +59,35 @@ static int32_t least_type(hv_column *runs, hv_column *out, hv_error *error) {
     return HV_OK;
 }
 
-static int32_t written(const hv_column *column, uint8_t **bytes, size_t *size, hv_error *error) {
+/* The message of a column, with room for a line before it. */
+static int32_t written(const hv_column *column, size_t line, uint8_t **bytes, size_t *size, hv_error *error) {
     int32_t answer = hv_write_size(column, size, error);
     if (answer) return answer;
-    *bytes = malloc(*size);
+    *bytes = malloc(*size + line);
     if (!*bytes) return HV_OUT_OF_MEMORY;
-    answer = hv_write(column, *bytes, *size, size, error);
+    answer = hv_write(column, *bytes + line, *size, size, error);
+    *size += line;
     if (answer) free(*bytes), *bytes = NULL;
     return answer;
 }
 
+/* The encoding of floats, which are not all null, as the one of their keys after the line of their type. */
+static int32_t floats_write(const hv_column *runs, uint8_t **bytes, size_t *size, hv_error *error) {
+    hv_column keys = HV_EMPTY, least = HV_EMPTY;
+    int32_t answer = hv_float_encode(runs, 0, &keys, error);
+    if (!answer) answer = least_type(&keys, &least, error);
+    if (!answer) answer = written(&least, FLOAT_LINE, bytes, size, error);
+    if (!answer) float_line_write(hv_kind_of(runs).number, *bytes);
+    hv_free(&keys), hv_free(&least);
+    return answer;
+}
+
 int32_t encoding_bytes_write(hv_column *runs, uint8_t **bytes, size_t *size, hv_error *error) {
+    const bool is_null = is_null_encoding(runs);
     hv_column least = HV_EMPTY;
-    int32_t answer = is_null_encoding(runs) ? null_numbers(runs, &least, error) : least_type(runs, &least, error);
-    if (!answer) answer = written(&least, bytes, size, error);
+    if (!is_null && is_float_type(hv_kind_of(runs).number)) return floats_write(runs, bytes, size, error);
+    int32_t answer = is_null ? null_numbers(runs, &least, error) : least_type(runs, &least, error);
+    if (!answer) answer = written(&least, 0, bytes, size, error);
     hv_free(&least);
     return answer;
 }
@@ -115,7 +131,9 @@ int32_t column_of_truths(const hv_column *truths, hv_column *out, hv_error *erro
 }
 
 int32_t column_bytes_read(const uint8_t *bytes, size_t size, hv_column *out, hv_error *error) {
+    const uint8_t keys = float_line_read(bytes, size);
     hv_column column = HV_EMPTY;
+    if (keys != HV_LIST) return float_column_read(bytes + FLOAT_LINE, size - FLOAT_LINE, keys, out, error);
     int32_t answer = hv_read_column(bytes, size, &column, error);
     if (answer) return answer;
     hv_kind kind = hv_kind_of(&column);

@@ -3,15 +3,9 @@
 #include "hivevigil_helpers.h"
 #include <stdbool.h>
 
-/* The type in which a column has a value of this kind. */
-static hv_kind kind_of_values(uint8_t kind) {
-    const uint8_t number = kind == HV_TEXT ? HV_UTF8 : kind == HV_BYTES ? HV_BINARY : HV_I64;
-    return (hv_kind){number, kind == HV_NULL, 0, 0};
-}
-
 int32_t column_of_value(const row_value *value, size_t rows, hv_column *out, hv_error *error) {
-    const hv_value given = {value->len, value->number, value->kind, 0};
-    const hv_kind kind = kind_of_values(value->kind);
+    const hv_value given = value_of_row(value);
+    const hv_kind kind = {type_of_rows(value->kind), value->kind == HV_NULL, 0, 0};
     return hv_constant(&kind, &given, value->bytes, value->len, rows, out, error);
 }
 
@@ -57,6 +51,17 @@ static int32_t as_null(const hv_column *column, hv_kind kind, hv_column *made, h
     return answer || !is_null ? answer : hv_constant(&kind, &null, NULL, 0, hv_length(column), made, error);
 }
 
+/* Compares two columns of floats, which are not worked otherwise. */
+static int32_t combine_floats(const hv_column *left, uint8_t operator_, const hv_column *right, nan_order nans,
+                              hv_column *out, hv_error *error) {
+    hv_column truths = HV_EMPTY;
+    int32_t answer = operator_ > HV_LE ? HV_TYPE_MISMATCH : HV_OK;
+    if (!answer) answer = float_columns_mask(left, operator_, right, nans, &truths, error);
+    if (!answer) answer = column_of_truths(&truths, out, error);
+    hv_free(&truths);
+    return answer;
+}
+
 static int32_t combine(const hv_column *left, uint8_t operator_, const hv_column *right, hv_column *out,
                        hv_error *error) {
     hv_column left_truths = HV_EMPTY, right_truths = HV_EMPTY, made = HV_EMPTY;
@@ -74,8 +79,8 @@ static int32_t combine(const hv_column *left, uint8_t operator_, const hv_column
     return answer;
 }
 
-int32_t columns_combine(const hv_column *left, uint8_t operator_, const hv_column *right, hv_column *out,
-                        hv_error *error) {
+int32_t columns_combine(const hv_column *left, uint8_t operator_, const hv_column *right, nan_order nans,
+                        hv_column *out, hv_error *error) {
     hv_column nulls = HV_EMPTY;
     int32_t answer = HV_OK;
     if (hv_kind_of(left).number != hv_kind_of(right).number) {
@@ -84,7 +89,9 @@ int32_t columns_combine(const hv_column *left, uint8_t operator_, const hv_colum
         else if (!answer) answer = as_null(right, hv_kind_of(left), &nulls, error);
         if (!answer && left != &nulls && !hv_is_empty(&nulls)) right = &nulls;
     }
-    if (!answer) answer = combine(left, operator_, right, out, error);
+    const bool are_floats = is_float_type(hv_kind_of(left).number) && is_float_type(hv_kind_of(right).number);
+    if (!answer && are_floats) answer = combine_floats(left, operator_, right, nans, out, error);
+    else if (!answer) answer = combine(left, operator_, right, out, error);
     hv_free(&nulls);
     return answer;
 }

@@ -1,18 +1,44 @@
 #include "row_builder.h"
 #include "column_bytes.h"
+#include <stdbool.h>
 
 static const row_value null_row = {HV_NULL, 0, NULL, 0};
 
+static const struct {
+    uint8_t kind, type;
+} types[] = {
+    {HV_SIGNED, HV_I64}, {HV_TEXT, HV_UTF8}, {HV_BYTES, HV_BINARY}, {ROW_FLOAT32, HV_U32}, {ROW_FLOAT64, HV_U64},
+};
+
+uint8_t type_of_rows(uint8_t kind) {
+    for (size_t i = 0; i < sizeof types / sizeof *types; i++)
+        if (types[i].kind == kind) return types[i].type;
+    return HV_I64;
+}
+
+uint8_t kind_of_rows(uint8_t type) {
+    for (size_t i = 0; i < sizeof types / sizeof *types; i++)
+        if (types[i].type == type) return types[i].kind;
+    return HV_NULL;
+}
+
+hv_value value_of_row(const row_value *value) {
+    const bool is_float = value->kind == ROW_FLOAT32 || value->kind == ROW_FLOAT64;
+    return (hv_value){.kind = is_float ? HV_UNSIGNED : value->kind,
+                      .as_signed = value->number,
+                      .as_unsigned = is_float ? (uint64_t)value->number : value->len};
+}
+
 /* Adds `count` rows of a value, or of null. As long as each row is null, they are only counted. */
 static int32_t append_rows(row_builder *rows, const row_value *value, uint64_t count, hv_error *error) {
-    const hv_value scalar = {.kind = value->kind, .as_signed = value->number};
+    const hv_value scalar = value_of_row(value);
     if (rows->kind == HV_NULL) return HV_OK;
     return hv_append_value(&rows->runs, &scalar, value->bytes, value->len, count, error);
 }
 
 /* Makes the rows ones of this kind, which have been null so far. */
 static int32_t begin(row_builder *rows, uint8_t kind, hv_error *error) {
-    const hv_kind of_rows = {kind == HV_SIGNED ? HV_I64 : kind == HV_TEXT ? HV_UTF8 : HV_BINARY, 1, 0, 0};
+    const hv_kind of_rows = {type_of_rows(kind), 1, 0, 0};
     if (rows->kind == kind) return HV_OK;
     if (rows->kind != HV_NULL) return HV_TYPE_MISMATCH;
     int32_t answer = hv_builder_new(&of_rows, &rows->runs, error);
@@ -45,11 +71,7 @@ static int32_t append_column(row_builder *rows, const hv_column *column, hv_erro
 }
 
 int32_t row_builder_add_column(row_builder *rows, const hv_column *column, hv_error *error) {
-    const uint8_t number = hv_kind_of(column).number;
-    const uint8_t kind = number == HV_I64      ? HV_SIGNED
-                         : number == HV_UTF8   ? HV_TEXT
-                         : number == HV_BINARY ? HV_BYTES
-                                               : HV_NULL;
+    const uint8_t kind = kind_of_rows(hv_kind_of(column).number);
     uint8_t is_null = 0;
     int32_t answer = kind == HV_NULL ? HV_UNSUPPORTED : HV_OK;
     if (!answer && hv_length(column) > UINT64_MAX - rows->rows) answer = HV_WINDOW_OVERFLOW;

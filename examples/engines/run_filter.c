@@ -1,4 +1,5 @@
 #include "run_filter.h"
+#include "column_bytes.h"
 #include "hivevigil_helpers.h"
 #include "run_parts.h"
 #include <stdlib.h>
@@ -111,7 +112,8 @@ static int32_t keep_runs(const hv_session *session, run_parts *runs, const hv_co
 
 int32_t column_filter(const hv_column *column, uint8_t operator_, const row_value *value, hv_column *out,
                       hv_error *error) {
-    const hv_value right = {value->len, value->number, value->kind, 0};
+    const hv_value right = value_of_row(value);
+    const bool is_float = value->kind == ROW_FLOAT32 || value->kind == ROW_FLOAT64;
     run_parts runs = RUN_PARTS_EMPTY;
     hv_column mask = HV_EMPTY;
     hv_session session;
@@ -120,10 +122,35 @@ int32_t column_filter(const hv_column *column, uint8_t operator_, const row_valu
     if (!answer && (value->kind == HV_NULL || !valid_rows(&runs))) {
         answer = hv_slice(&session, column, 0, 0, out, error);
     } else if (!answer) {
-        answer = hv_compare_scalar(&session, &runs.values, operator_, &right, value->bytes, value->len, &mask, error);
+        answer = is_float ? HV_TYPE_MISMATCH
+                          : hv_compare_scalar(&session, &runs.values, operator_, &right, value->bytes, value->len,
+                                              &mask, error);
         if (!answer) answer = keep_runs(&session, &runs, &mask, out, error);
     }
     run_parts_free(&runs);
     hv_free(&mask);
+    return answer;
+}
+
+int32_t column_filter_floats(const hv_column *column, float_question asked, nan_order nans, hv_column *out,
+                             hv_error *error) {
+    run_parts runs = RUN_PARTS_EMPTY;
+    hv_column mask = HV_EMPTY;
+    hv_session session;
+    hv_session_initial(&session);
+    int32_t answer = run_parts_read(column, &runs, error);
+    if (!answer) answer = float_mask(&runs.values, asked, nans, &mask, error);
+    if (!answer) answer = keep_runs(&session, &runs, &mask, out, error);
+    run_parts_free(&runs);
+    hv_free(&mask);
+    return answer;
+}
+
+int32_t column_compare_floats(const hv_column *column, float_question asked, nan_order nans, hv_column *out,
+                              hv_error *error) {
+    hv_column truths = HV_EMPTY;
+    int32_t answer = float_mask(column, asked, nans, &truths, error);
+    if (!answer) answer = column_of_truths(&truths, out, error);
+    hv_free(&truths);
     return answer;
 }

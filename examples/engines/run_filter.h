@@ -1,6 +1,7 @@
 /* Questions to a column of any form that cost runs and not rows, where it has runs. */
 #ifndef HIVEVIGIL_RUN_FILTER_H
 #define HIVEVIGIL_RUN_FILTER_H
+#include "float_columns.h"
 #include "row_builder.h"
 #include <stdbool.h>
 
@@ -13,6 +14,14 @@ uint8_t operator_number(const char *name);
  * as 12 says; 21. */
 int32_t column_filter(const hv_column *column, uint8_t operator_, const row_value *value, hv_column *out,
                       hv_error *error);
+
+/* The same of floats and a number. */
+int32_t column_filter_floats(const hv_column *column, float_question asked, nan_order nans, hv_column *out,
+                             hv_error *error);
+
+/* Row by row whether `float operator number`: 1, 0, or null where the row is; 21. */
+int32_t column_compare_floats(const hv_column *column, float_question asked, nan_order nans, hv_column *out,
+                              hv_error *error);
 
 /* How many rows are not null; 21. */
 int32_t column_valid_rows(const hv_column *column, uint64_t *rows, hv_error *error);

@@ -51,6 +51,10 @@ void hv_column_of(const char *function, bytea *bytes, hv_column *out) {
         hv_free(out);
         answer = HV_WINDOW_OVERFLOW;
     }
+    if (!answer && is_float_type(hv_kind_of(out).number)) {
+        hv_free(out);
+        answer = HV_BAD_METADATA;
+    }
     hv_raise(function, answer, &error);
 }
 

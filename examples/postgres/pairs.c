@@ -31,7 +31,7 @@ static Datum paired(const pairing *called, hv_column *left, hv_column *right) {
     hv_error error = {0, 0, 0};
     hv_column out = HV_EMPTY;
     const hv_kind kind = hv_kind_of(left), other = hv_kind_of(right);
-    const int32_t answer = columns_combine(left, called->operator_, right, &out, &error);
+    const int32_t answer = columns_combine(left, called->operator_, right, NAN_GREATEST, &out, &error);
     hv_free(left);
     hv_free(right);
     raise(called, answer, &error, kind, other);

@@ -1,5 +1,6 @@
 /* hv_append: rows at the end of a column. hv_repeat: a column of values, each as often as it is said. hv_sum_all: the
  * exact sum of columns. */
+#include "../engines/float_total.h"
 #include "../engines/wide_sum.h"
 #include "sqlite_column.h"
 #include <string.h>
@@ -23,7 +24,7 @@ static char *why_not(const char *function, uint8_t kind, sqlite3_value *value) {
     if (type == SQLITE_TEXT && (kind == HV_UTF8 || kind == HV_TEXT || kind == HV_NULL))
         return sqlite3_mprintf("%s: %s", function, not_utf8);
     return sqlite3_mprintf("%s: a column of %s takes no %s", function,
-                           kind == HV_NULL ? "integers, texts or blobs" : kind_in_words(kind),
+                           kind == HV_NULL ? "integers, real numbers, texts or blobs" : kind_in_words(kind),
                            type == SQLITE_FLOAT     ? "real number"
                            : type == SQLITE_INTEGER ? "integer"
                            : type == SQLITE_TEXT    ? "text"
@@ -42,15 +43,14 @@ static void ask_append(sqlite3_context *context, int count, sqlite3_value **valu
     hv_error error = {0, 0, 0};
     char *reason = NULL;
     uint64_t rows;
-    row_value value;
     (void)count;
     if (sqlite3_value_type(values[0]) == SQLITE_NULL || !is_count(context, "hv_append", values[2], &rows)) return;
     if (!column_of("hv_append", values[0], &column, &reason)) {
         fail(context, reason);
         return;
     }
-    int32_t answer = row_value_of(values[1], &value) ? HV_OK : HV_TYPE_MISMATCH;
-    if (!answer) answer = column_append(&column, &value, rows, &runs, &error);
+    const row_value value = row_value_of(values[1]);
+    const int32_t answer = column_append(&column, &value, rows, &runs, &error);
     if (answer == HV_TYPE_MISMATCH) fail(context, why_not("hv_append", kind_of(&column), values[1]));
     else if (answer) refuse(context, "hv_append", answer, &error);
     else answer_encoding(context, "hv_append", &runs);
@@ -63,23 +63,46 @@ static void repeat_step(sqlite3_context *context, int count, sqlite3_value **val
     row_builder *rows = sqlite3_aggregate_context(context, sizeof *rows);
     hv_error error = {0, 0, 0};
     uint64_t times;
-    row_value value;
     (void)count;
     if (!rows) {
         sqlite3_result_error_nomem(context);
         return;
     }
     if (!is_count(context, "hv_repeat", values[1], &times)) return;
-    const int32_t answer =
-        row_value_of(values[0], &value) ? row_builder_add(rows, &value, times, &error) : HV_TYPE_MISMATCH;
+    const row_value value = row_value_of(values[0]);
+    const int32_t answer = row_builder_add(rows, &value, times, &error);
     if (answer == HV_TYPE_MISMATCH) fail(context, why_not("hv_repeat", rows->kind, values[0]));
     else if (answer) refuse(context, "hv_repeat", answer, &error);
 }
 
 /* ---- Sums ---- */
 
+/* The sum of columns of integers, or of real numbers; until a row is not NULL, neither. */
+typedef struct sum_of_all {
+    wide_sum integers;
+    float_total floats;
+} sum_of_all;
+
+/* Adds a column that goes with those before, which 12 says that it does not. */
+static int32_t add_column(sum_of_all *sum, const hv_column *column, hv_error *error) {
+    const bool are_floats = is_float_type(hv_kind_of(column).number);
+    uint8_t is_null = 0;
+    const int32_t answer = column_is_null_alone(column, &is_null, error);
+    if (answer || is_null) return answer;
+    if (are_floats ? sum->integers.any : sum->floats.any) return HV_TYPE_MISMATCH;
+    return are_floats ? float_total_add(&sum->floats, column, error) : wide_sum_add(&sum->integers, column, error);
+}
+
+/* Says why a column is not added. */
+static char *why_not_added(const sum_of_all *sum, uint8_t kind) {
+    if (kind == HV_I64 || is_float_type(kind))
+        return sqlite3_mprintf("hv_sum_all: a column of %s after columns of %s", kind_in_words(kind),
+                               kind_in_words(sum->floats.any ? ROW_FLOAT64 : HV_SIGNED));
+    return sqlite3_mprintf("hv_sum_all: only numbers are added, and this is a column of %s", kind_in_words(kind));
+}
+
 static void sum_step(sqlite3_context *context, int count, sqlite3_value **values) {
-    wide_sum *sum = sqlite3_aggregate_context(context, sizeof *sum);
+    sum_of_all *sum = sqlite3_aggregate_context(context, sizeof *sum);
     hv_column column = HV_EMPTY;
     hv_error error = {0, 0, 0};
     char *reason = NULL;
@@ -93,19 +116,18 @@ static void sum_step(sqlite3_context *context, int count, sqlite3_value **values
         fail(context, reason);
         return;
     }
-    const int32_t answer = wide_sum_add(sum, &column, &error);
-    if (answer == HV_TYPE_MISMATCH)
-        fail(context, sqlite3_mprintf("hv_sum_all: only integers are added, and this is a column of %s",
-                                      kind_in_words(hv_kind_of(&column).number)));
+    const int32_t answer = add_column(sum, &column, &error);
+    if (answer == HV_TYPE_MISMATCH) fail(context, why_not_added(sum, hv_kind_of(&column).number));
     else if (answer) refuse(context, "hv_sum_all", answer, &error);
     hv_free(&column);
 }
 
 static void finish_sum(sqlite3_context *context) {
-    const wide_sum *sum = sqlite3_aggregate_context(context, 0);
+    const sum_of_all *sum = sqlite3_aggregate_context(context, 0);
     int64_t number;
-    if (!sum || !sum->any) return;
-    if (wide_sum_number(sum, &number)) sqlite3_result_int64(context, number);
+    if (sum && sum->floats.any) sqlite3_result_double(context, float_of_bits(float_total_bits(&sum->floats)));
+    else if (!sum || !sum->integers.any) return;
+    else if (wide_sum_number(&sum->integers, &number)) sqlite3_result_int64(context, number);
     else fail(context, sqlite3_mprintf("hv_sum_all: integer overflow"));
 }
 

@@ -5,7 +5,7 @@
  *     SELECT hv_concat(levels) FROM packed                      aggregate: the rows of all blobs, one after the other
  *     SELECT hv_repeat(value, count) FROM runs                  aggregate: each value as often as it is said
  *     SELECT hv_sum_all(levels) FROM packed                     aggregate: the sum of all blobs, in any order
- *     hv_rows(c)  hv_count(c)  hv_sum(c)  hv_min(c)  hv_max(c)  hv_at(c, row)
+ *     hv_rows(c)  hv_count(c)  hv_sum(c)  hv_min(c)  hv_max(c)  hv_at(c, row)  hv_first(c)  hv_last(c)  hv_type(c)
  *     hv_filter(c, '>', 5)  hv_filter(c, mask)  hv_slice(c, start, stop)      a blob of some of the rows
  *     hv_add(c, d)  hv_subtract(c, d)  hv_multiply(c, d)        a blob of what the two rows at each place give
  *     hv_and(c, d)  hv_or(c, d)  hv_not(c)  hv_compare(c, '<', d)      the same, 1 for true and 0 for false
@@ -14,7 +14,8 @@
  *     SELECT start, stop, value FROM hv_runs(c)                 a row for each run
  *     SELECT key, sum FROM hv_groups(keys, values)              a row for each run of equal keys
  *
- * A column holds integers, texts or blobs of one kind, and NULL. A refusal is an SQL error in a sentence. */
+ * A column holds integers, real numbers, texts or blobs of one kind, and NULL. A refusal is an SQL error in a
+ * sentence. */
 #include <sqlite3ext.h>
 SQLITE_EXTENSION_INIT1
 #include "hivevigil_errors.h"
@@ -33,6 +34,7 @@ const char *type_in_words(int type) {
 }
 
 const char *kind_in_words(uint8_t kind) {
+    if (kind == ROW_FLOAT64 || kind == HV_U64) return "real numbers";
     return kind == HV_TEXT || kind == HV_UTF8 ? "texts" : kind == HV_BYTES || kind == HV_BINARY ? "blobs" : "integers";
 }
 
@@ -60,7 +62,10 @@ bool column_of(const char *function, sqlite3_value *value, hv_column *out, char 
     }
     const void *bytes = sqlite3_value_blob(value); /* before its size, which it may change; null for no bytes */
     const size_t size = (size_t)sqlite3_value_bytes(value);
-    const int32_t answer = column_bytes_read(bytes ? bytes : "", size, out, &error);
+    hv_column read = HV_EMPTY;
+    int32_t answer = column_bytes_read(bytes ? bytes : "", size, &read, &error);
+    if (!answer) answer = float_column_widened(&read, out, &error); /* SQLite has no others */
+    hv_free(&read);
     if (answer) {
         *reason = refusal(function, answer, &error);
     } else if (hv_length(out) > INT64_MAX) {
@@ -99,27 +104,42 @@ void answer_column(sqlite3_context *context, const char *function, const hv_colu
     hv_free(&runs);
 }
 
-bool row_value_of(sqlite3_value *from, row_value *value) {
-    const row_value null = {HV_NULL, 0, NULL, 0};
-    *value = null;
+row_value row_value_of(sqlite3_value *from) {
+    row_value value = {HV_NULL, 0, NULL, 0};
     switch (sqlite3_value_type(from)) {
-    case SQLITE_NULL: return true;
     case SQLITE_INTEGER:
-        value->kind = HV_SIGNED;
-        value->number = sqlite3_value_int64(from);
-        return true;
+        value.kind = HV_SIGNED;
+        value.number = sqlite3_value_int64(from);
+        break;
+    case SQLITE_FLOAT:
+        value.kind = ROW_FLOAT64;
+        value.number = (int64_t)bits_of_float(sqlite3_value_double(from));
+        break;
     case SQLITE_TEXT:
-        value->kind = HV_TEXT;
-        value->bytes = sqlite3_value_text(from);
+        value.kind = HV_TEXT;
+        value.bytes = sqlite3_value_text(from);
+        value.len = (size_t)sqlite3_value_bytes(from);
         break;
     case SQLITE_BLOB:
-        value->kind = HV_BYTES;
-        value->bytes = sqlite3_value_blob(from);
+        value.kind = HV_BYTES;
+        value.bytes = sqlite3_value_blob(from);
+        value.len = (size_t)sqlite3_value_bytes(from);
         break;
-    default: return false;
+    default: break;
     }
-    value->len = (size_t)sqlite3_value_bytes(from);
-    return true;
+    return value;
+}
+
+row_value row_value_shown(const hv_value *found, const uint8_t *text) {
+    row_value value = {found->kind, found->as_signed, text, (size_t)found->as_unsigned};
+    if (found->kind == HV_UNSIGNED) value.kind = ROW_FLOAT64, value.number = (int64_t)found->as_unsigned;
+    return value;
+}
+
+float_question question_of_number(uint8_t operator_, sqlite3_value *number) {
+    const float_question asked = {sqlite3_value_double(number), operator_};
+    return sqlite3_value_type(number) == SQLITE_INTEGER ? float_question_of(operator_, sqlite3_value_int64(number))
+                                                        : asked;
 }
 
 /* hv_column and hv_concat: the rows so far are in SQLite's memory for the aggregate, which begins as zeros. */
@@ -129,7 +149,7 @@ static uint8_t kind_by_name(sqlite3_value *name) {
     static const struct {
         const char *name;
         uint8_t kind;
-    } kinds[] = {{"integer", HV_SIGNED}, {"text", HV_TEXT}, {"blob", HV_BYTES}};
+    } kinds[] = {{"integer", HV_SIGNED}, {"real", ROW_FLOAT64}, {"text", HV_TEXT}, {"blob", HV_BYTES}};
     const char *asked = (const char *)sqlite3_value_text(name);
     for (size_t i = 0; asked && i < sizeof kinds / sizeof *kinds; i++)
         if (sqlite3_stricmp(asked, kinds[i].name) == 0) return kinds[i].kind;
@@ -142,7 +162,7 @@ static bool is_asked(sqlite3_context *context, const row_builder *rows, int coun
                      uint8_t *kind) {
     *kind = count == 2 ? kind_by_name(values[1]) : HV_NULL;
     if (count == 2 && *kind == HV_NULL) {
-        fail(context, sqlite3_mprintf("hv_column: a type is one of 'integer', 'text' and 'blob'"));
+        fail(context, sqlite3_mprintf("hv_column: a type is one of 'integer', 'real', 'text' and 'blob'"));
         return false;
     }
     if (*kind == HV_NULL || rows->kind == HV_NULL || *kind == rows->kind) return true;
@@ -154,7 +174,6 @@ static bool is_asked(sqlite3_context *context, const row_builder *rows, int coun
 static void column_step(sqlite3_context *context, int count, sqlite3_value **values) {
     row_builder *rows = sqlite3_aggregate_context(context, sizeof *rows);
     hv_error error = {0, 0, 0};
-    row_value value;
     uint8_t kind;
     if (!rows) {
         sqlite3_result_error_nomem(context);
@@ -162,11 +181,11 @@ static void column_step(sqlite3_context *context, int count, sqlite3_value **val
     }
     if (!is_asked(context, rows, count, values, &kind)) return;
     if (kind == HV_NULL) kind = rows->kind;
-    if (!row_value_of(values[0], &value) || (kind && value.kind && value.kind != kind)) {
+    const row_value value = row_value_of(values[0]);
+    if (kind && value.kind && value.kind != kind) {
         fail(context, sqlite3_mprintf("hv_column: row %llu is %s, and %s holds %s", (unsigned long long)rows->rows,
                                       type_in_words(sqlite3_value_type(values[0])),
-                                      count == 2 ? "the column that is asked for" : "a column",
-                                      kind ? kind_in_words(kind) : "integers, texts or blobs"));
+                                      count == 2 ? "the column that is asked for" : "a column", kind_in_words(kind)));
         return;
     }
     const int32_t answer = row_builder_add(rows, &value, 1, &error);
@@ -215,6 +234,7 @@ void answer_value(sqlite3_context *context, const row_value *value) {
     const char *bytes = value->len ? (const char *)value->bytes : "";
     switch (value->kind) {
     case HV_SIGNED: sqlite3_result_int64(context, value->number); break;
+    case ROW_FLOAT64: sqlite3_result_double(context, float_of_bits((uint64_t)value->number)); break;
     case HV_TEXT: sqlite3_result_text64(context, bytes, value->len, SQLITE_TRANSIENT, SQLITE_UTF8); break;
     case HV_BYTES: sqlite3_result_blob64(context, bytes, value->len, SQLITE_TRANSIENT); break;
     default: sqlite3_result_null(context);
@@ -259,11 +279,21 @@ static int32_t say_overflow(question *asked) {
     return say(asked, sqlite3_mprintf("hv_sum: integer overflow with row %llu", (unsigned long long)row));
 }
 
+/* A NaN is answered NULL, since SQLite has none. */
+static int32_t ask_float_sum(question *asked) {
+    uint64_t count = 0, bits = 0;
+    const int32_t answer = float_column_sum(asked->column, NAN_UNORDERED, &count, &bits, &asked->error);
+    if (!answer && count) sqlite3_result_double(asked->context, float_of_bits(bits));
+    return answer;
+}
+
 static int32_t ask_sum(question *asked) {
+    const uint8_t kind = hv_kind_of(asked->column).number;
     hv_total total;
-    if (hv_kind_of(asked->column).number != HV_I64)
-        return say(asked, sqlite3_mprintf("hv_sum: only integers are added, and this is a column of %s",
-                                          kind_in_words(hv_kind_of(asked->column).number)));
+    if (is_float_type(kind)) return ask_float_sum(asked);
+    if (kind != HV_I64)
+        return say(asked, sqlite3_mprintf("hv_sum: only numbers are added, and this is a column of %s",
+                                          kind_in_words(kind)));
     const int32_t answer = hv_sum(&asked->session, asked->column, &total, &asked->error);
     if (answer) return answer;
     if (total.kind == HV_NULL) return say_overflow(asked);
@@ -284,7 +314,7 @@ static int32_t answer_look(question *asked, look *at) {
         answer = text ? at(asked, &found, text, len) : HV_OUT_OF_MEMORY;
     }
     if (!answer) {
-        const row_value value = {found.kind, found.as_signed, text, (size_t)found.as_unsigned};
+        const row_value value = row_value_shown(&found, text);
         answer_value(asked->context, &value);
     }
     if (text != few) free(text);
@@ -303,8 +333,18 @@ static int32_t look_row(question *asked, hv_value *value, uint8_t *text, size_t 
     return hv_at(asked->column, asked->row, value, text, len, &asked->error);
 }
 
-static int32_t ask_min(question *asked) { return answer_look(asked, look_least); }
-static int32_t ask_max(question *asked) { return answer_look(asked, look_greatest); }
+/* Of real numbers, which leave NaNs out, or of other rows. */
+static int32_t ask_extreme(question *asked, look *other, bool greatest) {
+    float_extremes found = {false, 0, 0};
+    if (!is_float_type(hv_kind_of(asked->column).number)) return answer_look(asked, other);
+    const int32_t answer = float_column_extremes(asked->column, NAN_UNORDERED, &found, &asked->error);
+    if (!answer && found.found)
+        sqlite3_result_double(asked->context, float_of_bits(greatest ? found.greatest : found.least));
+    return answer;
+}
+
+static int32_t ask_min(question *asked) { return ask_extreme(asked, look_least, false); }
+static int32_t ask_max(question *asked) { return ask_extreme(asked, look_greatest, true); }
 
 /* Argument `at` as a number of rows; false, and an error, where it is not an integer. */
 static bool is_row(question *asked, const char *name, int at, sqlite3_int64 *row) {
@@ -357,14 +397,32 @@ static int32_t say_not_compared(question *asked, const row_value *value) {
 
 static int32_t ask_filter(question *asked) {
     const uint8_t operator_ = operator_number((const char *)sqlite3_value_text(asked->values[1]));
+    const bool are_floats = is_float_type(hv_kind_of(asked->column).number);
     hv_column kept = HV_EMPTY;
-    row_value value;
     if (operator_ == NO_OPERATOR) return say(asked, sqlite3_mprintf("hv_filter: an operator is one of = <> > >= < <="));
-    int32_t answer = row_value_of(asked->values[2], &value) ? HV_OK : HV_TYPE_MISMATCH;
-    if (!answer) answer = column_filter(asked->column, operator_, &value, &kept, &asked->error);
+    const row_value value = row_value_of(asked->values[2]);
+    int32_t answer;
+    if (are_floats && (value.kind == HV_SIGNED || value.kind == ROW_FLOAT64))
+        answer = column_filter_floats(asked->column, question_of_number(operator_, asked->values[2]), NAN_UNORDERED,
+                                      &kept, &asked->error);
+    else answer = column_filter(asked->column, operator_, &value, &kept, &asked->error);
     if (!answer) answer_column(asked->context, "hv_filter", &kept);
     if (answer == HV_TYPE_MISMATCH) answer = say_not_compared(asked, &value);
     hv_free(&kept);
+    return answer;
+}
+
+/* As SQL's typeof of its rows: 'null' where each is. */
+static int32_t ask_type(question *asked) {
+    const uint8_t kind = hv_kind_of(asked->column).number;
+    uint8_t is_null = 0;
+    const int32_t answer = column_is_null_alone(asked->column, &is_null, &asked->error);
+    const char *type = is_null               ? "null"
+                       : is_float_type(kind) ? "real"
+                       : kind == HV_UTF8     ? "text"
+                       : kind == HV_BINARY   ? "blob"
+                                             : "integer";
+    if (!answer) sqlite3_result_text(asked->context, type, -1, SQLITE_STATIC);
     return answer;
 }
 
@@ -377,7 +435,7 @@ typedef struct function {
 static const function functions[] = {
     {"hv_rows", 1, ask_rows}, {"hv_count", 1, ask_count}, {"hv_sum", 1, ask_sum},     {"hv_min", 1, ask_min},
     {"hv_max", 1, ask_max},   {"hv_at", 2, ask_at},       {"hv_slice", 3, ask_slice}, {"hv_filter", 3, ask_filter},
-    {"hv_first", 1, ask_first}, {"hv_last", 1, ask_last},
+    {"hv_first", 1, ask_first}, {"hv_last", 1, ask_last}, {"hv_type", 1, ask_type},
 };
 
 static void ask(sqlite3_context *context, int count, sqlite3_value **values) {

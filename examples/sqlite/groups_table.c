@@ -82,7 +82,7 @@ static char *why(int32_t answer, const hv_error *error, const hv_column *values)
     if (answer == HV_CAST_OUT_OF_RANGE)
         return sqlite3_mprintf("hv_groups: integer overflow in group %llu", (unsigned long long)error->first);
     if (answer == HV_UNSUPPORTED && (kind == HV_UTF8 || kind == HV_BINARY))
-        return sqlite3_mprintf("hv_groups: only integers are grouped, and this is a column of %s",
+        return sqlite3_mprintf("hv_groups: only numbers are grouped, and this is a column of %s",
                                kind == HV_UTF8 ? "texts" : "blobs");
     return refusal("hv_groups", answer, error);
 }
@@ -96,7 +96,8 @@ static int32_t fold(cursor *at, int asked, const hv_column *keys, const hv_colum
     if (!(asked >> 1)) answer = hv_fold_by(keys, values, folds[KEY], &at->columns[KEY], &spare, error);
     hv_free(&spare);
     for (int i = 1; !answer && i < SHOWN; i++)
-        if (asked >> i & 1) answer = hv_fold_by(keys, values, folds[i], &at->columns[KEY], &at->columns[i], error);
+        if (asked >> i & 1)
+            answer = column_fold_by(keys, values, folds[i], NAN_UNORDERED, &at->columns[KEY], &at->columns[i], error);
     at->count = hv_length(&at->columns[KEY]);
     return answer;
 }
@@ -147,8 +148,9 @@ static int column_value(sqlite3_vtab_cursor *base, sqlite3_context *context, int
         at->room = (size_t)error.first;
         answer = hv_at(&at->columns[column], at->group, &found, at->text, at->room, &error);
     }
-    const row_value value = {found.kind, found.as_signed, at->text, (size_t)found.as_unsigned};
-    if (!answer && found.kind == HV_UNSIGNED) sqlite3_result_int64(context, (sqlite3_int64)found.as_unsigned);
+    const row_value value = row_value_shown(&found, at->text);
+    if (!answer && (column == ROWS || column == COUNT))
+        sqlite3_result_int64(context, (sqlite3_int64)found.as_unsigned);
     else if (!answer) answer_value(context, &value);
     return answer ? SQLITE_ERROR : SQLITE_OK;
 }

@@ -74,6 +74,17 @@ int main(void) {
         "SELECT length(hv_totals(c)) FROM (SELECT hv_repeat(7, 600) AS c)",
         "SELECT length(hv_buckets(c, 4)) + length(hv_step_buckets(c, 50)) FROM p",
         "SELECT sum(key * sum) FROM p, hv_groups(hv_step_buckets(c, 50), c)",
+        "SELECT length(hv_column(v / 4.0)) FROM t",
+        "SELECT hv_rows(f) + hv_count(f) + hv_sum(f) + hv_min(f) + hv_max(f) + hv_at(f, 3) + hv_first(f) FROM p",
+        "SELECT hv_type(f) || hv_type(c) FROM p",
+        "SELECT hv_sum_all(f) FROM (SELECT f FROM p UNION ALL SELECT hv_slice(f, 3, 20) FROM p)",
+        "SELECT length(hv_filter(f, '>', 3)) + length(hv_filter(f, '<', 3.5)) FROM p",
+        "SELECT length(hv_compare(f, '>', 3)) + length(hv_compare(f, '<', hv_append(hv_slice(f, 1, 100), 2.5, 1))) FROM p",
+        "SELECT length(hv_concat(f)) + length(hv_append(f, 0.5, 3)) + length(hv_slice(f, 3, 20)) FROM p",
+        "SELECT sum(key + sum + min + max + first + count) FROM p, hv_groups(f, f)",
+        "SELECT sum(stop * value) FROM p, hv_runs(f)",
+        "SELECT length(hv_concat(x'68697665766967696C2074797065203120660A080110071801200128013A040000C03F'))",
+        "SELECT length(hv_concat(x'68697665766967696C2074797065203120650A080110061801200128013A02003E'))",
     };
     static const char *const refused_statements[] = {
         "SELECT hv_sum(hv_column(9223372036854775000 + v * 100)) FROM t",
@@ -84,6 +95,11 @@ int main(void) {
         "SELECT hv_totals(hv_append(c, 9223372036854775807, 1)) FROM p",
         "SELECT hv_sum_all(w) FROM p",
         "SELECT hv_column(iif(v < 20, v || ' trees', CAST(x'C328' AS TEXT))) FROM t",
+        "SELECT hv_add(f, f) FROM p",
+        "SELECT hv_compare(f, '<', c) FROM p",
+        "SELECT hv_append(f, 7, 2) FROM p",
+        "SELECT hv_sum_all(c) FROM (SELECT c FROM p UNION ALL SELECT f FROM p)",
+        "SELECT hv_sum(x'68697665766967696C2074797065203120670A080110071801200128013A040000C03F')",
     };
     long all = 0;
     CHECK(sqlite3_open(":memory:", &db) == SQLITE_OK);
@@ -96,7 +112,7 @@ int main(void) {
         "SELECT i FROM n");
     ask("CREATE TABLE p AS SELECT hv_column(v) AS c, hv_column('a text of number ' || v || ' and more, so that it is "
         "longer "
-        "than any room that there is at first') AS w FROM t");
+        "than any room that there is at first') AS w, hv_column(v / 4.0) AS f FROM t");
     for (size_t i = 0; i < COUNT(statements); i++) all += refuse_each(statements[i], false);
     for (size_t i = 0; i < COUNT(refused_statements); i++) all += refuse_each(refused_statements[i], true);
     CHECK(sqlite3_close(db) == SQLITE_OK);

@@ -10,10 +10,7 @@ typedef struct pairing {
     const char *done; /* null for a comparison */
 } pairing;
 
-static const char *words_of(const hv_column *column) {
-    const uint8_t kind = hv_kind_of(column).number;
-    return kind == HV_UTF8 ? "texts" : kind == HV_BINARY ? "blobs" : "integers";
-}
+static const char *words_of(const hv_column *column) { return kind_in_words(hv_kind_of(column).number); }
 
 /* Returns why two columns are not worked, in a sentence; null where memory ran out. */
 static char *why(const pairing *called, int32_t answer, const hv_error *error, const hv_column *left,
@@ -29,17 +26,11 @@ static char *why(const pairing *called, int32_t answer, const hv_error *error, c
                            words_of(other));
 }
 
-/* An argument as a column: a blob, or an integer or a text that is in each of `rows` rows. */
+/* An argument as a column: a blob, or a number or a text that is in each of `rows` rows. */
 static bool side_of(const char *function, sqlite3_value *value, size_t rows, hv_column *out, char **reason) {
-    row_value row = {HV_SIGNED, sqlite3_value_int64(value), NULL, 0};
     hv_error error = {0, 0, 0};
-    const int type = sqlite3_value_type(value);
-    if (type != SQLITE_INTEGER && type != SQLITE_TEXT) return column_of(function, value, out, reason);
-    if (type == SQLITE_TEXT) {
-        row.kind = HV_TEXT;
-        row.bytes = sqlite3_value_text(value);
-        row.len = (size_t)sqlite3_value_bytes(value);
-    }
+    if (sqlite3_value_type(value) == SQLITE_BLOB) return column_of(function, value, out, reason);
+    const row_value row = row_value_of(value);
     const int32_t answer = column_of_value(&row, rows, out, &error);
     *reason = NULL;
     if (answer == HV_TYPE_MISMATCH) *reason = sqlite3_mprintf("%s: a text is not UTF-8", function);
@@ -56,6 +47,26 @@ static bool sides_of(const char *function, sqlite3_value *left, sqlite3_value *r
     return column_of(function, first, lent, reason) && side_of(function, second, hv_length(lent), other, reason);
 }
 
+/* The comparison that asks the same from the other side. */
+static uint8_t from_other_side(uint8_t operator_) {
+    static const uint8_t others[] = {HV_EQ, HV_NE, HV_LT, HV_LE, HV_GT, HV_GE};
+    return others[operator_];
+}
+
+/* What the operator gives of the columns of two arguments. An integer next to real numbers is compared as what it is,
+ * and not as the nearest real number. */
+static int32_t combined(const pairing *called, sqlite3_value *left, sqlite3_value *right, const hv_column *columns,
+                        hv_column *out, hv_error *error) {
+    const bool is_comparison = !called->done;
+    if (is_comparison && is_float_type(hv_kind_of(&columns[0]).number) && sqlite3_value_type(right) == SQLITE_INTEGER)
+        return column_compare_floats(&columns[0], question_of_number(called->operator_, right), NAN_UNORDERED, out,
+                                     error);
+    if (is_comparison && is_float_type(hv_kind_of(&columns[1]).number) && sqlite3_value_type(left) == SQLITE_INTEGER)
+        return column_compare_floats(&columns[1], question_of_number(from_other_side(called->operator_), left),
+                                     NAN_UNORDERED, out, error);
+    return columns_combine(&columns[0], called->operator_, &columns[1], NAN_UNORDERED, out, error);
+}
+
 /* Answers what the operator gives of two arguments. NULL in place of one is answered NULL. */
 static void answer_pairs(sqlite3_context *context, const pairing *called, sqlite3_value *left, sqlite3_value *right) {
     hv_column columns[2] = {HV_EMPTY, HV_EMPTY}, out = HV_EMPTY;
@@ -64,7 +75,7 @@ static void answer_pairs(sqlite3_context *context, const pairing *called, sqlite
     if (sqlite3_value_type(left) == SQLITE_NULL || sqlite3_value_type(right) == SQLITE_NULL) return;
     bool done = sides_of(called->name, left, right, columns, &reason);
     if (done) {
-        const int32_t answer = columns_combine(&columns[0], called->operator_, &columns[1], &out, &error);
+        const int32_t answer = combined(called, left, right, columns, &out, &error);
         if (answer) reason = why(called, answer, &error, &columns[0], &columns[1]);
         done = !answer;
     }

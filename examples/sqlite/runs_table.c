@@ -34,10 +34,7 @@ static int32_t look(cursor *at, hv_error *error) {
         at->room = (size_t)error->first;
         answer = hv_run(&at->runs, at->run, &at->start, &at->stop, &found, at->text, at->room, error);
     }
-    at->value.kind = found.kind;
-    at->value.number = found.as_signed;
-    at->value.bytes = at->text;
-    at->value.len = (size_t)found.as_unsigned;
+    at->value = row_value_shown(&found, at->text);
     return answer;
 }
 

@@ -12,7 +12,7 @@ extern const sqlite3_api_routines *sqlite3_api; /* is in functions.c */
 /* "an integer", "a text" .. of the type of an SQL value */
 const char *type_in_words(int type);
 
-/* "integers", "texts" or "blobs" of the kind of a value, or of the type of a column */
+/* "integers", "real numbers", "texts" or "blobs" of the kind of a value, or of the type of a column */
 const char *kind_in_words(uint8_t kind);
 
 extern const char not_utf8[];
@@ -23,8 +23,14 @@ char *refusal(const char *function, int32_t answer, const hv_error *error);
 /* The column that a blob is; if it is none, false and the reason as with `refusal`, or null. */
 bool column_of(const char *function, sqlite3_value *value, hv_column *out, char **reason);
 
-/* The SQL value as a row of a column; false for a real number. */
-bool row_value_of(sqlite3_value *from, row_value *value);
+/* The SQL value as a row of a column. */
+row_value row_value_of(sqlite3_value *from);
+
+/* A row that the library shows, with its text; an unsigned number is a float by its bits. */
+row_value row_value_shown(const hv_value *found, const uint8_t *text);
+
+/* What real numbers are compared with, which is an integer or a real number. */
+float_question question_of_number(uint8_t operator_, sqlite3_value *number);
 
 void answer_value(sqlite3_context *context, const row_value *value);
 

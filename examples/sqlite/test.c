@@ -42,11 +42,13 @@ static void check_types(void) {
               "error: hv_column: row 0 is a text, and the column that is asked for holds integers");
     CHECK_SQL("SELECT hv_column(0.5, 'blob')",
               "error: hv_column: row 0 is a real number, and the column that is asked for holds blobs");
+    CHECK_SQL("SELECT hv_column(v, 'real') FROM (SELECT 0.5 AS v UNION ALL SELECT 2)",
+              "error: hv_column: row 1 is an integer, and the column that is asked for holds real numbers");
     CHECK_SQL("SELECT hv_column(v, CASE v WHEN 1 THEN 'integer' ELSE 'text' END) FROM (SELECT 1 AS v UNION ALL SELECT "
               "'x')",
               "error: hv_column: row 1 asks for texts, and the rows before it are integers");
-    CHECK_SQL("SELECT hv_column(1, 'real')", "error: hv_column: a type is one of 'integer', 'text' and 'blob'");
-    CHECK_SQL("SELECT hv_column(1, NULL)", "error: hv_column: a type is one of 'integer', 'text' and 'blob'");
+    CHECK_SQL("SELECT hv_column(1, 'double')", "error: hv_column: a type is one of 'integer', 'real', 'text' and 'blob'");
+    CHECK_SQL("SELECT hv_column(1, NULL)", "error: hv_column: a type is one of 'integer', 'real', 'text' and 'blob'");
     CHECK_SQL("SELECT hv_column(1, 'integer') OVER ()", "error: hv_column() may not be used as a window function");
 }
 
@@ -169,13 +171,13 @@ static void check_refusals(void) {
               "error: hv_concat: a column of texts after columns of integers");
     CHECK_SQL("SELECT hv_column(v) FROM (SELECT 1 AS v UNION ALL SELECT 'x')",
               "error: hv_column: row 1 is a text, and a column holds integers");
-    CHECK_SQL("SELECT hv_column(1.5)",
-              "error: hv_column: row 0 is a real number, and a column holds integers, texts or blobs");
+    CHECK_SQL("SELECT hv_column(v) FROM (SELECT 1 AS v UNION ALL SELECT 1.5)",
+              "error: hv_column: row 1 is a real number, and a column holds integers");
     CHECK_SQL("SELECT hv_column(CAST(x'C328' AS TEXT))", "error: hv_column: row 0 is a text that is not UTF-8");
     CHECK_SQL("SELECT hv_column(v) FROM (SELECT 'a' AS v UNION ALL SELECT 'a' UNION ALL SELECT NULL UNION ALL SELECT "
               "CAST(x'C328' AS TEXT) UNION ALL SELECT 'b')",
               "error: hv_column: row 3 is a text that is not UTF-8");
-    CHECK_SQL("SELECT hv_sum(c) FROM q", "error: hv_sum: only integers are added, and this is a column of texts");
+    CHECK_SQL("SELECT hv_sum(c) FROM q", "error: hv_sum: only numbers are added, and this is a column of texts");
     CHECK_SQL("SELECT hv_sum(hv_column(v)) FROM (SELECT 9223372036854775807 AS v UNION ALL SELECT 1)",
               "error: hv_sum: integer overflow with row 1");
     CHECK_SQL("SELECT hv_sum(hv_column(v)) FROM (SELECT -9223372036854775807 AS v UNION ALL SELECT NULL UNION ALL "
@@ -215,7 +217,7 @@ static void check_groups(void) {
     CHECK_SQL("SELECT count(*) FROM h, hv_groups(k, NULL)", "0");
     CHECK_SQL("SELECT * FROM h, hv_groups(k)", "error: hv_groups: two columns are asked for, hv_groups(keys, values)");
     CHECK_SQL("SELECT sum FROM h, hv_groups(v, k)",
-              "error: hv_groups: only integers are grouped, and this is a column of texts");
+              "error: hv_groups: only numbers are grouped, and this is a column of texts");
     CHECK_SQL("SELECT sum FROM h, hv_groups(k, hv_slice(v, 0, 2))", "error: hv_groups: a length of 6 next to one of 2");
     CHECK_SQL("SELECT sum FROM hv_groups(x'01', x'01')", "error: hv_groups: the blob is not a column");
     ask("CREATE TABLE l AS SELECT hv_column(k) AS k, hv_column(v) AS v FROM (SELECT 1 AS k, 5 AS v UNION ALL "
@@ -270,7 +272,7 @@ static void check_pairs(void) {
     CHECK_SQL("SELECT hv_compare(a, '~', b) FROM z", "error: hv_compare: an operator is one of = <> > >= < <=");
     CHECK_SQL("SELECT hv_compare(s, '<', CAST(x'C328' AS TEXT)) FROM z", "error: hv_compare: a text is not UTF-8");
     CHECK_SQL("SELECT hv_add(1, 2)", "error: hv_add: a column is a blob, and this is an integer");
-    CHECK_SQL("SELECT hv_add(a, 0.5) FROM z", "error: hv_add: a column is a blob, and this is a real number");
+    CHECK_SQL("SELECT hv_add(a, 0.5) FROM z", "error: hv_add: only integers are added, and this is a column of real numbers");
     CHECK_SQL("SELECT hv_multiply(x'01', 2)", "error: hv_multiply: the blob is not a column");
     CHECK_SQL("SELECT hv_add(hv_column(v), 2) FROM (SELECT 1 AS v UNION ALL SELECT 9223372036854775806)",
               "error: hv_add: integer overflow in row 1");

@@ -63,7 +63,8 @@ static void check_repeat(void) {
     CHECK_SQL("SELECT hv_repeat(v, -1) FROM t", "error: hv_repeat: a count of rows is not negative, and this is -1");
     CHECK_SQL("SELECT hv_repeat(v, NULL) FROM t", "error: hv_repeat: a count of rows is an integer, and this is NULL");
     CHECK_SQL("SELECT hv_repeat(v, 4611686018427387904) FROM t", "error: hv_repeat: a column of 2^63 rows or more");
-    CHECK_SQL("SELECT hv_repeat(0.5, 1)", "error: hv_repeat: a column of integers, texts or blobs takes no real number");
+    CHECK_SQL("SELECT hv_repeat(v, 1) FROM (SELECT 'a' AS v UNION ALL SELECT 0.5)",
+              "error: hv_repeat: a column of texts takes no real number");
     CHECK_SQL("SELECT hv_repeat(CAST(x'C328' AS TEXT), 1)", "error: hv_repeat: a text is not UTF-8");
     CHECK_SQL("SELECT hv_repeat(v, 1) FROM (SELECT 1 AS v UNION ALL SELECT 'a')",
               "error: hv_repeat: a column of integers takes no text");
@@ -92,7 +93,7 @@ static void check_sum_all(void) {
               "1");
     CHECK_SQL("SELECT hv_sum_all(up) FROM far", "error: hv_sum_all: integer overflow");
     CHECK_SQL("SELECT hv_sum_all(down) FROM far", "error: hv_sum_all: integer overflow");
-    CHECK_SQL("SELECT hv_sum_all(s) FROM p", "error: hv_sum_all: only integers are added, and this is a column of texts");
+    CHECK_SQL("SELECT hv_sum_all(s) FROM p", "error: hv_sum_all: only numbers are added, and this is a column of texts");
     CHECK_SQL("SELECT hv_sum_all(5)", "error: hv_sum_all: a column is a blob, and this is an integer");
     CHECK_SQL("SELECT hv_sum_all(x'01')", "error: hv_sum_all: the blob is not a column");
 }

@@ -1,0 +1,304 @@
+#include "float_columns.h"
+#include "hivevigil_helpers.h"
+#include <stdlib.h>
+#include <string.h>
+
+static const char line_start[] = "hivevigil type 1 ";
+
+uint8_t float_line_read(const uint8_t *bytes, size_t size) {
+    static const char letters[] = "efg";
+    static const uint8_t keys[] = {HV_I16, HV_I32, HV_I64};
+    const size_t start = sizeof line_start - 1;
+    if (size < FLOAT_LINE || memcmp(bytes, line_start, start) != 0 || bytes[start + 1] != '\n') return HV_LIST;
+    const char *letter = bytes[start] ? strchr(letters, bytes[start]) : NULL;
+    return letter ? keys[letter - letters] : HV_LIST;
+}
+
+void float_line_write(uint8_t number, uint8_t *bytes) {
+    memcpy(bytes, line_start, sizeof line_start - 1);
+    bytes[FLOAT_LINE - 2] = number == HV_U32 ? 'f' : 'g';
+    bytes[FLOAT_LINE - 1] = '\n';
+}
+
+uint64_t bits_of_float(double number) {
+    uint64_t bits;
+    memcpy(&bits, &number, sizeof bits);
+    return bits;
+}
+
+double float_of_bits(uint64_t bits) {
+    double number;
+    memcpy(&number, &bits, sizeof number);
+    return number;
+}
+
+/* ---- The values of runs, each made another ---- */
+
+typedef uint64_t convert(uint64_t bits);
+
+static int32_t read_words(const hv_column *values, uint64_t *words, size_t count, hv_error *error) {
+    const uint8_t number = hv_kind_of(values).number;
+    if (number == HV_U64) return hv_read_u64(values, 0, words, count, error);
+    uint32_t *narrow = calloc(count + 1, sizeof *narrow);
+    uint16_t *least = calloc(count + 1, sizeof *least);
+    int32_t answer = narrow && least ? HV_OK : HV_OUT_OF_MEMORY;
+    if (!answer && number == HV_U32) answer = hv_read_u32(values, 0, narrow, count, error);
+    if (!answer && number == HV_U16) answer = hv_read_u16(values, 0, least, count, error);
+    for (size_t i = 0; !answer && i < count; i++) words[i] = number == HV_U32 ? narrow[i] : least[i];
+    free(narrow), free(least);
+    return answer;
+}
+
+/* The flat words that a function makes of flat ones, as a column of u64, or of i64 where they are keys. */
+static int32_t converted_values(const hv_column *values, convert *by, bool to_keys, hv_column *out, hv_error *error) {
+    const size_t count = hv_length(values), bytes = (count + 63) / 64 * 8;
+    uint64_t *words = calloc(count + 1, sizeof *words), *valid = calloc(bytes + 8, 1);
+    int32_t answer = words && valid ? HV_OK : HV_OUT_OF_MEMORY;
+    if (!answer) answer = read_words(values, words, count, error);
+    if (!answer) answer = hv_read_validity(values, valid, bytes / 8, error);
+    for (size_t i = 0; !answer && i < count; i++) words[i] = by(words[i]);
+    const hv_validity validity = hv_valid_bits((const uint8_t *)valid, bytes, 0);
+    if (!answer && to_keys) answer = hv_i64((const int64_t *)words, count, validity, out, error);
+    else if (!answer) answer = hv_u64(words, count, validity, out, error);
+    free(words), free(valid);
+    return answer;
+}
+
+/* The same of the values of all runs; without a function they are keys, which become bits. */
+static int32_t converted(const hv_column *column, convert *by, bool to_keys, hv_column *out, hv_error *error) {
+    hv_column runs = HV_EMPTY, ends = HV_EMPTY, values = HV_EMPTY, flat = HV_EMPTY, made = HV_EMPTY;
+    hv_session session;
+    hv_session_initial(&session);
+    int32_t answer = hv_encode_rows(column, &runs, error);
+    if (!answer) answer = hv_ends(&runs, &ends, error);
+    if (!answer) answer = hv_values(&runs, &values, error);
+    if (!answer && !by) answer = hv_float_decode(&values, &made, error);
+    if (!answer && by) answer = hv_decode(&session, &values, &flat, error);
+    if (!answer && by) answer = converted_values(&flat, by, to_keys, &made, error);
+    if (!answer) answer = hv_runs(&ends, &made, hv_offset(&runs), hv_length(&runs), out, error);
+    hv_column *const all[] = {&runs, &ends, &values, &flat, &made};
+    for (size_t i = 0; i < sizeof all / sizeof *all; i++) hv_free(all[i]);
+    return answer;
+}
+
+/* A float with this many bits of exponent and of fraction as one of 64. */
+static uint64_t widened(uint64_t bits, int exponents, int fractions) {
+    const uint64_t sign = bits >> (exponents + fractions) << 63, most = ((uint64_t)1 << exponents) - 1;
+    uint64_t exponent = bits >> fractions & most, fraction = bits << (64 - fractions) >> 12;
+    if (exponent == most) return sign | (uint64_t)0x7FF << 52 | fraction;
+    if (exponent == 0 && fraction == 0) return sign;
+    const uint64_t bias = 1023 - (most >> 1);
+    if (exponent != 0) return sign | (exponent + bias) << 52 | fraction;
+    uint64_t places = 0; /* below the least number with a leading 1 */
+    for (; !(fraction >> 52); places++) fraction <<= 1;
+    return sign | (bias + 1 - places) << 52 | (fraction & (((uint64_t)1 << 52) - 1));
+}
+
+static uint64_t widened_16(uint64_t bits) { return widened(bits, 5, 10); }
+static uint64_t widened_32(uint64_t bits) { return widened(bits, 8, 23); }
+
+int32_t float_column_widened(const hv_column *column, hv_column *out, hv_error *error) {
+    return hv_kind_of(column).number == HV_U32 ? converted(column, widened_32, false, out, error)
+                                               : hv_clone(column, out, error);
+}
+
+int32_t float_column_read(const uint8_t *message, size_t size, uint8_t keys, hv_column *out, hv_error *error) {
+    hv_column column = HV_EMPTY, bits = HV_EMPTY;
+    int32_t answer = hv_read_column(message, size, &column, error);
+    if (!answer && hv_kind_of(&column).number != keys) answer = HV_BAD_METADATA;
+    if (!answer) answer = converted(&column, NULL, false, &bits, error);
+    if (!answer && keys == HV_I16) answer = converted(&bits, widened_16, false, out, error);
+    else if (!answer) hv_put(out, &bits);
+    hv_free(&column), hv_free(&bits);
+    return answer;
+}
+
+int32_t float_column_canonical(const hv_column *column, hv_column *out, hv_error *error) {
+    hv_column keys = HV_EMPTY;
+    int32_t answer = hv_float_encode(column, 1, &keys, error);
+    if (!answer) answer = converted(&keys, NULL, false, out, error);
+    hv_free(&keys);
+    return answer;
+}
+
+/* ---- Comparisons ---- */
+
+float_question float_question_of(uint8_t operator_, int64_t number) {
+    const double nearest = (double)number;
+    float_question asked = {nearest, operator_};
+    /* 2^63 is past all integers */
+    const bool above = nearest >= 0x1p63 || (int64_t)nearest > number;
+    if (!above && (int64_t)nearest == number) return asked;
+    if (operator_ == HV_EQ || operator_ == HV_NE) asked.number = float_of_bits((uint64_t)0x7FF8 << 48);
+    else if (operator_ == HV_GT || operator_ == HV_GE) asked.operator_ = above ? HV_GE : HV_GT;
+    else asked.operator_ = above ? HV_LT : HV_LE;
+    return asked;
+}
+
+int32_t float_mask(const hv_column *column, float_question asked, nan_order nans, hv_column *out, hv_error *error) {
+    hv_column wide = HV_EMPTY, keys = HV_EMPTY;
+    const bool sorted = nans == NAN_GREATEST;
+    uint64_t bits = bits_of_float(asked.number);
+    if (asked.number == 0) bits = 0;
+    if (asked.number != asked.number) bits = (uint64_t)0x7FF8 << 48;
+    int32_t answer = float_column_widened(column, &wide, error);
+    if (!answer) answer = hv_float_encode(&wide, sorted, &keys, error);
+    if (!answer) answer = hv_float_compare(&keys, asked.operator_, bits, !sorted, out, error);
+    hv_free(&wide), hv_free(&keys);
+    return answer;
+}
+
+/* The place of a number among all, one for both zeros, with each NaN above or below all. */
+static uint64_t place(uint64_t bits, int64_t of_nan) {
+    const uint64_t size = bits << 1 >> 1;
+    if (size > (uint64_t)0x7FF << 52) return (uint64_t)of_nan;
+    return bits >> 63 ? 0 - size : size;
+}
+
+static uint64_t place_above(uint64_t bits) { return place(bits, INT64_MAX); }
+static uint64_t place_below(uint64_t bits) { return place(bits, INT64_MIN); }
+
+/* Unordered NaNs are on that side of all other rows on which nothing holds but that they are unequal. */
+int32_t float_columns_mask(const hv_column *left, uint8_t operator_, const hv_column *right, nan_order nans,
+                           hv_column *out, hv_error *error) {
+    hv_column sides[2] = {HV_EMPTY, HV_EMPTY}, places[2] = {HV_EMPTY, HV_EMPTY};
+    const bool is_above = operator_ == HV_GT || operator_ == HV_GE, sorted = nans == NAN_GREATEST;
+    convert *const of_left = sorted || !is_above ? place_above : place_below;
+    convert *const of_right = sorted || is_above ? place_above : place_below;
+    int32_t answer = float_column_widened(left, &sides[0], error);
+    if (!answer) answer = float_column_widened(right, &sides[1], error);
+    if (!answer) answer = converted(&sides[0], of_left, true, &places[0], error);
+    if (!answer) answer = converted(&sides[1], of_right, true, &places[1], error);
+    if (!answer) answer = hv_combine(&places[0], operator_, &places[1], out, error);
+    for (int i = 0; i < 2; i++) hv_free(&sides[i]), hv_free(&places[i]);
+    return answer;
+}
+
+/* ---- Extremes and sums ---- */
+
+static bool is_nan_of(uint8_t keys, uint64_t bits) {
+    return keys == HV_I32 ? (bits & 0x7FFFFFFF) > 0x7F800000 : bits << 1 > (uint64_t)0x7FF << 53;
+}
+
+/* The same of keys. In the total order NaNs are outside of all numbers. */
+static int32_t extremes_of_keys(const hv_column *keys, nan_order nans, float_extremes *found, hv_error *error) {
+    const uint8_t number = hv_kind_of(keys).number;
+    uint8_t numbers = 0, rows = 0;
+    uint64_t first, last;
+    int32_t answer = hv_float_min_max(keys, 1, &numbers, &found->least, &found->greatest, error);
+    found->found = numbers;
+    if (answer || nans == NAN_UNORDERED) return answer;
+    answer = hv_float_min_max(keys, 0, &rows, &first, &last, error);
+    if (answer || !rows || (!is_nan_of(number, first) && !is_nan_of(number, last))) return answer;
+    found->greatest = is_nan_of(number, last) ? last : first;
+    if (!numbers) found->least = found->greatest;
+    found->found = true;
+    return answer;
+}
+
+int32_t float_column_extremes(const hv_column *column, nan_order nans, float_extremes *found, hv_error *error) {
+    hv_column keys = HV_EMPTY;
+    int32_t answer = hv_float_encode(column, 0, &keys, error);
+    if (!answer) answer = extremes_of_keys(&keys, nans, found, error);
+    hv_free(&keys);
+    return answer;
+}
+
+/* The keys of a sum, which are of 64 bits. */
+static int32_t wide_keys(const hv_column *column, hv_column *out, hv_error *error) {
+    hv_column wide = HV_EMPTY;
+    int32_t answer = float_column_widened(column, &wide, error);
+    if (!answer) answer = hv_float_encode(&wide, 0, out, error);
+    hv_free(&wide);
+    return answer;
+}
+
+/* Is a sum infinite, and no row? */
+static int32_t overflows(const hv_column *keys, uint64_t sum, bool *answer_is, hv_error *error) {
+    float_extremes found = {false, 0, 0};
+    int32_t answer = HV_OK;
+    *answer_is = sum << 1 == (uint64_t)0x7FF << 53;
+    if (*answer_is) answer = extremes_of_keys(keys, NAN_UNORDERED, &found, error);
+    if (found.least == sum || found.greatest == sum) *answer_is = false;
+    return answer;
+}
+
+static int32_t sum_of_keys(const hv_column *keys, nan_order nans, uint64_t *count, uint64_t *bits, hv_error *error) {
+    bool is_past = false;
+    int32_t answer = hv_float_sum(keys, count, bits, error);
+    if (!answer && nans == NAN_GREATEST) answer = overflows(keys, *bits, &is_past, error);
+    return !answer && is_past ? HV_CAST_OUT_OF_RANGE : answer;
+}
+
+int32_t float_column_sum(const hv_column *column, nan_order nans, uint64_t *count, uint64_t *bits, hv_error *error) {
+    hv_column keys = HV_EMPTY;
+    int32_t answer = wide_keys(column, &keys, error);
+    if (!answer) answer = sum_of_keys(&keys, nans, count, bits, error);
+    hv_free(&keys);
+    return answer;
+}
+
+/* ---- Groups ---- */
+
+/* What a fold answers of the floats of one group; false where all are null. */
+static int32_t fold_group(const hv_column *keys, uint8_t fold, nan_order nans, bool *valid, uint64_t *bits,
+                          hv_error *error) {
+    float_extremes found = {false, 0, 0};
+    uint64_t count = 0;
+    int32_t answer;
+    if (fold == HV_FOLD_SUM) {
+        answer = sum_of_keys(keys, nans, &count, bits, error);
+        *valid = count > 0;
+    } else {
+        answer = extremes_of_keys(keys, nans, &found, error);
+        *valid = found.found;
+        *bits = fold == HV_FOLD_LEAST ? found.least : found.greatest;
+    }
+    return answer;
+}
+
+/* The answers of groups of as many rows as `rows` says, in the width of the keys. */
+static int32_t fold_groups(const hv_column *keys, const uint64_t *rows, size_t count, uint8_t fold, nan_order nans,
+                           hv_column *out, hv_error *error) {
+    const size_t bytes = (count + 7) / 8;
+    uint64_t *wide = calloc(count + 1, sizeof *wide);
+    uint32_t *narrow = calloc(count + 1, sizeof *narrow);
+    uint8_t *valid = calloc(bytes + 1, 1);
+    hv_session session;
+    hv_session_initial(&session);
+    int32_t answer = wide && narrow && valid ? HV_OK : HV_OUT_OF_MEMORY;
+    for (size_t group = 0, start = 0; !answer && group < count; start += rows[group], group++) {
+        hv_column part = HV_EMPTY;
+        bool is_valid = false;
+        answer = hv_slice(&session, keys, start, start + rows[group], &part, error);
+        if (!answer) answer = fold_group(&part, fold, nans, &is_valid, &wide[group], error);
+        if (answer == HV_CAST_OUT_OF_RANGE) error->first = group;
+        if (!answer && is_valid) valid[group / 8] |= (uint8_t)(1 << group % 8);
+        narrow[group] = (uint32_t)wide[group];
+        hv_free(&part);
+    }
+    const hv_validity validity = hv_valid_bits(valid, bytes, 0);
+    if (!answer && hv_kind_of(keys).number == HV_I32) answer = hv_u32(narrow, count, validity, out, error);
+    else if (!answer) answer = hv_u64(wide, count, validity, out, error);
+    free(wide), free(narrow), free(valid);
+    return answer;
+}
+
+int32_t column_fold_by(const hv_column *keys, const hv_column *values, uint8_t fold, nan_order nans,
+                       hv_column *out_keys, hv_column *out_answers, hv_error *error) {
+    const bool is_number = fold == HV_FOLD_SUM || fold == HV_FOLD_LEAST || fold == HV_FOLD_GREATEST;
+    if (!is_float_type(hv_kind_of(values).number) || !is_number)
+        return hv_fold_by(keys, values, fold, out_keys, out_answers, error);
+    hv_column counts = HV_EMPTY, floats = HV_EMPTY;
+    uint64_t *rows = NULL;
+    int32_t answer = hv_fold_by(keys, values, HV_FOLD_ROWS, out_keys, &counts, error);
+    const size_t count = answer ? 0 : hv_length(&counts);
+    if (!answer) answer = fold == HV_FOLD_SUM ? wide_keys(values, &floats, error)
+                                              : hv_float_encode(values, 0, &floats, error);
+    if (!answer) rows = calloc(count + 1, sizeof *rows);
+    if (!answer) answer = rows ? hv_read_u64(&counts, 0, rows, count, error) : HV_OUT_OF_MEMORY;
+    if (!answer) answer = fold_groups(&floats, rows, count, fold, nans, out_answers, error);
+    free(rows);
+    hv_free(&counts), hv_free(&floats);
+    return answer;
+}
