@@ -176,7 +176,7 @@ databases() {
         echo "SQLite's extension is loaded"
     fi
     [ -e "$work/root/usr/lib/postgresql" ] || return 0
-    for file in hivevigil.so hivevigil.control 'hivevigil--*.sql'; do
+    for file in hivevigil.so hivevigil.control hivevigil--1.0.sql hivevigil--1.0--1.1.sql; do
         [ "$(find "$work/root" -name "$file" | wc -l)" = 1 ] || fail "no $file in PostgreSQL's package"
     done
     bin=$(pg_config --bindir 2>/dev/null) || bin=

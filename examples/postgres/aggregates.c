@@ -51,6 +51,22 @@ row_value hv_number_of(FunctionCallInfo fcinfo, int at) {
     return value;
 }
 
+row_value hv_integer_of(FunctionCallInfo fcinfo, int at) {
+    row_value value = {HV_NULL, 0, NULL, 0};
+    if (PG_ARGISNULL(at)) return value;
+    value.kind = HV_SIGNED;
+    value.number = PG_GETARG_INT32(at);
+    return value;
+}
+
+row_value hv_smallint_of(FunctionCallInfo fcinfo, int at) {
+    row_value value = {HV_NULL, 0, NULL, 0};
+    if (PG_ARGISNULL(at)) return value;
+    value.kind = HV_SIGNED;
+    value.number = PG_GETARG_INT16(at);
+    return value;
+}
+
 row_value hv_text_or_null(const char *function, FunctionCallInfo fcinfo, int at) {
     const row_value null = {HV_NULL, 0, NULL, 0};
     return PG_ARGISNULL(at) ? null : hv_value_of_text(function, PG_GETARG_TEXT_PP(at));
@@ -61,13 +77,24 @@ HV_FUNCTION(pg_hv_step_number) {
     return hv_added(fcinfo, "hv_column", &value, 1);
 }
 
+/* The narrower integers would be taken for floats otherwise: PostgreSQL prefers double precision to bigint. */
+HV_FUNCTION(pg_hv_step_integer) {
+    const row_value value = hv_integer_of(fcinfo, 1);
+    return hv_added(fcinfo, "hv_column", &value, 1);
+}
+
+HV_FUNCTION(pg_hv_step_smallint) {
+    const row_value value = hv_smallint_of(fcinfo, 1);
+    return hv_added(fcinfo, "hv_column", &value, 1);
+}
+
 HV_FUNCTION(pg_hv_step_text) {
     const row_value value = hv_text_or_null("hv_column", fcinfo, 1);
     return hv_added(fcinfo, "hv_column", &value, 1);
 }
 
 static const char *words_of_rows(const row_builder *rows) {
-    return rows->kind == HV_TEXT ? "texts" : rows->kind == HV_BYTES ? "bytes" : "numbers";
+    return hv_words_of((hv_kind){type_of_rows(rows->kind), 1, 0, 0});
 }
 
 /* Adds the rows of a column's bytes. */

@@ -6,8 +6,7 @@
 #include "utils/numeric.h"
 #include "wide_sum.h"
 
-/* A count of rows, which is an argument. */
-static uint64_t count_of(const char *function, FunctionCallInfo fcinfo, int at) {
+uint64_t hv_count_of(const char *function, FunctionCallInfo fcinfo, int at) {
     if (PG_ARGISNULL(at))
         ereport(ERROR, (errcode(ERRCODE_NULL_VALUE_NOT_ALLOWED), errmsg("%s: a count of rows is not null", function)));
     const int64 count = PG_GETARG_INT64(at);
@@ -17,8 +16,8 @@ static uint64_t count_of(const char *function, FunctionCallInfo fcinfo, int at) 
     return (uint64_t)count;
 }
 
-static Datum appended(FunctionCallInfo fcinfo, const row_value *value) {
-    const uint64_t count = count_of("hv_append", fcinfo, 2);
+Datum hv_appended(FunctionCallInfo fcinfo, const row_value *value) {
+    const uint64_t count = hv_count_of("hv_append", fcinfo, 2);
     hv_error error = {0, 0, 0};
     hv_column column = HV_EMPTY, runs = HV_EMPTY;
     hv_column_of("hv_append", PG_GETARG_BYTEA_PP(0), &column);
@@ -36,25 +35,35 @@ static Datum appended(FunctionCallInfo fcinfo, const row_value *value) {
 HV_FUNCTION(pg_hv_append_number) {
     const row_value value = hv_number_of(fcinfo, 1);
     if (PG_ARGISNULL(0)) PG_RETURN_NULL();
-    return appended(fcinfo, &value);
+    return hv_appended(fcinfo, &value);
 }
 
 HV_FUNCTION(pg_hv_append_text) {
     if (PG_ARGISNULL(0)) PG_RETURN_NULL();
     const row_value value = hv_text_or_null("hv_append", fcinfo, 1);
-    return appended(fcinfo, &value);
+    return hv_appended(fcinfo, &value);
 }
 
 /* ---- Values and how often each comes: a run in each step, in the memory of the aggregate ---- */
 
 HV_FUNCTION(pg_hv_step_numbers) {
     const row_value value = hv_number_of(fcinfo, 1);
-    return hv_added(fcinfo, "hv_repeat", &value, count_of("hv_repeat", fcinfo, 2));
+    return hv_added(fcinfo, "hv_repeat", &value, hv_count_of("hv_repeat", fcinfo, 2));
 }
 
 HV_FUNCTION(pg_hv_step_texts) {
     const row_value value = hv_text_or_null("hv_repeat", fcinfo, 1);
-    return hv_added(fcinfo, "hv_repeat", &value, count_of("hv_repeat", fcinfo, 2));
+    return hv_added(fcinfo, "hv_repeat", &value, hv_count_of("hv_repeat", fcinfo, 2));
+}
+
+HV_FUNCTION(pg_hv_step_integers) {
+    const row_value value = hv_integer_of(fcinfo, 1);
+    return hv_added(fcinfo, "hv_repeat", &value, hv_count_of("hv_repeat", fcinfo, 2));
+}
+
+HV_FUNCTION(pg_hv_step_smallints) {
+    const row_value value = hv_smallint_of(fcinfo, 1);
+    return hv_added(fcinfo, "hv_repeat", &value, hv_count_of("hv_repeat", fcinfo, 2));
 }
 
 /* ---- Sums ---- */

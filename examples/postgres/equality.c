@@ -1,4 +1,5 @@
-/* Columns are equal where their rows are, null equal to null. Rows of one type have one encoding, so that columns which
+/* Columns are equal where their rows are, null equal to null, and floats as PostgreSQL has them: 0.0 equals -0.0, and a
+ * NaN equals every NaN. Rows of one type have one encoding, so that columns which
  * these functions made are compared only by their bytes; what another program wrote is encoded first. */
 #include "pg_column.h"
 
@@ -6,9 +7,14 @@
 
 /* The only encoding of the rows, as bytes. */
 static bytea *encoded(const char *function, bytea *bytes) {
-    hv_column column = HV_EMPTY;
+    hv_error error = {0, 0, 0};
+    hv_column column = HV_EMPTY, one_of_each = HV_EMPTY;
     hv_column_of(function, bytes, &column);
-    return hv_bytes_of_column(function, &column);
+    if (!is_float_type(hv_kind_of(&column).number)) return hv_bytes_of_column(function, &column);
+    const int32_t answer = float_column_canonical(&column, &one_of_each, &error);
+    hv_free(&column);
+    hv_raise(function, answer, &error);
+    return hv_bytes_of_column(function, &one_of_each);
 }
 
 static bool same_bytes(const bytea *left, const bytea *right) {

@@ -24,6 +24,7 @@ static int error_code(int32_t answer) {
 }
 
 const char *hv_words_of(hv_kind kind) {
+    if (is_float_type(kind.number)) return kind.number == HV_U32 ? "real" : "double precision";
     return kind.number == HV_UTF8 ? "texts" : kind.number == HV_BINARY ? "bytes" : "numbers";
 }
 
@@ -50,10 +51,6 @@ void hv_column_of(const char *function, bytea *bytes, hv_column *out) {
     if (!answer && hv_length(out) > PG_INT64_MAX) {
         hv_free(out);
         answer = HV_WINDOW_OVERFLOW;
-    }
-    if (!answer && is_float_type(hv_kind_of(out).number)) {
-        hv_free(out);
-        answer = HV_BAD_METADATA;
     }
     hv_raise(function, answer, &error);
 }
@@ -107,7 +104,12 @@ row_value hv_value_of_text(const char *function, text *value) {
 static bytea *checked(bytea *bytes) {
     hv_column column = HV_EMPTY;
     hv_column_of("hvcolumn", bytes, &column);
+    const hv_kind kind = hv_kind_of(&column);
     hv_free(&column);
+    if (is_float_type(kind.number))
+        ereport(ERROR, (errcode(ERRCODE_DATATYPE_MISMATCH),
+                        errmsg("hvcolumn: this is a column of %s, which has the type %s", hv_words_of(kind),
+                               kind.number == HV_U32 ? "hvfloat4" : "hvfloat8")));
     return bytes;
 }
 
@@ -144,6 +146,23 @@ HV_FUNCTION(pg_hv_count) {
     hv_free(&column);
     hv_raise("hv_count", answer, &error);
     PG_RETURN_INT64((int64)rows);
+}
+
+/* What its rows are in SQL; null where each is null. */
+HV_FUNCTION(pg_hv_type) {
+    hv_error error = {0, 0, 0};
+    hv_column column = HV_EMPTY;
+    uint8_t is_null = 0;
+    hv_column_of("hv_type", PG_GETARG_BYTEA_PP(0), &column);
+    const hv_kind kind = hv_kind_of(&column);
+    const int32_t answer = column_is_null_alone(&column, &is_null, &error);
+    hv_free(&column);
+    hv_raise("hv_type", answer, &error);
+    if (is_null) PG_RETURN_NULL();
+    PG_RETURN_TEXT_P(cstring_to_text(is_float_type(kind.number) ? hv_words_of(kind)
+                                     : kind.number == HV_UTF8   ? "text"
+                                     : kind.number == HV_BINARY ? "bytea"
+                                                                : "bigint"));
 }
 
 HV_FUNCTION(pg_hv_sum) {
@@ -229,6 +248,19 @@ static Datum words(const char *function, FunctionCallInfo fcinfo, place at) {
     PG_RETURN_TEXT_P(hv_text_of(function, found.bytes, found.value.as_unsigned));
 }
 
+static Datum real(const char *function, FunctionCallInfo fcinfo, place at, uint8_t kind) {
+    shown found;
+    show(function, fcinfo, at, &found);
+    if (found.value.kind == HV_NULL) PG_RETURN_NULL();
+    return hv_float_datum(kind, found.value.as_unsigned);
+}
+
+HV_FUNCTION(pg_hv_at_float4) { return real("hv_at", fcinfo, ROW, ROW_FLOAT32); }
+HV_FUNCTION(pg_hv_at_float8) { return real("hv_at", fcinfo, ROW, ROW_FLOAT64); }
+HV_FUNCTION(pg_hv_first_float4) { return real("hv_first", fcinfo, FIRST, ROW_FLOAT32); }
+HV_FUNCTION(pg_hv_first_float8) { return real("hv_first", fcinfo, FIRST, ROW_FLOAT64); }
+HV_FUNCTION(pg_hv_last_float4) { return real("hv_last", fcinfo, LAST, ROW_FLOAT32); }
+HV_FUNCTION(pg_hv_last_float8) { return real("hv_last", fcinfo, LAST, ROW_FLOAT64); }
 HV_FUNCTION(pg_hv_min) { return number("hv_min", fcinfo, LEAST); }
 HV_FUNCTION(pg_hv_max) { return number("hv_max", fcinfo, GREATEST); }
 HV_FUNCTION(pg_hv_at) { return number("hv_at", fcinfo, ROW); }
@@ -257,14 +289,13 @@ HV_FUNCTION(pg_hv_slice) {
     PG_RETURN_BYTEA_P(hv_bytes_of_column("hv_slice", &part));
 }
 
-/* The number of an operator, whose label the enum has. */
-static uint8_t operator_of(Datum label) {
+uint8_t hv_operator_of(Datum label) {
     return operator_number(DatumGetCString(DirectFunctionCall1(enum_out, label)));
 }
 
 /* The rows of which `row operator value` holds. */
 static Datum filtered(FunctionCallInfo fcinfo, const row_value *value) {
-    const uint8_t operator_ = PG_ARGISNULL(1) ? NO_OPERATOR : operator_of(PG_GETARG_DATUM(1));
+    const uint8_t operator_ = PG_ARGISNULL(1) ? NO_OPERATOR : hv_operator_of(PG_GETARG_DATUM(1));
     hv_error error = {0, 0, 0};
     hv_column column = HV_EMPTY, left = HV_EMPTY;
     if (operator_ == NO_OPERATOR)

@@ -39,13 +39,16 @@ static int32_t fold(const question *asked, held_groups *held, const hv_column *k
                     hv_error *error) {
     int32_t answer = HV_OK;
     for (int i = 0; !answer && i < asked->count; i++)
-        answer = hv_fold_by(keys, values, asked->folds[i], &held->columns[0], &held->columns[1 + i], error);
+        answer = column_fold_by(keys, values, asked->folds[i], NAN_GREATEST, &held->columns[0], &held->columns[1 + i],
+                                error);
     return answer;
 }
 
 static void raise(const char *function, int32_t answer, const hv_error *error, hv_kind values) {
     if (answer == HV_CAST_OUT_OF_RANGE)
-        ereport(ERROR, (errcode(ERRCODE_NUMERIC_VALUE_OUT_OF_RANGE), errmsg("%s: bigint out of range", function),
+        ereport(ERROR, (errcode(ERRCODE_NUMERIC_VALUE_OUT_OF_RANGE),
+                        errmsg("%s: %s out of range", function,
+                               is_float_type(values.number) ? "double precision" : "bigint"),
                         errdetail("The sum of group " UINT64_FORMAT " leaves the range.", (uint64)error->first)));
     if (answer == HV_UNSUPPORTED)
         ereport(ERROR, (errcode(ERRCODE_DATATYPE_MISMATCH),
@@ -75,8 +78,14 @@ static void begin(const question *asked, FunctionCallInfo fcinfo) {
     calls->max_calls = hv_length(&held->columns[0]);
 }
 
-static Datum shown(const char *function, const hv_value *value, const uint8_t *text, uint8_t kind) {
-    if (value->kind == HV_UNSIGNED) return Int64GetDatum((int64)value->as_unsigned);
+/* An answer: a count, a number, or a float of this type. */
+static Datum shown_answer(const hv_value *value, uint8_t fold, uint8_t type) {
+    if (fold == HV_FOLD_ROWS || fold == HV_FOLD_COUNT) return Int64GetDatum((int64)value->as_unsigned);
+    return is_float_type(type) ? hv_float_datum(kind_of_rows(type), value->as_unsigned)
+                               : Int64GetDatum(value->as_signed);
+}
+
+static Datum shown_key(const char *function, const hv_value *value, const uint8_t *text, uint8_t kind) {
     if (value->kind != kind)
         ereport(ERROR, (errcode(ERRCODE_DATATYPE_MISMATCH),
                         errmsg("%s: keys are not a column of %s", function, kind == HV_TEXT ? "texts" : "numbers")));
@@ -103,7 +112,9 @@ static Datum next(const question *asked, FunctionCallInfo fcinfo) {
         }
         hv_raise(asked->name, answer, &error);
         nulls[i] = value.kind == HV_NULL;
-        row[i] = nulls[i] ? (Datum)0 : shown(asked->name, &value, text, i ? HV_SIGNED : asked->key);
+        if (nulls[i]) row[i] = (Datum)0;
+        else if (i) row[i] = shown_answer(&value, asked->folds[i - 1], hv_kind_of(&held->columns[i]).number);
+        else row[i] = shown_key(asked->name, &value, text, asked->key);
     }
     SRF_RETURN_NEXT(calls, HeapTupleGetDatum(heap_form_tuple(calls->tuple_desc, row, nulls)));
 }

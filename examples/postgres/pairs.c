@@ -3,7 +3,6 @@
 
 #include "column_pairs.h"
 #include "hivevigil_helpers.h"
-#include "utils/builtins.h"
 
 /* What a function does to two columns; `done` is a word of its refusals, null for a comparison. */
 typedef struct pairing {
@@ -94,7 +93,7 @@ HV_FUNCTION(pg_hv_or) { return of_columns(&to_or, PG_GETARG_DATUM(0), PG_GETARG_
 
 /* The comparison by an operator, whose label the enum has. */
 static pairing comparison(Datum label) {
-    return (pairing){"hv_compare", operator_number(DatumGetCString(DirectFunctionCall1(enum_out, label))), NULL};
+    return (pairing){"hv_compare", hv_operator_of(label), NULL};
 }
 
 HV_FUNCTION(pg_hv_compare) {

@@ -17,7 +17,7 @@
     PG_FUNCTION_INFO_V1(name);                                                                                         \
     Datum name(PG_FUNCTION_ARGS)
 
-/* "numbers", "texts" or "bytes": what a column of this type holds. */
+/* "numbers", "texts", "bytes", "real" or "double precision": what a column of this type holds. */
 const char *hv_words_of(hv_kind kind);
 
 /* Raises this refusal, in a sentence after the function's name; returns where there is none. */
@@ -25,6 +25,16 @@ void hv_raise(const char *function, int32_t answer, const hv_error *error);
 
 /* The column of an argument, or the error that it is none. */
 void hv_column_of(const char *function, bytea *bytes, hv_column *out);
+
+/* The same of an hvfloat4 or an hvfloat8, of which one of only null may have been written as numbers. */
+void hv_floats_of(const char *function, bytea *bytes, hv_column *out);
+
+/* A float of this kind, ROW_FLOAT32 or ROW_FLOAT64, by its bits, as what SQL has; and the other way. */
+Datum hv_float_datum(uint8_t kind, uint64_t bits);
+row_value hv_float_value(uint8_t kind, Datum number);
+
+/* The number of an operator, whose label the enum has. */
+uint8_t hv_operator_of(Datum label);
 
 /* The bytes of a column, or of an encoding, as PostgreSQL's, or the error; the column is freed. */
 bytea *hv_bytes_of_column(const char *function, hv_column *column);
@@ -36,12 +46,20 @@ text *hv_text_of(const char *function, const uint8_t *bytes, size_t len);
 /* A text of PostgreSQL's, which has to be UTF-8, as a row of a column. */
 row_value hv_value_of_text(const char *function, text *value);
 
-/* An argument that is a bigint or null, and one that is a text or null, as a row of a column. */
+/* An argument that is a bigint or null, an integer of another width or null, a text or null, as a row of a column. */
 row_value hv_number_of(FunctionCallInfo fcinfo, int at);
+row_value hv_integer_of(FunctionCallInfo fcinfo, int at);
+row_value hv_smallint_of(FunctionCallInfo fcinfo, int at);
 row_value hv_text_or_null(const char *function, FunctionCallInfo fcinfo, int at);
 
 /* Adds `count` rows of a value to the rows of an aggregate, which are answered; its name is for a refusal. */
 Datum hv_added(FunctionCallInfo fcinfo, const char *function, const row_value *value, uint64_t count);
+
+/* A count of rows, which is an argument. */
+uint64_t hv_count_of(const char *function, FunctionCallInfo fcinfo, int at);
+
+/* The column of an argument with `count` rows of a value after it. */
+Datum hv_appended(FunctionCallInfo fcinfo, const row_value *value);
 
 /* Raises that a row leaves the range of bigint. */
 void hv_raise_range(const char *function, uint64_t row);

@@ -41,6 +41,7 @@ static void begin(const char *function, FunctionCallInfo fcinfo) {
 }
 
 static Datum shown(const char *function, const hv_value *value, const uint8_t *text, uint8_t kind) {
+    if (kind == ROW_FLOAT32 || kind == ROW_FLOAT64) return hv_float_datum(kind, value->as_unsigned);
     if (value->kind != kind)
         ereport(ERROR, (errcode(ERRCODE_DATATYPE_MISMATCH),
                         errmsg("%s: this is not a column of %s", function, kind == HV_TEXT ? "texts" : "numbers")));
@@ -72,3 +73,5 @@ static Datum next(const char *function, FunctionCallInfo fcinfo, uint8_t kind) {
 
 HV_FUNCTION(pg_hv_runs_numbers) { return next("hv_runs", fcinfo, HV_SIGNED); }
 HV_FUNCTION(pg_hv_runs_texts) { return next("hv_text_runs", fcinfo, HV_TEXT); }
+HV_FUNCTION(pg_hv_runs_float4) { return next("hv_runs", fcinfo, ROW_FLOAT32); }
+HV_FUNCTION(pg_hv_runs_float8) { return next("hv_runs", fcinfo, ROW_FLOAT64); }

@@ -72,12 +72,21 @@ ask() { ask_of one -d postgres "$@"; }
 scripts=$work/build/examples/postgres
 # a database that was dumped and restored answers as it did
 restored() {
-    answers="SELECT c::text FROM p UNION ALL SELECT c::text FROM q UNION ALL SELECT hv_sum(c)::text FROM p"
+    answers="SELECT c::text FROM p UNION ALL SELECT c::text FROM q UNION ALL SELECT hv_sum(c)::text FROM p UNION ALL
+        SELECT c::text || d::text FROM fp"
     ask -c "CREATE DATABASE restored"
     $as "$bin/pg_dump" -h "$work/one/socket" -U tester postgres >"$work/dump" || fail "no dump"
     ask_of one -d restored <"$work/dump" >"$work/log" 2>&1 || fail "not restored: $(cat "$work/log")"
     ask -At -c "$answers" >"$work/before"
     ask_of one -At -d restored -c "$answers" | cmp - "$work/before" >&2 || fail "a column is another after it was restored"
+}
+# a database that has the version before keeps its columns, and gets the new types
+updated() {
+    ask -c "CREATE DATABASE updated"
+    found=$(ask_of one -d updated -At -c "CREATE EXTENSION hivevigil VERSION '1.0'" \
+        -c "CREATE TABLE kept AS SELECT hv_column(g) AS c FROM generate_series(1, 4) g" \
+        -c "ALTER EXTENSION hivevigil UPDATE" -c "SELECT hv_sum(c), pg_typeof(hv_column(0.5)) FROM kept GROUP BY c")
+    [ "$found" = "10|hvfloat8" ] || fail "an update of the extension leaves $found"
 }
 # sharded SENSORS DAYS [STAMPS]: a year of sensors, and then the same over two servers, with answers compared
 sharded() {
@@ -100,8 +109,10 @@ figures.sql) ask ${count:+-v "count=$count"} -At -f "$scripts/figures.sql" ;;
     ask -f "$scripts/same.sql"
     ask ${count:+-v "count=$count"} -v "folder=$work/one/socket" -At -f "$scripts/test.sql"
     ask -At -f "$scripts/test_steps.sql"
+    ask -v "folder=$work/one/socket" -At -f "$scripts/test_floats.sql"
     sharded 5 12 10000 >"$work/sensors"
     tail -n 1 "$work/sensors"
     restored
+    updated
     ;;
 esac

@@ -16,7 +16,8 @@ SELECT same('SELECT hv_rows(c), hv_count(c), hv_sum(c), hv_min(c), hv_max(c) FRO
     same('SELECT r.* FROM p, hv_runs(c) r', 'VALUES (0, 3, 4), (3, 5, NULL), (5, 6, 9), (6, 8, -1)'),
     same('SELECT r.* FROM p, hv_runs(hv_filter(c, ''>'', 0)) r', 'VALUES (0, 3, 4), (3, 4, 9)'),
     same('SELECT r.* FROM p, hv_runs(hv_slice(c, 2, 6)) r', 'VALUES (0, 1, 4), (1, 3, NULL), (3, 4, 9)'),
-    same('SELECT hv_rows(hv_filter(c, ''='', NULL::bigint)), hv_filter(NULL, ''='', 1), hv_sum(NULL) FROM p',
+    same('SELECT hv_rows(hv_filter(c, ''='', NULL::bigint)), hv_filter(NULL::hvcolumn, ''='', 1), hv_sum(NULL)
+          FROM p',
          'SELECT 0, NULL, NULL'),
     same('SELECT hv_rows(hv_column(v)), hv_sum(hv_column(v)) FROM t WHERE false', 'SELECT 0, NULL'),
     same('SELECT hv_rows(hv_concat(c)), hv_sum(hv_concat(c)) FROM (SELECT c FROM p UNION ALL SELECT NULL UNION ALL
