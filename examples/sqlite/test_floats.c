@@ -390,6 +390,41 @@ static void check_sums(const row *rows, size_t count) {
     check_float(asked("SELECT hv_sum_all(?1)", rows, count), "hv_sum_all", !valid, bits_of(sum));
 }
 
+/* Sums by hand: of one column, and of columns of a row each. */
+static void check_few_sums(void) {
+    static const struct {
+        uint64_t rows[4];
+        size_t count;
+        uint64_t sum;
+    } sums[] = {
+        {{0x8000000000000000, 0x8000000000000000}, 2, 0x8000000000000000},                     /* only -0.0 */
+        {{0x8000000000000000, 0x0000000000000000}, 2, 0x0000000000000000},
+        {{0x3FF8000000000000, 0xBFF8000000000000}, 2, 0x0000000000000000},                     /* 1.5 and -1.5 */
+        {{0x4340000000000000, 0x3FF0000000000000}, 2, 0x4340000000000000},                     /* 2^53 + 1, a tie */
+        {{0x4340000000000001, 0x3FF0000000000000}, 2, 0x4340000000000002},                     /* 2^53 + 3, a tie */
+        {{0x4340000000000000, 0x3FF0000000000000, 1}, 3, 0x4340000000000001},                  /* past the tie */
+        {{0xC340000000000001, 0xBFF0000000000000}, 2, 0xC340000000000002},
+        {{0x433FFFFFFFFFFFFF, 0x3FE0000000000000}, 2, 0x4340000000000000},                     /* to the next power */
+        {{0x7FEFFFFFFFFFFFFF, 0x7FEFFFFFFFFFFFFF, 0xFFEFFFFFFFFFFFFF}, 3, 0x7FEFFFFFFFFFFFFF},
+        {{0x7FEFFFFFFFFFFFFF, 0x7C90000000000000}, 2, 0x7FF0000000000000},                     /* half a place past */
+        {{0x7FEFFFFFFFFFFFFF, 0x7C8FFFFFFFFFFFFF}, 2, 0x7FEFFFFFFFFFFFFF},
+        {{0xFFEFFFFFFFFFFFFF, 0xFFEFFFFFFFFFFFFF}, 2, 0xFFF0000000000000},
+        {{0x000FFFFFFFFFFFFF, 1}, 2, 0x0010000000000000},                                      /* least normal */
+        {{0x0010000000000000, 0x800FFFFFFFFFFFFF}, 2, 1},
+        {{0x7FF0000000000000, 0xFFEFFFFFFFFFFFFF}, 2, 0x7FF0000000000000},
+        {{0x7FF0000000000000, 0xFFF0000000000000}, 2, 0x7FF8000000000000},                     /* NULL */
+        {{0x3FF0000000000000, 0xFFF8000000000001}, 2, 0x7FF8000000000000},
+    };
+    for (size_t i = 0; i < COUNT(sums); i++) {
+        row rows[4] = {{false, 0}};
+        for (size_t at = 0; at < sums[i].count; at++) rows[at].bits = sums[i].rows[at];
+        check_float(asked("SELECT hv_sum(?1)", rows, sums[i].count), "hv_sum", false, sums[i].sum);
+        check_float(asked("WITH RECURSIVE n(i) AS (SELECT hv_rows(?1) - 1 UNION ALL SELECT i - 1 FROM n WHERE i > 0) "
+                          "SELECT hv_sum_all(hv_slice(?1, i, i + 1)) FROM n", rows, sums[i].count),
+                    "hv_sum_all", false, sums[i].sum);
+    }
+}
+
 /* Sums of any rows: of columns by parts, in another order, as of the whole column, which the library adds. */
 static void check_wild_sums(const row *rows, size_t count) {
     sqlite3_stmt *statement = asked("SELECT typeof(hv_sum(?1)), hv_sum(?1)", rows, count);
@@ -438,6 +473,7 @@ int main(int count, char **words) {
     check_rows();
     check_refusals();
     check_bytes();
+    check_few_sums();
     ask("CREATE TABLE r(v)");
     for (size_t table = 0; table < tables; table++) {
         const bool wild = table % 3 > 0;
