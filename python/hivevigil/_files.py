@@ -23,18 +23,23 @@ def load(kind: type[Column], path: Any) -> Column:
     name = name_of(path)
     with open(name, "rb") as file:
         message = file.read()
-    logical, start = None, 0
-    if message.startswith(_HEAD):  # a message begins otherwise
-        line = message[: message.find(b"\n")]
-        logical, start = LogicalType.of_format(line[len(_HEAD) :].decode(errors="replace")), len(line) + 1
     try:
-        column = kind.from_bytes(message[start:])
-        if start and (logical is None or logical.storage != column.type.rstrip("?")):
-            raise BadMetadata()
-        return column._meaning(logical)
+        return of_bytes(kind, message)
     except BadMetadata as refused:
         hint = ": Table.load reads the file of a table" if message.startswith(b"\x0a\x09hivevigil") else ""
         raise refused.saying(f"load: {name}, of {len(message):,} bytes, is not a file that save wrote{hint}") from None
+
+
+def of_bytes(kind: type[Column], data: bytes) -> Column:
+    """The column of a message, with or without the line of its type, which no message begins with."""
+    if not data.startswith(_HEAD):
+        return kind._of_message(data)
+    line = data[: data.find(b"\n")]
+    logical = LogicalType.of_format(line[len(_HEAD) :].decode(errors="replace"))
+    column = kind._of_message(data[len(line) + 1 :])
+    if logical is None or logical.storage != column.type.rstrip("?"):
+        raise BadMetadata().saying("from_bytes: the line of the type is not that of such a column")
+    return column._meaning(logical)
 
 
 def save(column: Column, path: Any) -> None:

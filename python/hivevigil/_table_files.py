@@ -206,7 +206,7 @@ def _entry(data: bytes, start: int) -> _Entry:
 
 def _column_of(message: bytes) -> Column:
     try:
-        return Column.from_bytes(message)
+        return Column._of_message(message)
     except BadMetadata:
         raise Damaged from None
 

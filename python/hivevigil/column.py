@@ -212,9 +212,13 @@ class Column(_comparing.Comparisons, _pairs.Pairs):
 
     @classmethod
     def from_bytes(cls, message: bytes) -> Column:
-        """The column that `to_bytes` wrote, in the form that it had. `BadMetadata` for other bytes."""
-        data = bytes(_making.view_of(message))  # of a number bytes() would make as many bytes
-        return cls._made(calls.hv_read_column, data or b"\0", len(data))
+        """The column that `to_bytes` wrote, in the form that it had. A line before it, as `save` and the extensions of
+        databases write it, says the logical type. `BadMetadata` for other bytes."""
+        return _files.of_bytes(cls, bytes(_making.view_of(message)))  # of a number bytes() would make as many bytes
+
+    @classmethod
+    def _of_message(cls, message: bytes) -> Column:
+        return cls._made(calls.hv_read_column, message or b"\0", len(message))
 
     @staticmethod
     def is_message(message: bytes) -> bool:

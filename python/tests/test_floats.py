@@ -404,3 +404,12 @@ def test_rows_by_their_runs():
         assert column.equals(floats) and not column.equals(floats.storage())
     with pytest.raises(TypeMismatch, match="where: float64 and i64 are two types"):
         floats.where([True] * 6, floats.storage())
+
+
+def test_bytes_of_databases():
+    """The column of 1.5, 1.5, null and 0.0 as SQLite and PostgreSQL have it: test_floats.c and test_floats.sql of both."""
+    message = "08011008180220044000480152030201015A27080110081801200328043201053A18000000000000F83F" + 32 * "0"
+    data = b"hivevigil type 1 g\n" + bytes.fromhex(message)
+    column = Column.from_bytes(data)
+    assert (str(column.logical_type), column.to_list()) == ("float64", [1.5, 1.5, None, 0.0])
+    assert data == b"hivevigil type 1 g\n" + Column.of([1.5, 1.5, None, 0.0]).to_runs().to_bytes()

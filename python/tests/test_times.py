@@ -496,6 +496,8 @@ def test_files_keep_the_type(tmp_path_factory, sample):
     assert (made.logical_type, made.to_list(), made.form) == (column.logical_type, rows, column.form)
     assert path.read_bytes().startswith(b"hivevigil type 1 " + column.logical_type.format.encode() + b"\n")
     assert Column.from_bytes(column.to_bytes()).to_list() == column.storage().to_list()
+    again = Column.from_bytes(path.read_bytes())
+    assert (again.logical_type, again.to_list(), again.form) == (column.logical_type, rows, column.form)
 
 
 @pytest.mark.parametrize("head", [
@@ -506,6 +508,10 @@ def test_damaged_files_are_refused(tmp_path, head):
     (tmp_path / "bad").write_bytes(head + Column.of([1]).to_bytes())
     with pytest.raises(BadMetadata, match="is not a file that save wrote"):
         Column.load(tmp_path / "bad")
+    with pytest.raises(BadMetadata, match="^from_bytes: the (bytes are not what|line of the type is not that of)"):
+        Column.from_bytes(head + Column.of([1]).to_bytes())
+    with pytest.raises(BadMetadata, match="^from_bytes: the bytes are not what to_bytes writes$"):
+        Column.from_bytes(2 * b"hivevigil type 1 tsu:\n" + Column.of([1]).to_bytes())
 
 
 def test_constants_and_windows():
