@@ -9,7 +9,7 @@ from typing import Any, Optional
 
 from . import (
     _arrow, _casting, _comparing, _copying, _files, _float_columns, _floats, _indexing, _lists, _making, _pairs,
-    _questions, _reading, _rows, _runs, _showing, _times,
+    _questions, _reading, _rows, _runs, _showing, _sorting, _times,
 )
 from ._library import Handle, Kind, ask, calls, session
 from ._runs import Run
@@ -338,6 +338,13 @@ class Column(_comparing.Comparisons, _pairs.Pairs):
         """Each row as the one that is this number of rows before it (after it, where the number is negative), and null
         where there is none."""
         return _rows.shifted(self, rows)
+
+    def sort(self, descending: bool = False, nulls: str = "first") -> Column:
+        """The rows in order, in runs: the runs are sorted, and equal ones joined, so that there is one for each value.
+        Nulls come 'first' or 'last' in either order; texts are ordered by their bytes, floats by their total order: NaN
+        is above infinity, and -0.0 below 0.0."""
+        (flag,) = _sorting.flags_of(descending, 1)
+        return _sorting.sorted_rows(self, flag, _sorting.is_first(nulls))
 
     def diff(self, rows: int = 1) -> Column:
         """Each row minus the one that is this number of rows before it, null where there is none or either is null.

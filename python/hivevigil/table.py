@@ -4,7 +4,7 @@ from __future__ import annotations
 from collections.abc import Callable, Iterable, Iterator, Mapping
 from typing import TYPE_CHECKING, Any, Optional
 
-from . import _arrow, _files, _indexing, _table_files, _table_making, _table_showing
+from . import _arrow, _files, _indexing, _sorting, _table_files, _table_making, _table_showing
 from ._table_files import TableFooter
 from ._table_making import about, checked_name, refuse_twice
 from ._values import Scalar, is_whole, row_of, size_of
@@ -206,6 +206,19 @@ class Table(Mapping[str, Column]):
     def slice(self, start: int, stop: int) -> Table:
         """The rows from `start` to `stop` - 1, all of which have to exist; `table[start:stop]` cuts as Python does."""
         return self._each(lambda column: column.slice(start, stop))
+
+    def sort(self, by: Any, descending: Any = False, nulls: str = "first") -> Table:
+        """The rows in order by the column of a name, or by several, of which the first counts most; rows that are equal
+        in all of them stay in their order. `descending` is one flag for all, or a list of one for each. Nulls come
+        'first' or 'last' in either order. Texts are ordered by their bytes, floats by their total order: NaN is above
+        infinity, and -0.0 below 0.0. The order is found over the runs of the columns that are named together."""
+        names = _sorting.names_of(by)
+        flags, nulls_first = _sorting.flags_of(descending, len(names)), _sorting.is_first(nulls)
+        keys = [self._column(name) for name in names]
+        for name, column in zip(names, keys):
+            with about(name):
+                _sorting.refuse_lists(column)
+        return self._each(_sorting.ordered(keys, flags, nulls_first).of)
 
     def append(self, *tables: Table) -> Table:
         """The rows of this table, then those of others, which have columns of the same names, types and logical types;

@@ -33,6 +33,8 @@ builder.append_value(3, count=2)
 
 table: Table = Table({"level": column, "place": ["a"] * 2}, {"level": "tdm"})
 some: Table = table.filter_by("level", ">", 3).append(table.take([0])).select("place")
+in_order: Table = table.sort(["place", "level"], [True, False], nulls="last")
+sorted_rows: Column = column.sort(descending=True)
 groups: Table = table.group_by("place").agg(most=("level", "max"))
 lists: dict[str, list[Row]] = table.to_dict()
 table.save("file")
