@@ -9,7 +9,7 @@ from dataclasses import dataclass, field
 from decimal import Decimal
 from typing import Any, BinaryIO, Optional
 
-from . import _files
+from . import _differences, _files
 from ._making import decimals_of, flat_of, validity_of, view_of
 from ._protobuf import Damaged, Fields, number_field, sized_field, sized_head
 from ._table_making import about, meant, refuse_twice
@@ -18,15 +18,17 @@ from ._values import Scalar
 from .column import Column
 from .errors import BadMetadata, NoName, in_words
 
-HEAD = sized_field(1, b"hivevigil") + number_field(2, 1)
+# by the version: 2 where a column is kept as differences, which earlier readers refuse
+_HEADS = {version: sized_field(1, b"hivevigil") + number_field(2, version) for version in (1, 2)}
+_HEAD_SIZE = len(_HEADS[1])
 _COLUMN, _FOOTER, _FOOTER_SIZE = 3, 4, bytes([5 * 8 + 1])
 _TAIL = len(_FOOTER_SIZE) + 8  # bytes at the end, which say how many the footer has
 
 
 @dataclass(frozen=True, eq=False)
 class ColumnFooter:
-    """What the footer of a file says of a column: `nbytes` is the size of its message. Lists have neither
-    nulls, nor runs, nor bounds in it."""
+    """What the footer of a file says of a column: `nbytes` is the size of its message, which has differences where
+    `form` says in which form the column comes back. Lists have neither nulls, nor runs, nor bounds in it."""
 
     name: str
     logical_type: Optional[str]
@@ -35,6 +37,8 @@ class ColumnFooter:
     runs: Optional[int] = None
     # the least and the greatest row that are not null; no row where all are null
     bounds: Optional[Column] = field(default=None, repr=False)
+    # 'flat' or 'runs' of a column that is kept as differences
+    form: Optional[str] = None
 
     @property
     def type(self) -> Optional[str]:
@@ -82,28 +86,43 @@ class TableFooter:
 # ---- What is written
 
 
-def parts(columns: Mapping[str, Column], rows: int, logical: Mapping[str, str]) -> Iterator[bytes]:
-    """The bytes of a table, a column at a time."""
-    yield HEAD
+def parts(
+    columns: Mapping[str, Column], rows: int, logical: Mapping[str, str], differences: bool = False
+) -> Iterator[bytes]:
+    """The bytes of a table, a column at a time: in version 2 where some are kept as differences, as they may be."""
+    kept = _kept_as_differences(columns) if differences else {}
+    yield _HEADS[2 if kept else 1]
     footer = number_field(1, rows)
     for name, column in columns.items():
         with about(name):
-            message = column.to_bytes()
-            footer += sized_field(2, _column_footer(name, column, logical.get(name, ""), len(message)))
+            form, message = kept[name] if name in kept else (0, column.to_bytes())
+            known = _column_footer(name, column, logical.get(name, ""), len(message), form if kept else None)
+            footer += sized_field(2, known)
         yield sized_field(_COLUMN, message)
     yield sized_field(_FOOTER, footer) + _FOOTER_SIZE + len(footer).to_bytes(8, "little")
 
 
-def _column_footer(name: str, column: Column, logical_type: str, size: int) -> bytes:
+def _kept_as_differences(columns: Mapping[str, Column]) -> dict[str, _differences.Written]:
+    """The columns that are shorter as differences."""
+    found = {}
+    for name, column in columns.items():
+        with about(name):
+            kept = _differences.written(column)
+        if kept is not None:
+            found[name] = kept
+    return found
+
+
+def _column_footer(name: str, column: Column, logical_type: str, size: int, form: Optional[int]) -> bytes:
+    """What a footer says of a column; `form` only in version 2."""
     footer = sized_field(1, name.encode()) + sized_field(2, logical_type.encode()) + number_field(3, size)
     if column.type.startswith("list"):
         return footer
     runs = column.storage().to_runs()
     least, greatest = runs.min_max()
     bounds = _bounds(column, [] if least is None else [least, greatest])
-    return footer + number_field(4, runs.null_count) + number_field(5, runs.run_count()) + (
-        sized_field(6, bounds.to_bytes())
-    )
+    footer += number_field(4, runs.null_count) + number_field(5, runs.run_count())
+    return footer + sized_field(6, bounds.to_bytes()) + (b"" if form is None else number_field(7, form))
 
 
 def _bounds(column: Column, rows: list[Any]) -> Column:
@@ -126,11 +145,13 @@ def _stored(row: Decimal) -> int:
 
 @dataclass(frozen=True, eq=False)
 class _Entry:
-    """A column of a file: what its footer says, the bytes of this, and where its field begins."""
+    """A column of a file: what its footer says, the bytes of this, where its field begins, and the number of the form
+    of one that is kept as differences, else 0."""
 
     footer: ColumnFooter
     data: bytes
     start: int
+    form: int = 0
 
     @property
     def head(self) -> bytes:
@@ -142,21 +163,28 @@ class TableFile:
 
     def __init__(self, file: BinaryIO) -> None:
         self._file, self.size = file, file.seek(0, os.SEEK_END)
-        if self.size < len(HEAD) + _TAIL or self._read(0, len(HEAD)) != HEAD:
-            raise Damaged
+        self._version = self._version_of_head()
         footer, end = self._footer()
         fields = Fields(footer)
         self.rows = fields.number(1)
         self.entries: dict[str, _Entry] = {}
-        start = len(HEAD)
+        start = _HEAD_SIZE
         while not fields.is_at_end:
-            entry = _entry(fields.content(2), start)
+            entry = _entry(fields.content(2), start, self._version)
             if entry.footer.name in self.entries:
                 raise Damaged
             self.entries[entry.footer.name] = entry
             start += len(entry.head) + entry.footer.nbytes
-        if start != end:
+        if start != end or self._version != (2 if any(entry.form for entry in self.entries.values()) else 1):
             raise Damaged
+
+    def _version_of_head(self) -> int:
+        if self.size >= _HEAD_SIZE + _TAIL:
+            found = self._read(0, _HEAD_SIZE)
+            for version, head in _HEADS.items():
+                if found == head:
+                    return version
+        raise Damaged
 
     def _read(self, start: int, count: int) -> bytes:
         self._file.seek(start)
@@ -171,7 +199,7 @@ class TableFile:
         size = int.from_bytes(tail[len(_FOOTER_SIZE) :], "little")
         head = sized_head(_FOOTER, size)
         start = self.size - _TAIL - size - len(head)
-        if not tail.startswith(_FOOTER_SIZE) or start < len(HEAD) or self._read(start, len(head)) != head:
+        if not tail.startswith(_FOOTER_SIZE) or start < _HEAD_SIZE or self._read(start, len(head)) != head:
             raise Damaged
         return self._read(start + len(head), size), start
 
@@ -185,23 +213,35 @@ class TableFile:
         data = self._read(entry.start, len(entry.head) + entry.footer.nbytes)
         if not data.startswith(entry.head):
             raise Damaged
-        column = _column_of(data[len(entry.head) :])
-        known = _column_footer(name, column, entry.footer.logical_type or "", entry.footer.nbytes)
+        column = _column_of_entry(entry, data[len(entry.head) :])
+        form = entry.form if self._version == 2 else None
+        known = _column_footer(name, column, entry.footer.logical_type or "", entry.footer.nbytes, form)
         if column._length != self.rows or known != entry.data:
             raise Damaged
         return column
 
 
-def _entry(data: bytes, start: int) -> _Entry:
+def _entry(data: bytes, start: int, version: int) -> _Entry:
     fields = Fields(data)
     name, logical_type, size = fields.text(1), fields.text(2), fields.number(3)
     if fields.is_at_end:
         return _Entry(ColumnFooter(name, logical_type or None, size), data, start)
     nulls, runs, bounds = fields.number(4), fields.number(5), _column_of(fields.content(6))
+    form = fields.number(7) if version == 2 else 0
     if not fields.is_at_end or bounds.form != "flat" or bounds._length not in (0, 2) or bounds.null_count:
         raise Damaged
-    footer = ColumnFooter(name, logical_type or None, size, nulls, runs, meant(bounds, logical_type or None))
-    return _Entry(footer, data, start)
+    if form >= len(_differences.FORMS):
+        raise Damaged
+    known = nulls, runs, meant(bounds, logical_type or None), _differences.FORMS[form] or None
+    return _Entry(ColumnFooter(name, logical_type or None, size, *known), data, start, form)
+
+
+def _column_of_entry(entry: _Entry, message: bytes) -> Column:
+    """The column of an entry by its message."""
+    bounds = entry.footer.bounds
+    if not entry.form or bounds is None:
+        return _column_of(message)
+    return _differences.read(_column_of(message), message, bounds._kind, entry.form)
 
 
 def _column_of(message: bytes) -> Column:

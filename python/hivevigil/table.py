@@ -294,15 +294,17 @@ class Table(Mapping[str, Column]):
 
     # ---- Other forms ----
 
-    def to_bytes(self) -> bytes:
-        """The table as bytes: a message of the Protocol Buffers encoding by docs/table.proto. A column of more than 16
-        levels of runs is refused, as `Unsupported`."""
-        return b"".join(_table_files.parts(self._columns, self._rows, self._logical))
+    def to_bytes(self, differences: bool = False) -> bytes:
+        """The table as bytes: a message of the Protocol Buffers encoding by docs/table.proto. With `differences` a
+        column of integers or times is kept as those of its rows where that is shorter, as for times at regular steps:
+        the bytes are then of version 2, which readers of version 1 refuse. A column of more than 16 levels of runs is
+        refused, as `Unsupported`."""
+        return b"".join(_table_files.parts(self._columns, self._rows, self._logical, differences))
 
-    def save(self, path: Any) -> None:
+    def save(self, path: Any, differences: bool = False) -> None:
         """Writes the bytes of `to_bytes` to a file, a column at a time, which `load` reads. A file of this name is
         replaced at once when all is written, and stays as it was where that fails."""
-        _files.write(path, _table_files.parts(self._columns, self._rows, self._logical))
+        _files.write(path, _table_files.parts(self._columns, self._rows, self._logical, differences))
 
     def to_dict(self) -> dict[str, list[Scalar]]:
         """The rows of each column as a list of Python's values, by name."""

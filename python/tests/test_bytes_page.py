@@ -1,7 +1,7 @@
 """The examples of docs/BYTES.md, byte by byte: what the page writes is read as the rows that it names, and written
 again as these bytes."""
 import re
-from datetime import date
+from datetime import date, datetime, timezone
 from decimal import Decimal
 from pathlib import Path
 
@@ -55,8 +55,16 @@ def test_an_example_is_read_and_written(at):
 
 
 def test_the_example_of_a_table():
-    (message,) = messages("## Tables", "## Versions")
+    message, _ = messages("## Tables", "## Versions")
     table = Table.from_bytes(message)
     assert table.to_dict() == {"day": [date(1970, 1, 8), date(1970, 1, 8), None], "place": ["ab", "ab", "ab"]} and len(message) == 164
     assert table.types == {"day": "i32?", "place": "utf8"} and table.logical_types == {"day": "tdD"}
     assert table.to_bytes() == message
+
+
+def test_the_example_of_differences():
+    _, message = messages("## Tables", "## Versions")
+    table = Table.from_bytes(message)
+    times = [datetime.fromtimestamp(at, timezone.utc) for at in range(100, 401, 60)]
+    assert table.to_dict() == {"at": times} and table.types == {"at": "i64"} and table["at"].form == "flat"
+    assert table.to_bytes(differences=True) == message and (len(message), len(table.to_bytes())) == (127, 139)
