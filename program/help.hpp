@@ -35,6 +35,10 @@ Options:
   --from ROW         from this row on, counted from 0
   --runs             prints runs
   --where CONDITION  asks only the rows that meet it; several times: all of them
+  --sort NAME,NAME   rows of a table in order by these columns, the first first;
+                     a minus in front of a name: in descending order
+  --differences      keeps a table's columns of integers as differences from row
+                     to row, each where that is shorter, as for times
   --help             prints this
   --version          prints the version
 

@@ -5,6 +5,7 @@
 #include "failure.hpp"
 #include "help.hpp"
 #include "questions.hpp"
+#include "sorting.hpp"
 #include "table_file.hpp"
 #include "table_questions.hpp"
 #include "values.hpp"
@@ -47,6 +48,7 @@ static Arguments arguments_of(int count, char **given) {
         {"type", required_argument, nullptr, 0},   {"separator", required_argument, nullptr, 0},
         {"rows", required_argument, nullptr, 0},   {"from", required_argument, nullptr, 0},
         {"runs", no_argument, nullptr, 0},         {"where", required_argument, nullptr, 0},
+        {"differences", no_argument, nullptr, 0},  {"sort", required_argument, nullptr, 0},
         {"help", no_argument, nullptr, 0},         {"version", no_argument, nullptr, 0},
         {nullptr, 0, nullptr, 0}};
     Arguments arguments;
@@ -144,15 +146,41 @@ static void report(const Arguments &arguments) {
     std::printf("%s bytes flat, %s in runs\n", with_commas(all_flat).c_str(), with_commas(all_in_runs).c_str());
 }
 
+static std::vector<std::string> names_of(const Table &table) {
+    std::vector<std::string> names;
+    for (const NamedColumn &named : table.columns) names.push_back(named.name);
+    return names;
+}
+
+// What --sort asks for: nothing where it is not given.
+static std::vector<SortKey> asked_keys(const Arguments &arguments, const std::vector<std::string> &names) {
+    const std::optional<std::string> asked = arguments.value("sort");
+    try {
+        return asked ? sort_keys(*asked, names) : std::vector<SortKey>();
+    } catch (const Failure &error) {
+        throw Failure(arguments.words[1] + ": " + error.what());
+    }
+}
+
+// The rows in the order that --sort asks for.
+static Table in_order(const Arguments &arguments, Table table) {
+    const std::vector<SortKey> keys = asked_keys(arguments, names_of(table));
+    return keys.empty() ? std::move(table) : sorted_table(std::move(table), keys);
+}
+
 static void convert(const Arguments &arguments) {
-    take(arguments, 2, {"column", "to", "type", "separator"});
+    take(arguments, 2, {"column", "to", "type", "separator", "differences", "sort"});
     const std::string to = arguments.needed("to");
-    if (arguments.has("type") && !arguments.has("column")) throw BadUsage("--type takes --column too");
+    const bool is_one = arguments.has("column");
+    if (arguments.has("type") && !is_one) throw BadUsage("--type takes --column too");
+    for (const char *option : {"differences", "sort"})
+        if (arguments.has(option) && is_one)
+            throw BadUsage("--" + std::string(option) + " is of a table, and --column keeps a column");
     std::vector<CsvColumn> found = read_csv(csv_options(arguments));
-    if (arguments.has("column")) return save_column(found[0].runs, to);
+    if (is_one) return save_column(found[0].runs, to);
     Table table{found.empty() ? 0 : found[0].runs.size(), {}};
     for (CsvColumn &column : found) table.columns.push_back({column.name, "", std::move(column.runs)});
-    save_table(table, to);
+    save_table(in_order(arguments, std::move(table)), to, arguments.has("differences"));
 }
 
 // The column that is asked for: that of the file, or of --column of a table.
@@ -171,10 +199,10 @@ static std::pair<size_t, size_t> asked_rows(const Arguments &arguments, size_t r
 
 static void show_table(const Arguments &arguments, const StoredFile &file) {
     if (arguments.has("runs")) throw BadUsage("--runs of a table takes --column too");
-    const Table table = load_table(file);
+    Table table = load_table(file);
     if (arguments.has("rows")) {
         const auto [start, stop] = asked_rows(arguments, table.rows);
-        return print_table_rows(table, start, stop);
+        return print_table_rows(in_order(arguments, std::move(table)), start, stop);
     }
     size_t in_memory = 0;
     for (const NamedColumn &named : table.columns) in_memory += named.column.bytes_used();
@@ -185,13 +213,15 @@ static void show_table(const Arguments &arguments, const StoredFile &file) {
 }
 
 static void show(const Arguments &arguments) {
-    take(arguments, 2, {"column", "rows", "from", "runs"});
+    take(arguments, 2, {"column", "rows", "from", "runs", "sort"});
     const bool rows = arguments.has("rows"), runs = arguments.has("runs");
     if (rows && runs) throw BadUsage("show takes --rows or --runs, not both");
-    if (arguments.has("from") && !rows) throw BadUsage("--from takes --rows too");
+    for (const char *option : {"from", "sort"})
+        if (arguments.has(option) && !rows) throw BadUsage("--" + std::string(option) + " takes --rows too");
     if (rows) asked_rows(arguments, 0);
     const StoredFile file(arguments.words[1]);
     if (is_table(file) && !arguments.has("column")) return show_table(arguments, file);
+    if (arguments.has("sort")) throw BadUsage("--sort is of the rows of a table, and this is one column");
     const NamedColumn named = asked_column(arguments, file);
     const Column &column = named.column;
     if (runs) return print_runs(column);
@@ -225,9 +255,10 @@ static void query_table(const Arguments &arguments, const StoredFile &file, cons
     for (const std::string &text : texts) conditions.push_back(named_condition(text, names));
     std::vector<std::string> wanted = is_one || !filters ? std::vector{arguments.needed("column")} : names;
     for (const NamedCondition &asked : conditions) wanted.push_back(asked.name);
-    const Table rows = table_where(load_table(file, wanted), conditions);
+    for (const SortKey &key : asked_keys(arguments, names)) wanted.push_back(key.name);
+    const Table rows = in_order(arguments, table_where(load_table(file, wanted), conditions));
     if (is_one) answer(arguments, column_of_table(rows, wanted[0]).column);
-    else if (arguments.has("to")) save_table(rows, *arguments.value("to"));
+    else if (arguments.has("to")) save_table(rows, *arguments.value("to"), arguments.has("differences"));
     else print_table_rows(rows, 0, rows.rows);
 }
 
@@ -237,8 +268,10 @@ static void query(const Arguments &arguments) {
     if (question != "sum" && question != "min" && question != "max" && question != "count" && !filters)
         throw BadUsage("query takes a file and one of sum, min, max, count, filter");
     std::vector<std::string> options = {"column", "where"}, texts;
-    if (filters) options.push_back("to");
+    if (filters) options.insert(options.end(), {"to", "differences", "sort"});
     take(arguments, filters ? 4 : 3, options);
+    if (arguments.has("differences") && (!arguments.has("to") || arguments.has("column")))
+        throw BadUsage("--differences takes --to, and is of a table");
     if (filters) texts.push_back(arguments.words[3]);
     if (arguments.has("where"))
         texts.insert(texts.end(), arguments.options.at("where").begin(), arguments.options.at("where").end());
@@ -246,6 +279,9 @@ static void query(const Arguments &arguments) {
         if (!has_operator(text)) condition_of_text(text);
     const StoredFile file(arguments.words[1]);
     if (is_table(file)) return query_table(arguments, file, texts);
+    for (const char *option : {"differences", "sort"})
+        if (arguments.has(option))
+            throw Failure(file.path() + " is not the file of a table, which --" + option + " is of");
     std::vector<Condition> conditions;
     for (const std::string &text : texts) conditions.push_back(condition_of_text(text));
     answer(arguments, rows_where(asked_column(arguments, file).column, conditions));

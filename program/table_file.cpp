@@ -1,4 +1,5 @@
 #include "table_file.hpp"
+#include "differences.hpp"
 #include "failure.hpp"
 #include "questions.hpp"
 #include "values.hpp"
@@ -87,12 +88,14 @@ private:
 
 // ---- What the footer says of a column ----
 
-static const Bytes head = [] {
+// By the version: 2 where a column is kept as differences, which readers of version 1 refuse.
+static Bytes head_of(uint64_t version) {
     Bytes bytes;
     put_sized(bytes, 1, bytes_of("hivevigil"));
-    put_number(bytes, 2, 1);
+    put_number(bytes, 2, version);
     return bytes;
-}();
+}
+static const size_t head_bytes = head_of(1).size();
 enum Field : unsigned { column_field = 3, footer_field = 4, footer_size_field = 5 };
 static constexpr size_t tail_bytes = 9;
 static constexpr uint8_t tail_key = footer_size_field * 8 + 1;
@@ -155,7 +158,8 @@ static Bytes message_of_rows(const std::vector<Value> &rows, hv_kind kind) {
     return message;
 }
 
-static Bytes footer_of(const NamedColumn &named, size_t message_bytes) {
+// What a footer says of a column; of how it is kept only in version 2.
+static Bytes footer_of(const NamedColumn &named, size_t message_bytes, std::optional<KeptForm> kept) {
     Bytes footer;
     put_sized(footer, 1, bytes_of(named.name));
     put_sized(footer, 2, bytes_of(named.logical_type));
@@ -169,18 +173,25 @@ static Bytes footer_of(const NamedColumn &named, size_t message_bytes) {
     put_number(footer, 4, runs.size() - count_valid(runs));
     put_number(footer, 5, runs.runs().size());
     put_sized(footer, 6, message_of_rows(bounds, kind));
+    if (kept) put_number(footer, 7, *kept);
     return footer;
 }
 
 // ---- Written ----
 
-void save_table(const Table &table, const std::string &path) {
-    Bytes bytes = head, footer;
+void save_table(const Table &table, const std::string &path, bool in_differences) {
+    std::vector<std::optional<KeptColumn>> kept;
+    for (const NamedColumn &named : table.columns)
+        kept.push_back(in_differences ? as_differences(named.column) : std::nullopt);
+    const bool is_any = std::any_of(kept.begin(), kept.end(), [](const auto &column) { return column.has_value(); });
+    Bytes bytes = head_of(is_any ? 2 : 1), footer;
     put_number(footer, 1, table.rows);
-    for (const NamedColumn &named : table.columns) {
-        const Bytes message = named.column.to_bytes();
-        put_sized(bytes, column_field, message);
-        put_sized(footer, 2, footer_of(named, message.size()));
+    for (size_t at = 0; at < kept.size(); at++) {
+        const NamedColumn &named = table.columns[at];
+        const KeptColumn column = kept[at] ? std::move(*kept[at]) : KeptColumn{kept_rows, named.column.to_bytes()};
+        put_sized(bytes, column_field, column.message);
+        put_sized(footer, 2,
+                  footer_of(named, column.message.size(), is_any ? std::optional(column.form) : std::nullopt));
     }
     put_sized(bytes, footer_field, footer);
     bytes.push_back(tail_key);
@@ -194,6 +205,8 @@ void save_table(const Table &table, const std::string &path) {
 struct Entry {
     std::string name, logical_type;
     size_t start, size; // of its field, and of its message
+    hv_kind kind{};     // of a column that is kept as differences
+    std::optional<KeptForm> kept; // in version 2
     Bytes footer;
 };
 
@@ -219,41 +232,54 @@ static Column column_of(const Bytes &message) {
     }
 }
 
-static Entry entry_of(Bytes footer, size_t start) {
+static Entry entry_of(Bytes footer, size_t start, uint64_t version) {
     Fields fields(footer);
-    Entry entry{fields.text(1), fields.text(2), start, fields.number(3), {}};
+    Entry entry{fields.text(1), fields.text(2), start, fields.number(3), {}, std::nullopt, {}};
     if (!fields.is_at_end()) {
         fields.number(4), fields.number(5);
         const Column bounds = column_of(fields.content(6));
+        const uint64_t kept = version == 2 ? fields.number(7) : 0;
         const bool is_pair = bounds.size() == 2 && count_valid(bounds) == 2;
         if (!fields.is_at_end() || bounds.form() != hv::Form::flat || !(bounds.empty() || is_pair)) throw Damaged();
+        if (kept > kept_runs) throw Damaged();
+        entry.kind = bounds.kind();
+        if (version == 2) entry.kept = static_cast<KeptForm>(kept);
     }
     entry.footer = std::move(footer);
     return entry;
 }
 
+static uint64_t version_of(const StoredFile &file) {
+    const Bytes found = file.read(0, head_bytes);
+    for (uint64_t version : {1, 2})
+        if (file.size() >= head_bytes + tail_bytes && found == head_of(version)) return version;
+    throw Damaged();
+}
+
 // The footer of a file, and where its field begins.
 static std::pair<Bytes, size_t> footer_of_file(const StoredFile &file) {
-    if (file.size() < head.size() + tail_bytes || file.read(0, head.size()) != head) throw Damaged();
     const size_t end = file.size() - tail_bytes;
     const Bytes tail = file.read(end, tail_bytes);
     uint64_t size = 0;
     if (tail.size() != tail_bytes || tail[0] != tail_key) throw Damaged();
     for (size_t byte = 1; byte < tail_bytes; byte++) size |= static_cast<uint64_t>(tail[byte]) << (8 * (byte - 1));
     const Bytes front = head_of_sized(footer_field, size);
-    if (size > end - head.size() || front.size() > end - head.size() - size) throw Damaged();
+    if (size > end - head_bytes || front.size() > end - head_bytes - size) throw Damaged();
     const size_t start = end - size - front.size();
     if (file.read(start, front.size()) != front) throw Damaged();
     return {file.read(start + front.size(), size), start};
 }
 
+static bool is_in_differences(const Entry &entry) { return entry.kept.value_or(kept_rows) != kept_rows; }
+
 static Contents contents_of(const StoredFile &file) {
+    const uint64_t version = version_of(file);
     const auto [footer, end] = footer_of_file(file);
     Fields fields(footer);
     Contents found{fields.number(1), {}};
-    size_t start = head.size();
+    size_t start = head_bytes;
     while (!fields.is_at_end()) {
-        found.entries.push_back(entry_of(fields.content(2), start));
+        found.entries.push_back(entry_of(fields.content(2), start, version));
         const Entry &entry = found.entries.back();
         if (entry.size > end - start) throw Damaged();
         start += head_of_sized(column_field, entry.size).size() + entry.size;
@@ -263,6 +289,7 @@ static Contents contents_of(const StoredFile &file) {
     for (const Entry &entry : found.entries) names.push_back(entry.name);
     std::sort(names.begin(), names.end());
     if (start != end || std::adjacent_find(names.begin(), names.end()) != names.end()) throw Damaged();
+    if (std::any_of(found.entries.begin(), found.entries.end(), is_in_differences) != (version == 2)) throw Damaged();
     return found;
 }
 
@@ -271,7 +298,14 @@ static NamedColumn column_of_entry(const StoredFile &file, const Entry &entry, s
     if (file.read(entry.start, front.size()) != front) throw Damaged();
     const Bytes message = file.read(entry.start + front.size(), entry.size);
     NamedColumn named{entry.name, entry.logical_type, column_of(message), entry.size};
-    if (named.column.size() != rows || footer_of(named, entry.size) != entry.footer) throw Damaged();
+    if (is_in_differences(entry)) {
+        std::optional<Column> found = column_of_differences(named.column, message, entry.kind, *entry.kept);
+        if (!found) throw Damaged();
+        named.column = std::move(*found);
+    }
+    const bool is_list = named.column.kind().number == HV_LIST;
+    const Bytes footer = footer_of(named, entry.size, is_list ? std::nullopt : entry.kept);
+    if (named.column.size() != rows || footer != entry.footer) throw Damaged();
     return named;
 }
 
@@ -286,7 +320,7 @@ template <class Work> static auto of_table(const StoredFile &file, Work work) {
 
 bool is_table(const StoredFile &file) {
     const Bytes begun = file.read(0, 1);
-    return !begun.empty() && begun[0] == head[0];
+    return !begun.empty() && begun[0] == head_of(1)[0];
 }
 
 std::vector<std::string> names_of_table(const StoredFile &file) {

@@ -27,7 +27,8 @@ std::vector<std::string> names_of_table(const StoredFile &file);
 // not a table's, or has no column of a name.
 Table load_table(const StoredFile &file, const std::optional<std::vector<std::string>> &names = std::nullopt);
 
-// Writes the table as a file, which is replaced whole or not at all. Throws a Failure.
-void save_table(const Table &table, const std::string &path);
+// Writes the table as a file, which is replaced whole or not at all; with `in_differences` each column of integers as
+// differences that is shorter so. Throws a Failure.
+void save_table(const Table &table, const std::string &path, bool in_differences);
 
 #endif

@@ -70,10 +70,36 @@ def check_random_file(chance: random.Random, program: Program, model) -> None:
     kept = (program.folder / "table.hv").read_bytes()
     if model is not None:
         assert model.table(kept) is not None, kept.hex()
+        check_differences(program, model, rows, kinds, kept, options)
     assert program.answers("show", "table.hv") == expected_table(rows, kinds, sizes, len(kept))
     check_rows(chance, program, rows, kinds)
+    check_order(chance, program, rows, kinds)
+    program.answers("convert", "random.csv", "--to", "sorted.hv", "--sort", "-row", *options)
+    due = expected_rows(rows, kinds, list(range(len(rows["row"])))[::-1])
+    assert program.answers("show", "sorted.hv", "--rows", str(2**63)) == due
     for _ in range(3):
         check_conditions(chance, program, rows, kinds)
+
+
+def check_differences(
+    program: Program, model, rows: dict[str, list], kinds: dict[str, str], plain: bytes, options: list[str]
+) -> None:
+    """The columns that are shorter so are kept as differences, as the model has them, and are shown as they were."""
+    program.answers("convert", "random.csv", "--to", "short.hv", "--differences", *options)
+    short = (program.folder / "short.hv").read_bytes()
+    columns = dict(zip(rows, model.table(plain).columns))
+    kept = {name: model.as_differences(column) for name, column in columns.items()}
+    kept = {name: parts for name, parts in kept.items() if parts is not None}
+    assert short == model.written(model.made(len(rows["row"]), columns, {}, kept)), short.hex()
+    assert (short == plain) == (not kept) and (kept or len(rows["row"]) < 100)
+    sizes = {footer.name: footer.size for footer in model.table(short).footer.columns}
+    assert program.answers("show", "short.hv") == expected_table(rows, kinds, sizes, len(short))
+    everything = ["--rows", str(2**63)]
+    assert program.answers("show", "short.hv", *everything) == program.answers("show", "table.hv", *everything)
+    for more, due in ([], plain), (["--differences"], short):
+        program.answers("query", "short.hv", "filter", "row >= 0", "--to", "again.hv", *more)
+        again = (program.folder / "again.hv").read_bytes()
+        assert model.table(again) is not None and again[:13] == due[:13]
 
 
 def check_rows(chance: random.Random, program: Program, rows: dict[str, list], kinds: dict[str, str]) -> None:
@@ -88,6 +114,36 @@ def check_rows(chance: random.Random, program: Program, rows: dict[str, list], k
     name = chance.choice([*rows])
     runs = "".join(f"{start},{stop},{shown(value, kinds[name])}\n" for start, stop, value in runs_of(rows[name]))
     assert program.answers("show", "table.hv", "--runs", "--column", name) == f"start,stop,value\n{runs}"
+
+
+def in_order(lines: list[int], rows: dict[str, list], keys: list[str]) -> list[int]:
+    """Numbers of rows, sorted by columns, of which those with a minus in front are in descending order."""
+    found = list(lines)
+    for key in reversed(keys):
+        values = rows[key.removeprefix("-")]
+        valid = [line for line in found if values[line] is not None]
+        valid.sort(
+            key=lambda line: values[line].encode() if isinstance(values[line], str) else values[line],
+            reverse=key.startswith("-"),
+        )
+        found = [line for line in found if values[line] is None] + valid
+    return found
+
+
+def check_order(chance: random.Random, program: Program, rows: dict[str, list], kinds: dict[str, str]) -> None:
+    """Rows that are shown, kept and filtered in order by some columns."""
+    names = chance.sample([*rows], chance.randint(1, len(rows)))
+    keys = [chance.choice(["", "-"]) + name for name in names]
+    due = in_order(list(range(len(rows["row"]))), rows, keys)
+    everything = ["--rows", str(2**63)]
+    for file in "table.hv", "short.hv":
+        if (program.folder / file).exists():
+            found = program.answers("show", file, "--sort", ",".join(keys), *everything)
+            assert found == expected_rows(rows, kinds, due), keys
+    program.answers("query", "table.hv", "filter", "row >= 0", "--sort", ",".join(keys), "--to", "sorted.hv")
+    assert program.answers("show", "sorted.hv", *everything) == expected_rows(rows, kinds, due)
+    found = program.answers("query", "table.hv", "filter", "row >= 3", "--sort", ",".join(keys), "--column", names[0])
+    assert found == lines_of([rows[names[0]][line] for line in due if line >= 3], kinds[names[0]])
 
 
 def check_conditions(chance: random.Random, program: Program, rows: dict[str, list], kinds: dict[str, str]) -> None:
@@ -132,6 +188,17 @@ def check_refusals(program: Program) -> None:
     program.refuses(2, r"query needs --column \(hivevigil --help\)", "query", "table.hv", "sum")
     program.refuses(2, r"--runs of a table takes --column too \(hivevigil --help\)", "show", "table.hv", "--runs")
     program.refuses(2, r"--type takes --column too \(hivevigil --help\)", "convert", "a.csv", "--to=b", "--type=i8")
+    for option in "--differences", "--sort=level":
+        sentence = option.partition("=")[0] + r" is of a table, and --column keeps a column \(hivevigil --help\)"
+        program.refuses(2, sentence, "convert", "a.csv", "--to=b", option, "--column", "level")
+    sentence = r"--differences takes --to, and is of a table \(hivevigil --help\)"
+    for more in [], ["--to=b", "--column=level"]:
+        program.refuses(2, sentence, "query", "table.hv", "filter", "level > 1", "--differences", *more)
+    program.refuses(2, r"--differences is not an option of query .*", "query", "table.hv", "sum", "--differences")
+    for option in "--differences", "--sort=level":
+        sentence = r"column\.hv is not the file of a table, which " + option.partition("=")[0] + " is of"
+        program.refuses(1, sentence, "query", "column.hv", "filter", "> 1", option, "--to=b")
+    check_refused_orders(program)
     none = r"table\.hv: no column has the name 'place'"
     program.refuses(1, none, "show", "table.hv", "--column", "place")
     program.refuses(1, none, "query", "table.hv", "max", "--column", "place")
@@ -148,6 +215,25 @@ def check_refusals(program: Program) -> None:
     assert program.answers("show", "table.hv", "--rows", "1") == "a,b\n"
 
 
+def check_refused_orders(program: Program) -> None:
+    """Orders that are refused, and names that begin one another."""
+    usage = r" \(hivevigil --help\)"
+    program.refuses(2, "--sort takes --rows too" + usage, "show", "table.hv", "--sort=level")
+    sentence = "--sort is of the rows of a table, and this is one column" + usage
+    program.refuses(2, sentence, "show", "column.hv", "--rows=1", "--sort=level")
+    program.refuses(2, "--sort is not an option of query" + usage, "query", "table.hv", "sum", "--sort=level")
+    for text, name in ("place", "place"), ("level,place", "place"), ("level,-place,level", "place"), ("--level", "-level"):
+        program.refuses(1, f"table\\.hv: no column has the name '{name}'", "show", "table.hv", "--rows=1", "--sort", text)
+    (program.folder / "b.csv").write_text('a,"a,b",-a\n1,2,3\n2,1,3\n1,1,4\n')
+    program.answers("convert", "b.csv", "--to", "b.hv")
+    head = 'a,"a,b",-a\n'
+    for text, rows in (
+        ("a", "1,2,3\n1,1,4\n2,1,3\n"), ("a,b", "2,1,3\n1,1,4\n1,2,3\n"), ("-a,a", "1,2,3\n2,1,3\n1,1,4\n"),
+        ("--a,a,b", "1,1,4\n2,1,3\n1,2,3\n"),
+    ):  # fmt: skip
+        assert program.answers("show", "b.hv", "--rows=9", "--sort", text) == head + rows, text
+
+
 # ---- Messages, and damaged ones
 
 
@@ -160,7 +246,7 @@ def check_message(program: Program, model, data: bytes) -> bool:
         sentence = rf"message\.hv, of [\d,]+ bytes, is not the file of a {kind}"
         program.refuses(1, sentence, "show", "message.hv")
         return False
-    footers, columns = message.footer.columns, message.columns
+    footers, columns = message.footer.columns, model.columns(message)
     lines = [",".join(field(footer.name) for footer in footers)]
     for at in range(message.footer.rows):
         rows = [(column, model.model.row(column, at)) for column in columns]
@@ -219,7 +305,8 @@ def main() -> None:
         said = f"{chosen.files} random files"
         if model:
             check_each_truncation(program, model)
-            made = model.tables(chosen.messages, chosen.seed)
+            made = [data for has_differences in (False, True)
+                    for data in model.tables(chosen.messages // 2, chosen.seed, has_differences)]
             refused = sum(not check_message(program, model, data) for data in made)
             said += f" and {chosen.messages} tables, {refused} of them refused"
         else:
