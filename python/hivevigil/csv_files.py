@@ -7,16 +7,18 @@ from __future__ import annotations
 
 import csv
 import re
-from collections.abc import Callable, Iterator
+from collections.abc import Callable, Iterator, Mapping
 from dataclasses import dataclass, field
 from decimal import Decimal
-from itertools import islice
+from itertools import chain, islice, repeat
 from typing import Any, Optional
 
-from . import _iso
+from . import _iso, _runs
+from ._lists import is_list
 from ._types import GREATEST_PRECISION, range_of
 from .column import Column
-from .logical import NANOSECONDS, asked_type
+from .errors import Unsupported
+from .logical import NANOSECONDS, LogicalType, asked_type
 
 _TRUTHS = {"true": True, "false": False}
 _WHOLE = re.compile(r"-?(?:0|[1-9]\d{0,37})", re.ASCII)
@@ -183,3 +185,72 @@ def _column(texts: list[str], kind: str) -> Column:
     rows = [read(text) if text else None for text in texts]
     logical = asked_type(kind)[1]
     return Column.of(rows, kind) if logical is None else Column.of(rows, f"{logical.storage}?").cast(kind)
+
+
+# ---- Written ----
+
+_ROWS_AT_ONCE = 65536
+
+
+def refuse_lists(column: Column) -> None:
+    """Refuses to write a column of lists."""
+    if is_list(column):
+        raise Unsupported().saying("to_csv: a CSV file has no lists")
+
+
+def lines_of_columns(columns: Mapping[str, Column], rows: int) -> Iterator[bytes]:
+    """The lines of a CSV file, many at a time; without columns there is none."""
+    yield _line([_text_field(name) for name in columns]).encode() if columns else b""
+    for start in range(0, rows if columns else 0, _ROWS_AT_ONCE):
+        stop = min(start + _ROWS_AT_ONCE, rows)
+        fields = (_fields(column.slice(start, stop)) for column in columns.values())
+        yield "".join(map(_line, zip(*fields))).encode()
+
+
+def _line(fields: Any) -> str:
+    """A line, which has at least a byte: one without is not read as a row."""
+    return (",".join(fields) or '""') + "\n"
+
+
+def _fields(column: Column) -> Iterator[str]:
+    """Field by field; of runs each value is put into words once."""
+    word = _words_of(column)
+    stored = column.storage() if getattr(column.logical_type, "sort", "") == "duration" else column
+    if column.form in ("runs", "constant"):
+        runs = _runs.stored_runs(stored)
+        return chain.from_iterable(repeat(word(run.value), run.stop - run.start) for run in runs)
+    return map(word, stored)
+
+
+def _words_of(column: Column) -> Callable[[Any], str]:
+    """How a row of a column is written, null as nothing."""
+    name, logical = column.type.rstrip("?").partition("(")[0], column.logical_type
+    writers: dict[str, Callable[[Any], str]] = {
+        "utf8": _text_field, "binary": bytes.hex, "bool": lambda row: str(row).lower(), "decimal": lambda row: f"{row:f}",
+    }
+    write = writers.get(name, str) if logical is None else _writer_of(logical)
+    return lambda row: "" if row is None else write(row)
+
+
+def _writer_of(logical: LogicalType) -> Callable[[Any], str]:
+    """How a float, a date or a time is written; a duration by its number of units."""
+    if logical.sort == "float":
+        return repr
+    if logical.sort == "duration":
+        return lambda row: _seconds(row * logical.nanoseconds)
+    return lambda row: str(row.isoformat())
+
+
+def _seconds(number: int) -> str:
+    """Nanoseconds as seconds."""
+    whole, rest = divmod(abs(number), 10**9)
+    places = f".{rest:09}".rstrip("0") if rest else ""
+    return f"{'-' * (number < 0)}{whole}{places}"
+
+
+def _text_field(text: str) -> str:
+    """A text as a field: in quotes where it is empty or needs them."""
+    return text if text and not _NEEDS_QUOTES.search(text) else '"' + text.replace('"', '""') + '"'
+
+
+_NEEDS_QUOTES = re.compile('[,"\r\n]')

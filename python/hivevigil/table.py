@@ -1,10 +1,12 @@
 """A table: columns of one number of rows, each with a name. What filters or cuts rows does so in each column."""
 from __future__ import annotations
 
+import functools
+import operator
 from collections.abc import Callable, Iterable, Iterator, Mapping
 from typing import TYPE_CHECKING, Any, Optional
 
-from . import _arrow, _files, _indexing, _sorting, _table_files, _table_making, _table_showing
+from . import _arrow, _files, _indexing, _sorting, _table_files, _table_making, _table_showing, csv_files
 from ._table_files import TableFooter
 from ._table_making import about, checked_name, refuse_twice
 from ._values import Scalar, is_whole, row_of, size_of
@@ -220,6 +222,12 @@ class Table(Mapping[str, Column]):
                 _sorting.refuse_lists(column)
         return self._each(_sorting.ordered(keys, flags, nulls_first).of)
 
+    def drop_null(self, *names: str) -> Table:
+        """The rows that are null in none of the columns of these names, or in no column where none is named."""
+        chosen = [self._column(name) for name in names] if names else list(self._columns.values())
+        masks = [column.is_valid() for column in chosen if column.nullable]
+        return self.filter(functools.reduce(operator.and_, masks)) if masks else self.select(*self._columns)
+
     def append(self, *tables: Table) -> Table:
         """The rows of this table, then those of others, which have columns of the same names, types and logical types;
         a type has null where it has in one of them."""
@@ -235,13 +243,18 @@ class Table(Mapping[str, Column]):
         """Each column in as few runs as possible; lists as they are."""
         return self._each(lambda column: column.copy() if column.type.startswith("list") else column.to_runs())
 
-    def group_by(self, name: str) -> TableGroups:
-        """The rows by runs of equal neighbouring rows of the column of a name, as Column.group_by: rows that are sorted
-        by it come in one group for each of its values. `.agg(..)` says what is asked of each group."""
+    def group_by(self, *names: str) -> TableGroups:
+        """The rows by runs of neighbours that are equal in the column of a name, or in several, as Column.group_by:
+        rows that are sorted by these come in one group for each of their values. `.agg(..)` says what is asked of each
+        group."""
         from .table_groups import TableGroups
 
-        self._column(name)
-        return TableGroups(self, name)
+        if not names:
+            raise ValueError("group_by: at least one column has the keys")
+        refuse_twice(names)
+        for name in names:
+            self._column(name)
+        return TableGroups(self, *names)
 
     # ---- Columns ----
 
@@ -305,6 +318,16 @@ class Table(Mapping[str, Column]):
         """Writes the bytes of `to_bytes` to a file, a column at a time, which `load` reads. A file of this name is
         replaced at once when all is written, and stays as it was where that fails."""
         _files.write(path, _table_files.parts(self._columns, self._rows, self._logical, differences))
+
+    def to_csv(self, path: Any) -> None:
+        """Writes the rows to a CSV file, which `from_csv` reads: a line of names, then a line for each row. Null is an
+        empty field, and an empty text is one in quotes, which is read as null. Dates and times are as ISO 8601 has
+        them, durations in seconds, bytes in hexadecimal digits; lists are refused. A file of this name is replaced at
+        once when all is written."""
+        for name, column in self._columns.items():
+            with about(name):
+                csv_files.refuse_lists(column)
+        _files.write(path, csv_files.lines_of_columns(self._columns, self._rows))
 
     def to_dict(self) -> dict[str, list[Scalar]]:
         """The rows of each column as a list of Python's values, by name."""

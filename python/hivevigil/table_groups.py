@@ -1,8 +1,10 @@
 """What is asked of the groups of a table: `table.group_by(name).agg(..)`."""
 from __future__ import annotations
 
+import array
 from typing import TYPE_CHECKING, Any
 
+from . import _runs
 from ._table_making import about, checked_name
 from .column import Column
 from .errors import in_words
@@ -15,35 +17,48 @@ _OF_THE_COLUMN = ("min", "max", "first", "last")  # folds whose answers are rows
 
 
 class TableGroups:
-    """The rows of a table by runs of equal neighbouring keys, as Column.group_by has them."""
+    """The rows of a table by runs of neighbours that are equal in all columns of keys, as Column.group_by has them."""
 
-    __slots__ = ("_table", "_name")
+    __slots__ = ("_table", "_names")
     _table: Table
-    _name: str
+    _names: tuple[str, ...]
 
-    def __init__(self, table: Table, name: str) -> None:
-        self._table, self._name = table, name
+    def __init__(self, table: Table, *names: str) -> None:
+        self._table, self._names = table, names
 
     def agg(self, answers: Any = None, **named: Any) -> Table:
-        """A table of a row for each group: its key, under the name of the column of keys, then the answers by name.
-        Each is a pair of a column of integers and one of sum, size, count, min, max, first, last, or only 'size':
+        """A table of a row for each group: its keys, under the names of their columns, then the answers by name. Each
+        is a pair of a column of integers and one of sum, size, count, min, max, first, last, or only 'size':
 
             table.group_by("station").agg(readings="size", highest=("level", "max"))
         """
         wanted = {**({} if answers is None else dict(answers)), **named}
-        keys, logical = self._table._column(self._name), self._table.logical_types
-        columns, kept = {self._name: keys}, {self._name: logical[self._name]} if self._name in logical else {}
+        logical = self._table.logical_types
+        kept = {name: logical[name] for name in self._names if name in logical}
+        found: dict[str, Column] = {}
+        numbers, columns = self._groups()
         for name, asked in wanted.items():
-            if checked_name(name) == self._name:
+            if checked_name(name) in self._names:
                 raise ValueError(f"two columns have the name {in_words(name)}: it is that of the keys")
             column, fold = self._parts(name, asked)
-            with about(column if column is not None else self._name):
-                columns[self._name], columns[name] = getattr(self._values(column).group_by(keys), fold)()
+            with about(column if column is not None else self._names[0]):
+                _, found[name] = getattr(self._values(column).group_by(numbers), fold)()
             if column in logical and fold in _OF_THE_COLUMN:
                 kept[name] = logical[column]
-        if not wanted:
-            columns[self._name] = self._values(None).group_by(keys).size()[0]
-        return self._table._of(columns, columns[self._name]._length, kept)
+        columns.update(found)
+        return self._table._of(columns, columns[self._names[0]]._length, kept)
+
+    def _groups(self) -> tuple[Column, dict[str, Column]]:
+        """The number of each row's group, or its key where one column has them, and the keys of the groups by name."""
+        keys = {name: self._table._column(name) for name in self._names}
+        if len(keys) == 1:
+            ((name, column),) = keys.items()
+            return column, {name: self._values(None).group_by(column).size()[0]}
+        stops = sorted(set().union(*(_runs.visible(_in_runs(name, column)).stops for name, column in keys.items())))
+        ends, order = array.array("Q", stops), array.array("Q", range(len(stops)))
+        numbers = self._values(None).from_runs(ends, Column.of(order))
+        starts = Column.of(array.array("Q", [0, *stops][:-1]))
+        return numbers, {name: column.take(starts).decode() for name, column in keys.items()}
 
     def _parts(self, name: str, asked: Any) -> tuple[Any, str]:
         """The name of the column that is asked, which is there, and what it is asked."""
@@ -56,7 +71,12 @@ class TableGroups:
         return Column.constant(0, self._table.rows, "u8") if name is None else self._table._column(name)
 
     def __repr__(self) -> str:
-        return f"<groups of {self._table.rows:,} rows by {in_words(self._name)}>"
+        return f"<groups of {self._table.rows:,} rows by {', '.join(map(in_words, self._names))}>"
+
+
+def _in_runs(name: str, column: Column) -> Column:
+    with about(name):
+        return column.to_runs()
 
 
 def parts_of(name: str, asked: Any) -> tuple[Any, str]:

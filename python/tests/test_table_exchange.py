@@ -1,9 +1,11 @@
 """Tables from and to CSV files, frames of pandas, and Arrow, of which arrow_model.py is the other side."""
+import csv
 import ctypes
 import os
 import subprocess
 import sys
-from datetime import date
+from datetime import date, datetime, time, timedelta, timezone
+from decimal import Decimal
 from pathlib import Path
 
 import arrow_model
@@ -188,6 +190,69 @@ def test_csv_files_of_few_rows_and_bad_ones(tmp_path):
     ):
         with pytest.raises(kind, match=said):
             call()
+
+
+def field_of(row, kind):
+    """A row as a field of a CSV file."""
+    if row is None:
+        return ""
+    if kind == "bool":
+        return "true" if row else "false"
+    return row.hex() if kind == "binary" else str(row)
+
+
+@pytest.fixture(scope="module")
+def folder(tmp_path_factory):
+    return tmp_path_factory.mktemp("csv")
+
+
+@given(sample=tables())
+def test_csv_files_that_are_written(folder, sample):
+    """As Python's csv module reads them."""
+    sample.table.to_csv(folder / "table.csv")
+    with open(folder / "table.csv", newline="", encoding="utf-8") as file:
+        lines = list(csv.reader(file, strict=True))
+    due = [[field_of(row, sample.types[name]) for name, row in zip(sample.names, line)] for line in sample.lines()]
+    assert lines == ([sample.names, *due] if sample.names else [])
+    assert (folder / "table.csv").read_bytes().count(b"\n") >= len(lines) and os.listdir(folder) == ["table.csv"]
+
+
+def test_a_csv_file_is_the_table_again(tmp_path):
+    table = Table({
+        "place": Column.of(["Oslo", "Oslo", None, 'a "b", c', "x\ny"], "utf8?").to_runs(),
+        "day": [date(2024, 1, 1), None, date(2024, 1, 1), date(1969, 12, 31), date(2024, 1, 2)],
+        "at": [datetime(2024, 1, 1, 12), datetime(2024, 1, 1, 12, 0, 0, 5), None, datetime(2000, 1, 1), datetime(1950, 1, 1)],
+        "in UTC": [datetime(2024, 1, 1, 12, 0, second, tzinfo=timezone.utc) for second in range(4)] + [None],
+        "time": [time(1, 2, 3), None, time(0), time(23, 59, 59), time(1)],
+        "count": Column.of([1, None, 3, -4, 5], "i32?"), "price": Column.of(["1.50", None, "-20", "0", "3"], "utf8?"),
+        "open": [True, None, False, True, True], "same": Column.constant(7, 5, "i32?"),
+    })  # fmt: skip
+    prices = Column.of([Decimal("1.50"), None, Decimal(-20), Decimal(0), Decimal(3)], "decimal(4, 2)?")
+    table = table.with_column("price", prices)
+    table.to_csv(tmp_path / "table.csv")
+    again = Table.from_csv(tmp_path / "table.csv")
+    assert again.to_dict() == table.to_dict() and again.names == table.names
+    assert again["price"].type == "decimal(4, 2)?"
+    rows = Table({"length": [timedelta(seconds=-1, microseconds=500), None, timedelta(days=1)], "level": [0.1, None, -1e300],
+                  "data": [b"\0\xff", b"", None]})
+    rows.to_csv(tmp_path / "rows.csv")
+    assert (tmp_path / "rows.csv").read_text() == "length,level,data\n-0.9995,0.1,00ff\n,,\n86400,-1e+300,\n"
+    Table({"a": Column.of(["x", None, ""], "utf8?")}).to_csv(tmp_path / "rows.csv")
+    assert (tmp_path / "rows.csv").read_text() == 'a\nx\n""\n""\n'
+    assert Table.from_csv(tmp_path / "rows.csv")["a"].to_list() == ["x", None, None]
+
+
+def test_what_is_not_written_to_csv(tmp_path):
+    (tmp_path / "kept.csv").write_text("as it was")
+    lists = Table({"a": Column.from_lists([1], [0], [1])})
+    for call, kind, said in (
+        (lambda: lists.to_csv(tmp_path / "kept.csv"), errors.Unsupported, "column 'a': to_csv: a CSV file has no lists"),
+        (lambda: Table({"a": [1]}).to_csv(3), TypeError, "a file is named by a text or a path, not by 3"),
+        (lambda: Table({"at": [2**62]}, {"at": "tss:"}).to_csv(tmp_path / "kept.csv"), OverflowError, "4611686018427387904 of"),
+    ):  # fmt: skip
+        with pytest.raises(kind, match=f"^{said}"):
+            call()
+    assert (tmp_path / "kept.csv").read_text() == "as it was" and os.listdir(tmp_path) == ["kept.csv"]
 
 
 def test_the_command(tmp_path):

@@ -171,6 +171,49 @@ def test_groups(sample, numbers, data):
     assert table.group_by(key).agg().to_dict() == {key: [key for key, _ in due]}
 
 
+@given(tables(least_columns=2), tables(types=tuple(BITS), least_columns=1, most_columns=1), st.data())
+def test_groups_by_several_columns(sample, numbers, data):
+    rows = min(sample.count, numbers.count)
+    (given_values,) = numbers.rows.values()
+    by = data.draw(st.lists(st.sampled_from(sample.names), min_size=1, unique=True))
+    table = sample.table[:rows].with_column("the numbers", numbers.table[:rows][numbers.names[0]])
+    lines = list(zip(zip(*(sample.rows[name][:rows] for name in by)), given_values))
+    due = [(key, [row for _, row in part]) for key, part in groupby(lines, key=lambda line: line[0])]
+    found = table.group_by(*by).agg({"least of all": ("the numbers", "min"), "rows of it": "size"})
+    assert found.names == [*by, "least of all", "rows of it"] and found.rows == len(due)
+    for at, name in enumerate(by):
+        assert found[name].to_list() == [key[at] for key, _ in due] and found[name].type == table[name].type
+    assert found["least of all"].to_list() == [of_valid("min", part) for _, part in due]
+    assert found["rows of it"].to_list() == [len(part) for _, part in due]
+    assert table.group_by(*by).agg().to_dict() == {name: [key[at] for key, _ in due] for at, name in enumerate(by)}
+
+
+def test_groups_by_two_columns():
+    table = Table({"place": ["a", "a", "a", "b", "b"], "day": [1, 1, 2, 2, 2], "level": [5, None, 7, 1, 2**63 - 1]},
+                  {"day": "tss:"})
+    found = table.group_by("place", "day").agg(total=("level", "count"), last=("day", "last"))
+    assert found.select("place", "total").to_dict() == {"place": ["a", "a", "b"], "total": [1, 1, 2]}
+    assert found.logical_types == {"day": "tss:", "last": "tss:"} and found["last"].to_list() == found["day"].to_list()
+    assert repr(table.group_by("place", "day")) == "<groups of 5 rows by 'place', 'day'>"
+    with pytest.raises(OverflowError, match="^column 'level': sum: group 2 does not fit i64$"):
+        table.group_by("place", "day").agg(total=("level", "sum"))
+
+
+@given(tables(), st.data())
+def test_rows_without_null(sample, data):
+    names = data.draw(st.lists(st.sampled_from(sample.names), unique=True)) if sample.names else []
+    places = [sample.names.index(name) for name in names or sample.names]
+    due = [line for line in sample.lines() if all(line[at] is not None for at in places)]
+    check(sample.table.drop_null(*names), sample.names, due)
+    check(sample.table, sample.names, sample.lines())
+
+
+def test_rows_without_null_in_lists():
+    lists = Column.from_lists([1, 2], [0, 1, 1], [1, 1, 0], [True, False, True])
+    table = Table({"a": lists, "b": [None, 2, 3]})
+    assert table.drop_null().to_dict() == {"a": [[]], "b": [3]} and table.drop_null("a")["b"].to_list() == [None, 3]
+
+
 def test_groups_of_a_table():
     table = Table(
         {"station": ["a", "a", "b", "a"], "day": Column.of([1, 2, 2, 3], "i32"), "level": [5, None, 7, 2**63 - 1]},
@@ -247,6 +290,10 @@ T = Table({"a": [1, 2, None], "b": ["x", "y", "z"]}, {"a": "tiM"})
         (lambda: T.drop("c"), KeyError, "no column has the name 'c': the names are 'a', 'b'"),
         (lambda: T.rename({"c": "d"}), KeyError, "no column has the name 'c': the names are 'a', 'b'"),
         (lambda: T.group_by("c"), KeyError, "no column has the name 'c': the names are 'a', 'b'"),
+        (lambda: T.group_by(), ValueError, "group_by: at least one column has the keys"),
+        (lambda: T.group_by("a", "a"), ValueError, "two columns have the name 'a'"),
+        (lambda: T.group_by("a", "b").agg(b="size"), ValueError, "two columns have the name 'b': it is that of the keys"),
+        (lambda: T.drop_null("a", "c"), KeyError, "no column has the name 'c': the names are 'a', 'b'"),
         (lambda: T.filter_by("c", "<", 1), KeyError, "no column has the name 'c': the names are 'a', 'b'"),
         (lambda: T.select("a", "b", "a"), ValueError, "two columns have the name 'a'"),
         (lambda: T.rename({"a": "b"}), ValueError, "two columns have the name 'b'"),
