@@ -40,15 +40,9 @@ def total(column: Column) -> Any:
     raise OverflowError(f"sum: it leaves {name} at row {row}, which is {value}: the rows before it make {before}")
 
 
-def mean(column: Column) -> Optional[float]:
-    """The sum of the rows that are not null, by how many they are; None of no rows."""
-    logical = column._there()._logical
-    if _floats.is_float(logical):
-        found, count = _float_columns.total(column)
-    elif logical is not None:
-        raise TypeError(f"mean: rows of type {logical} have none; column.storage().mean() is that of their integers")
-    else:
-        found, count = total(column), column._length - column.null_count
+def float_mean(column: Column) -> Optional[float]:
+    """The sum of floats that are not null, by how many they are; None of no rows."""
+    found, count = _float_columns.total(column)
     return found / count if count else None
 
 

@@ -9,7 +9,7 @@ from typing import Any, Optional
 
 from . import (
     _arrow, _casting, _comparing, _copying, _files, _float_columns, _floats, _indexing, _lists, _making, _pairs,
-    _questions, _reading, _rows, _runs, _showing, _sorting, _times,
+    _questions, _reading, _rows, _runs, _showing, _sorting, _statistics, _times,
 )
 from ._library import Handle, Kind, ask, calls, session
 from ._runs import Run
@@ -346,6 +346,15 @@ class Column(_comparing.Comparisons, _pairs.Pairs):
         (flag,) = _sorting.flags_of(descending, 1)
         return _sorting.sorted_rows(self, flag, _sorting.is_first(nulls))
 
+    def nlargest(self, count: int) -> Column:
+        """As many of the greatest rows, in descending order, in runs: null and NaN are left out. Each run is looked at
+        once, and as many are held as are asked for."""
+        return _statistics.extremes(self, count, True)
+
+    def nsmallest(self, count: int) -> Column:
+        """As many of the least rows, in ascending order, in the same way."""
+        return _statistics.extremes(self, count, False)
+
     def diff(self, rows: int = 1) -> Column:
         """Each row minus the one that is this number of rows before it, null where there is none or either is null.
         OverflowError names the first row whose difference the type does not have."""
@@ -434,8 +443,29 @@ class Column(_comparing.Comparisons, _pairs.Pairs):
         return _questions.total(self)
 
     def mean(self) -> Optional[float]:
-        """The sum by the number of rows that are not null, of integers and floats. None where there is none."""
-        return _questions.mean(self)
+        """The sum by the number of rows that are not null, of integers and floats. None where there is none. That of
+        integers is exact and rounded once, also where the sum is past 64 bits."""
+        return _statistics.mean(self)
+
+    def var(self, ddof: int = 1) -> Optional[float]:
+        """The variance of integers and floats: the sum of squared distances from the mean by the number of rows that
+        are not null less `ddof`, exact and rounded once. None where that number is not above 0, NaN where a row is NaN
+        or infinite."""
+        return _statistics.variance(self, ddof)
+
+    def std(self, ddof: int = 1) -> Optional[float]:
+        """The standard deviation, the root of `var`."""
+        return _statistics.root(_statistics.variance(self, ddof))
+
+    def quantile(self, q: Any = 0.5, interpolation: str = "linear") -> Any:
+        """What a part `q` of the rows is below, of rows that are neither null nor NaN, or one for each of a list; None
+        where there is none. Between two rows it is exact and rounded to a float ('linear', 'midpoint'), which integers
+        and floats have, or a row of any type but lists ('lower', 'higher', 'nearest'). The runs are sorted."""
+        return _statistics.quantile(self, q, interpolation)
+
+    def median(self) -> Scalar:
+        """The middle of the rows of integers or floats, `quantile(0.5)`."""
+        return _statistics.median(self)
 
     def group_by(self, keys: Any) -> Groups:
         """The rows of this column by runs of equal neighbouring rows of another, a column or what `Column.of` takes:
