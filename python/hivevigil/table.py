@@ -6,7 +6,7 @@ import operator
 from collections.abc import Callable, Iterable, Iterator, Mapping
 from typing import TYPE_CHECKING, Any, Optional
 
-from . import _arrow, _files, _indexing, _sorting, _table_files, _table_making, _table_showing, csv_files
+from . import _arrow, _files, _indexing, _joins, _sorting, _table_files, _table_making, _table_showing, csv_files
 from ._table_files import TableFooter
 from ._table_making import about, checked_name, refuse_twice
 from ._values import Scalar, is_whole, row_of, size_of
@@ -227,6 +227,16 @@ class Table(Mapping[str, Column]):
         chosen = [self._column(name) for name in names] if names else list(self._columns.values())
         masks = [column.is_valid() for column in chosen if column.nullable]
         return self.filter(functools.reduce(operator.and_, masks)) if masks else self.select(*self._columns)
+
+    def join(self, other: Table, on: str, how: str = "inner") -> Table:
+        """Each row with each row of another table that is equal in the column `on`, by which both tables are sorted:
+        the columns of this table, then those of the other but `on`. Null equals nothing, and floats are equal where
+        their bits are. With `how="left"` each row of this table comes at least once, with nulls where no other is
+        equal. Refused where both have another column of one name. The cost goes by the runs of both."""
+        if not isinstance(other, Table):
+            raise TypeError(f"a table is joined with a Table, not with {in_words(other)}")
+        columns, rows = _joins.joined(self, other, on, how)
+        return self._of(columns, rows, {**other._logical, **self._logical})
 
     def append(self, *tables: Table) -> Table:
         """The rows of this table, then those of others, which have columns of the same names, types and logical types;
