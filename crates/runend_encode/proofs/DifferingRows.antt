@@ -3,7 +3,7 @@ use Rattle.std.proofs.Common.{◌≡◌, ◌≢◌, ◌∙◌, ◌+◌, ◌<◌,
 use Rattle.std.specs.Prelude.{◌↔◌, IsTrue}
 use Rattle.std.specs.Int.{bit_at}
 use Rattle.std.proofs.lemmas.Bool.{cases_eq}
-use Rattle.runend_encode.specs.Starts.{GoesOn}
+use Rattle.runend_windows.specs.Starts.{GoesOn}
 
 -- a bit that is not left is told, and one that is left is 1
 pub record AreLeft {B : Type 0} (rows : List B) (start stop rest word : ℕ) : Type 0 where

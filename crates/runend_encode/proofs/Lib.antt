@@ -6,8 +6,6 @@ pub mod Moved
 pub mod Marked
 pub mod RowTests
 pub mod Starts
-pub mod ChangedItems
-pub mod ChangedRows
 pub mod LeastEnds
 pub mod JoinedRuns
 pub mod Windows

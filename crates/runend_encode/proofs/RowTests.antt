@@ -1,6 +1,7 @@
 -- Rows of flat columns that are compared.
-use Rattle.std.proofs.Common.{◌≡◌, ◌≢◌, ◌∙◌, ◌-◌, ◌<◌, ℕ, zero, suc, List, [], ◌∷◌, Bool, true, false, Option, Some, None, get_or, length, map, refl, sym, ap, arith}
+use Rattle.std.proofs.Common.{◌≡◌, ◌≢◌, ◌∙◌, ◌+◌, ◌-◌, ◌*◌, ◌<◌, ℕ, ℤ, zero, suc, List, [], ◌∷◌, Bool, true, false, Option, Some, None, get_or, length, map, refl, sym, ap, subst, arith}
 use Rattle.std.specs.Prelude.{◌↔◌, IsTrue, nat_eq, option_map, slice_get, slice_index_or}
+use Rattle.std.specs.Int.{bit_at}
 use Rattle.std.specs.declared.cmp.Ordering.{Ordering}
 use Rattle.std.specs.declared.cmp.Ordering.TheVariants.{Less, Equal, Greater}
 use Rattle.std.specs.Ordering.{is_eq, ordering_reverse}
@@ -14,7 +15,7 @@ use Rattle.column_core.specs.Value.{FlatValue, Single, Value}
 use Rattle.column_core.proofs.OptionalRows.{null-row_of, valid-row_of}
 use Rattle.column_ops.specs.Order.{row_cmp}
 use Rattle.column_ops.proofs.OrderLaws.{row_equal, row_total}
-use Rattle.runend_encode.specs.Starts.{GoesOn}
+use Rattle.runend_windows.specs.Starts.{GoesOn}
 
 -- what stands as it stands in reverse is level
 level_reversed : (order : Ordering) → order ≡ ordering_reverse order → order ≡ Equal
@@ -176,3 +177,10 @@ pub go_on-by_views : (f : VarBinForm) (row bit item : ℕ) → HasLength f.valid
     → (flag_at f.validity (row - 1) ≡ true → flag_at f.validity row ≡ true → bit ≡ item) → (flag_at f.validity (row - 1) ≢ flag_at f.validity row → bit ≡ 1) → bit ≡ 0
     → GoesOn (map (option_map (λ (v : FlatValue). Single v)) (varbin_rows f)) row
 go_on-by_views f row bit item fits within items both differ none = by_views f row bit item (flag_at f.validity (row - 1)) (flag_at f.validity row) fits within refl refl items both differ none
+
+-- what an arm of a match over the types of integers knows of 64 of them
+pub go_on-arm : {X : Type 0} (number : X → ℤ) (items : List X) (ns : List ℤ) (index word : ℕ) → map number items ≡ ns
+    → ((lane : ℕ) → lane < 64 → index * 64 + lane < length items → ((bit_at word lane ≡ 0) ↔ GoesOn (map number items) (index * 64 + lane)))
+    → ((lane : ℕ) → lane < 64 → index * 64 + lane < length ns → ((bit_at word lane ≡ 0) ↔ GoesOn ns (index * 64 + lane)))
+go_on-arm number items ns index word shown told = λ lane few within.
+    subst (λ (all : List ℤ). (bit_at word lane ≡ 0) ↔ GoesOn all (index * 64 + lane)) shown (told lane few (omega (arith, within, ap length shown, length-map items number)))

@@ -1,9 +1,9 @@
 -- Ends and starts of runs, as a walk over the rows finds them.
-use Rattle.std.proofs.Common.{◌≡◌, ◌≢◌, ◌∙◌, ◌+◌, ◌<◌, ◌^◌, ◌++◌, ℕ, List, [], ◌∷◌, Option, Some, None, length, map, refl, take, sym, ap, subst, arith}
-use Rattle.std.specs.Prelude.{IfSome, option_map, slice_get, slice_index_or}
-use Rattle.std.proofs.lemmas.List.{length-map, map-append}
+use Rattle.std.proofs.Common.{◌≡◌, ◌∙◌, ◌<◌, ◌^◌, ◌++◌, ℕ, List, [], ◌∷◌, Bool, Option, Some, None, length, map, refl, sym, ap, subst, arith}
+use Rattle.std.specs.Prelude.{IfSome, option_map, slice_index_or}
+use Rattle.std.proofs.lemmas.List.{length-map}
 use Rattle.std.proofs.lemmas.List.Elements.{All-cons, All-nil}
-use Rattle.std.proofs.lemmas.Option.{get_or_from_slice_get}
+use Rattle.column_base.specs.Bits.{set_indices_of}
 use Rattle.column_base.specs.declared.dtype.DType.{DType}
 use Rattle.column_base.specs.declared.dtype.DType.TheVariants as column
 use Rattle.column_base.specs.declared.dtype.Nullability.TheVariants.{NonNullable, Nullable}
@@ -16,68 +16,19 @@ use Rattle.column_ops.specs.Computed.{IsMade}
 use Rattle.column_ops.specs.Nullable.{either_nullable}
 use Rattle.column_ops.specs.Take.{ArePositions, position_numbers, take_rows}
 use Rattle.runend_windows.specs.Cover.{IsTightCover}
-use Rattle.runend_windows.proofs.Grow.{Open, Open-first, Open-same, Open-next, Open-done, IsTightCover-of_none}
+use Rattle.runend_windows.proofs.ChangedRows.{IsTightCover-of_changes}
+use Rattle.runend_windows.proofs.Grow.{IsTightCover-of_none}
 use Rattle.runend_windows.proofs.ValidRuns.{optionals-all_valid}
 use Rattle.runend_windows.proofs.Tiles.{Tiles, Tiles-from_IsTightCover, Tiles-le}
 use Rattle.runend_encode.proofs.RowTests.{row-single}
 use Rattle.runend_encode.specs.Encoding.{AreRunValues}
-use Rattle.runend_encode.specs.Starts.{AreRunEnds, rows_at, starts_from}
+use Rattle.runend_windows.specs.Starts.{AreChanges, starts_from}
+use Rattle.runend_encode.specs.Starts.{AreRunEnds, rows_at}
 
--- where the run starts that comes behind closed runs
-abbrev pub start_behind : ℕ → List ℕ → ℕ
-start_behind start [] = start
-start_behind start (end ∷ ends) = start_behind end ends
-
-pub starts_from-push : (start : ℕ) (ends : List ℕ) (end : ℕ) → starts_from start (ends ++ end ∷ []) ≡ starts_from start ends ++ start_behind start ends ∷ []
-starts_from-push start [] end = refl
-starts_from-push start (first ∷ ends) end = ap (λ starts. start ∷ starts) (starts_from-push first ends end)
-
-pub start_behind-push : (start : ℕ) (ends : List ℕ) (end : ℕ) → start_behind start (ends ++ end ∷ []) ≡ end
-start_behind-push start [] end = refl
-start_behind-push start (first ∷ ends) end = start_behind-push first ends end
-
--- each run but the first starts where the one before it ends
-pub starts_from-bounds : (start : ℕ) (ends : List ℕ) → take (length ends) (start ∷ ends) ≡ starts_from start ends
-starts_from-bounds start [] = refl
-starts_from-bounds start (end ∷ ends) = ap (λ starts. start ∷ starts) (starts_from-bounds end ends)
-
--- the values of closed runs and of the open one
-values-push : (rows : List (Option Value)) (ends : List ℕ) (end : ℕ) (value : Option Value) → slice_index_or rows (start_behind 0 ends) None ≡ value
-    → rows_at rows (starts_from 0 (ends ++ end ∷ [])) ≡ rows_at rows (starts_from 0 ends) ++ value ∷ []
-values-push rows ends end value first =
-    ap (rows_at rows) (starts_from-push 0 ends end)
-    ∙ map-append (λ place. slice_index_or rows place None) (starts_from 0 ends) (start_behind 0 ends ∷ [])
-    ∙ ap (λ (v : Option Value). rows_at rows (starts_from 0 ends) ++ v ∷ []) first
-
--- a walk has closed the runs with these ends, and its open run of `value` reaches to row `reached`
-pub record OpenEnds (rows : List (Option Value)) (reached : ℕ) (ends : List ℕ) (value : Option Value) : Type 0 where
-  pub opened : Open rows reached ends (rows_at rows (starts_from 0 ends)) value
-  pub first : slice_index_or rows (start_behind 0 ends) None ≡ value
-
-pub OpenEnds-first : (rows : List (Option Value)) (value : Option Value) → slice_get rows 0 ≡ Some value → OpenEnds rows 1 [] value
-OpenEnds-first rows value row = record { opened = Open-first rows value row; first = get_or_from_slice_get rows 0 value None row }
-
-pub OpenEnds-same : (rows : List (Option Value)) (reached : ℕ) (ends : List ℕ) (value next : Option Value) → slice_get rows reached ≡ Some next → next ≡ value
-    → OpenEnds rows reached ends value → OpenEnds rows (reached + 1) ends value
-OpenEnds-same rows reached ends value next row same walk = record {
-  opened = Open-same rows reached ends (rows_at rows (starts_from 0 ends)) value next row same walk.opened;
-  first = walk.first;
-}
-
-pub OpenEnds-next : (rows : List (Option Value)) (reached : ℕ) (ends : List ℕ) (value next : Option Value) → slice_get rows reached ≡ Some next → value ≢ next
-    → OpenEnds rows reached ends value → OpenEnds rows (reached + 1) (ends ++ reached ∷ []) next
-OpenEnds-next rows reached ends value next row differs walk =
-    let grown = Open-next rows reached ends (rows_at rows (starts_from 0 ends)) value next row differs walk.opened in
-    record {
-      opened = subst (λ values. Open rows (reached + 1) (ends ++ reached ∷ []) values next) (sym (values-push rows ends reached value walk.first)) grown;
-      first = ap (λ (place : ℕ). slice_index_or rows place None) (start_behind-push 0 ends reached) ∙ get_or_from_slice_get rows reached next None row;
-    }
-
-pub OpenEnds-done : (rows : List (Option Value)) (reached : ℕ) (ends : List ℕ) (value : Option Value) → length rows < 2 ^ 64 → reached ≡ length rows
-    → OpenEnds rows reached ends value → AreRunEnds rows (ends ++ reached ∷ [])
-OpenEnds-done rows reached ends value small all walk =
-    subst (λ values. IsTightCover rows (ends ++ reached ∷ []) values) (sym (values-push rows ends reached value walk.first))
-    (Open-done rows reached ends (rows_at rows (starts_from 0 ends)) value small all walk.opened)
+-- the ends of runs are the rows that differ from the row before, and the number of rows
+pub AreRunEnds-of_changes : (rows : List (Option Value)) (bits : List Bool) → AreChanges rows bits → 0 < length rows → length rows < 2 ^ 64
+    → AreRunEnds rows (set_indices_of bits ++ length bits ∷ [])
+AreRunEnds-of_changes rows bits changes some small = IsTightCover-of_changes None rows bits changes some small
 
 pub AreRunEnds-of_none : (rows : List (Option Value)) → length rows ≡ 0 → AreRunEnds rows []
 AreRunEnds-of_none rows none = IsTightCover-of_none rows none

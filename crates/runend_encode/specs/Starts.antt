@@ -1,33 +1,13 @@
 -- Where runs start, and what stands there.
-use Rattle.std.specs.Prelude.{◌≡◌, ◌↔◌, ◌+◌, ◌<◌, ◌≤◌, ◌-◌, ℕ, List, [], ◌∷◌, Bool, false, Option, None, length, map, slice_get, slice_index_or}
-use Rattle.std.specs.Int.{bit_at}
+use Rattle.std.specs.Prelude.{ℕ, List, Option, None}
 use Rattle.column_core.specs.Value.{Value}
 use Rattle.runend_windows.specs.Cover.{IsTightCover}
-
--- the first row of each run, where the first run starts at this row: each other run starts where the one before it ends
-abbrev pub starts_from : ℕ → List ℕ → List ℕ
-starts_from start [] = []
-starts_from start (end ∷ ends) = start ∷ starts_from end ends
+use Rattle.runend_windows.specs.Starts.{items_at, starts_from}
 
 -- the rows at these places
 abbrev pub rows_at : {B : Type 0} → List (Option B) → List ℕ → List (Option B)
-rows_at rows places = map (λ place. slice_index_or rows place None) places
+rows_at rows places = items_at None rows places
 
 -- runs with these ends, each of the value of its first row, are the tight exact cover of the rows
 abbrev pub AreRunEnds : List (Option Value) → List ℕ → Type 0
 AreRunEnds rows ends = IsTightCover rows ends (rows_at rows (starts_from 0 ends))
-
--- a row is equal to the row before; the first row has none before it
-abbrev pub GoesOn : {B : Type 0} → List B → ℕ → Type 0
-GoesOn rows row = slice_get rows (row - 1) ≡ slice_get rows row
-
--- a bit of the word for each row from `start` to `stop` - 1, the first of them lowest: whether it differs from the row
--- before; all others are 0
-pub record AreChangeBits {B : Type 0} (rows : List B) (start stop word : ℕ) : Type 0 where
-  pub told : (lane : ℕ) → start + lane < stop → ((bit_at word lane ≡ 0) ↔ GoesOn rows (start + lane))
-  pub clear : (lane : ℕ) → stop ≤ start + lane → bit_at word lane ≡ 0
-
--- a bit for each row: whether it differs from the row before
-pub record AreChanges (rows : List (Option Value)) (bits : List Bool) : Type 0 where
-  pub counted : length bits ≡ length rows
-  pub each : (row : ℕ) → row < length rows → ((slice_index_or bits row false ≡ false) ↔ GoesOn rows row)

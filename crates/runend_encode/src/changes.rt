@@ -2,7 +2,7 @@
 ghost use Rattle.std.specs.Prelude.{◌≡◌, ◌↔◌, ◌+◌, ◌/◌, ◌<◌, ℕ, IfOk, IsOkUnless, length};
 ghost use Rattle.column_base.specs.Words.{digit_at};
 ghost use Rattle.column_core.specs.Leaf.{leaf_rows, single_rows};
-ghost use Rattle.runend_encode.specs.Starts.{AreChanges, GoesOn};
+ghost use Rattle.runend_windows.specs.Starts.{AreChanges, GoesOn};
 
 use crate::row_changes::RowChanges;
 use column_core::{BitBuffer, BitBufferMut, VortexError, VortexResult};

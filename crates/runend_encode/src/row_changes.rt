@@ -1,14 +1,14 @@
 //! Which of 64 rows differ from the row before, by the kind of their column.
-ghost use Rattle.std.specs.Prelude.{◌≡◌, ◌↔◌, ◌+◌, ◌*◌, ◌<◌, ◌≤◌, ℕ, length};
+ghost use Rattle.std.specs.Prelude.{◌≡◌, ◌↔◌, ◌+◌, ◌*◌, ◌<◌, ℕ, length};
 ghost use Rattle.std.specs.Int.{bit_at};
 ghost use Rattle.column_core.specs.Leaf.{leaf_rows, single_rows};
-ghost use Rattle.runend_encode.specs.Starts.{AreChangeBits, GoesOn};
+ghost use Rattle.runend_windows.specs.Starts.{GoesOn};
 
-use crate::item_changes::{changed_bits, changed_numbers, changed_optionals};
-use crate::rows::FlatRows;
+use crate::item_changes::{changed_integers, changed_numbers};
 use crate::view_changes::{changed_views, differing_rows};
 use column_core::{BoolArray, DecimalArray, PrimitiveArray, VarBinViewArray};
 use column_ops::ColumnOps;
+use runend_windows::{changed_bits, changed_optionals};
 use std::alloc::Allocator;
 
 /// A flat column of one kind, whose changes are found 64 rows at a time. What goes over its rows is compiled for that
@@ -26,9 +26,8 @@ pub(crate) trait RowChanges<A: Allocator + Copy>: ColumnOps<A> + Drop {
 impl<A: Allocator + Copy> RowChanges<A> for PrimitiveArray<A> {
     #[inline(always)]
     fn change_word(&self, index: usize) -> u64 {
-        let count = self.row_count();
-        let start = index * 64;
-        tested_rows(self, start, start + (count - start).min(64))
+        let items = changed_integers(self.values(), index);
+        changed_optionals(self.validity(), index, items)
     }
 }
 
@@ -57,21 +56,4 @@ impl<A: Allocator + Copy> RowChanges<A> for VarBinViewArray<A> {
         let unlike = changed_optionals(self.validity(), index, items);
         differing_rows(self, start, unlike)
     }
-}
-
-// The bits of the rows from `start` to `stop - 1`, the first of them lowest. No row branches but where its test does.
-#[inline(always)]
-fn tested_rows<R: FlatRows<A>, A: Allocator + Copy>(column: &R, start: usize, stop: usize) -> u64
-    requires ordered { start ≤ stop }
-    requires few { stop ≤ start + 64 }
-    requires in_bounds { stop ≤ length (leaf_rows (R.leaf column.now)) }
-    ensures { AreChangeBits (single_rows (R.leaf column.now)) start stop result }
-{
-    let mut word = 0;
-    let mut before = start.saturating_sub(1);
-    for row in start..stop {
-        word |= u64::from(!column.is_same(before, row)) << (row - start);
-        before = row;
-    }
-    word
 }

@@ -2,7 +2,8 @@
 ghost use Rattle.std.specs.Prelude.{◌≡◌, ◌∷◌, ◌++◌, ℕ, List, [], IfOk, IsOkUnless, drop, length};
 ghost use Rattle.column_base.specs.Bits.{set_indices_of};
 ghost use Rattle.column_core.specs.Leaf.{single_rows};
-ghost use Rattle.runend_encode.specs.Starts.{AreRunEnds, starts_from};
+ghost use Rattle.runend_windows.specs.Starts.{starts_from};
+ghost use Rattle.runend_encode.specs.Starts.{AreRunEnds};
 
 use crate::changes::changes_of;
 use crate::row_changes::RowChanges;

@@ -1,11 +1,13 @@
 //! Which of 64 texts differ from the text before: bytes are read only where the views differ.
 ghost use Rattle.std.specs.Prelude.{◌≡◌, ◌≢◌, ◌↔◌, ◌+◌, ◌*◌, ◌<◌, ◌≤◌, ℕ, true, false, IsTrue, length, slice_get};
 ghost use Rattle.std.specs.Int.{bit_at};
-ghost use Rattle.column_core.specs.Leaf.{leaf_rows, single_rows};
-ghost use Rattle.runend_encode.specs.Starts.{AreChangeBits, GoesOn};
+ghost use Rattle.column_core.specs.Leaf.{single_rows, OfVarBins};
+ghost use Rattle.column_core.specs.VarBinForm.{varbin_rows};
+ghost use Rattle.runend_windows.specs.Starts.{AreChangeBits, GoesOn};
 
-use crate::rows::{FlatRows, are_same_views};
-use column_core::View;
+use crate::rows::{are_same_views, is_same};
+use column_core::{VarBinViewArray, View};
+use column_ops::ColumnOps;
 use std::alloc::Allocator;
 
 /// Returns a bit for each of up to 64 views from `start` on: whether it differs from the view before. That of the first
@@ -27,16 +29,16 @@ pub(crate) fn changed_views(views: &[View], start: usize) -> u64
 /// Returns the bits of the rows from `start` on that do differ from the row before, of those that may: bits of rows
 /// that are equal to it are cleared.
 #[inline(always)]
-pub(crate) fn differing_rows<R: FlatRows<A>, A: Allocator + Copy>(
-    column: &R,
+pub(crate) fn differing_rows<A: Allocator + Copy>(
+    column: &VarBinViewArray<A>,
     start: usize,
     unlike: u64,
 ) -> u64
-    requires in_bounds { start < length (leaf_rows (R.leaf column.now)) }
-    requires told { (lane : ℕ) → lane < 64 → start + lane < length (leaf_rows (R.leaf column.now)) →
-        bit_at unlike lane ≡ 0 → GoesOn (single_rows (R.leaf column.now)) (start + lane) }
-    ensures { (lane : ℕ) → lane < 64 → start + lane < length (leaf_rows (R.leaf column.now)) →
-        ((bit_at result lane ≡ 0) ↔ GoesOn (single_rows (R.leaf column.now)) (start + lane)) }
+    requires in_bounds { start < length (varbin_rows column.now) }
+    requires told { (lane : ℕ) → lane < 64 → start + lane < length (varbin_rows column.now) →
+        bit_at unlike lane ≡ 0 → GoesOn (single_rows (OfVarBins column.now)) (start + lane) }
+    ensures { (lane : ℕ) → lane < 64 → start + lane < length (varbin_rows column.now) →
+        ((bit_at result lane ≡ 0) ↔ GoesOn (single_rows (OfVarBins column.now)) (start + lane)) }
 {
     let mut word = unlike;
     let mut rest = unlike;
@@ -50,16 +52,16 @@ pub(crate) fn differing_rows<R: FlatRows<A>, A: Allocator + Copy>(
 
 // Is there a row of the lane, and is it equal to the row before? The first row of all is.
 #[inline(always)]
-fn goes_on_at<R: FlatRows<A>, A: Allocator + Copy>(column: &R, start: usize, lane: usize) -> bool
-    requires { start < length (leaf_rows (R.leaf column.now)) }
-    ensures { start + lane < length (leaf_rows (R.leaf column.now)) →
-        (IsTrue result ↔ GoesOn (single_rows (R.leaf column.now)) (start + lane)) }
+fn goes_on_at<A: Allocator + Copy>(column: &VarBinViewArray<A>, start: usize, lane: usize) -> bool
+    requires { start < length (varbin_rows column.now) }
+    ensures { start + lane < length (varbin_rows column.now) →
+        (IsTrue result ↔ GoesOn (single_rows (OfVarBins column.now)) (start + lane)) }
 {
     if lane >= column.row_count() - start {
         return false;
     }
     let row = start + lane;
-    column.is_same(row.saturating_sub(1), row)
+    is_same(column, row.saturating_sub(1), row)
 }
 
 // The word with 0 at the lane.

@@ -9,7 +9,7 @@ use std::simd::prelude::*;
 /// Returns a bit for each of the 64 numbers from `index` * 64 on, the first of them lowest: whether it differs from the
 /// number before. That of the first number of all is false. Bits after the last number may be any.
 #[inline(always)]
-pub(crate) fn changed_items<T: NativePType>(items: &[T], index: usize) -> u64
+pub fn changed_items<T: NativePType>(items: &[T], index: usize) -> u64
     requires { index * 64 < length items.now }
     ensures { (lane : ℕ) → lane < 64 → index * 64 + lane < length items.now →
         ((bit_at result lane ≡ 0) ↔ GoesOn (map T.number items.now) (index * 64 + lane)) }

@@ -25,6 +25,7 @@ pub use decode_bool::decode_truths;
 pub use encode::{encode_plain, is_all_null, validity_with};
 pub use flag_changes::{changed_bits, changed_optionals};
 pub use flat::{decode_flat, has_nulls_alone};
+pub use item_changes::changed_items;
 pub use narrow::narrowed;
 pub use run_writer::{RunWriter, repeated_items};
 pub use searches::{ended_before, first_past, first_past_four, first_past_of, last_end_of};

@@ -6,7 +6,7 @@ use Rattle.std.proofs.lemmas.List.{length_push}
 use Rattle.column_base.specs.Words.{digit_at}
 use Rattle.column_base.proofs.WordDigits.{digit_left, digit_push}
 use Rattle.column_core.specs.Leaf.{single_rows}
-use Rattle.runend_encode.specs.Starts.{GoesOn}
+use Rattle.runend_windows.specs.Starts.{GoesOn}
 use Rattle.runend_encode.proofs.changes.change_words.Goals as goal
 
 pub loop-index-preserved : goal.loop-index-preserved

@@ -2,7 +2,7 @@ use Rattle.std.proofs.Common.{◌≡◌, ◌+◌, ◌*◌, ◌/◌, ◌≤◌, �
 use Rattle.std.specs.Prelude.{◌↔◌}
 use Rattle.column_base.specs.Words.{digit_at}
 use Rattle.column_core.specs.Leaf.{leaf_rows, single_rows}
-use Rattle.runend_encode.specs.Starts.{GoesOn}
+use Rattle.runend_windows.specs.Starts.{GoesOn}
 use Rattle.runend_encode.proofs.changes.change_words.Given as goal
 
 -- the words before `index` hold the bits of their rows

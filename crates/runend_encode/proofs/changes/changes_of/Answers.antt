@@ -1,7 +1,7 @@
 use Rattle.std.proofs.Common.{◌∙◌, sym, subst, arith}
 use Rattle.column_core.specs.Leaf.{single_rows}
-use Rattle.runend_encode.specs.Starts.{AreChanges}
-use Rattle.runend_encode.proofs.ChangedRows.{AreChanges-of_words}
+use Rattle.runend_windows.specs.Starts.{AreChanges}
+use Rattle.runend_windows.proofs.ChangedRows.{AreChanges-of_words}
 use Rattle.runend_encode.proofs.Starts.{length-single}
 use Rattle.runend_encode.proofs.changes.changes_of.Goals as goal
 

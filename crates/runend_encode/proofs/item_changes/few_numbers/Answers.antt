@@ -2,8 +2,8 @@ use Rattle.std.proofs.Common.{◌≡◌, ◌∙◌, ◌+◌, ℕ, Bool, ap, subs
 use Rattle.std.specs.Prelude.{◌↔◌, IsTrue, slice_get}
 use mathlib.Core.Bool.{not}
 use Rattle.column_base.proofs.WordGrowth.{one_if-byte}
-use Rattle.runend_encode.specs.Starts.{GoesOn}
-use Rattle.runend_encode.proofs.ChangedItems.{AreChangeBits-lane}
+use Rattle.runend_windows.specs.Starts.{GoesOn}
+use Rattle.runend_windows.proofs.ChangedItems.{AreChangeBits-lane}
 use Rattle.runend_encode.proofs.item_changes.few_numbers.Goals as goal
 
 pub loop-lane-preserved : goal.loop-lane-preserved

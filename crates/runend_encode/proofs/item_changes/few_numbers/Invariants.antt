@@ -1,5 +1,5 @@
 use Rattle.std.proofs.Common.{◌≡◌, ◌+◌, ◌-◌}
-use Rattle.runend_encode.specs.Starts.{AreChangeBits}
+use Rattle.runend_windows.specs.Starts.{AreChangeBits}
 use Rattle.runend_encode.proofs.item_changes.few_numbers.Given as goal
 
 abbrev pub invariant-loop-lane : goal.invariant-loop-lane

@@ -3,7 +3,7 @@ use Rattle.column_base.specs.Bits.{set_indices_of}
 use Rattle.column_core.specs.Leaf.{single_rows}
 use Rattle.column_ops.proofs.Arms.{if_ok}
 use Rattle.runend_encode.specs.Starts.{AreRunEnds}
-use Rattle.runend_encode.proofs.ChangedRows.{AreRunEnds-of_changes}
+use Rattle.runend_encode.proofs.Starts.{AreRunEnds-of_changes}
 use Rattle.runend_encode.proofs.Starts.{length-single}
 use Rattle.runend_encode.proofs.run_ends.run_ends.Goals as goal
 

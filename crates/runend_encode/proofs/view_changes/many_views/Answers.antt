@@ -1,5 +1,5 @@
 use Rattle.std.proofs.Common.{◌≡◌, ◌+◌, ◌*◌, ℕ, refl, arith}
-use Rattle.runend_encode.proofs.ChangedItems.{AreChangeBits-joined}
+use Rattle.runend_windows.proofs.ChangedItems.{AreChangeBits-joined}
 use Rattle.runend_encode.proofs.view_changes.many_views.Goals as goal
 
 pub loop-eight-preserved : goal.loop-eight-preserved

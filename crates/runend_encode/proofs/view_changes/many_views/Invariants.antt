@@ -1,5 +1,5 @@
 use Rattle.std.proofs.Common.{◌+◌, ◌*◌}
-use Rattle.runend_encode.specs.Starts.{AreChangeBits}
+use Rattle.runend_windows.specs.Starts.{AreChangeBits}
 use Rattle.runend_encode.proofs.view_changes.many_views.Given as goal
 
 abbrev pub invariant-loop-eight : goal.invariant-loop-eight

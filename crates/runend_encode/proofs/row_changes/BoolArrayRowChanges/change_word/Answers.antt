@@ -4,7 +4,7 @@ use Rattle.std.proofs.lemmas.Option.{slice_get-get_or}
 use Rattle.column_base.proofs.ValidityRows.{has_row}
 use Rattle.column_core.specs.Value.{Truth}
 use Rattle.column_core.proofs.OptionalRows.{rows_within_bits}
-use Rattle.runend_encode.proofs.ChangedItems.{bits-go_on}
+use Rattle.runend_windows.proofs.ChangedItems.{bits-go_on}
 use Rattle.runend_encode.proofs.RowTests.{go_on-by_items}
 use Rattle.runend_encode.proofs.row_changes.BoolArrayRowChanges.change_word.Goals as goal
 

@@ -1,5 +1,5 @@
 use Rattle.std.proofs.Common.{◌≡◌, ◌∙◌, ◌∷◌, ◌-◌, length, take, ap, arith}
-use Rattle.runend_encode.proofs.Starts.{starts_from-bounds}
+use Rattle.runend_windows.proofs.Starts.{starts_from-bounds}
 use Rattle.runend_encode.proofs.run_ends.RunBounds.starts.Goals as goal
 
 pub returns : goal.returns

@@ -5,29 +5,35 @@ use Rattle.column_core.specs.ScalarView.{sees}
 use Rattle.column_core.specs.VarBinForm.{varbin_rows}
 use Rattle.column_core.proofs.OptionalRows.{rows_within_views}
 use Rattle.runend_encode.proofs.RowTests.{same-by_view, same-by_views}
-use Rattle.runend_encode.proofs.rows.VarBinViewArrayFlatRows.is_same.Goals as goal
+use Rattle.runend_encode.proofs.rows.is_same.Goals as goal
 
 pub are_same_views-shared-requires-clause-left : goal.are_same_views-shared-requires-clause-left
-are_same_views-shared-requires-clause-left g c = let few = rows_within_views c.args.self.now in rw c.views.ensures.stored (omega arith)
+are_same_views-shared-requires-clause-left g c = let few = rows_within_views c.args.column.now in rw c.views.ensures.stored (omega arith)
 
 pub are_same_views-shared-requires-clause-right : goal.are_same_views-shared-requires-clause-right
-are_same_views-shared-requires-clause-right g c = let few = rows_within_views c.args.self.now in rw c.views.ensures.stored (omega arith)
+are_same_views-shared-requires-clause-right g c = let few = rows_within_views c.args.column.now in rw c.views.ensures.stored (omega arith)
 
 pub is_valid-requires : goal.is_valid-requires
 is_valid-requires g c =
-    let form = c.args.self.now in
+    let form = c.args.column.now in
     let few = rows_within_views form in
     rw c.validity-validity.ensures.form (has_row form.validity (length form.views) c.args.left c.validity-validity.ensures.counted (omega arith))
 
 pub is_valid-requires-2 : goal.is_valid-requires-2
 is_valid-requires-2 g c =
-    let form = c.args.self.now in
+    let form = c.args.column.now in
     let few = rows_within_views form in
     rw c.validity-validity.ensures.form (has_row form.validity (length form.views) c.args.right c.validity-validity.ensures.counted (omega arith))
 
+pub get-requires : goal.get-requires
+get-requires g c = let few = rows_within_views c.args.column.now in omega arith
+
+pub get-requires-2 : goal.get-requires-2
+get-requires-2 g c = let few = rows_within_views c.args.column.now in omega arith
+
 pub returns-then-are_all : goal.returns-then-are_all
 returns-then-are_all g c =
-    let form = c.args.self.now in
+    let form = c.args.column.now in
     let few = rows_within_views form in
     let all = c.if-are_all.true in
     let same = rw c.views.ensures.stored at (c.are_same_views-shared.ensures.0 (c.are_all.ensures.third all)) in
@@ -41,5 +47,5 @@ returns-then-are_all g c =
 
 pub returns : goal.returns
 returns g c =
-    same-by_views (varbin_rows c.args.self.now) c.args.left c.args.right (sees c.row.result) (sees c.row-2.result) c.is_same_row.result
-    c.row.ensures c.row-2.ensures c.is_same_row.ensures
+    same-by_views (varbin_rows c.args.column.now) c.args.left c.args.right (sees c.get.result) (sees c.get-2.result) c.is_same_row.result
+    c.get.ensures.row c.get-2.ensures.row c.is_same_row.ensures

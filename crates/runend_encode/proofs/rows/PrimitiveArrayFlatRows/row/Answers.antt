@@ -1,6 +1,0 @@
-use Rattle.std.proofs.Common.{arith}
-use Rattle.column_core.proofs.OptionalRows.{rows_within_numbers}
-use Rattle.runend_encode.proofs.rows.PrimitiveArrayFlatRows.row.Goals as goal
-
-pub get-requires : goal.get-requires
-get-requires g c = let few = rows_within_numbers c.args.self.now in omega arith
