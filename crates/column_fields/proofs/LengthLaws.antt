@@ -1,5 +1,5 @@
 -- Run lengths are those of ends.
-use Rattle.std.proofs.Common.{◌≡◌, ℕ, suc, ◌+◌, ◌-◌, ◌*◌, ◌<◌, ◌≤◌, ℤ, pos, List, [], ◌∷◌, ◌++◌, length, get_or, map, drop, refl, sym, ap, ◌∙◌, append_assoc, add-one}
+use Rattle.std.proofs.Common.{◌≡◌, ℕ, suc, ◌+◌, ◌-◌, ◌*◌, ◌<◌, ◌≤◌, ℤ, pos, List, [], ◌∷◌, ◌++◌, length, get_or, map, drop, refl, sym, ap, ◌∙◌, append_assoc, add-one, arith}
 use Rattle.std.specs.Prelude.{unsigned_abs}
 use Rattle.std.proofs.lemmas.List.{append-nil, drop_all, length-append}
 use Rattle.std.proofs.Math.Seq.{drop-cons}
@@ -23,6 +23,11 @@ ends_natural number natural xs ns law shows = ap (map unsigned_abs) shows ∙ na
 pub lengths_cons : (start end : ℕ) (ends : List ℕ) → lengths_bytes start (end ∷ ends) ≡ varint (end - start) ++ lengths_bytes end ends
 unfolding lengths_bytes lengths_from
 lengths_cons start end ends = refl
+
+-- the first run, and those after it
+pub first_run : {X : Type 0} (f : X → ℕ) (xs : List X) (first : X) (others : List X) (end : ℕ) → xs ≡ first ∷ others → end ≡ f first → lengths_bytes 0 (map f xs) ≡ varint end ++ lengths_bytes (f first) (map f others)
+first_run f xs first others end parts is =
+    ap (λ ys. lengths_bytes 0 (map f ys)) parts ∙ lengths_cons 0 (f first) (map f others) ∙ ap (λ (n : ℕ). varint n ++ lengths_bytes (f first) (map f others)) (omega (arith, is))
 
 pub lengths_none : (start : ℕ) → lengths_bytes start [] ≡ []
 unfolding lengths_bytes lengths_from

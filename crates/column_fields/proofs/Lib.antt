@@ -22,6 +22,7 @@ pub mod OneByteLaws
 pub mod ShortLaws
 pub mod WordLaws
 pub mod ShortVarintLaws
+pub mod BlockLaws
 pub mod EndReading
 pub mod HeaderLaws
 pub mod FlatFieldLaws

@@ -1,5 +1,5 @@
 -- Run lengths: how many rows each run has.
-use Rattle.std.specs.Prelude.{◌≡◌, ◌⊎◌, ℕ, pos, ◌+◌, ◌-◌, ◌*◌, ◌/◌, ◌%◌, ◌^◌, ◌<◌, ◌≤◌, Bool, true, false, List, [], ◌∷◌, All}
+use Rattle.std.specs.Prelude.{◌≡◌, ◌⊎◌, ℕ, pos, ◌+◌, ◌-◌, ◌*◌, ◌/◌, ◌%◌, ◌^◌, ◌<◌, ◌≤◌, Bool, true, false, List, [], ◌∷◌, All, max}
 use Rattle.std.specs.List.{flat_map}
 use Rattle.column_base.specs.declared.dtype.PType.{PType}
 use Rattle.column_base.specs.Types.{HasNumber, IsUnsigned}
@@ -9,6 +9,11 @@ use Rattle.column_fields.specs.Varint.{varint}
 unfoldable pub lengths_from : ℕ → List ℕ → List ℕ
 lengths_from start [] = []
 lengths_from start (end ∷ ends) = (end - start) ∷ lengths_from end ends
+
+-- the greatest of the lengths, and 0 where there are none
+unfoldable pub greatest : List ℕ → ℕ
+greatest [] = 0
+greatest (length ∷ lengths) = max length (greatest lengths)
 
 -- run lengths, each as the shortest varint
 unfoldable pub lengths_bytes : ℕ → List ℕ → List ℕ

@@ -1,17 +1,18 @@
 //! How many bytes run lengths have, told from the ends without writing them.
-ghost use Rattle.std.specs.Prelude.{◌≡◌, ◌*◌, ◌≤◌, All, length, map, pos, unsigned_abs, IfOk, IfErr};
+ghost use Rattle.std.specs.Prelude.{◌≡◌, ◌+◌, ◌*◌, ◌≤◌, All, length, map, nat_le, pos, unsigned_abs, IfOk, IfErr};
+ghost use Rattle.std.specs.List.{count_by};
 ghost use Rattle.column_base.specs.Numbers.{numbers, ptype_of};
 ghost use Rattle.column_base.specs.Types.{IsUnsigned, HasNumber};
 ghost use Rattle.column_fields.specs.Sizes.{IsPast};
-ghost use Rattle.column_fields.specs.Lengths.{lengths_bytes, AreEndsOf};
+ghost use Rattle.column_fields.specs.Lengths.{greatest, lengths_bytes, lengths_from, AreEndsOf};
 
 use crate::sizes::{size_of_total, varint_size};
 use crate::stored::StoredEnd;
 use column_base::{PrimitiveValues, VortexResult, match_each_unsigned};
 use std::alloc::Allocator;
 
-// So many run lengths at once that 32 bits count their bytes.
-const BLOCK: usize = 65_536;
+// How many run lengths are measured by the longest of them.
+const BLOCK: usize = 64;
 
 /// Returns how many bytes the lengths of the runs with these ends have, in one pass over the ends. Refused as
 /// `OutOfMemory` exactly where no count tells them.
@@ -38,7 +39,7 @@ fn measure<E: StoredEnd>(ends: &[E]) -> u128
     varint_size(first.end()) as u128 + measure_behind(*first, others)
 }
 
-// How many bytes the lengths of the runs behind one that ends there have, block by block.
+// How many bytes the lengths of the runs after one that ends there have, block by block.
 fn measure_behind<E: StoredEnd>(first: E, ends: &[E]) -> u128
     ensures size { result ≡ length (lengths_bytes (E.natural first) (map E.natural ends.now)) }
     ensures most { result ≤ length ends.now * 10 }
@@ -56,13 +57,63 @@ fn measure_behind<E: StoredEnd>(first: E, ends: &[E]) -> u128
     total + u128::from(measure_block(start, rest))
 }
 
-// How many bytes the lengths of the runs of one block have that begin there. No call or branch keeps the compiler from
-// looking at several of them in one step.
+// How many bytes the lengths of the runs of one block have that begin there. Mostly the longest of them says that each
+// is one byte, and seldom has one more than two.
+#[inline(always)]
 fn measure_block<E: StoredEnd>(start: E, ends: &[E]) -> u32
-    requires { length ends.now ≤ 65536 }
+    requires { length ends.now ≤ 64 }
     ensures size { result ≡ length (lengths_bytes (E.natural start) (map E.natural ends.now)) }
     ensures most { result ≤ length ends.now * 10 }
     ensures fit { All (λ end. HasNumber E.PTYPE (pos end)) (map E.natural ends.now) }
+{
+    let count = ends.len() as u32;
+    let longest = longest_run(start, ends).end();
+    if longest < 128 {
+        return count;
+    }
+    if longest < 16_384 {
+        return count + long_runs(start, ends);
+    }
+    count + longer_bytes(start, ends)
+}
+
+// How many rows the longest of the runs has that begin there.
+#[inline(always)]
+fn longest_run<E: StoredEnd>(start: E, ends: &[E]) -> E
+    ensures longest { E.natural result ≡ greatest (lengths_from (E.natural start) (map E.natural ends.now)) }
+    ensures fit { All (λ end. HasNumber E.PTYPE (pos end)) (map E.natural ends.now) }
+{
+    let mut longest = E::default();
+    let mut begin = start;
+    for stop in ends {
+        longest = longest.greater(E::length(begin, *stop));
+        begin = *stop;
+    }
+    longest
+}
+
+// How many of the runs that begin there have 128 rows or more.
+#[inline(always)]
+fn long_runs<E: StoredEnd>(start: E, ends: &[E]) -> u32
+    requires { length ends.now ≤ 64 }
+    ensures count { result ≡ count_by (nat_le 128) (lengths_from (E.natural start) (map E.natural ends.now)) }
+    ensures most { result ≤ length ends.now }
+{
+    let mut long = 0;
+    let mut begin = start;
+    for stop in ends {
+        long += u32::from(E::length(begin, *stop).end() >= 128);
+        begin = *stop;
+    }
+    long
+}
+
+// How many bytes the lengths of the runs have that begin there, without the first byte of each.
+#[inline(always)]
+fn longer_bytes<E: StoredEnd>(start: E, ends: &[E]) -> u32
+    requires { length ends.now ≤ 64 }
+    ensures size { length ends.now + result ≡ length (lengths_bytes (E.natural start) (map E.natural ends.now)) }
+    ensures most { result ≤ length ends.now * 9 }
 {
     let mut longer = 0;
     let mut begin = start;
@@ -70,5 +121,5 @@ fn measure_block<E: StoredEnd>(start: E, ends: &[E]) -> u32
         longer += E::longer(begin, *stop);
         begin = *stop;
     }
-    ends.len() as u32 + longer
+    longer
 }

@@ -9,6 +9,7 @@ ghost use Rattle.column_fields.specs.Lengths.{lengths_bytes, lengths_from, AreEn
 ghost use Rattle.column_fields.specs.Varint.{varint};
 
 use crate::fields::{put_bytes_key, put_varint};
+use crate::length_bytes::{are_varints, length_bytes};
 use crate::length_sizes::lengths_size;
 use crate::short_varints::{one_byte_each, two_bytes_at_most};
 use crate::stored::StoredEnd;
@@ -55,7 +56,7 @@ fn put_lengths_of<A: Allocator, W: BufMut>(
     match_each_unsigned!(ends, items => put_lengths(out, items.as_slice()))
 }
 
-// Writes the lengths of runs with these ends at the end, eight in one step.
+// Writes the lengths of runs with these ends at the end.
 fn put_lengths<E: StoredEnd, W: BufMut>(out: &mut W, ends: &[E]) -> VortexResult<()>
     ensures ok { OnOk result (W.written out.new ≡ W.written out.old ++ lengths_bytes 0 (map E.natural ends.now)) }
     ensures room { UsesRoom result (W.spare out.old) (W.spare out.new)
@@ -63,7 +64,64 @@ fn put_lengths<E: StoredEnd, W: BufMut>(out: &mut W, ends: &[E]) -> VortexResult
     ensures kept { StaysInFront (W.written out.old) (W.written out.new) }
     ensures only { IsOkUnless result VortexError.OutOfMemory }
 {
-    let mut start = 0;
+    let Some((first, others)) = ends.split_first() else {
+        return Ok(());
+    };
+    put_varint(out, first.end())?;
+    put_behind(out, *first, others)
+}
+
+// Writes the lengths of the runs after one that ends there at the end, 64 in one step.
+fn put_behind<E: StoredEnd, W: BufMut>(out: &mut W, first: E, ends: &[E]) -> VortexResult<()>
+    ensures ok { OnOk result
+        (W.written out.new ≡ W.written out.old ++ lengths_bytes (E.natural first) (map E.natural ends.now)) }
+    ensures room { UsesRoom result (W.spare out.old) (W.spare out.new)
+        (length (lengths_bytes (E.natural first) (map E.natural ends.now))) }
+    ensures kept { StaysInFront (W.written out.old) (W.written out.new) }
+    ensures only { IsOkUnless result VortexError.OutOfMemory }
+{
+    let mut start = first;
+    let mut rest = ends;
+    while rest.len() >= 64 {
+        let (front, back) = rest.split_at(64);
+        put_block(out, start, front)?;
+        start = front[63];
+        rest = back;
+    }
+    put_eights(out, start.end(), rest)
+}
+
+// Writes the lengths of 64 runs that begin there at the end. Mostly each is one byte, and where the runs have more rows
+// than such lengths can have, that is not looked into.
+#[inline(always)]
+fn put_block<E: StoredEnd, W: BufMut>(out: &mut W, start: E, ends: &[E]) -> VortexResult<()>
+    requires { length ends.now ≡ 64 }
+    ensures ok { OnOk result
+        (W.written out.new ≡ W.written out.old ++ lengths_bytes (E.natural start) (map E.natural ends.now)) }
+    ensures room { UsesRoom result (W.spare out.old) (W.spare out.new)
+        (length (lengths_bytes (E.natural start) (map E.natural ends.now))) }
+    ensures kept { StaysInFront (W.written out.old) (W.written out.new) }
+    ensures only { IsOkUnless result VortexError.OutOfMemory }
+{
+    if E::length(start, ends[63]).end() < 64 * 128 {
+        let bytes = length_bytes(start, ends);
+        if are_varints(&bytes) {
+            out.put_slice(&bytes)?;
+            return Ok(());
+        }
+    }
+    put_eights(out, start.end(), ends)
+}
+
+// Writes the lengths of runs that begin there at the end, eight in one step.
+fn put_eights<E: StoredEnd, W: BufMut>(out: &mut W, first: u64, ends: &[E]) -> VortexResult<()>
+    ensures ok { OnOk result (W.written out.new ≡ W.written out.old ++ lengths_bytes first (map E.natural ends.now)) }
+    ensures room { UsesRoom result (W.spare out.old) (W.spare out.new)
+        (length (lengths_bytes first (map E.natural ends.now))) }
+    ensures kept { StaysInFront (W.written out.old) (W.written out.new) }
+    ensures only { IsOkUnless result VortexError.OutOfMemory }
+{
+    let mut start = first;
     let mut rest = ends;
     while rest.len() >= 8 {
         let (front, back) = rest.split_at(8);

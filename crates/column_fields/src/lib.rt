@@ -14,6 +14,7 @@ mod fitting;
 mod flat_fields;
 mod header;
 mod held;
+mod length_bytes;
 mod length_sizes;
 mod lengths;
 mod list_fields;

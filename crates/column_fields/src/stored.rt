@@ -1,5 +1,5 @@
 //! Native numbers as bytes, the lowest first.
-ghost use Rattle.std.specs.Prelude.{◌≡◌, ◌++◌, ◌+◌, ◌-◌, ◌≤◌, length, map, pos, All, OnOk, IsOkUnless};
+ghost use Rattle.std.specs.Prelude.{◌≡◌, ◌++◌, ◌+◌, ◌-◌, ◌≤◌, length, map, max, pos, All, OnOk, IsOkUnless};
 ghost use Rattle.column_fields.specs.Kept.{StaysInFront};
 ghost use Rattle.column_fields.specs.Room.{UsesRoom};
 ghost use Rattle.column_fields.specs.NumberBytes.{number_bytes, numbers_bytes, size_of};
@@ -67,6 +67,15 @@ pub(crate) trait StoredEnd: UnsignedPType {
         ensures value { result ≡ Self.natural self }
         ensures fits { HasNumber Self.PTYPE (pos (Self.natural self)) };
 
+    /// Returns how many rows a run has that begins and ends there. The end is a number of its own type too.
+    fn length(start: Self, end: Self) -> Self
+        ensures rows { Self.natural result ≡ Self.natural end - Self.natural start }
+        ensures fits { HasNumber Self.PTYPE (pos (Self.natural end)) };
+
+    /// Returns the greater of both.
+    fn greater(self, other: Self) -> Self
+        ensures { Self.natural result ≡ max (Self.natural self) (Self.natural other) };
+
     /// Returns how many bytes behind its first the varint of the length of a run has that begins and ends there, one
     /// for each power of 128 that the length reaches. The end is a number of its own type too.
     fn longer(start: Self, end: Self) -> u32
@@ -85,6 +94,16 @@ impl StoredEnd for u8 {
     }
 
     #[inline(always)]
+    fn length(start: u8, end: u8) -> u8 {
+        end.saturating_sub(start)
+    }
+
+    #[inline(always)]
+    fn greater(self, other: u8) -> u8 {
+        self.max(other)
+    }
+
+    #[inline(always)]
     fn longer(start: u8, end: u8) -> u32 {
         u32::from(end.saturating_sub(start) >= 128)
     }
@@ -97,6 +116,16 @@ impl StoredEnd for u8 {
 impl StoredEnd for u16 {
     fn end(self) -> u64 {
         u64::from(self)
+    }
+
+    #[inline(always)]
+    fn length(start: u16, end: u16) -> u16 {
+        end.saturating_sub(start)
+    }
+
+    #[inline(always)]
+    fn greater(self, other: u16) -> u16 {
+        self.max(other)
     }
 
     #[inline(always)]
@@ -116,6 +145,16 @@ impl StoredEnd for u32 {
     }
 
     #[inline(always)]
+    fn length(start: u32, end: u32) -> u32 {
+        end.saturating_sub(start)
+    }
+
+    #[inline(always)]
+    fn greater(self, other: u32) -> u32 {
+        self.max(other)
+    }
+
+    #[inline(always)]
     fn longer(start: u32, end: u32) -> u32 {
         let length = end.saturating_sub(start);
         u32::from(length >= 128)
@@ -132,6 +171,16 @@ impl StoredEnd for u32 {
 impl StoredEnd for u64 {
     fn end(self) -> u64 {
         self
+    }
+
+    #[inline(always)]
+    fn length(start: u64, end: u64) -> u64 {
+        end.saturating_sub(start)
+    }
+
+    #[inline(always)]
+    fn greater(self, other: u64) -> u64 {
+        self.max(other)
     }
 
     #[inline(always)]

@@ -21,8 +21,8 @@ loop-rest-preserved g c =
     let measured = lengths_bytes start (map natural front) in
     let left = lengths_bytes (natural last) (map natural back) in
     let parts : lengths_bytes start (map natural c.loop-rest.rest.now) ≡ measured ++ left =
-    runs_ahead natural last start (natural last) 65535 c.loop-rest.rest.now front back c.split_at.ensures.front c.split_at.ensures.back c.split_at.ensures.front_len (ap natural c.index-front.is) in
-    let items : map natural c.loop-rest.rest.now ≡ map natural front ++ map natural back = ap (map natural) (cut_items 65536 c.loop-rest.rest.now front back c.split_at.ensures.front c.split_at.ensures.back) ∙ map-append natural front back in
+    runs_ahead natural last start (natural last) 63 c.loop-rest.rest.now front back c.split_at.ensures.front c.split_at.ensures.back c.split_at.ensures.front_len (ap natural c.index-front.is) in
+    let items : map natural c.loop-rest.rest.now ≡ map natural front ++ map natural back = ap (map natural) (cut_items 64 c.loop-rest.rest.now front back c.split_at.ensures.front c.split_at.ensures.back) ∙ map-append natural front back in
     record {
       counted = omega (arith, c.loop-rest.invariant.counted, long_ahead _ measured left parts, c.measure_block.ensures.size);
       small = omega (arith, c.loop-rest.invariant.small, c.measure_block.ensures.most, c.split_at.ensures.front_len, c.split_at.ensures.back_len);

@@ -1,34 +1,16 @@
-use Rattle.std.proofs.Common.{◌≡◌, ◌∙◌, ap, sym, arith, ℕ, List, pos, map, take, [], ◌∷◌, ◌+◌, ◌++◌}
-use Rattle.std.proofs.lemmas.List.{map_more, take_all}
-use Rattle.std.proofs.lemmas.List.Elements.{All-push, All-nil, All-same}
-use Rattle.column_base.specs.Types.{HasNumber}
-use Rattle.column_fields.proofs.LengthLaws.{lengths_left, none_left}
+use Rattle.std.proofs.Common.{◌<◌, arith, map}
+use Rattle.column_fields.specs.Lengths.{greatest, lengths_from}
+use Rattle.column_fields.proofs.BlockLaws.{block_of_short, block_of_two}
 use Rattle.column_fields.proofs.length_sizes.measure_block.Goals as goal
 
-pub loop-stop-init : goal.loop-stop-init
-loop-stop-init g c = record {
-  counted = omega arith;
-  small = omega arith;
-  fits = All-nil (λ (end : ℕ). HasNumber g.E.NativePType.PTYPE (pos end));
-}
-
-pub loop-stop-preserved : goal.loop-stop-preserved
-loop-stop-preserved g c =
+pub returns-then-longest-lt128-clause-size : goal.returns-then-longest-lt128-clause-size
+returns-then-longest-lt128-clause-size g c =
     let natural = g.E.UnsignedPType.natural in
-    let has = λ (end : ℕ). HasNumber g.E.NativePType.PTYPE (pos end) in
-    let front : List ℕ = map natural (take c.loop-stop.stop-index c.args.ends.now) in
-    let more : map natural (take (c.loop-stop.stop-index + 1) c.args.ends.now) ≡ front ++ natural c.stop-item.result ∷ [] = map_more natural c.args.ends.now c.loop-stop.stop-index c.stop-item.result c.loop-stop-test.true ∙ ap (λ x. front ++ natural x ∷ []) (sym c.stop-item.is) in
-    let left = lengths_left natural c.args.ends.now c.loop-stop.stop-index (natural c.loop-stop.begin) c.stop-item.result c.loop-stop-test.true c.stop-item.is in
-    record {
-      counted = omega (arith, c.loop-stop.invariant.counted, left, c.longer-longer.ensures.size);
-      small = omega (arith, c.loop-stop.invariant.small, c.longer-longer.ensures.most);
-      fits = All-same has _ _ more (All-push has front (natural c.stop-item.result) c.loop-stop.invariant.fits c.longer-longer.ensures.fits);
-    }
+    let short : greatest (lengths_from (natural c.args.start) (map natural c.args.ends.now)) < 128 = omega (arith, c.if-longest-lt128.true, c.end-longest.ensures.value, c.longest_run.ensures.longest) in
+    omega (arith, block_of_short natural (natural c.args.start) c.args.ends.now short)
 
-pub returns-clause-size : goal.returns-clause-size
-returns-clause-size g c = omega (arith, c.loop-stop.invariant.counted, none_left g.E.UnsignedPType.natural c.args.ends.now c.loop-stop.stop-index (g.E.UnsignedPType.natural c.loop-stop.begin) (omega arith))
-
-pub returns-clause-fit : goal.returns-clause-fit
-returns-clause-fit g c =
-    let has = λ (end : ℕ). HasNumber g.E.NativePType.PTYPE (pos end) in
-    All-same has _ _ (ap (map g.E.UnsignedPType.natural) (sym (take_all c.loop-stop.stop-index c.args.ends.now (omega arith)))) c.loop-stop.invariant.fits
+pub returns-then-longest-lt16384-clause-size : goal.returns-then-longest-lt16384-clause-size
+returns-then-longest-lt16384-clause-size g c =
+    let natural = g.E.UnsignedPType.natural in
+    let short : greatest (lengths_from (natural c.args.start) (map natural c.args.ends.now)) < 16384 = omega (arith, c.if-longest-lt16384.true, c.end-longest.ensures.value, c.longest_run.ensures.longest) in
+    omega (arith, block_of_two natural (natural c.args.start) c.args.ends.now short, c.long_runs.ensures.count)

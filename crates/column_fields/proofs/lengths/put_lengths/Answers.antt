@@ -1,37 +1,34 @@
-use Rattle.std.proofs.Common.{◌≡◌, ap, ◌∙◌, map, ◌++◌, arith}
+use Rattle.std.proofs.Common.{◌≡◌, ◌∙◌, ◌+◌, ◌-◌, ◌++◌, ℕ, List, refl, sym, ap, arith, append_assoc, map, length}
+use Rattle.std.proofs.lemmas.List.{length-append}
 use Rattle.std.proofs.lemmas.Result.{on_ok_weaker}
-use Rattle.std.proofs.lemmas.List.{map-append}
 use Rattle.column_fields.specs.Lengths.{lengths_bytes}
-use Rattle.column_fields.proofs.OneByteLaws.{runs_ahead, put_ahead, long_ahead}
-use Rattle.column_fields.proofs.KeptLaws.{kept_on}
-use Rattle.column_fields.proofs.RoomLaws.{refused, last_part, first_lengths}
-use Rattle.column_fields.proofs.EightLaws.{cut_items}
+use Rattle.column_fields.specs.Varint.{varint}
+use Rattle.column_fields.proofs.LengthLaws.{first_run, lengths_done}
+use Rattle.column_fields.proofs.RoomLaws.{last_part, refused}
 use Rattle.column_fields.proofs.lengths.put_lengths.Goals as goal
 
-pub loop-rest-preserved : goal.loop-rest-preserved
-loop-rest-preserved g c =
+pub returns-in_default-clause-ok : goal.returns-in_default-clause-ok
+returns-in_default-clause-ok g c = lengths_done g.E.UnsignedPType.natural c.args.ends.now 0 0 (g.W.BufMut.written c.args.out.now) _ (omega (arith, c.in_default.ensures.cases)) refl
+
+pub returns-in_err-put_varint-clause-room : goal.returns-in_err-put_varint-clause-room
+returns-in_err-put_varint-clause-room g c =
     let natural = g.E.UnsignedPType.natural in
-    let front = c.split_at.result.0.now in
-    let back = c.split_at.result.1.now in
-    let start = c.loop-rest.start in
-    let parts : lengths_bytes start (map natural c.loop-rest.rest.now) ≡ lengths_bytes start (map natural front) ++ lengths_bytes c.end-start.result (map natural back) =
-    runs_ahead natural c.index-front-7.result start c.end-start.result 7 c.loop-rest.rest.now front back c.split_at.ensures.front c.split_at.ensures.back c.split_at.ensures.front_len (c.end-start.ensures.value ∙ ap natural c.index-front-7.is) in
-    record {
-      shows = put_ahead (g.W.BufMut.written c.loop-rest.out) _ _ _ _ _ c.loop-rest.invariant.shows c.in_ok-put_eight.ensures.ok parts;
-      kept = kept_on _ _ _ c.loop-rest.invariant.kept c.in_ok-put_eight.ensures.kept;
-      room = omega (arith, long_ahead (lengths_bytes start (map natural c.loop-rest.rest.now)) (lengths_bytes start (map natural front)) (lengths_bytes c.end-start.result (map natural back)) parts, c.loop-rest.invariant.room, c.in_ok-put_eight.ensures.room);
-    }
+    let rest = lengths_bytes (natural c.in-Some.first.now) (map natural c.in-Some.others.now) in
+    let all = first_run natural c.args.ends.now c.in-Some.first.now c.in-Some.others.now c.end.result c.in-Some.ensures.cases.0 c.end.ensures.value in
+    refused _ _ _ _ c.from_residual.ensures.0 (omega (arith, ap length all, length-append (varint c.end.result) rest, c.in_err-put_varint.ensures.room))
 
 pub returns-clause-ok : goal.returns-clause-ok
-returns-clause-ok g c = on_ok_weaker c.put_each.result (λ ok. ok ∙ c.loop-rest.invariant.shows) c.put_each.ensures.ok
-
-pub returns-in_err-put_eight-clause-room : goal.returns-in_err-put_eight-clause-room
-returns-in_err-put_eight-clause-room g c =
+returns-clause-ok g c =
     let natural = g.E.UnsignedPType.natural in
-    let front = c.split_at.result.0.now in
-    let back = c.split_at.result.1.now in
-    let parts : map natural c.loop-rest.rest.now ≡ map natural front ++ map natural back = ap (map natural) (cut_items 8 c.loop-rest.rest.now front back c.split_at.ensures.front c.split_at.ensures.back) ∙ map-append natural front back in
-    refused _ _ _ _ c.from_residual.ensures.0 (omega (arith, first_lengths c.loop-rest.start (map natural c.loop-rest.rest.now) (map natural front) (map natural back) parts, c.loop-rest.invariant.room, c.in_err-put_eight.ensures.room))
+    let old : List ℕ = g.W.BufMut.written c.args.out.now in
+    let rest = lengths_bytes (natural c.in-Some.first.now) (map natural c.in-Some.others.now) in
+    let all = first_run natural c.args.ends.now c.in-Some.first.now c.in-Some.others.now c.end.result c.in-Some.ensures.cases.0 c.end.ensures.value in
+    on_ok_weaker c.put_behind.result
+    (λ ok. ok ∙ ap (λ (t : List ℕ). t ++ rest) c.in_ok-put_varint.ensures.ok ∙ append_assoc old (varint c.end.result) rest ∙ ap (λ (t : List ℕ). old ++ t) (sym all)) c.put_behind.ensures.ok
 
 pub returns-clause-room : goal.returns-clause-room
-returns-clause-room g c = last_part _ _ _ _ _ _ c.loop-rest.invariant.room c.put_each.ensures.room
+returns-clause-room g c =
+    let natural = g.E.UnsignedPType.natural in
+    let rest = lengths_bytes (natural c.in-Some.first.now) (map natural c.in-Some.others.now) in
+    let all = first_run natural c.args.ends.now c.in-Some.first.now c.in-Some.others.now c.end.result c.in-Some.ensures.cases.0 c.end.ensures.value in
+    last_part _ _ _ _ _ _ (omega (arith, ap length all, length-append (varint c.end.result) rest, c.in_ok-put_varint.ensures.room)) c.put_behind.ensures.room
