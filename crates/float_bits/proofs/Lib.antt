@@ -6,10 +6,13 @@ pub mod Tests
 pub mod TotalKeys
 pub mod Borrows
 pub mod Cuts
+pub mod CutSizes
+pub mod FormatSizes
 pub mod Neighbours
 pub mod PlaceValues
 pub mod Products
 pub mod Results
+pub mod SameValues
 pub mod Roundings
 pub mod PatternSizes
 pub mod Tallies

@@ -5,10 +5,14 @@ use Rattle.std.proofs.lemmas.Nat.{pow-add}
 use Rattle.float_bits.specs.declared.formats.FloatFormat.TheVariants.{F64}
 use Rattle.float_bits.specs.Format.{exponent, exponent_unit, fraction, infinity}
 use Rattle.float_bits.specs.Number.{scaled, size}
+use Rattle.float_bits.proofs.Neighbours.{Ascends}
 use Rattle.float_bits.proofs.Sizes.{smaller_size}
 
 pub sizes_ascend : (a b : ℕ) → a < b → b ≤ infinity F64 → size F64 a < size F64 b
 sizes_ascend a b h l = smaller_size F64 a b (omega arith)
+
+pub doubles_ascend : Ascends (size F64) (infinity F64)
+doubles_ascend = record { up = sizes_ascend }
 
 -- the pattern of 53 digits that are doubled k times
 pub size_of_doubled : (k m : ℕ) → 2 ^ 52 ≤ m → m < 2 ^ 53 → k ≤ 2046 → size F64 (k * 0x10_0000_0000_0000 + m) ≡ m * 2 ^ k

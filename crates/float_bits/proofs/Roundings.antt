@@ -9,7 +9,7 @@ use Rattle.float_bits.specs.Places.{base}
 use Rattle.float_bits.specs.Window.{IsCut}
 use Rattle.float_bits.proofs.Neighbours.{IsBetween, nearest_even, nearest_infinity, nearest_itself, nearest_lower, nearest_upper}
 use Rattle.float_bits.proofs.PlaceValues.{base_is_two}
-use Rattle.float_bits.proofs.PatternSizes.{size_after, size_of_doubled, size_of_small}
+use Rattle.float_bits.proofs.PatternSizes.{doubles_ascend, size_after, size_of_doubled, size_of_small}
 
 -- what 1 in the kept digits counts for
 unit_of : (places digits half : ℕ) → 2 * half ≡ 2 ^ digits → 2 ^ (32 * places + digits) ≡ base ^ places * (2 * half)
@@ -48,7 +48,7 @@ pub record AreNeighbours (window kept digits lost half places rest : ℕ) : Type
   pub low : size F64 ((32 * places + digits) * 0x10_0000_0000_0000 + kept) ≡ kept * (base ^ places * (2 * half))
   pub high : size F64 ((32 * places + digits) * 0x10_0000_0000_0000 + kept + 1) ≡ (kept + 1) * (base ^ places * (2 * half))
   pub number : window * base ^ places + rest ≡ (kept * (2 * half) + lost) * base ^ places + rest
-  pub between : IsBetween (window * base ^ places + rest) ((32 * places + digits) * 0x10_0000_0000_0000 + kept)
+  pub between : IsBetween (size F64) (infinity F64) (window * base ^ places + rest) ((32 * places + digits) * 0x10_0000_0000_0000 + kept)
 
 pub neighbours : (window kept digits lost half places rest : ℕ) → IsCut window kept digits lost half → rest < base ^ places → 32 * places + digits ≤ 2045 → AreNeighbours window kept digits lost half places rest
 neighbours window kept digits lost half places rest c h b =
@@ -72,13 +72,13 @@ pub rounds_down : (window kept digits lost half places rest : ℕ) → IsCut win
     lost < half → IsNearest (window * base ^ places + rest) ((32 * places + digits) * 0x10_0000_0000_0000 + kept)
 rounds_down window kept digits lost half places rest c h b l =
     let w = neighbours window kept digits lost half places rest c h b in
-    nearest_lower _ _ w.between (rw (w.low, w.high, w.number) (before_middle kept lost half (base ^ places) rest l h))
+    nearest_lower _ _ doubles_ascend _ _ w.between (rw (w.low, w.high, w.number) (before_middle kept lost half (base ^ places) rest l h))
 
 pub rounds_up : (window kept digits lost half places rest : ℕ) → IsCut window kept digits lost half → rest < base ^ places → 32 * places + digits ≤ 2045 →
     (half < lost) ⊎ ((half ≡ lost) × (0 < rest)) → IsNearest (window * base ^ places + rest) ((32 * places + digits) * 0x10_0000_0000_0000 + kept + 1)
 rounds_up window kept digits lost half places rest c h b m =
     let w = neighbours window kept digits lost half places rest c h b in
-    nearest_upper _ _ w.between (rw (w.low, w.high, w.number) (after_middle kept lost half (base ^ places) rest (omega arith) m))
+    nearest_upper _ _ doubles_ascend _ _ w.between (rw (w.low, w.high, w.number) (after_middle kept lost half (base ^ places) rest (omega arith) m))
 
 pub rounds_to_even : (window kept digits lost half places rest : ℕ) → IsCut window kept digits lost half → rest < base ^ places → 32 * places + digits ≤ 2045 →
     half ≡ lost → rest ≡ 0 → IsNearest (window * base ^ places + rest) ((32 * places + digits) * 0x10_0000_0000_0000 + kept + kept % 2)
@@ -86,7 +86,7 @@ rounds_to_even window kept digits lost half places rest c h b m z =
     let w = neighbours window kept digits lost half places rest c h b in
     let parity : ((32 * places + digits) * 0x10_0000_0000_0000 + kept) % 2 ≡ kept % 2 = omega arith in
     subst (λ x. IsNearest (window * base ^ places + rest) ((32 * places + digits) * 0x10_0000_0000_0000 + kept + x)) parity
-    (nearest_even _ _ w.between (rw (w.low, w.high, w.number) (at_middle kept lost half (base ^ places) rest m z)))
+    (nearest_even _ _ doubles_ascend _ _ w.between (rw (w.low, w.high, w.number) (at_middle kept lost half (base ^ places) rest m z)))
 
 pub rounds_to_infinity : (window kept digits lost half places rest : ℕ) → IsCut window kept digits lost half → 2045 < 32 * places + digits → IsNearest (window * base ^ places + rest) (infinity F64)
 rounds_to_infinity window kept digits lost half places rest c b =
@@ -95,7 +95,7 @@ rounds_to_infinity window kept digits lost half places rest c b =
     let first : size F64 (infinity F64) ≡ 2 ^ 52 * 2 ^ 2046 = size_of_doubled 2046 (2 ^ 52) (le_refl _) (omega arith) (omega arith) in
     let most : 2 ^ 52 * 2 ^ 2046 ≤ kept * 2 ^ (32 * places + digits) = mul-le (2 ^ 52) (2 ^ 2046) kept (2 ^ (32 * places + digits)) c.kept_low (pow_mono past) in
     let number : window * base ^ places + rest ≡ (kept * (2 * half) + lost) * base ^ places + rest = ap (λ z. z * base ^ places + rest) c.whole in
-    nearest_infinity _ (subst (λ x. x ≤ window * base ^ places + rest) (sym first) (le_trans most (rw (u, number) (from_kept kept lost (2 * half) (base ^ places) rest))))
+    nearest_infinity _ _ doubles_ascend _ (subst (λ x. x ≤ window * base ^ places + rest) (sym first) (le_trans most (rw (u, number) (from_kept kept lost (2 * half) (base ^ places) rest))))
 
 -- a window that fits, with nothing below it
 pub rounds_to_itself : (window places rest : ℕ) → window < 2 ^ 53 → places ≡ 0 → rest < base ^ places → IsNearest (window * base ^ places + rest) window
@@ -103,4 +103,4 @@ rounds_to_itself window places rest h e b =
     let unit : base ^ places ≡ 1 = ap (λ z. base ^ z) e in
     let product : window * base ^ places ≡ window * 1 = ap (λ z. window * z) unit in
     let is : size F64 window ≡ window * base ^ places + rest = size_of_small window h ∙ omega arith in
-    subst (λ x. IsNearest x window) is (nearest_itself window (omega arith))
+    subst (λ x. IsNearest x window) is (nearest_itself _ _ doubles_ascend window (omega arith))

@@ -54,3 +54,15 @@ abbrev pub quiet_nan : FloatFormat → ℕ
 quiet_nan F16 = 0x7e00
 quiet_nan F32 = 0x7fc0_0000
 quiet_nan F64 = 0x7ff8_0000_0000_0000
+
+-- how many digits a number has, with the leading one
+abbrev pub precision : FloatFormat → ℕ
+precision F16 = 11
+precision F32 = 24
+precision F64 = 53
+
+-- by how much the exponent's field of a finite number is past 1 at most
+abbrev pub greatest_steps : FloatFormat → ℕ
+greatest_steps F16 = 29
+greatest_steps F32 = 253
+greatest_steps F64 = 2045

@@ -1,3 +1,5 @@
+pub mod Casts
+pub mod CommonSizes
 pub mod Format
 pub mod KeyRanges
 pub mod Laws

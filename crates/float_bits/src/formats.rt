@@ -1,6 +1,7 @@
 //! The interchange formats of IEEE 754 that columns hold.
 ghost use Rattle.std.specs.Prelude.{◌≡◌};
-ghost use Rattle.float_bits.specs.Format.{infinity, quiet_nan, sign_bit};
+ghost use Rattle.float_bits.specs.CommonSizes.{unit_doublings};
+ghost use Rattle.float_bits.specs.Format.{exponent_unit, greatest_steps, infinity, precision, quiet_nan, sign_bit};
 
 /// A binary format: from the highest bit a sign, the exponent's field, the fraction's field.
 #[derive(Clone, Copy, Debug, PartialEq, Eq)]
@@ -44,6 +45,50 @@ impl FloatFormat {
             FloatFormat::F16 => 0x7e00,
             FloatFormat::F32 => 0x7fc0_0000,
             FloatFormat::F64 => 0x7ff8_0000_0000_0000,
+        }
+    }
+
+    /// Returns what 1 in the exponent's field counts for, which is also how many fractions there are.
+    pub(crate) fn exponent_unit(self) -> u64
+        ensures { result ≡ exponent_unit self }
+    {
+        match self {
+            FloatFormat::F16 => 1 << 10,
+            FloatFormat::F32 => 1 << 23,
+            FloatFormat::F64 => 1 << 52,
+        }
+    }
+
+    /// Returns how many digits a number has, with the leading one.
+    pub(crate) fn precision(self) -> u64
+        ensures { result ≡ precision self }
+    {
+        match self {
+            FloatFormat::F16 => 11,
+            FloatFormat::F32 => 24,
+            FloatFormat::F64 => 53,
+        }
+    }
+
+    /// Returns by how much the exponent's field of a finite number is past 1 at most.
+    pub(crate) fn greatest_steps(self) -> u64
+        ensures { result ≡ greatest_steps self }
+    {
+        match self {
+            FloatFormat::F16 => 29,
+            FloatFormat::F32 => 253,
+            FloatFormat::F64 => 2045,
+        }
+    }
+
+    /// Returns how often 2^-1074 is doubled until it is the smallest positive number of the format.
+    pub(crate) fn unit_doublings(self) -> u64
+        ensures { result ≡ unit_doublings self }
+    {
+        match self {
+            FloatFormat::F16 => 1050,
+            FloatFormat::F32 => 925,
+            FloatFormat::F64 => 0,
         }
     }
 }

@@ -6,7 +6,8 @@ ghost use Rattle.float_bits.specs.Held.{IsFinite};
 ghost use Rattle.float_bits.specs.Places.{AreBelow, base, capacity, value};
 
 use crate::bins::{add_bins, add_product, settle};
-use crate::float_sum::{EXPONENT_UNIT, SIGN_BIT};
+use crate::decoding::decode;
+use crate::formats::FloatFormat;
 use std::marker::Model;
 
 // How many sizes are added before bins are settled.
@@ -49,7 +50,7 @@ impl WideNatural {
         requires room { self.old + times * size F64 bits < capacity }
         ensures { self.new ≡ self.old + times * size F64 bits }
     {
-        let size = decode(bits);
+        let size = decode(FloatFormat::F64, bits);
         self.additions = make_room(&mut self.bins, self.additions) + 1;
         add_product(&mut self.bins, size.digits, times, size.doublings);
     }
@@ -72,34 +73,6 @@ impl WideNatural {
         let mut digits = self.bins;
         settle(&mut digits);
         digits
-    }
-}
-
-// The size of a finite float: these digits, doubled this many times.
-#[derive(Clone, Copy)]
-struct Size {
-    digits: u64,
-    doublings: u64,
-}
-
-// Returns the size of a finite float.
-fn decode(bits: u64) -> Size
-    requires { IsFinite bits }
-    ensures size { size F64 bits ≡ result.digits * 2 ^ result.doublings }
-    ensures digits { result.digits < 2 ^ 53 }
-    ensures doublings { result.doublings ≤ 2045 }
-{
-    let exponent = bits % SIGN_BIT / EXPONENT_UNIT;
-    let fraction = bits % EXPONENT_UNIT;
-    if exponent == 0 {
-        return Size {
-            digits: fraction,
-            doublings: 0,
-        };
-    }
-    Size {
-        digits: EXPONENT_UNIT + fraction,
-        doublings: exponent - 1,
     }
 }
 
