@@ -48,8 +48,8 @@ fn nearest_to(format: FloatFormat, integer: i128) -> Nearest
     round_size(format, integer.unsigned_abs() as u64, ONE_DOUBLINGS)
 }
 
-/// Returns the integer that a float is, or `None` where it is not one, or not one of fewer than 64 bits and a sign: where
-/// it has a fraction, is infinite or a NaN. -0.0 is 0.
+/// Returns the integer that a float is, or `None` where it is not one, or not one of fewer than 64 bits and a sign:
+/// where it has a fraction, is infinite or a NaN. -0.0 is 0.
 pub fn integer_of(format: FloatFormat, bits: u64) -> Option<i128>
     requires { IsPattern format bits }
     ensures { MatchOption result ((integer : ℤ) → unsigned_abs integer < 2 ^ 64 → ¬ IsInteger format bits integer)
@@ -87,7 +87,8 @@ fn whole_of(digits: u64, doublings: u64) -> Option<u128>
 fn doubled(digits: u64, times: u64) -> Option<u128>
     requires some { 0 < digits }
     requires digits { digits < 2 ^ 53 }
-    ensures { MatchOption result (2 ^ 64 ≤ digits * 2 ^ times) (λ whole. (whole ≡ digits * 2 ^ times) × (whole < 2 ^ 127)) }
+    ensures { MatchOption result (2 ^ 64 ≤ digits * 2 ^ times)
+        (λ whole. (whole ≡ digits * 2 ^ times) × (whole < 2 ^ 127)) }
 {
     if times > 63 {
         return None;
