@@ -13,7 +13,7 @@ int32_t column_bytes_write(const hv_column *column, uint8_t **bytes, size_t *siz
 int32_t encoding_bytes_write(hv_column *runs, uint8_t **bytes, size_t *size, hv_error *error);
 
 /* The column that the bytes are, in the form in which it was written, whoever wrote it: texts, bytes, or integers of
- * any type, which are signed numbers of 64 bits then, as booleans are; floats as runs of their bits. 17 where they are
+ * any type, which are signed numbers of 64 bits then, as booleans are; floats as their bits. 17 where they are
  * none, 13 for rows of another type, 14 for a number past 2^63, 21. */
 int32_t column_bytes_read(const uint8_t *bytes, size_t size, hv_column *out, hv_error *error);
 

@@ -64,22 +64,35 @@ static int32_t converted_values(const hv_column *values, convert *by, bool to_ke
     return answer;
 }
 
-/* The same of the values of all runs; without a function they are keys, which become bits. */
-static int32_t converted(const hv_column *column, convert *by, bool to_keys, hv_column *out, hv_error *error) {
-    hv_column runs = HV_EMPTY, ends = HV_EMPTY, values = HV_EMPTY, flat = HV_EMPTY, made = HV_EMPTY;
+/* The same of values in any form; without a function they are keys, which become bits. */
+static int32_t converted_rows(const hv_column *values, convert *by, bool to_keys, hv_column *out, hv_error *error) {
+    hv_column flat = HV_EMPTY;
     hv_session session;
     hv_session_initial(&session);
-    int32_t answer = hv_encode_rows(column, &runs, error);
-    if (!answer) answer = hv_ends(&runs, &ends, error);
-    if (!answer) answer = hv_values(&runs, &values, error);
-    if (!answer && !by) answer = hv_float_decode(&values, &made, error);
-    if (!answer && by) answer = hv_decode(&session, &values, &flat, error);
-    if (!answer && by) answer = converted_values(&flat, by, to_keys, &made, error);
-    if (!answer) answer = hv_runs(&ends, &made, hv_offset(&runs), hv_length(&runs), out, error);
-    hv_column *const all[] = {&runs, &ends, &values, &flat, &made};
+    if (!by) return hv_float_decode(values, out, error);
+    int32_t answer = hv_decode(&session, values, &flat, error);
+    if (!answer) answer = converted_values(&flat, by, to_keys, out, error);
+    hv_free(&flat);
+    return answer;
+}
+
+/* The same of a column, of which runs have only their values made others. */
+static int32_t converted(const hv_column *column, convert *by, bool to_keys, hv_column *out, hv_error *error) {
+    hv_column encoding = HV_EMPTY, ends = HV_EMPTY, values = HV_EMPTY, made = HV_EMPTY;
+    int32_t answer = HV_OK;
+    if (hv_form(column) == HV_FORM_FLAT) return converted_rows(column, by, to_keys, out, error);
+    if (hv_form(column) != HV_FORM_RUNS) answer = hv_encode_rows(column, &encoding, error), column = &encoding;
+    if (!answer) answer = hv_ends(column, &ends, error);
+    if (!answer) answer = hv_values(column, &values, error);
+    if (!answer) answer = converted_rows(&values, by, to_keys, &made, error);
+    if (!answer) answer = hv_runs(&ends, &made, hv_offset(column), hv_length(column), out, error);
+    hv_column *const all[] = {&encoding, &ends, &values, &made};
     for (size_t i = 0; i < sizeof all / sizeof *all; i++) hv_free(all[i]);
     return answer;
 }
+
+/* The key of a float of 64 bits, as hv_float_encode has it, without looking for runs. */
+static uint64_t key_of(uint64_t bits) { return bits >> 63 ? ~(bits << 1 >> 1) : bits; }
 
 /* A float with this many bits of exponent and of fraction as one of 64. */
 static uint64_t widened(uint64_t bits, int exponents, int fractions) {
@@ -135,28 +148,28 @@ float_question float_question_of(uint8_t operator_, int64_t number) {
     return asked;
 }
 
+/* The key of a number, one for both zeros, with each NaN above or below all. */
+static uint64_t place(uint64_t bits, int64_t of_nan) {
+    const uint64_t size = bits << 1 >> 1;
+    if (size > (uint64_t)0x7FF << 52) return (uint64_t)of_nan;
+    return size ? key_of(bits) : 0;
+}
+
+static uint64_t place_above(uint64_t bits) { return place(bits, INT64_MAX); }
+static uint64_t place_below(uint64_t bits) { return place(bits, INT64_MIN); }
+
 int32_t float_mask(const hv_column *column, float_question asked, nan_order nans, hv_column *out, hv_error *error) {
     hv_column wide = HV_EMPTY, keys = HV_EMPTY;
     const bool sorted = nans == NAN_GREATEST;
     uint64_t bits = bits_of_float(asked.number);
     if (asked.number == 0) bits = 0;
-    if (asked.number != asked.number) bits = (uint64_t)0x7FF8 << 48;
+    if (asked.number != asked.number) bits = INT64_MAX; /* the NaN that is above all */
     int32_t answer = float_column_widened(column, &wide, error);
-    if (!answer) answer = hv_float_encode(&wide, sorted, &keys, error);
+    if (!answer) answer = converted(&wide, sorted ? place_above : key_of, true, &keys, error);
     if (!answer) answer = hv_float_compare(&keys, asked.operator_, bits, !sorted, out, error);
     hv_free(&wide), hv_free(&keys);
     return answer;
 }
-
-/* The place of a number among all, one for both zeros, with each NaN above or below all. */
-static uint64_t place(uint64_t bits, int64_t of_nan) {
-    const uint64_t size = bits << 1 >> 1;
-    if (size > (uint64_t)0x7FF << 52) return (uint64_t)of_nan;
-    return bits >> 63 ? 0 - size : size;
-}
-
-static uint64_t place_above(uint64_t bits) { return place(bits, INT64_MAX); }
-static uint64_t place_below(uint64_t bits) { return place(bits, INT64_MIN); }
 
 /* Unordered NaNs are on that side of all other rows on which nothing holds but that they are unequal. */
 int32_t float_columns_mask(const hv_column *left, uint8_t operator_, const hv_column *right, nan_order nans,
@@ -180,25 +193,30 @@ static bool is_nan_of(uint8_t keys, uint64_t bits) {
     return keys == HV_I32 ? (bits & 0x7FFFFFFF) > 0x7F800000 : bits << 1 > (uint64_t)0x7FF << 53;
 }
 
-/* The same of keys. In the total order NaNs are outside of all numbers. */
+/* The same of keys. In the total order NaNs are outside of all numbers, so one at an end says whether there are any. */
 static int32_t extremes_of_keys(const hv_column *keys, nan_order nans, float_extremes *found, hv_error *error) {
     const uint8_t number = hv_kind_of(keys).number;
     uint8_t numbers = 0, rows = 0;
-    uint64_t first, last;
-    int32_t answer = hv_float_min_max(keys, 1, &numbers, &found->least, &found->greatest, error);
-    found->found = numbers;
-    if (answer || nans == NAN_UNORDERED) return answer;
-    answer = hv_float_min_max(keys, 0, &rows, &first, &last, error);
+    uint64_t first = 0, last = 0;
+    int32_t answer = hv_float_min_max(keys, 0, &rows, &first, &last, error);
+    *found = (float_extremes){rows, first, last};
     if (answer || !rows || (!is_nan_of(number, first) && !is_nan_of(number, last))) return answer;
-    found->greatest = is_nan_of(number, last) ? last : first;
+    answer = hv_float_min_max(keys, 1, &numbers, &found->least, &found->greatest, error);
+    found->found = numbers || nans == NAN_GREATEST;
+    if (nans == NAN_GREATEST) found->greatest = is_nan_of(number, last) ? last : first;
     if (!numbers) found->least = found->greatest;
-    found->found = true;
     return answer;
+}
+
+/* The keys in the width of the floats. */
+static int32_t keys_of(const hv_column *column, hv_column *out, hv_error *error) {
+    return hv_kind_of(column).number == HV_U64 ? converted(column, key_of, true, out, error)
+                                               : hv_float_encode(column, 0, out, error);
 }
 
 int32_t float_column_extremes(const hv_column *column, nan_order nans, float_extremes *found, hv_error *error) {
     hv_column keys = HV_EMPTY;
-    int32_t answer = hv_float_encode(column, 0, &keys, error);
+    int32_t answer = keys_of(column, &keys, error);
     if (!answer) answer = extremes_of_keys(&keys, nans, found, error);
     hv_free(&keys);
     return answer;
@@ -208,7 +226,7 @@ int32_t float_column_extremes(const hv_column *column, nan_order nans, float_ext
 static int32_t wide_keys(const hv_column *column, hv_column *out, hv_error *error) {
     hv_column wide = HV_EMPTY;
     int32_t answer = float_column_widened(column, &wide, error);
-    if (!answer) answer = hv_float_encode(&wide, 0, out, error);
+    if (!answer) answer = keys_of(&wide, out, error);
     hv_free(&wide);
     return answer;
 }
@@ -293,8 +311,7 @@ int32_t column_fold_by(const hv_column *keys, const hv_column *values, uint8_t f
     uint64_t *rows = NULL;
     int32_t answer = hv_fold_by(keys, values, HV_FOLD_ROWS, out_keys, &counts, error);
     const size_t count = answer ? 0 : hv_length(&counts);
-    if (!answer) answer = fold == HV_FOLD_SUM ? wide_keys(values, &floats, error)
-                                              : hv_float_encode(values, 0, &floats, error);
+    if (!answer) answer = fold == HV_FOLD_SUM ? wide_keys(values, &floats, error) : keys_of(values, &floats, error);
     if (!answer) rows = calloc(count + 1, sizeof *rows);
     if (!answer) answer = rows ? hv_read_u64(&counts, 0, rows, count, error) : HV_OUT_OF_MEMORY;
     if (!answer) answer = fold_groups(&floats, rows, count, fold, nans, out_answers, error);
