@@ -267,6 +267,12 @@ def check_stored_tables(program: Program) -> None:
         title, *columns, summary = program.answers("show", "message.hv").splitlines()
         assert [column.split()[0] for column in columns] == (names.split(",") if names else [])
         assert summary.startswith(f"{rows} rows, {len(columns)} columns; {len(digits) // 2:,} bytes in the file")
+    for line in (TOP / "examples/corpus/differences.txt").read_text(encoding="utf-8").splitlines():
+        rows, columns, digits = line.split("\t")
+        (program.folder / "message.hv").write_bytes(bytes.fromhex(digits))
+        found = [line.split(",") for line in program.answers("show", "message.hv", "--rows", rows).splitlines()]
+        due = [(words.split(" ")[0], *words.replace("null", "").split(" ")[3:]) for words in columns.split(", ")]
+        assert list(zip(*found, strict=True)) == due
 
 
 def check_each_truncation(program: Program, model) -> None:

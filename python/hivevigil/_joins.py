@@ -28,7 +28,7 @@ _OFTEN = 4  # times that a row comes on average: a flat column of which rows com
 
 class Piece(NamedTuple):
     """Rows `start` to `stop` - 1, each of them `each` times, and all of that `times` times. Rows that are null where
-    there is not one."""
+    `start` is None."""
 
     start: Optional[int]
     stop: int

@@ -11,10 +11,12 @@ from hivevigil import Column, Table
 
 CORPUS = Path(__file__).resolve().parents[2] / "examples/corpus"
 LINES = (CORPUS / "messages.txt").read_text(encoding="utf-8").splitlines()
-# how many lines 1.0.0 had, and the checksum of these: what was written is read for ever, so they do not change
+# how many lines there are since the first version that had them, and the checksum of these: what was written is read for
+# ever, so they do not change
 RELEASED = {
     "messages.txt": (72, "799efcd303de9ed2b38eb9bc6ee6adc459db72e0a6ecc783d02b3501bff1985a"),
     "tables.txt": (9, "f0c45c203195bc77e8e86912427004f598715b751d33569cf3403221d2a2d60c"),
+    "differences.txt": (6, "d18a0e7b7275a430cc2d29d324afc51f047b9724541673582949abf0bbf8b706"),
 }
 LETTERS = {"s": " ", "t": "\t", "n": "\n"}
 SHOWN = 10
@@ -151,3 +153,23 @@ def test_a_stored_table(line):
     assert table.to_bytes().hex() == digits
     logical_types = {"flat-i32": "tdD", "flat-i64": "tsu:UTC"}
     assert table.logical_types == {name: logical_types[name] for name in table if name in logical_types}
+
+
+DIFFERENCES = (CORPUS / "differences.txt").read_text(encoding="utf-8").splitlines()
+
+
+@pytest.mark.parametrize("line", DIFFERENCES, ids=range(len(DIFFERENCES)))
+def test_a_stored_table_with_differences(line):
+    """It has these columns, and is written as its bytes again, also where it is made anew."""
+    count, columns, digits = line.split("\t")
+    table, made = Table.from_bytes(bytes.fromhex(digits)), {}
+    for words in columns.split(", "):
+        name, kind, form, *rows = words.split(" ")
+        rows = [value(word, kind) for word in rows]
+        made[name] = Column.of(rows, kind) if form == "flat" else Column.of(rows, kind).to_runs()
+        found = table[name].storage()
+        assert (len(found), found.to_list(), found.type, found.form) == (int(count), rows, kind, form)
+        assert found.to_bytes() == made[name].to_bytes()
+    assert table.names == list(made) and table.to_bytes(differences=True).hex() == digits
+    assert Table(made, table.logical_types).to_bytes(differences=True).hex() == digits
+    assert any(words.startswith("at ") for words in columns.split(", ")) == (table.logical_types == {"at": "tss:UTC"})
