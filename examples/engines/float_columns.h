@@ -27,7 +27,7 @@ void float_line_write(uint8_t number, uint8_t *bytes);
 /* The column of bits of a message of keys; of 16 bits each is one of 64. 17 unless it has keys of this type, 21. */
 int32_t float_column_read(const uint8_t *message, size_t size, uint8_t keys, hv_column *out, hv_error *error);
 
-/* Bits of 64 of bits of 32: the same numbers, and NaNs with their payload; 21. */
+/* Floats of 32 bits as those of 64: the same numbers, and NaNs with their payload. Any other column as it is. 21. */
 int32_t float_column_widened(const hv_column *column, hv_column *out, hv_error *error);
 
 /* The same rows with one zero and one NaN in place of all; 21. */

@@ -8,27 +8,31 @@ SET timezone = 'UTC';
 SET max_parallel_workers_per_gather = 0;
 
 -- ---- Rows as they come: each minute one of each sensor, of which one in a thousand is lost ----
-CREATE TABLE readings(sensor int NOT NULL, at timestamptz NOT NULL, level bigint, state text);
+CREATE TABLE readings(sensor int NOT NULL, at timestamptz NOT NULL, level bigint, state text,
+    temperature double precision);
 INSERT INTO readings
     SELECT s, timestamptz '2025-01-01' + i * interval '1 minute',
         CASE WHEN (i + s) % 97 <> 0 THEN 200 + hashint4(s * 1000000 + i / 30) % 50 END,
-        (ARRAY['running', 'stopped for service', 'off'])[1 + (i + s * 7) / 700 % 3]
+        (ARRAY['running', 'stopped for service', 'off'])[1 + (i + s * 7) / 700 % 3],
+        CASE WHEN (i + s) % 997 <> 0 THEN 20 + hashint4(s * 1000003 + i / 10) % 80 / 8.0::double precision END
     FROM generate_series(0, :days * 1440 - 1) i, generate_series(1, :sensors) s WHERE hashint4(i * 100 + s) % 1000 <> 0;
 CREATE INDEX readings_btree ON readings(sensor, at);
 CREATE INDEX readings_brin ON readings USING brin(at);
 
 -- ---- Packed by day ----
-CREATE TABLE packed(sensor int, day date, at hvcolumn, level hvcolumn, state hvcolumn, PRIMARY KEY (sensor, day));
+CREATE TABLE packed(sensor int, day date, at hvcolumn, level hvcolumn, state hvcolumn, temperature hvfloat8,
+    PRIMARY KEY (sensor, day));
 INSERT INTO packed
     SELECT sensor, at::date AS day, hv_steps(hv_column(at ORDER BY at)), hv_column(level ORDER BY at),
-        hv_column(state ORDER BY at)
+        hv_column(state ORDER BY at), hv_column(temperature ORDER BY at)
     FROM readings GROUP BY sensor, day;
 VACUUM ANALYZE readings, packed;
 -- the rows are in the columns
 CREATE VIEW unpacked AS
-    SELECT sensor, hv_timestamptz(a.value) AS at, l.value AS level, s.value AS state
+    SELECT sensor, hv_timestamptz(a.value) AS at, l.value AS level, s.value AS state, t.value AS temperature
     FROM packed, hv_runs(hv_totals(packed.at)) a, LATERAL (SELECT hv_slice(packed.level, a.start, a.stop) AS one,
-        hv_slice(packed.state, a.start, a.stop) AS other) x, hv_runs(one) l, hv_text_runs(other) s;
+        hv_slice(packed.state, a.start, a.stop) AS other, hv_slice(packed.temperature, a.start, a.stop) AS third) x,
+        hv_runs(one) l, hv_text_runs(other) s, hv_runs(third) t;
 DO $$
 DECLARE lost int; more int;
 BEGIN
@@ -80,7 +84,8 @@ SELECT format('| %s | %s |', title, pg_size_pretty(size)) FROM (VALUES
     ('btree over sensor and day', pg_relation_size('packed_pkey')),
     ('- the times in them', (SELECT sum(pg_column_size(at)) FROM packed)),
     ('- the levels', (SELECT sum(pg_column_size(level)) FROM packed)),
-    ('- the states', (SELECT sum(pg_column_size(state)) FROM packed))) v(title, size);
+    ('- the states', (SELECT sum(pg_column_size(state)) FROM packed)),
+    ('- the temperatures', (SELECT sum(pg_column_size(temperature)) FROM packed))) v(title, size);
 SELECT E'\n| | Rows | Columns |\n|---|---|---|';
 SELECT compared('sum of each day', 'SELECT at::date AS day, sum(level) FROM readings GROUP BY day ORDER BY day',
     'SELECT day, sum(hv_sum(level)) FROM packed GROUP BY day ORDER BY day');
@@ -101,6 +106,19 @@ SELECT compared('rows above a limit, and their sum', 'SELECT count(*), sum(level
     $$SELECT sum(hv_rows(f)), sum(hv_sum(f)) FROM (SELECT hv_filter(level, '>', 245) AS f FROM packed OFFSET 0) x$$);
 SELECT compared('sum of the levels in one state', $$SELECT sum(level) FROM readings WHERE state = 'off'$$,
     $$SELECT hv_sum_all(hv_filter(level, hv_compare(state, '=', 'off'::text))) FROM packed$$);
+SELECT compared('sum and greatest temperature of each day',
+    'SELECT at::date AS day, sum(temperature), max(temperature) FROM readings GROUP BY day ORDER BY day',
+    'SELECT day, hv_sum_all(temperature), max(hv_max(temperature)) FROM packed GROUP BY day ORDER BY day');
+SELECT compared('temperatures of each hour, one sensor, ten days',
+    $$SELECT date_trunc('hour', at) AS hour, sum(temperature), min(temperature) FROM readings
+        WHERE sensor = 3 AND at < '2025-01-11' GROUP BY hour ORDER BY hour$$,
+    $$SELECT hv_timestamptz(key) AS hour, sum, min FROM packed,
+        hv_groups(hv_step_buckets(at, hv_number(interval '1 hour')), temperature)
+        WHERE sensor = 3 AND day < '2025-01-11' ORDER BY hour$$);
+SELECT compared('rows below a temperature, and their levels',
+    'SELECT count(*), sum(level) FROM readings WHERE temperature < 12.5',
+    $$SELECT sum(hv_rows(f)), hv_sum_all(f) FROM (SELECT hv_filter(level, hv_compare(temperature, '<', 12.5)) AS f
+        FROM packed OFFSET 0) x$$);
 SELECT compared('first and last time above a limit, one sensor',
     'SELECT min(at), max(at) FROM readings WHERE sensor = 3 AND level > 248',
     $$SELECT (SELECT hv_timestamptz(hv_min(hv_filter(hv_totals(at), hv_compare(level, '>', 248)))) FROM packed
@@ -140,7 +158,7 @@ CREATE TABLE incoming AS SELECT * FROM readings WHERE at < '2025-01-03' AND sens
 CREATE TABLE kept(LIKE packed);
 WITH gone AS (DELETE FROM incoming WHERE at < '2025-01-02' RETURNING *)
     INSERT INTO kept SELECT sensor, at::date AS day, hv_steps(hv_column(at ORDER BY at)), hv_column(level ORDER BY at),
-        hv_column(state ORDER BY at) FROM gone GROUP BY sensor, day;
+        hv_column(state ORDER BY at), hv_column(temperature ORDER BY at) FROM gone GROUP BY sensor, day;
 DO $$
 BEGIN
     IF (SELECT count(*) FROM incoming WHERE at < '2025-01-02') > 0 OR

@@ -13,7 +13,8 @@ CREATE USER MAPPING FOR CURRENT_USER SERVER first_server OPTIONS (user 'tester')
 CREATE USER MAPPING FOR CURRENT_USER SERVER second_server OPTIONS (user 'tester');
 
 -- ---- Odd sensors there, even ones here; the rows of an INSERT go to the server that has their sensor ----
-CREATE TABLE far(sensor int, day date, at hvcolumn, level hvcolumn, state hvcolumn) PARTITION BY LIST (sensor);
+CREATE TABLE far(sensor int, day date, at hvcolumn, level hvcolumn, state hvcolumn, temperature hvfloat8)
+    PARTITION BY LIST (sensor);
 SELECT set_config('sensors.even', string_agg(sensor::text, ',') FILTER (WHERE sensor % 2 = 0), false),
     set_config('sensors.odd', string_agg(sensor::text, ',') FILTER (WHERE sensor % 2 = 1), false)
 FROM (SELECT DISTINCT sensor FROM packed) x \g /dev/null
@@ -51,6 +52,14 @@ CALL asked('sum(public.hv_sum(level))', 'SELECT sensor, sum(hv_sum(level)) FROM 
 CALL asked('hv_sum_all(level)',
     'SELECT sum(s) FROM (SELECT sensor, hv_sum_all(level) AS s FROM far GROUP BY sensor) x',
     'SELECT sum(level) FROM readings');
+-- sums of double precision are exact, wherever they are made
+CALL asked('hv_sum_all(temperature)',
+    'SELECT sensor, hv_sum_all(temperature) FROM far GROUP BY sensor ORDER BY sensor',
+    'SELECT sensor, sum(temperature) FROM readings GROUP BY sensor ORDER BY sensor');
+CALL asked('hv_filter(temperature, ''>''::public.hv_operator',
+    $$SELECT sensor, day FROM far WHERE hv_rows(hv_filter(temperature, '>', 28.5)) > 100 ORDER BY sensor, day$$,
+    $$SELECT sensor, at::date AS day FROM readings WHERE temperature > 28.5 GROUP BY sensor, day HAVING count(*) > 100
+      ORDER BY sensor, day$$);
 CALL asked('hv_filter(level, ''>''::public.hv_operator',
     $$SELECT sensor, day FROM far WHERE hv_rows(hv_filter(level, '>', 245)) > 100 ORDER BY sensor, day$$,
     $$SELECT sensor, at::date AS day FROM readings WHERE level > 245 GROUP BY sensor, day HAVING count(*) > 100
