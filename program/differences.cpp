@@ -102,7 +102,7 @@ public:
     // there are too many.
     bool add(int64_t difference, uint64_t count) {
         const Wide last = total + static_cast<Wide>(difference) * static_cast<Wide>(count);
-        if (!fits<T>(total + difference) || !fits<T>(last)) return false;
+        if (!fits<T>(last)) return false; // rows between are between
         if (difference == 0 && by_runs && is_after_value) ends.back() += count;
         else if (difference == 0 ? !put_same(static_cast<T>(total), count, true) : !put(difference, count)) return false;
         total = last, rows += count, is_after_value = true;

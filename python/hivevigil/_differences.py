@@ -97,11 +97,11 @@ class _Totals:
 
     def add(self, step: int, rows: int) -> None:
         """Rows of which each is the one before and this difference. Damaged where one does not fit the type."""
-        first, last = self._total + step, self._total + step * rows
-        if first not in self._fits or last not in self._fits:
+        last = self._total + step * rows  # rows between are between
+        if last not in self._fits:
             raise Damaged
         if step:
-            self._put(range(first, last + (1 if step > 0 else -1), step), rows)
+            self._put(range(self._total + step, last + (1 if step > 0 else -1), step), rows)
         elif self._by_runs and self._is_after_value:
             self.ends[-1] += rows
         else:

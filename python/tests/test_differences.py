@@ -249,3 +249,10 @@ def test_the_versions(model):  # noqa: F811
         with pytest.raises(errors.BadMetadata):
             Table.from_bytes(other)
         assert model.table(other) is None
+    message = model.made(3, {"a": model.integers([1, 2, 9], 8, False, model.BY_BITS)}, {})
+    assert Table.from_bytes(model.written(message))["a"].to_list() == [1, 2, 9]
+    message.version, message.footer.columns[0].differences = 2, 0
+    message.footer_size = len(model.written(message.footer))
+    with pytest.raises(errors.BadMetadata):
+        Table.from_bytes(model.written(message))
+    assert model.table(model.written(message)) is None

@@ -75,6 +75,18 @@ def test_a_table_with_what_is_known_of_its_keys():
     assert stations.join(readings, "station").rows == 5
 
 
+def test_null_equals_nothing():
+    left, right = Table({"key": [None, None, 1], "a": [1, 2, 3]}), Table({"key": [None, 1, 1], "b": [4, 5, 6]})
+    assert left.join(right, "key").to_dict() == {"key": [1, 1], "a": [3, 3], "b": [5, 6]}
+    assert left.join(right, "key", how="left").to_dict() == {
+        "key": [None, None, 1, 1], "a": [1, 2, 3, 3], "b": [None, None, 5, 6],
+    }  # fmt: skip
+    nothing = Table({"key": Column.of([None], "i64?"), "b": [4]})
+    assert left.join(nothing, "key").rows == 0 and left.join(nothing, "key", how="left")["b"].to_list() == [None] * 3
+    floats = Table({"key": [-0.0, 0.0], "a": [1, 2]})
+    assert floats.join(Table({"key": [0.0, float("nan")], "b": [3, 4]}), "key").to_dict()["a"] == [2]
+
+
 def test_many_rows_in_few_runs():
     """Time and memory go by runs: nothing here could be done row by row."""
     half = 2**30

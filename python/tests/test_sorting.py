@@ -63,6 +63,35 @@ def test_a_table_by_some_columns(sample, data, nulls):
         assert table.sort(by[0], flags, nulls).equals(found)
 
 
+@given(st.lists(samples(), min_size=2, max_size=3), st.lists(st.booleans(), min_size=3, max_size=3), st.data())
+def test_long_runs(drawn, flags, data):
+    """Columns whose runs have many rows, so that they are taken by their runs."""
+    columns, lines = {}, []
+    for at, sample in enumerate(drawn):
+        rows = sample.rows[:8]
+        ends = [0]
+        for _ in rows:
+            ends.append(ends[-1] + data.draw(st.integers(40, 60)))
+        columns[f"column {at}"] = Column.from_runs(ends[1:], Column.of(rows, sample.type + "?"))
+        lines.append([row for row, start, stop in zip(rows, ends, ends[1:]) for _ in range(stop - start)])
+    count = min(map(len, lines))
+    table = Table({name: column[:count] for name, column in columns.items()})
+    rows = [list(row) for row in zip(*(line[:count] for line in lines))]
+    for keys in ([0], [1, 0]):
+        due = in_order(rows, keys, flags, "first")
+        found = table.sort([f"column {at}" for at in keys], flags[: len(keys)])
+        assert found.to_dict() == of_lines(list(columns), due)
+        assert all(column.form == "runs" and column.run_count() == len(runs_of(column.to_list())) for column in found.values())
+
+
+def test_equal_rows_stay_in_their_order():
+    table = Table({"key": [2, 1, 2, None, 1, 2, None], "number": list(range(7))})
+    for form in (table, table.to_runs()):
+        assert form.sort("key")["number"].to_list() == [3, 6, 1, 4, 0, 2, 5]
+        assert form.sort("key", True)["number"].to_list() == [3, 6, 0, 2, 5, 1, 4]
+        assert form.sort("key", True, "last")["number"].to_list() == [0, 2, 5, 1, 4, 3, 6]
+
+
 @given(samples(), st.booleans(), st.sampled_from(["first", "last"]))
 def test_a_column(sample, descending, nulls):
     found = sample.column.sort(descending, nulls)

@@ -110,6 +110,13 @@ def test_sums_past_64_bits():
     assert (wide.quantile(0.25), wide.quantile(Fraction(3, 4), "lower"), wide.nlargest(2**60 + 1)[-1]) == (2.0, 4, 2)
 
 
+def test_the_nearer_of_two_rows():
+    """In the middle the row of the even place, as NumPy and pandas have it."""
+    found = [Column.of(list(range(rows))).quantile(0.5, "nearest") for rows in (1, 2, 4, 6, 8)]
+    assert found == [0, 0, 2, 2, 4]
+    assert Column.of([10, 20]).quantile([0.49, 0.51], "nearest") == [10, 20]
+
+
 def test_nan_and_infinity():
     column = Column.of([1.0, math.nan, None, 3.0, -math.nan, 2.0])
     assert math.isnan(column.var()) and column.median() == 2.0 and column.quantile([0, 1]) == [1.0, 3.0]
