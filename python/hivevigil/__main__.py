@@ -1,5 +1,6 @@
 """python -m hivevigil FILE.csv: for each column its type, rows, nulls, runs, and bytes before and after; or, with
---to FILE.hv, all columns in runs kept as a table."""
+--to FILE.hv, all columns in runs kept as a table; with --differences those of integers and times as differences, each
+where that is shorter."""
 from __future__ import annotations
 
 import argparse
@@ -18,6 +19,7 @@ def _arguments() -> argparse.Namespace:
     parser = argparse.ArgumentParser(prog="python -m hivevigil", description="What a CSV's columns take in runs.")
     parser.add_argument("file", metavar="FILE.csv", help="the first line has the names; an empty field is null")
     parser.add_argument("--to", metavar="FILE.hv", help="keeps the columns in runs as a table, and prints nothing")
+    parser.add_argument("--differences", action="store_true", help="keeps them as differences where that is shorter")
     parser.add_argument("--plot", metavar="FILE.svg", help="draws how long the runs are (needs Matplotlib)")
     parser.add_argument("--batch", type=int, default=65536, metavar="ROWS", help="rows that are read at once")
     parser.add_argument("--reader", choices=("gdal", "csv"), help="GDAL (where it is there), or Python's csv module")
@@ -25,6 +27,8 @@ def _arguments() -> argparse.Namespace:
     chosen = parser.parse_args()
     if chosen.batch < 1:
         parser.error("--batch takes at least one row")
+    if chosen.differences and not chosen.to:
+        parser.error("--differences takes --to")
     if chosen.to and (chosen.plot or chosen.reader == "gdal"):
         parser.error("--to draws nothing, and reads by the csv module")
     return chosen
@@ -45,7 +49,7 @@ def main() -> int:
     chosen = _arguments()
     try:
         if chosen.to:
-            Table.from_csv(chosen.file, chosen.batch).save(chosen.to)
+            Table.from_csv(chosen.file, chosen.batch).save(chosen.to, chosen.differences)
             return 0
         save = _plotter(chosen.plot) if chosen.plot else None
         found = report.read(chosen.file, chosen.batch, chosen.reader)

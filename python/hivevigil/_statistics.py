@@ -59,6 +59,12 @@ def variance(column: Column, ddof: Any) -> Optional[float]:
         return math.inf
 
 
+def refuse_of_numpy(call: str, *given: Any) -> None:
+    """Refuses what a function of NumPy of this name passes, unless it is None."""
+    if any(each is not None for each in given):
+        raise TypeError(f"{call}: a column has no other axis, dtype or out: numpy.{call}(column.to_numpy(), ..) has")
+
+
 def refuse_other_than_numbers(column: Column, call: str) -> None:
     """Refuses columns of which nothing is computed but integers and floats."""
     logical = column._there()._logical

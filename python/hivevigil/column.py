@@ -447,14 +447,16 @@ class Column(_comparing.Comparisons, _pairs.Pairs):
         integers is exact and rounded once, also where the sum is past 64 bits."""
         return _statistics.mean(self)
 
-    def var(self, ddof: int = 1) -> Optional[float]:
+    def var(self, ddof: int = 1, axis: None = None, dtype: None = None, out: None = None) -> Optional[float]:
         """The variance of integers and floats: the sum of squared distances from the mean by the number of rows that
         are not null less `ddof`, exact and rounded once. None where that number is not above 0, NaN where a row is NaN
-        or infinite."""
+        or infinite. The others are what numpy.var passes, and only None is served."""
+        _statistics.refuse_of_numpy("var", axis, dtype, out)
         return _statistics.variance(self, ddof)
 
-    def std(self, ddof: int = 1) -> Optional[float]:
+    def std(self, ddof: int = 1, axis: None = None, dtype: None = None, out: None = None) -> Optional[float]:
         """The standard deviation, the root of `var`."""
+        _statistics.refuse_of_numpy("std", axis, dtype, out)
         return _statistics.root(_statistics.variance(self, ddof))
 
     def quantile(self, q: Any = 0.5, interpolation: str = "linear") -> Any:

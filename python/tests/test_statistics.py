@@ -110,6 +110,19 @@ def test_sums_past_64_bits():
     assert (wide.quantile(0.25), wide.quantile(Fraction(3, 4), "lower"), wide.nlargest(2**60 + 1)[-1]) == (2.0, 4, 2)
 
 
+def test_functions_of_numpy():
+    numpy = pytest.importorskip("numpy")
+    for rows in ([1, 2, 4], [0.5, 2.25, -1.0]):
+        column = Column.of(rows)
+        for form in (column, column.to_runs()):
+            assert numpy.var(form) == pytest.approx(numpy.var(rows)) and numpy.std(form) == pytest.approx(numpy.std(rows))
+            assert numpy.std(form, ddof=1) == pytest.approx(numpy.std(rows, ddof=1))
+            assert numpy.median(form) == numpy.median(rows) and numpy.sort(form).tolist() == sorted(rows)
+            assert numpy.quantile(form, 0.25) == numpy.quantile(rows, 0.25)
+    with pytest.raises(TypeError, match="^var: a column has no other axis, dtype or out: numpy.var"):
+        numpy.var(column, axis=1)
+
+
 def test_the_nearer_of_two_rows():
     """In the middle the row of the even place, as NumPy and pandas have it."""
     found = [Column.of(list(range(rows))).quantile(0.5, "nearest") for rows in (1, 2, 4, 6, 8)]

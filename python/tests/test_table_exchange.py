@@ -267,6 +267,12 @@ def test_the_command(tmp_path):
     table = Table.load(tmp_path / "readings.hv")
     assert table.to_dict() == {"place": ["Oslo", "Oslo", None], "day": [date(2024, 1, 1), date(2024, 1, 1), None]}
     assert table.logical_types == {"day": "tdD"} and table.equals(Table.from_csv(tmp_path / "readings.csv"))
+    days = "".join(f"{date(2024, 1, 1) + timedelta(days=day)}\n" for day in range(60))
+    (tmp_path / "days.csv").write_text("day\n" + days)
+    assert run("days.csv", "--to", "days.hv", "--differences") == (0, "", [])
+    assert (tmp_path / "days.hv").read_bytes() == Table.from_csv(tmp_path / "days.csv").to_bytes(differences=True)
+    assert (tmp_path / "days.hv").stat().st_size < 200 and Table.load(tmp_path / "days.hv").rows == 60
+    assert run("days.csv", "--differences")[:2] == (2, "")
     assert run("readings.csv", "--to", "none/x.hv")[:2] == (1, "")
     assert run("readings.csv", "--to", "x.hv", "--plot", "x.svg")[:2] == (2, "")
     (tmp_path / "readings.csv").write_text("place,day\nOslo\n")
