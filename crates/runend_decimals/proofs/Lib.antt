@@ -1,0 +1,4 @@
+pub mod Held
+pub mod TotalRows
+pub mod RunsAt
+pub mod DecimalRuns
