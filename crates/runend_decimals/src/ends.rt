@@ -26,7 +26,7 @@ fn end_among<A: Allocator>(ends: &PrimitiveValues<A>, run: usize) -> usize
     requires there { run < length (numbers ends.now) }
     ensures end { result ≡ slice_index (map unsigned_abs (numbers ends.now)) run }
 {
-    match_each_unsigned!(ends, items => end_at(items.as_slice(), run), _ => unreachable!())
+    match_each_unsigned!(ends, items => end_at(items.as_slice(), run))
 }
 
 // The same, of ends of one type.
