@@ -1,4 +1,4 @@
--- Groups answered one after the other.
+-- Answers that are stored one after the other.
 use Rattle.std.proofs.Common.{◌≡◌, ℕ, zero, suc, ◌+◌, ◌<◌, ◌≤◌, ℤ, pos, Bool, true, false, List, [], ◌∷◌, ◌++◌, Option, Some, None, length, map, slice_index, refl, subst, sym, ◌∙◌, ap, arith, inl, inr, add-one}
 use Rattle.std.specs.Prelude.{if◌then◌else◌, is_some, option_map, slice_get, All}
 use Rattle.std.specs.List.Sorted.{IsStrictlyIncreasing}
@@ -14,17 +14,18 @@ use Rattle.column_core.specs.Optionals.{optionals, AreBlankAtNulls}
 use Rattle.column_core.proofs.OptionalRows.{AreBlankAtNulls-push, length-optionals, optionals-push}
 use Rattle.runend_pairs.specs.Groups.{first_row, group_rows, AreGroupAnswers, IsAnswerOf, IsNumberIn}
 use Rattle.runend_pairs.specs.GroupFaults.{IsFirstLarge}
+use Rattle.runend_pairs.specs.Totals.{rows_through, AreRunningAnswers, IsFirstLargeRun}
 
--- the groups before one are answered
-pub record AreAnswered {S X : Type 0} (number : S → ℤ) (has : ℤ → Type 0) (answer_of : List X → Option ℤ) (ends : List ℕ) (rows : List X) (group : ℕ) (items : List S) (bits : List Bool) : Type 0 where
-  pub counted : length items ≡ group
+-- items and bits are the first of these answers, each of which the type has
+pub record AreAnswered {S : Type 0} (number : S → ℤ) (has : ℤ → Type 0) (answer : ℕ → Option ℤ) (count : ℕ) (items : List S) (bits : List Bool) : Type 0 where
+  pub counted : length items ≡ count
   pub paired : length bits ≡ length items
   pub blank : AreBlankAtNulls (pos 0) (map number items) bits
-  pub each : (k : ℕ) → k < group → slice_get (optionals (map number items) bits) k ≡ Some (answer_of (group_rows ends rows k))
-  pub fit : (k : ℕ) → k < group → IsNumberIn has (answer_of (group_rows ends rows k))
+  pub each : (k : ℕ) → k < count → slice_get (optionals (map number items) bits) k ≡ Some (answer k)
+  pub fit : (k : ℕ) → k < count → IsNumberIn has (answer k)
 
-pub AreAnswered-none : {S X : Type 0} (number : S → ℤ) (has : ℤ → Type 0) (answer_of : List X → Option ℤ) (ends : List ℕ) (rows : List X) → AreAnswered number has answer_of ends rows 0 [] []
-AreAnswered-none number has answer_of ends rows = record {
+pub AreAnswered-none : {S : Type 0} (number : S → ℤ) (has : ℤ → Type 0) (answer : ℕ → Option ℤ) → AreAnswered number has answer 0 [] []
+AreAnswered-none number has answer = record {
   counted = refl;
   paired = refl;
   blank = tt;
@@ -44,11 +45,11 @@ pushed_before [] x k h = absurd (omega arith)
 pushed_before (y ∷ xs) x zero h = refl
 pushed_before (y ∷ xs) x (suc k) h = pushed_before xs x k (omega arith)
 
--- one more group
-pub AreAnswered-more : {S X : Type 0} (number : S → ℤ) (has : ℤ → Type 0) (answer_of : List X → Option ℤ) (ends : List ℕ) (rows : List X) (group : ℕ) (items : List S) (bits : List Bool) (found : Option S) (x : S)
-    → (if is_some found then Some (number x) else None) ≡ option_map number found → (is_some found ≡ false → number x ≡ pos 0) → IsAnswerOf number has (answer_of (group_rows ends rows group)) (Some found) → AreAnswered number has answer_of ends rows group items bits
-    → AreAnswered number has answer_of ends rows (group + 1) (items ++ x ∷ []) (bits ++ is_some found ∷ [])
-AreAnswered-more number has answer_of ends rows group items bits found x shown blank answer before =
+-- one more answer
+pub AreAnswered-more : {S : Type 0} (number : S → ℤ) (has : ℤ → Type 0) (answer : ℕ → Option ℤ) (count : ℕ) (items : List S) (bits : List Bool) (found : Option S) (x : S)
+    → (if is_some found then Some (number x) else None) ≡ option_map number found → (is_some found ≡ false → number x ≡ pos 0) → IsAnswerOf number has (answer count) (Some found) → AreAnswered number has answer count items bits
+    → AreAnswered number has answer (count + 1) (items ++ x ∷ []) (bits ++ is_some found ∷ [])
+AreAnswered-more number has answer count items bits found x shown blank known before =
     let long = length_push items x in
     let flagged = length_push bits (is_some found) in
     let mapped = length-map items number in
@@ -64,34 +65,53 @@ AreAnswered-more number has answer_of ends rows group items bits found x shown b
       counted = omega arith;
       paired = omega arith;
       blank = rw split (AreBlankAtNulls-push (pos 0) (map number items) bits (number x) (is_some found) paired blank before.blank);
-      each = λ k h. ap (λ os. slice_get os k) listed ∙ elim (cases_eq k group) [
-        | inl same ↦ rw same (pushed_here (optionals (map number items) bits) (option_map number found) group (omega arith) ∙ ap Some answer.1)
+      each = λ k h. ap (λ os. slice_get os k) listed ∙ elim (cases_eq k count) [
+        | inl same ↦ rw same (pushed_here (optionals (map number items) bits) (option_map number found) count (omega arith) ∙ ap Some known.1)
         | inr other ↦ pushed_before (optionals (map number items) bits) (option_map number found) k (omega arith) ∙ before.each k (omega arith)
       ];
-      fit = λ k h. elim (cases_eq k group) [
-        | inl same ↦ rw same answer.0
+      fit = λ k h. elim (cases_eq k count) [
+        | inl same ↦ rw same known.0
         | inr other ↦ before.fit k (omega arith)
       ];
     }
 
--- all groups
-pub AreAnswered-all : {S X : Type 0} (number : S → ℤ) (has : ℤ → Type 0) (answer_of : List X → Option ℤ) (ends : List ℕ) (rows : List X) (items : List S) (bits : List Bool) (answers : List (Option ℤ))
-    → answers ≡ optionals (map number items) bits → AreAnswered number has answer_of ends rows (length ends) items bits → AreGroupAnswers answer_of ends rows answers
-AreAnswered-all number has answer_of ends rows items bits answers is all =
+-- as many answers as given
+answers_counted : {S : Type 0} (number : S → ℤ) (has : ℤ → Type 0) (answer : ℕ → Option ℤ) (count : ℕ) (items : List S) (bits : List Bool) (answers : List (Option ℤ))
+    → answers ≡ optionals (map number items) bits → AreAnswered number has answer count items bits → length answers ≡ count
+answers_counted number has answer count items bits answers is all =
     let mapped = length-map items number in
     let even = all.paired in
     let counted = all.counted in
     let many = length-optionals (map number items) bits (omega arith) in
-    record {
-      counted = ap length is ∙ many ∙ mapped ∙ counted;
-      each = λ k h. ap (λ os. slice_get os k) is ∙ all.each k h;
-    }
+    ap length is ∙ many ∙ mapped ∙ counted
+
+-- all groups
+pub AreAnswered-all : {S X : Type 0} (number : S → ℤ) (has : ℤ → Type 0) (answer_of : List X → Option ℤ) (ends : List ℕ) (rows : List X) (items : List S) (bits : List Bool) (answers : List (Option ℤ))
+    → answers ≡ optionals (map number items) bits → AreAnswered number has (λ k. answer_of (group_rows ends rows k)) (length ends) items bits → AreGroupAnswers answer_of ends rows answers
+AreAnswered-all number has answer_of ends rows items bits answers is all = record {
+  counted = answers_counted number has (λ k. answer_of (group_rows ends rows k)) (length ends) items bits answers is all;
+  each = λ k h. ap (λ os. slice_get os k) is ∙ all.each k h;
+}
+
+-- the ends of all runs
+pub AreAnswered-runs : {S X : Type 0} (number : S → ℤ) (has : ℤ → Type 0) (answer_of : List X → Option ℤ) (ends : List ℕ) (rows : List X) (items : List S) (bits : List Bool) (answers : List (Option ℤ))
+    → answers ≡ optionals (map number items) bits → AreAnswered number has (λ k. answer_of (rows_through ends rows k)) (length ends) items bits → AreRunningAnswers answer_of ends rows answers
+AreAnswered-runs number has answer_of ends rows items bits answers is all = record {
+  counted = answers_counted number has (λ k. answer_of (rows_through ends rows k)) (length ends) items bits answers is all;
+  each = λ k h. ap (λ os. slice_get os k) is ∙ all.each k h;
+}
 
 -- the first group whose answer the type does not have
 pub IsFirstLarge-here : {S X : Type 0} (number : S → ℤ) (has : ℤ → Type 0) (answer_of : List X → Option ℤ) (ends : List ℕ) (rows : List X) (group : ℕ) (items : List S) (bits : List Bool)
-    → group < length ends → IsAnswerOf number has (answer_of (group_rows ends rows group)) None → AreAnswered number has answer_of ends rows group items bits
+    → group < length ends → IsAnswerOf number has (answer_of (group_rows ends rows group)) None → AreAnswered number has (λ k. answer_of (group_rows ends rows k)) group items bits
     → IsFirstLarge has answer_of ends rows group
 IsFirstLarge-here number has answer_of ends rows group items bits within large before = record { within = within; here = large; before = before.fit }
+
+-- the first run at whose end the type does not have the answer
+pub IsFirstLargeRun-here : {S X : Type 0} (number : S → ℤ) (has : ℤ → Type 0) (answer_of : List X → Option ℤ) (ends : List ℕ) (rows : List X) (run : ℕ) (items : List S) (bits : List Bool)
+    → run < length ends → IsAnswerOf number has (answer_of (rows_through ends rows run)) None → AreAnswered number has (λ k. answer_of (rows_through ends rows k)) run items bits
+    → IsFirstLargeRun has answer_of ends rows run
+IsFirstLargeRun-here number has answer_of ends rows run items bits within large before = record { within = within; here = large; before = before.fit }
 
 -- a column of numbers and bits shows each number whose bit is true
 module _ (form : PrimitiveForm) (ptype : PType) (numbers : List ℤ) (validity : ValidityForm) (bits frozen : List Bool) (is : form ≡ primitive_with ptype numbers validity) (same : frozen ≡ bits)

@@ -5,7 +5,7 @@ use Rattle.std.specs.List.{last_or}
 use Rattle.std.specs.Option.{option_or}
 use Rattle.std.proofs.lemmas.List.Elements.{filter_map-append}
 use Rattle.runend_pairs.specs.GroupAnswers.{first_of, last_of, numbers_of}
-use Rattle.runend_pairs.proofs.Totals.{longer}
+use Rattle.runend_pairs.proofs.RowTotals.{longer}
 
 -- the numbers of a run
 of_nulls : (count : ℕ) → numbers_of (replicate count None) ≡ []

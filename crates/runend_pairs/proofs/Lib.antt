@@ -10,8 +10,9 @@ pub mod Chosen
 pub mod Hashed
 pub mod WalkedGroups
 pub mod Answered
-pub mod Totals
+pub mod RowTotals
 pub mod GroupPicked
 pub mod Bounds
 pub mod Refusals
 pub mod Encoded
+pub mod TotalRefusals

@@ -32,6 +32,6 @@ refused_groups fold dtype keys rows ends group_keys fault (Refused error) cover 
 refused_groups fold dtype keys rows ends group_keys fault (SumOverflow group) cover none refused = (none, large_in dtype keys rows ends group_keys cover group fold refused)
 
 -- an error that is passed on
-pub passed_on : {T : Type 0} (Why : GroupError → Type 0) (error : GroupError) (result : Result T GroupError) → IsErrAnd result (λ other. other ≡ error) → Why error → IfErr result Why
+pub passed_on : {T E : Type 0} (Why : E → Type 0) (error : E) (result : Result T E) → IsErrAnd result (λ other. other ≡ error) → Why error → IfErr result Why
 passed_on Why error (Ok value) passed why = absurd passed
 passed_on Why error (Err other) passed why = subst Why (sym passed) why

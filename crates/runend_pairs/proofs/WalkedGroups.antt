@@ -1,5 +1,5 @@
 -- Runs of rows walked along from the first row on: the run of the next row, and the rows so far.
-use Rattle.std.proofs.Common.{◌≡◌, ℕ, ℤ, zero, suc, ◌+◌, ◌-◌, ◌<◌, ◌≤◌, List, [], ◌∷◌, ◌++◌, Option, Some, length, map, replicate, slice_index, refl, sym, ◌∙◌, ap, arith, inl, inr, add-zero, zero-add, append-nil, append_assoc}
+use Rattle.std.proofs.Common.{◌≡◌, ℕ, ℤ, zero, suc, ◌+◌, ◌-◌, ◌<◌, ◌≤◌, List, [], ◌∷◌, ◌++◌, Option, Some, length, map, replicate, slice_index, take, drop, refl, sym, ◌∙◌, ap, arith, inl, inr, add-zero, zero-add, append-nil, append_assoc}
 use Rattle.std.specs.Prelude.{slice_get, slice_range}
 use Rattle.std.proofs.lemmas.Bool.{cases_lt}
 use Rattle.std.proofs.lemmas.List.Kept.{AllPairs-from_increasing}
@@ -107,3 +107,38 @@ pub paired_values : {S : Type 0} (number : S → ℤ) (items : List S) (validity
 paired_values number items validity ends paired flagged =
     let mapped = length-map items number in
     length-optionals (map number items) (flags validity (length items)) (length-flags validity (length items) flagged ∙ sym mapped) ∙ mapped ∙ paired
+
+drop-zero : {X : Type 0} (rows : List X) → drop 0 rows ≡ rows
+drop-zero [] = refl
+drop-zero (x ∷ rows) = refl
+
+-- a range from the first row on
+from_first : {X : Type 0} (rows : List X) (n : ℕ) → slice_range rows 0 n ≡ take n rows
+from_first rows n = let same : n - 0 ≡ n = omega arith in ap (take (n - 0)) (drop-zero rows) ∙ ap (λ (k : ℕ). take k rows) same
+
+-- the next row in a run of these is before the last end
+pub row_more : (ends : List ℕ) (row run : ℕ) → IsStrictlyIncreasing ends → run ≡ run_at ends row → run < length ends → row < last_end ends
+row_more ends row run increasing here within =
+    let inside : run_at ends row < length ends = rw here at within in
+    let past = ends_past ends row inside in
+    let most = le-last_end ends (run_at ends row) increasing inside in
+    omega arith
+
+-- one more whole run: where the rows go on to its end
+module _ {B : Type 0} (ends : List ℕ) (values : List (Option B)) (row run : ℕ) (window : IsWindow ends 0 (last_end ends)) (here : run ≡ run_at ends row) (within : run < length ends) where
+  more_rows : row < last_end ends
+  more_rows = row_more ends row run window.increasing here within
+
+  pub whole_run_past : row < slice_index ends run
+  whole_run_past = run_past ends row run window more_rows here
+
+  pub whole_run_next : run + 1 ≡ run_at ends (slice_index ends run)
+  whole_run_next = run_next ends row run window more_rows here (run + 1) (slice_index ends run) whole_run_past (omega arith) (λ e. refl) (λ n. absurd (n refl))
+
+  pub rows_grown : (value : Option B) → length values ≡ length ends → slice_get values run ≡ Some value
+      → take (slice_index ends run) (run_rows ends values 0 (last_end ends)) ≡ take row (run_rows ends values 0 (last_end ends)) ++ replicate (slice_index ends run - row) value
+  rows_grown value paired is =
+      let most = le-last_end ends run window.increasing within in
+      let grown = range_grown ends values 0 row run (slice_index ends run) value window paired (omega arith) whole_run_past most here (omega arith) is in
+      sym (from_first (run_rows ends values 0 (last_end ends)) (slice_index ends run)) ∙ grown
+      ∙ ap (λ (xs : List (Option B)). xs ++ replicate (slice_index ends run - row) value) (from_first (run_rows ends values 0 (last_end ends)) row)

@@ -8,3 +8,4 @@ pub mod Groups
 pub mod GroupFaults
 pub mod Sums
 pub mod GroupAnswers
+pub mod Totals

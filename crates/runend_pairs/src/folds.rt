@@ -5,6 +5,7 @@ ghost use Rattle.column_base.specs.declared.dtype.DType.TheVariants as column;
 ghost use Rattle.column_base.specs.ValidityForm.{flags};
 ghost use Rattle.column_base.specs.Validity.{form_of, validity_flags};
 ghost use Rattle.column_core.specs.Computed.{IsComputed};
+ghost use Rattle.column_core.specs.Optionals.{optionals, AreBlankAtNulls};
 ghost use Rattle.column_core.specs.PrimitiveForm.{optional_numbers, primitive_dtype};
 ghost use Rattle.runend_windows.specs.Ends.{ends_of};
 ghost use Rattle.runend_windows.specs.Window.{last_end, run_at};
@@ -79,12 +80,14 @@ pub(crate) fn fold_groups<T: NativePType, N: NativePType, S: Fold<T, N>, A: Allo
         run = next;
         row = stop;
     }
-    let validity = Validity::from_bits(flags.freeze());
-    Ok(PrimitiveArray::new_unchecked(N::wrap(items), validity))
+    Ok(answer_column(items, flags))
 }
 
-// No items yet, and room for as many as given. Refused as `OutOfMemory` only.
-fn room_for<N: NativePType, A: Allocator>(alloc: A, count: usize) -> VortexResult<Vec<N, A>>
+/// Returns no items, and room for as many as given. Refused as `OutOfMemory` only.
+pub(crate) fn room_for<N: NativePType, A: Allocator>(
+    alloc: A,
+    count: usize,
+) -> VortexResult<Vec<N, A>>
     ensures only { IsOkUnless result VortexError.OutOfMemory }
     ensures empty { IfOk result (λ items. items.items ≡ []) }
     ensures room { IfOk result (λ items. count ≤ vec_capacity items) }
@@ -92,9 +95,9 @@ fn room_for<N: NativePType, A: Allocator>(alloc: A, count: usize) -> VortexResul
     Ok(Vec::with_capacity(alloc, count)?)
 }
 
-// What a column stores for an answer: 0 for null.
+/// Returns what a column stores for an answer: 0 for null.
 #[inline]
-fn stored_for<N: NativePType>(answer: Option<N>) -> N
+pub(crate) fn stored_for<N: NativePType>(answer: Option<N>) -> N
     ensures shown { (if is_some answer then Some (N.number result) else None) ≡ option_map N.number answer }
     ensures blank { is_some answer ≡ false → N.number result ≡ pos 0 }
 {
@@ -102,6 +105,21 @@ fn stored_for<N: NativePType>(answer: Option<N>) -> N
         Some(number) => number,
         None => N::default(),
     }
+}
+
+/// Returns the column of answers, null where the flag is false, in a type that has null.
+pub(crate) fn answer_column<N: NativePType, A: Allocator + Copy>(
+    items: Vec<N, A>,
+    flags: BitBufferMut<A>,
+) -> PrimitiveArray<A>
+    requires paired { length flags ≡ length items.items }
+    requires blank { AreBlankAtNulls (pos 0) (map N.number items.items) flags }
+    ensures shown { optional_numbers result ≡ optionals (map N.number items.items) flags }
+    ensures dtype { primitive_dtype result ≡ column.Primitive N.PTYPE Nullable }
+    ensures computed { IsComputed result }
+{
+    let validity = Validity::from_bits(flags.freeze());
+    PrimitiveArray::new_unchecked(N::wrap(items), validity)
 }
 
 // What is kept of the rows from `start` to before `stop`, of which the first is in the run `first`, and the run of the

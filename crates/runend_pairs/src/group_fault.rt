@@ -3,7 +3,8 @@ ghost use Rattle.std.specs.Prelude.{◌≡◌};
 ghost use Rattle.runend_pairs.specs.GroupFaults.{groups_fault};
 ghost use Rattle.runend_pairs.specs.declared.group_fault.GroupError.TheVariants.{Refused};
 
-use column_core::{DType, VortexError, fault_of_lists, is_number_type};
+use crate::total_fault::fault_of_numbers;
+use column_core::{DType, VortexError, fault_of_lists};
 use thiserror::Error;
 
 /// Says why there are no answers. Groups are counted from 0.
@@ -38,8 +39,8 @@ pub(crate) fn fault_of_groups(
     if let Some(error) = fault_of_lists(keys) {
         return Some(error);
     }
-    if !is_number_type(values) {
-        return Some(VortexError::Unsupported);
+    if let Some(error) = fault_of_numbers(values) {
+        return Some(error);
     }
     if key_count == value_count {
         None

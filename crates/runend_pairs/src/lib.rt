@@ -24,9 +24,12 @@ mod numbers;
 mod numerics;
 mod pairs;
 mod places;
+mod running;
 mod runs;
 mod stored;
 mod sums;
+mod total_fault;
+mod totals;
 mod values;
 
 pub use booleans::{BooleanOperator, boolean};
@@ -42,3 +45,5 @@ pub use hashes::{equal_rows_equal_hashes, hash};
 pub use negation::not;
 pub use nulls::{is_null, is_valid};
 pub use numerics::{NumericOperator, numeric};
+pub use total_fault::TotalError;
+pub use totals::{RunningTotals, running_totals};

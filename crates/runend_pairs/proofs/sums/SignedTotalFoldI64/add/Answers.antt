@@ -1,6 +1,6 @@
 use Rattle.std.proofs.Common.{◌≡◌, ◌∙◌, ap, rules, sym, w64, FitsSigned, None, Some}
 use Rattle.std.specs.Prelude.{option_map}
-use Rattle.runend_pairs.proofs.Totals.{signed_added, IsSignedTotal-nulls}
+use Rattle.runend_pairs.proofs.RowTotals.{signed_added, IsSignedTotal-nulls}
 use Rattle.runend_pairs.proofs.sums.SignedTotalFoldI64.add.Goals as goal
 
 pub returns-in-Some : goal.returns-in-Some

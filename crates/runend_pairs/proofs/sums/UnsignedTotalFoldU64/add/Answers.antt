@@ -1,6 +1,6 @@
 use Rattle.std.proofs.Common.{◌≡◌, ◌∙◌, ap, pos, sym, None, Some}
 use Rattle.std.specs.Prelude.{option_map}
-use Rattle.runend_pairs.proofs.Totals.{unsigned_room, IsUnsignedTotal-more, IsUnsignedTotal-nulls}
+use Rattle.runend_pairs.proofs.RowTotals.{unsigned_room, IsUnsignedTotal-more, IsUnsignedTotal-nulls}
 use Rattle.runend_pairs.proofs.sums.UnsignedTotalFoldU64.add.Goals as goal
 
 pub returns-in-Some : goal.returns-in-Some
