@@ -3,7 +3,7 @@ ghost use Rattle.std.specs.Prelude.{◌≡◌, length, map, IfErr, IfOk};
 ghost use Rattle.column_base.specs.declared.dtype.DType.TheVariants as column;
 ghost use Rattle.column_base.specs.declared.dtype.Nullability.TheVariants.{Nullable};
 ghost use Rattle.column_base.specs.ValidityForm.{flags};
-ghost use Rattle.column_base.specs.Validity.{form_of};
+ghost use Rattle.column_base.specs.Validity.{form_of, validity_flags};
 ghost use Rattle.column_core.specs.Computed.{IsComputed};
 ghost use Rattle.column_core.specs.PrimitiveForm.{optional_numbers, primitive_dtype};
 ghost use Rattle.runend_windows.specs.Ends.{ends_of};
@@ -25,12 +25,12 @@ pub(crate) fn fold_running<T: NativePType, N: NativePType, S: Fold<T, N>, A: All
     requires runs { AreValueRuns values.now.ends.now (length values.now.items.now) (form_of values.now.validity.now) }
     ensures answers { IfOk result (λ answers. AreRunningAnswers S.answer_of (ends_of values.now.ends.now)
         (shown_numbers (ends_of values.now.ends.now) (map T.number values.now.items.now)
-        (flags (form_of values.now.validity.now) (length values.now.items.now))) (optional_numbers answers)) }
+        (validity_flags values.now.validity.now (length values.now.items.now))) (optional_numbers answers)) }
     ensures dtype { IfOk result (λ answers. primitive_dtype answers ≡ column.Primitive N.PTYPE Nullable) }
     ensures computed { IfOk result (λ answers. IsComputed answers) }
     ensures refused { IfErr result (IsRunningRefusal S.gives S.answer_of (ends_of values.now.ends.now)
         (shown_numbers (ends_of values.now.ends.now) (map T.number values.now.items.now)
-        (flags (form_of values.now.validity.now) (length values.now.items.now)))) }
+        (validity_flags values.now.validity.now (length values.now.items.now)))) }
 {
     let count = values.ends.len();
     let mut items = room_for(alloc, count)?;

@@ -1,7 +1,6 @@
 use Rattle.std.proofs.Common.{◌≡◌, ◌∙◌, ◌<◌, ℕ, arith, length, map, subst, sym}
 use Rattle.std.specs.Prelude.{slice_range}
-use Rattle.column_base.specs.ValidityForm.{flags}
-use Rattle.column_base.specs.Validity.{form_of}
+use Rattle.column_base.specs.Validity.{validity_flags}
 use Rattle.runend_windows.specs.Ends.{ends_of}
 use Rattle.runend_windows.proofs.Ends.{length_ends_of}
 use Rattle.runend_pairs.specs.Groups.{first_row, group_rows, shown_numbers, IsAnswerOf}
@@ -20,7 +19,7 @@ pub returns-in_default-clause-refused : goal.returns-in_default-clause-refused
 returns-in_default-clause-refused g c =
     let own = c.args.values.now in
     let ends = ends_of c.args.groups.now in
-    let rows = shown_numbers (ends_of own.ends.now) (map g.T.NativePType.number own.items.now) (flags (form_of own.validity.now) (length own.items.now)) in
+    let rows = shown_numbers (ends_of own.ends.now) (map g.T.NativePType.number own.items.now) (validity_flags own.validity.now (length own.items.now)) in
     let group = c.loop-group.group in
     let fold = c.fold_between-fold.result.0 in
     let number = g.N.NativePType.number in
@@ -37,7 +36,7 @@ pub loop-group-preserved : goal.loop-group-preserved
 loop-group-preserved g c =
     let own = c.args.values.now in
     let ends = ends_of c.args.groups.now in
-    let rows = shown_numbers (ends_of own.ends.now) (map g.T.NativePType.number own.items.now) (flags (form_of own.validity.now) (length own.items.now)) in
+    let rows = shown_numbers (ends_of own.ends.now) (map g.T.NativePType.number own.items.now) (validity_flags own.validity.now (length own.items.now)) in
     let group = c.loop-group.group in
     let fold = c.fold_between-fold.result.0 in
     let number = g.N.NativePType.number in
@@ -65,7 +64,7 @@ pub returns-clause-answers : goal.returns-clause-answers
 returns-clause-answers g c =
     let own = c.args.values.now in
     let ends = ends_of c.args.groups.now in
-    let rows = shown_numbers (ends_of own.ends.now) (map g.T.NativePType.number own.items.now) (flags (form_of own.validity.now) (length own.items.now)) in
+    let rows = shown_numbers (ends_of own.ends.now) (map g.T.NativePType.number own.items.now) (validity_flags own.validity.now (length own.items.now)) in
     let number = g.N.NativePType.number in
     let has = g.S.Fold.gives in
     let answer_of = g.S.Fold.answer_of in

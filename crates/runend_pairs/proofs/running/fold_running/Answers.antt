@@ -1,7 +1,6 @@
 use Rattle.std.proofs.Common.{◌≡◌, ◌∙◌, ◌<◌, ◌≤◌, ◌-◌, ◌++◌, ℕ, ℤ, List, Option, ap, arith, length, length-take, map, refl, replicate, subst, sym, take}
 use Rattle.std.specs.Prelude.{option_map, slice_index}
-use Rattle.column_base.specs.ValidityForm.{flags}
-use Rattle.column_base.specs.Validity.{form_of}
+use Rattle.column_base.specs.Validity.{form_of, validity_flags}
 use Rattle.column_core.specs.Optionals.{optionals}
 use Rattle.runend_windows.specs.Ends.{ends_of}
 use Rattle.runend_windows.specs.Window.{last_end, run_at}
@@ -23,7 +22,7 @@ pub overflow_sub-end : goal.overflow_sub-end
 overflow_sub-end g c =
     let own = c.args.values.now in
     let ends = ends_of own.ends.now in
-    let marks = flags (form_of own.validity.now) (length own.items.now) in
+    let marks = validity_flags own.validity.now (length own.items.now) in
     let values = optionals (map g.T.NativePType.number own.items.now) marks in
     let window = c.requires.runs.whole.window in
     let row = c.loop-run.row in
@@ -37,7 +36,7 @@ pub returns-in_default-clause-refused : goal.returns-in_default-clause-refused
 returns-in_default-clause-refused g c =
     let own = c.args.values.now in
     let ends = ends_of own.ends.now in
-    let marks = flags (form_of own.validity.now) (length own.items.now) in
+    let marks = validity_flags own.validity.now (length own.items.now) in
     let values = optionals (map g.T.NativePType.number own.items.now) marks in
     let rows = shown_numbers ends (map g.T.NativePType.number own.items.now) marks in
     let window = c.requires.runs.whole.window in
@@ -67,7 +66,7 @@ pub loop-run-preserved : goal.loop-run-preserved
 loop-run-preserved g c =
     let own = c.args.values.now in
     let ends = ends_of own.ends.now in
-    let marks = flags (form_of own.validity.now) (length own.items.now) in
+    let marks = validity_flags own.validity.now (length own.items.now) in
     let values = optionals (map g.T.NativePType.number own.items.now) marks in
     let rows = shown_numbers ends (map g.T.NativePType.number own.items.now) marks in
     let window = c.requires.runs.whole.window in
@@ -112,7 +111,7 @@ pub returns-clause-answers : goal.returns-clause-answers
 returns-clause-answers g c =
     let own = c.args.values.now in
     let ends = ends_of own.ends.now in
-    let marks = flags (form_of own.validity.now) (length own.items.now) in
+    let marks = validity_flags own.validity.now (length own.items.now) in
     let values = optionals (map g.T.NativePType.number own.items.now) marks in
     let rows = shown_numbers ends (map g.T.NativePType.number own.items.now) marks in
     let number = g.N.NativePType.number in
