@@ -315,6 +315,15 @@ enum { HV_FOLD_SUM, HV_FOLD_ROWS, HV_FOLD_COUNT, HV_FOLD_LEAST, HV_FOLD_GREATEST
 HV_ANSWER hv_fold_by(const hv_column *keys, const hv_column *values, uint8_t fold, hv_column *out_keys,
                      hv_column *out_answers, hv_error *error);
 
+/* The rows in reverse order; and in order, as hv_is_sorted has it: null first, then numbers by value, false before true,
+ * texts and bytes by their bytes. At the cost of the runs and not of the rows: a constant stays one, any other column
+ * becomes runs, as few as possible. 13 for lists, and never 21 for them. */
+HV_ANSWER hv_reverse(const hv_column *column, hv_column *out, hv_error *error);
+HV_ANSWER hv_sort(const hv_column *column, hv_column *out, hv_error *error);
+/* The distinct rows in that order, and how many rows are equal to each, in u64, both flat, at the cost of the runs. 13
+ * for lists, and never 21 for them. */
+HV_ANSWER hv_value_counts(const hv_column *column, hv_column *out_values, hv_column *out_counts, hv_error *error);
+
 /* ---- Questions ----
  * Refused exactly as is said here, with these fields, or, except for hv_at, as 21: never as 21 over a flat column, nor,
  * where the question's kernel is registered, over runs or a constant, except for hv_extreme and hv_min_max of texts or

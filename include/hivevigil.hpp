@@ -155,6 +155,18 @@ public:
     }
     // The rows of any type but lists as runs, as few as there can be.
     Column encode_rows() const { return part(hv_encode_rows); }
+    // The rows of any type but lists in order, null first, and in reverse order: a constant stays one, and any other
+    // column becomes runs, as few as there can be.
+    Column sorted() const { return part(hv_sort); }
+    Column reversed() const { return part(hv_reverse); }
+    // The distinct rows in that order, and how many rows are equal to each, in u64, both flat.
+    std::pair<Column, Column> value_counts() const {
+        std::pair<Column, Column> made;
+        detail::ask([&](auto *error) {
+            return hv_value_counts(&handle, &made.first.handle, &made.second.handle, error);
+        });
+        return made;
+    }
     Column decode(const hv_session &session = initial_session()) const {
         return made([&](auto *out, auto *error) { return hv_decode(&session, &handle, out, error); });
     }

@@ -244,6 +244,18 @@ HV_ANSWER hv_fold_by(const hv_column *keys, const hv_column *values, uint8_t fol
     hv_error ignored;
     return (hv_fold_by)(hv_lent(keys), hv_lent(values), fold, out_keys, out_answers, HV_FIELDS);
 }
+HV_ANSWER hv_reverse(const hv_column *column, hv_column *out, hv_error *error) {
+    hv_error ignored;
+    return (hv_reverse)(hv_lent(column), out, HV_FIELDS);
+}
+HV_ANSWER hv_sort(const hv_column *column, hv_column *out, hv_error *error) {
+    hv_error ignored;
+    return (hv_sort)(hv_lent(column), out, HV_FIELDS);
+}
+HV_ANSWER hv_value_counts(const hv_column *column, hv_column *out_values, hv_column *out_counts, hv_error *error) {
+    hv_error ignored;
+    return (hv_value_counts)(hv_lent(column), out_values, out_counts, HV_FIELDS);
+}
 
 /* Questions */
 HV_ANSWER hv_sum(const hv_session *session, const hv_column *column, hv_total *total, hv_error *error) {

@@ -362,6 +362,22 @@ static int32_t hash_runs(void) { return hv_hash(&runs, &hashed, &error); }
 static int32_t hash_texts(void) { return hv_hash(&texts, &hashed, &error); }
 static int32_t less_by_runs(void) { return hv_combine(&flat, HV_LT, &runs, &out, &error); }
 
+/* Rows in another order, and values counted. */
+static int32_t reverse_runs(void) { return hv_reverse(&part, &out, &error); }
+static int32_t reverse_texts(void) { return hv_reverse(&texts, &out, &error); }
+static int32_t sort_runs(void) { return hv_sort(&part, &out, &error); }
+static int32_t sort_texts(void) { return hv_sort(&text_runs, &out, &error); }
+static int32_t sort_constant(void) { return hv_sort(&many_texts, &out, &error); }
+static int32_t counted(const hv_column *column) {
+    hv_column counts = HV_EMPTY;
+    const int32_t answer = hv_value_counts(column, &out, &counts, &error);
+    CHECK((answer != 0) == (hv_form(&counts) == HV_FORM_NONE));
+    hv_free(&counts);
+    return answer;
+}
+static int32_t count_runs(void) { return counted(&runs); }
+static int32_t count_texts(void) { return counted(&texts); }
+
 /* what is exported and imported again, as one step */
 static int32_t export_and_import(void) {
     int32_t answer = hv_arrow_export(&session, &part, "runs", &schema, &array, &error);
@@ -389,7 +405,9 @@ static const step steps[] = {
     NAMED(connect_runs), NAMED(less_by_runs), NAMED(pick_runs), NAMED(negate_runs), NAMED(null_texts),
     NAMED(valid_runs), NAMED(choose_runs), NAMED(equal_runs), NAMED(hash_runs), NAMED(hash_texts), NAMED(make_floats),
     NAMED(make_floats_of_runs), NAMED(decode_floats), NAMED(compare_floats), NAMED(order_floats), NAMED(least_float),
-    NAMED(first_float), NAMED(sum_floats), NAMED(read_float), NAMED(cast_constant), NAMED(compare_constants),
+    NAMED(first_float), NAMED(sum_floats), NAMED(read_float), NAMED(reverse_runs), NAMED(reverse_texts),
+    NAMED(sort_runs), NAMED(sort_texts), NAMED(sort_constant), NAMED(count_runs), NAMED(count_texts),
+    NAMED(cast_constant), NAMED(compare_constants),
     NAMED(compare_constant), NAMED(fill_constant), NAMED(filter_constant), NAMED(sum), NAMED(is_constant),
     NAMED(is_sorted), NAMED(extreme), NAMED(extreme_text),
     NAMED(min_max_numbers),

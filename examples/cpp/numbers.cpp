@@ -379,6 +379,27 @@ static void check_float_sums() {
     }
 }
 
+// ---- Rows in another order ----
+
+static void check_sorts() {
+    const auto none = std::nullopt;
+    const Column column = Column::of(Rows{7, none, -4, 7, 7});
+    const auto are = [](const Column &found, const Rows &due, hv::Form form) {
+        return rows_of(found) == rows_of(Column::of(due)) && found.form() == form;
+    };
+    CHECK(are(column.sorted(), Rows{none, -4, 7, 7, 7}, hv::Form::runs) && column.sorted().values().size() == 3);
+    CHECK(are(column.encode().reversed(), Rows{7, 7, -4, none, 7}, hv::Form::runs));
+    const auto [values, counts] = column.value_counts();
+    CHECK(are(values, Rows{none, -4, 7}, hv::Form::flat) && counts.form() == hv::Form::flat);
+    CHECK(rows_of(counts) == rows_of(Column::of(std::vector<uint64_t>{1, 1, 3})));
+    const Column many = Column::constant(hv::kinds::u8, 7, size_t{1} << 60);
+    CHECK(many.sorted().form() == hv::Form::constant && many.reversed().size() == size_t{1} << 60);
+    CHECK(many.value_counts().second.at(0) == Value(uint64_t{1} << 60));
+    const Column lists = Column::lists(Column::of(std::vector<uint8_t>{4}), {0}, {1});
+    check_refused(HV_UNSUPPORTED, "the call does not serve columns of this type or form",
+                  [&] { (void)lists.sorted(); });
+}
+
 int main() {
     check_floats<float>();
     check_floats<double>();
@@ -390,6 +411,7 @@ int main() {
     check_sums();
     check_groups();
     check_pairs();
+    check_sorts();
     check_rows_in_words();
     check_values_in_words();
     std::cout << "numbers of every type are read, shown, compared and refused by their values\n";

@@ -87,6 +87,9 @@ CALLS: dict[str, tuple[list[Any], Any]] = {
     "hv_fold_by": ([
         POINTER(Handle), POINTER(Handle), c_uint8, POINTER(Handle), POINTER(Handle), POINTER(Fields),
     ], c_int32),
+    "hv_reverse": ([POINTER(Handle), POINTER(Handle), POINTER(Fields)], c_int32),
+    "hv_sort": ([POINTER(Handle), POINTER(Handle), POINTER(Fields)], c_int32),
+    "hv_value_counts": ([POINTER(Handle), POINTER(Handle), POINTER(Handle), POINTER(Fields)], c_int32),
     "hv_sum": ([POINTER(Session), POINTER(Handle), POINTER(Total), POINTER(Fields)], c_int32),
     "hv_is_constant": ([POINTER(Session), POINTER(Handle), POINTER(c_uint8), POINTER(Fields)], c_int32),
     "hv_is_sorted": ([POINTER(Session), POINTER(Handle), c_uint8, POINTER(c_uint8), POINTER(Fields)], c_int32),

@@ -55,7 +55,16 @@ def _cut(column: Column, key: slice) -> Callable[[Column], Column]:
     start, stop, step = key.indices(column._length)
     if step == 1:
         return lambda each: each.slice(start, max(start, stop))
+    if step == -1:
+        return lambda each: _turned(each.slice(stop + 1, max(start, stop) + 1))
     return _take(column.of(array.array("Q", range(start, stop, step))))
+
+
+def _turned(column: Column) -> Column:
+    """The last row first: by runs where the column is in runs or a constant, else in the form that it has."""
+    if column.form in ("runs", "constant") and column.type.rstrip("?") != "list":
+        return column.reverse()
+    return column.take(column.of(array.array("Q", range(column._length - 1, -1, -1))))
 
 
 def mask_of(column: Column, mask: Any) -> Column:

@@ -68,8 +68,8 @@ def refuse_lists(column: Column) -> None:
 
 
 def sorted_rows(column: Column, descending: bool, nulls_first: bool) -> Column:
-    """The rows of a column in order: its runs, put in another order and joined where they are equal."""
-    refuse_lists(column)
+    """The rows of a column in an order that hv_sort has not: its runs, put in another order and joined where they are
+    equal."""
     if column.form == "constant":
         return column.copy()
     stops, values, kept = _keys_of(column)

@@ -260,6 +260,10 @@ class Column(_comparing.Comparisons, _pairs.Pairs):
         """The rows of any type but lists in as few runs as possible."""
         return self._kept(calls.hv_encode_rows, self)
 
+    def reverse(self) -> Column:
+        """The last row first, of any type but lists, in as few runs as possible; a constant stays one."""
+        return self._kept(calls.hv_reverse, self)
+
     def decode(self) -> Column:
         """The rows written out in a flat form."""
         return self._kept(calls.hv_decode, session, self)
@@ -344,7 +348,12 @@ class Column(_comparing.Comparisons, _pairs.Pairs):
         Nulls come 'first' or 'last' in either order; texts are ordered by their bytes, floats by their total order: NaN
         is above infinity, and -0.0 below 0.0."""
         (flag,) = _sorting.flags_of(descending, 1)
-        return _sorting.sorted_rows(self, flag, _sorting.is_first(nulls))
+        first = _sorting.is_first(nulls)
+        _sorting.refuse_lists(self)
+        if flag == first:
+            return _sorting.sorted_rows(self, flag, first)
+        ordered = self._kept(calls.hv_sort, self)
+        return ordered.reverse() if flag else ordered
 
     def nlargest(self, count: int) -> Column:
         """As many of the greatest rows, in descending order, in runs: null and NaN are left out. Each run is looked at

@@ -36,6 +36,7 @@ mod questions;
 mod raw;
 mod same;
 mod show;
+mod sorts;
 mod value;
 
 pub use builder::Builder;

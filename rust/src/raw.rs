@@ -312,6 +312,14 @@ extern "C" {
         out_answers: *mut Handle,
         error: *mut Fields,
     ) -> i32;
+    pub fn hv_reverse(column: *mut Handle, out: *mut Handle, error: *mut Fields) -> i32;
+    pub fn hv_sort(column: *mut Handle, out: *mut Handle, error: *mut Fields) -> i32;
+    pub fn hv_value_counts(
+        column: *mut Handle,
+        out_values: *mut Handle,
+        out_counts: *mut Handle,
+        error: *mut Fields,
+    ) -> i32;
     pub fn hv_sum(
         settings: *const Session,
         column: *mut Handle,

@@ -27,7 +27,7 @@ use Rattle.c_kernels.specs.Floats.{AreComparedBy, AreExtremesShown, CountsBy, En
 use Rattle.c_kernels.specs.declared.float_questions.FloatExtremes.{FloatExtremes}
 use Rattle.c_kernels.specs.declared.float_questions.RoundedSum.{RoundedSum}
 
-abbrev Held : Type 0
+abbrev pub Held : Type 0
 Held = Option (ArrayRef Global)
 
 abbrev Fault : Type 0
@@ -66,7 +66,7 @@ first_ends (Some error) (Err why) code fields refused first ok err =
 pub floats_empty : (fault : Fault) (c : Held) (code : ℤ) (fields : ErrorFields) → c ≡ None → code ≡ pos 22 → EndsOnFloats fault c code fields
 floats_empty fault c code fields none is = subst (λ (h : Held). EndsOnFloats fault h code fields) (sym none) is
 
-ends_held : {B : Type 0} (fault : Fault) (c : Held) (a : ArrayRef Global) (outcome : Result B VortexError) (code : ℤ) (fields : ErrorFields) → c ≡ Some a → IsRefusedBy (fault (dtype_of a)) outcome
+pub ends_held : {B : Type 0} (fault : Fault) (c : Held) (a : ArrayRef Global) (outcome : Result B VortexError) (code : ℤ) (fields : ErrorFields) → c ≡ Some a → IsRefusedBy (fault (dtype_of a)) outcome
     → ((error : VortexError) → fault (dtype_of a) ≡ Some error → IsErrOf outcome error) → IfOk outcome (λ _. code ≡ pos 0) → IfErr outcome (λ why. IsRefusedAs why code fields) → EndsOnFloats fault c code fields
 ends_held fault c a outcome code fields some refused first ok err =
     subst (λ (h : Held). EndsOnFloats fault h code fields) (sym some) (first_ends (fault (dtype_of a)) outcome code fields refused first ok err)

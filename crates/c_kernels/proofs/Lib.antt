@@ -2,3 +2,4 @@ pub mod PairEndings
 pub mod Answered
 pub mod GroupEndings
 pub mod FloatEndings
+pub mod OrderEndings

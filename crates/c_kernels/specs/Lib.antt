@@ -5,3 +5,4 @@ pub mod Chosen
 pub mod Hashed
 pub mod Grouped
 pub mod Floats
+pub mod Ordered

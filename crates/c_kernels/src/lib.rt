@@ -1,9 +1,10 @@
-//! Two columns that C holds, worked row by row at the cost of the runs of both, or one grouped by the other; and
-//! columns of floats, stored by their keys in columns of integers.
+//! Two columns that C holds, worked row by row at the cost of the runs of both, or one grouped by the other; one
+//! reversed, sorted, and counted by value; and columns of floats, stored by their keys in columns of integers.
 #![tactic(auto)]
 
 mod chosen;
 mod combined;
+mod counted;
 mod equal;
 mod float_answers;
 mod float_calls;
@@ -14,11 +15,14 @@ mod grouped;
 mod hashed;
 mod named;
 mod operators;
+mod order_calls;
 mod pair_calls;
+mod reordered;
 mod tested;
 
 pub use chosen::choose_handles;
 pub use combined::combine;
+pub use counted::{BoxedCounts, count_values};
 pub use equal::{are_equal, equal_handles};
 pub use float_calls::{
     compare_handle, decode_handle, encode_handle, float_in_handle, min_max_in_handle, sum_in_handle,
@@ -30,5 +34,7 @@ pub use grouped::{BoxedGroups, groups_of};
 pub use hashed::{hash_handle, hash_of};
 pub use named::fold_named;
 pub use operators::{PairOperator, pair_operator_by};
+pub use order_calls::{count_handle, reverse_handle, sort_handle};
 pub use pair_calls::combine_handles;
+pub use reordered::{reversed, sorted};
 pub use tested::{RowTest, test_handle};

@@ -18,6 +18,7 @@ mod reads;
 mod run_reads;
 mod runs;
 mod sizes;
+mod sorts;
 mod texts;
 mod versions;
 mod windows;

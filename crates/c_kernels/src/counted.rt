@@ -1,0 +1,33 @@
+//! The distinct rows of a column counted, on the heap.
+ghost use Rattle.std.specs.Prelude.{◌≡◌, IfOk, IsErrOf, Some};
+ghost use Rattle.column_core.specs.Kinds.{list_fault};
+ghost use Rattle.column_core.specs.Refusal.{IsRefusedBy};
+ghost use Rattle.runend_array.specs.Array.{dtype_of};
+ghost use Rattle.c_kernels.specs.Ordered.{AreCounted};
+
+use c_columns::flat::{Boxed, boxed};
+use c_columns::sessions::plain_context;
+use column_core::{VortexError, VortexResult};
+use runend_array::ArrayRef;
+use runend_sorts::{ValueCounts, value_counts};
+use std::alloc::Global;
+
+/// Holds the distinct rows of a column and how many rows each of them is, as two columns on the heap.
+#[derive(Drop)]
+pub struct BoxedCounts {
+    pub values: Boxed,
+    pub counts: Boxed,
+}
+
+/// Returns the distinct rows in order, null first, and how many rows are equal to each, both flat. Refused as
+/// `Unsupported` exactly for lists, before any memory is taken, else only as `OutOfMemory`.
+pub fn count_values(alloc: Global, array: &ArrayRef<Global>) -> VortexResult<BoxedCounts>
+    ensures made { IfOk result (λ made. AreCounted array.now made.values.value made.counts.value) }
+    ensures refused { IsRefusedBy (list_fault (dtype_of array.now)) result }
+    ensures first { (error : VortexError) → list_fault (dtype_of array.now) ≡ Some error → IsErrOf result error }
+{
+    let ValueCounts { values, counts } = value_counts(array, &mut plain_context(alloc))?;
+    let values = boxed(alloc, values)?;
+    let counts = boxed(alloc, counts)?;
+    Ok(BoxedCounts { values, counts })
+}
