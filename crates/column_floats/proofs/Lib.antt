@@ -3,3 +3,5 @@ pub mod TestMeanings
 pub mod StoredRows
 pub mod TestedRows
 pub mod KeyExtremes
+pub mod CastRows
+pub mod CastKeys

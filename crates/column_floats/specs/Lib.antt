@@ -1,3 +1,4 @@
+pub mod Casts
 pub mod Formats
 pub mod FloatRows
 pub mod Patterns
