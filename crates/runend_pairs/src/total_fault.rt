@@ -6,13 +6,13 @@ ghost use Rattle.runend_pairs.specs.declared.total_fault.TotalError.TheVariants.
 use column_core::{DType, VortexError, is_number_type};
 use thiserror::Error;
 
-/// Says why there are no running totals. Runs are counted from 0.
+/// Says why running totals are refused. Runs are counted from 0.
 #[derive(Clone, Copy, Debug, Drop, PartialEq, Eq, Error)]
 pub enum TotalError {
-    /// The column is not of integers, or a growth of memory was refused.
+    /// Says that the column is not of integers, or that a growth of memory was refused.
     #[error("refused")]
     Refused(VortexError),
-    /// The total at the end of this run does not fit 64 bits, and those of all runs before it do.
+    /// Says that the total at the end of this run does not fit 64 bits, and that those of all runs before it do.
     #[error("Overflow")]
     Overflow { run: usize },
 }
