@@ -48,8 +48,8 @@ fn nearest_to(format: FloatFormat, integer: i128) -> Nearest
     round_size(format, integer.unsigned_abs() as u64, ONE_DOUBLINGS)
 }
 
-/// Returns the integer that a float is, or `None` where it is not one, or not one of fewer than 64 bits and a sign:
-/// where it has a fraction, is infinite or a NaN. -0.0 is 0.
+/// Returns the integer that a float is, or `None` where it is not one, or not one of 64 bits and a sign: where it has a
+/// fraction, is infinite or a NaN. -0.0 is 0.
 pub fn integer_of(format: FloatFormat, bits: u64) -> Option<i128>
     requires { IsPattern format bits }
     ensures { MatchOption result ((integer : ℤ) → unsigned_abs integer < 2 ^ 64 → ¬ IsInteger format bits integer)
