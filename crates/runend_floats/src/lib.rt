@@ -1,6 +1,7 @@
 //! Columns of floats of 16, 32 and 64 bits in any form, stored by their keys in columns of integers.
 #![tactic(auto)]
 
+mod casts;
 mod comparisons;
 mod decoding;
 mod encoding;
@@ -8,6 +9,7 @@ mod ends;
 mod extremes;
 mod sums;
 
+pub use casts::cast_floats;
 pub use column_floats::{FloatFormat, FloatPatterns, bits_type, float_format, key_type};
 pub use column_ops::CompareOperator;
 pub use comparisons::{compare_numbers, compare_total};

@@ -1,0 +1,30 @@
+-- Run columns that casts of rows are.
+use Rattle.std.specs.Prelude.{◌≡◌, ℤ, List, Option, Some, None}
+use Rattle.std.specs.List.{AllZip}
+use Rattle.column_base.specs.declared.dtype.DType.{DType}
+use Rattle.column_base.specs.declared.dtype.DType.TheVariants as column
+use Rattle.column_base.specs.declared.dtype.PType.{PType}
+use Rattle.column_core.specs.Leaf.{Leaf}
+use Rattle.column_core.specs.PrimitiveForm.{PrimitiveForm}
+use Rattle.column_core.specs.Value.{Value}
+use Rattle.column_floats.specs.Casts.{IsCastRow}
+use Rattle.runend_array.specs.Column.{Runs}
+use Rattle.runend_builder.specs.Encoded.{IsEncodedRows}
+use Rattle.runend_encode.specs.Encoding.{IsRowEncoding}
+
+-- the type of integers of a column, and nothing for another type
+abbrev pub number_type : DType → Option PType
+number_type (column.Primitive t n) = Some t
+number_type t = None
+
+-- a run column is the encoding of the rows that these rows become
+pub record AreCastRuns (Casts : ℤ → ℤ → Type 0) (rows : List (Option Value)) (wanted : DType) (runs : Runs) : Type 0 where
+  pub cast : List (Option Value)
+  pub each : AllZip (IsCastRow Casts) rows cast
+  pub encoded : IsEncodedRows cast wanted runs
+
+-- the same of its ends and values
+pub record AreCastParts (Casts : ℤ → ℤ → Type 0) (rows : List (Option Value)) (wanted : DType) (ends : PrimitiveForm) (values : Leaf) : Type 0 where
+  pub cast : List (Option Value)
+  pub each : AllZip (IsCastRow Casts) rows cast
+  pub encoding : IsRowEncoding cast wanted ends values
