@@ -1,7 +1,7 @@
 //! Columns of floats against tables that Python computed.
-use crate::made::{column_of, is_shown, runs_of, shown};
+use crate::made::{are_rows, column_of, is_shown, runs_of, shown};
 use crate::tables::{Compared, Floats, Row, floats_of};
-use column_core::{DType, Nullability, PrimitiveArray, VortexError, VortexResult};
+use column_core::{DType, Nullability, VortexError, VortexResult};
 use runend_array::{ArrayRef, ExecutionCtx, RunEndArrayExt, RunEndArraySlotsExt, VortexSession};
 use runend_floats::{
     CompareOperator, FloatFormat, FloatPatterns, bits_type, compare_numbers, compare_total,
@@ -26,14 +26,6 @@ pub(crate) fn encodes<A: Allocator + Copy>(
     Ok(are_due)
 }
 
-// Are these the bits of the rows?
-fn are_bits<A: Allocator + Copy>(bits: PrimitiveArray<A>, rows: &[Row]) -> bool {
-    let column = ArrayRef::Primitive(bits);
-    let are_due = is_shown(&column, rows);
-    drop(column);
-    are_due
-}
-
 /// Returns whether all rows are decoded to the bits that they came from.
 pub(crate) fn decodes<A: Allocator + Copy>(alloc: A, floats: &Floats) -> VortexResult<bool> {
     let mut ctx = ExecutionCtx::new(VortexSession::empty(), alloc);
@@ -41,7 +33,7 @@ pub(crate) fn decodes<A: Allocator + Copy>(alloc: A, floats: &Floats) -> VortexR
     let bits = decode_floats(&column, &mut ctx);
     drop(column);
     match bits {
-        Ok(bits) => Ok(are_bits(bits, floats.rows)),
+        Ok(bits) => Ok(are_rows(bits, floats.rows)),
         Err(error) => Err(error),
     }
 }

@@ -15,7 +15,11 @@ mod flat;
 #[cfg(test)]
 mod flat_calls;
 #[cfg(test)]
+mod float_casts;
+#[cfg(test)]
 mod float_patterns;
+#[cfg(test)]
+mod float_runs;
 #[cfg(test)]
 mod formats;
 #[cfg(test)]

@@ -1,4 +1,6 @@
 //! Columns of floats made from their bits, and what columns show.
+ghost use Rattle.std.specs.Prelude.{◌≡◌, IfOk};
+
 use crate::tables::Row;
 use column_core::{BitBufferMut, NativePType, PrimitiveArray, ScalarView, Validity, VortexResult};
 use runend_array::{ArrayRef, ExecutionCtx, RunEndArray, VortexSession};
@@ -43,11 +45,13 @@ pub(crate) fn bits_of<A: Allocator + Copy>(
     Ok(ArrayRef::Primitive(flat))
 }
 
-// Returns the flat column of these numbers, 0 where the type does not have one.
-fn numbers<T: NativePType, A: Allocator + Copy>(
+/// Returns the flat column of these numbers, 0 where the type does not have one.
+pub(crate) fn numbers<T: NativePType, A: Allocator + Copy>(
     alloc: A,
     rows: &[Row],
-) -> VortexResult<PrimitiveArray<A>> {
+) -> VortexResult<PrimitiveArray<A>>
+    ensures { IfOk result (λ array. array.ptype ≡ T.PTYPE) }
+{
     let mut items: Vec<T, A> = Vec::with_capacity(alloc, rows.len())?;
     let mut flags = BitBufferMut::with_capacity(alloc, rows.len())?;
     for row in rows {
@@ -76,4 +80,12 @@ pub(crate) fn is_shown<A: Allocator + Copy>(column: &ArrayRef<A>, rows: &[Row]) 
         }
     }
     column.len() == rows.len()
+}
+
+/// Returns whether a flat column shows these rows.
+pub(crate) fn are_rows<A: Allocator + Copy>(numbers: PrimitiveArray<A>, rows: &[Row]) -> bool {
+    let column = ArrayRef::Primitive(numbers);
+    let are_due = is_shown(&column, rows);
+    drop(column);
+    are_due
 }
