@@ -16,7 +16,7 @@ use refusing::{Calls, are_answered_in_turn};
 use std::alloc::Allocator;
 use std::test::Fail;
 
-// Two formats, the key of a float of the first, that of the nearest float of the second, and whether these are the same.
+// Two formats, the key of a float of the first, that of the nearest float of the second, and whether these are equal.
 type FloatCase = (FloatFormat, FloatFormat, i128, i128, bool);
 
 // The type of an integer, a format, the integer, the key of the nearest float, and whether the integer is that float.
