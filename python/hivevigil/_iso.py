@@ -8,7 +8,7 @@ from typing import Optional
 
 _TIME = re.compile(r"(\d\d):(\d\d)(?::(\d\d)(?:\.(\d{1,9}))?)?", re.ASCII)
 _DATE = re.compile(r"\d{4}-\d\d-\d\d", re.ASCII)
-_OFFSET = re.compile(r"(.*?)(?:(Z)|([+-])(\d\d):(\d\d))", re.ASCII)
+_INSTANT = re.compile(rf"({_DATE.pattern})[T ]({_TIME.pattern})(?:(Z)|([+-])(\d\d):(\d\d))?", re.ASCII)
 _FIRST_DAY = date(1970, 1, 1).toordinal()
 _SECOND, _DAY = 10**9, 86_400 * 10**9
 UNITS = ("s", "ms", "us", "ns")
@@ -45,22 +45,23 @@ def time_of_day(text: str) -> Optional[tuple[int, int]]:
 
 def instant(text: str) -> Optional[Instant]:
     """A date, a T or a space, a time, and perhaps Z or an offset."""
-    offset = _OFFSET.fullmatch(text)
-    local, before = (offset[1], _minutes(offset)) if offset else (text, 0)
-    days, time = day(local[:10]), time_of_day(local[11:])
-    if local[10:11] not in ("T", " ") or days is None or time is None or before is None:
+    found = _INSTANT.fullmatch(text)
+    if not found:
         return None
-    return Instant(days * _DAY + time[0] - before * 60 * _SECOND, offset is not None, time[1])
+    days, time, before = day(found[1]), time_of_day(found[2]), _minutes(*found.group(8, 9, 10))
+    if days is None or time is None or before is None:
+        return None
+    has_offset = found[7] is not None or found[8] is not None
+    return Instant(days * _DAY + time[0] - before * 60 * _SECOND, has_offset, time[1])
 
 
-def _minutes(offset: re.Match[str]) -> Optional[int]:
-    """How far the clock of an offset is ahead of UTC."""
-    if offset[2]:
+def _minutes(sign: Optional[str], hours: Optional[str], minutes: Optional[str]) -> Optional[int]:
+    """How far the clock of an offset is ahead of UTC; 0 where there is none."""
+    if sign is None or hours is None or minutes is None:
         return 0
-    hours, minutes = int(offset[4]), int(offset[5])
-    if hours > 23 or minutes > 59:
+    if int(hours) > 23 or int(minutes) > 59:
         return None
-    return (hours * 60 + minutes) * (-1 if offset[3] == "-" else 1)
+    return (int(hours) * 60 + int(minutes)) * (-1 if sign == "-" else 1)
 
 
 def unit_of(places: int) -> str:

@@ -156,13 +156,15 @@ def frame_of(columns: Mapping[str, Column], rows: int, in_runs: bool) -> Any:
 # ---- CSV files ----
 
 
-def read_csv(path: Any, batch_rows: int) -> dict[str, Column]:
+def read_csv(path: Any, batch_rows: int, types: Optional[Mapping[str, Any]]) -> dict[str, Column]:
     """The columns of a CSV file in runs."""
     if not isinstance(path, (str, os.PathLike)):
         raise TypeError(f"a file is named by a text or a path, not by {in_words(path)}")
     if size_of(batch_rows, "the number of rows of a batch") == 0:
         raise ValueError("a batch has at least one row")
-    file = CsvFile(os.fspath(path), batch_rows)
+    if types is not None and not isinstance(types, Mapping):
+        raise TypeError(f"types are a mapping from names of columns, not {in_words(types)}")
+    file = CsvFile(os.fspath(path), batch_rows, asked=types)
     builders: dict[str, Builder] = {}
     for batch in file.batches(lambda _: None):
         for name, column in batch.items():

@@ -8,108 +8,18 @@ from __future__ import annotations
 import csv
 import re
 from collections.abc import Callable, Iterator, Mapping
-from dataclasses import dataclass, field
-from decimal import Decimal
 from itertools import chain, islice, repeat
 from typing import Any, Optional
 
-from . import _iso, _runs
+from . import _runs
+from ._csv_fields import FieldType, Guess
 from ._lists import is_list
-from ._types import GREATEST_PRECISION, range_of
 from .column import Column
-from .errors import Unsupported
-from .logical import NANOSECONDS, LogicalType, asked_type
-
-_TRUTHS = {"true": True, "false": False}
-_WHOLE = re.compile(r"-?(?:0|[1-9]\d{0,37})", re.ASCII)
-_DECIMAL = re.compile(_WHOLE.pattern + r"(?:\.\d+)?", re.ASCII)
-
+from .errors import HivevigilError, Unsupported, in_words
+from .logical import LogicalType
 
 class BadFile(Exception):
     """A file that is not a CSV, in a sentence."""
-
-
-def _has_zone(text: str) -> Optional[bool]:
-    """Whether a timestamp has an offset; None for another text."""
-    found = _iso.instant(text)
-    return None if found is None else found.has_offset
-
-
-_TESTS: dict[str, Callable[[str], Any]] = {
-    "truth": _TRUTHS.__contains__, "whole": _WHOLE.fullmatch, "decimal": _DECIMAL.fullmatch,
-    "date": lambda text: _iso.day(text) is not None, "time": _iso.time_of_day,
-    "timestamp": lambda text: _has_zone(text) is False, "instant": lambda text: _has_zone(text) is True,
-}
-
-
-@dataclass
-class Guess:
-    """What all fields of a column are, so far: booleans, integers, decimals, dates, times, timestamps without an offset
-    or with one; else texts."""
-
-    could_be: set[str] = field(default_factory=lambda: set(_TESTS))
-    least: int = 0
-    greatest: int = 0
-    digits: int = 1  # before the point
-    places: int = 0  # after it, or after the second
-    seen: bool = False
-
-    def add(self, texts: set[str]) -> None:
-        texts = texts - {""}
-        self.seen = self.seen or bool(texts)
-        self.could_be = {sort for sort in self.could_be if all(map(_TESTS[sort], texts))}
-        if "whole" in self.could_be:
-            self.least = min(self.least, *map(int, texts), 0)
-            self.greatest = max(self.greatest, *map(int, texts), 0)
-        if "decimal" in self.could_be:
-            parts = [text.lstrip("-").partition(".") for text in texts]
-            self.digits = max([self.digits, *(len(before) for before, _, _ in parts)])
-            self.places = max([self.places, *(len(after) for _, _, after in parts)])
-        if self.could_be & {"time", "timestamp", "instant"}:
-            self._add_times(texts)
-
-    def _add_times(self, texts: set[str]) -> None:
-        if "time" in self.could_be:
-            self.places = max([self.places, *(places for _, places in filter(None, map(_iso.time_of_day, texts)))])
-            return
-        found = [each for each in map(_iso.instant, texts) if each is not None]
-        self.places = max([self.places, *(each.places for each in found)])
-        self.least = min([self.least, *(each.nanoseconds for each in found)])
-        self.greatest = max([self.greatest, *(each.nanoseconds for each in found)])
-
-    def type(self) -> str:
-        """The type of the column; texts where no row says more."""
-        if not self.seen:
-            return "utf8?"
-        if "truth" in self.could_be:
-            return "bool?"
-        if "whole" in self.could_be:
-            for name in ("i32", "i64"):
-                if self.least in range_of(name) and self.greatest in range_of(name):
-                    return name + "?"
-        if "decimal" in self.could_be and self.digits + self.places <= GREATEST_PRECISION:
-            return f"decimal({self.digits + self.places}, {self.places})?"
-        if "date" in self.could_be:
-            return "date?"
-        unit = _iso.unit_of(min(self.places, 9))
-        if "time" in self.could_be:
-            return f"time[{unit}]?"
-        past = unit == "ns" and (self.least not in range_of("i64") or self.greatest not in range_of("i64"))
-        if past or not self.could_be & {"timestamp", "instant"}:
-            return "utf8?"
-        return f"timestamp[{unit}]?" if "timestamp" in self.could_be else f"timestamp[{unit}, UTC]?"
-
-
-def _reader_of(type: str) -> Callable[[str], Any]:
-    """How a field of a type is read."""
-    name = type.rstrip("?").partition("(")[0].partition("[")[0]
-    unit = NANOSECONDS.get(re.split(r"\W", type.partition("[")[2])[0], 1)
-    readers: dict[str, Callable[[str], Any]] = {
-        "i32": int, "i64": int, "decimal": Decimal, "bool": _TRUTHS.__getitem__, "utf8": str,
-        "date": _iso.day, "time": lambda text: (_iso.time_of_day(text) or (0, 0))[0] // unit,
-        "timestamp": lambda text: getattr(_iso.instant(text), "nanoseconds", 0) // unit,
-    }
-    return readers[name]
 
 
 def lines_of(path: str) -> Iterator[list[str]]:
@@ -151,12 +61,19 @@ def _separator(names: str) -> str:
 
 
 class CsvFile:
-    """The columns of a CSV file, or those of these names, by their types."""
+    """The columns of a CSV file, or those of these names, each of the type that is asked for, else of that which all of
+    its fields have."""
 
-    def __init__(self, path: str, batch_rows: int, only: Optional[set[str]] = None) -> None:
+    def __init__(
+        self, path: str, batch_rows: int, only: Optional[set[str]] = None, asked: Optional[Mapping[str, Any]] = None
+    ) -> None:
         self.path, self.batch_rows = path, batch_rows
         self.names = next(lines_of(path))
         self.kept = [place for place, name in enumerate(self.names) if only is None or name in only]
+        self.asked = {name: FieldType.of(type) for name, type in (asked or {}).items()}
+        for name in self.asked:
+            if name not in self.names:
+                raise ValueError(f"a type for column {in_words(name)}, and {path} has no column of this name")
         self.types: dict[str, str] = {}
         self.passes = 2
 
@@ -168,23 +85,39 @@ class CsvFile:
 
     def batches(self, advance: Callable[[int], None]) -> Iterator[dict[str, Column]]:
         """The columns of each batch; `advance` is called with the number of rows that were read, in each of the two
-        passes."""
-        guesses = [Guess() for _ in self.kept]
+        passes. BadFile for a field that is not of the type that is asked for."""
+        names = [self.names[place] for place in self.kept]
+        guesses = {name: Guess() for name in names if name not in self.asked}
         for fields in self._batches():
-            for guess, texts in zip(guesses, fields):
-                guess.add(set(texts))
+            for name, texts in zip(names, fields):
+                if name in guesses:
+                    guesses[name].add(set(texts))
             advance(len(fields[0]))
-        self.types = {self.names[place]: guess.type() for place, guess in zip(self.kept, guesses)}
+        types = {name: self.asked.get(name) or FieldType.of(guesses[name].type()) for name in names}
+        self.types = {name: type.asked for name, type in types.items()}
+        before = 0
         for fields in self._batches():
-            yield {name: _column(texts, kind) for (name, kind), texts in zip(self.types.items(), fields)}
+            yield {name: self._column(name, types[name], texts, before) for name, texts in zip(names, fields)}
             advance(len(fields[0]))
+            before += len(fields[0])
 
+    def _column(self, name: str, type: FieldType, texts: list[str], before: int) -> Column:
+        """The fields of a batch, after as many rows; each text is read once."""
+        values: dict[str, Any] = {}
+        for text in dict.fromkeys(texts):
+            try:
+                values[text] = type.value(text) if text else None
+            except (ValueError, KeyError):
+                raise self._refused(name, type, text, before + texts.index(text)) from None
+        rows = [values[text] for text in texts]
+        try:
+            return Column.of(rows, f"{type.storage}?").cast(type.asked) if type.is_counted else Column.of(rows, type.asked)
+        except (HivevigilError, OverflowError, ValueError) as error:
+            where = f"a row from {before} to {before + len(rows) - 1}"
+            raise BadFile(f"{self.path}: column {in_words(name)}, {where}: {error}") from None
 
-def _column(texts: list[str], kind: str) -> Column:
-    read = _reader_of(kind)
-    rows = [read(text) if text else None for text in texts]
-    logical = asked_type(kind)[1]
-    return Column.of(rows, kind) if logical is None else Column.of(rows, f"{logical.storage}?").cast(kind)
+    def _refused(self, name: str, type: FieldType, text: str, row: int) -> BadFile:
+        return BadFile(f"{self.path}: column {in_words(name)}: row {row} is {in_words(text)}, which is not of {type.asked}")
 
 
 # ---- Written ----

@@ -66,10 +66,11 @@ class Table(Mapping[str, Column]):
         return cls(_table_making.series_of(frame), rows=len(frame))
 
     @classmethod
-    def from_csv(cls, path: Any, batch_rows: int = 65536) -> Table:
-        """The columns of a CSV file in runs, as few as there can be: each of the type that all of its fields have,
-        null where a field is empty; dates, times and timestamps too. BadFile for a file that is not a CSV."""
-        return cls(_table_making.read_csv(path, batch_rows))
+    def from_csv(cls, path: Any, batch_rows: int = 65536, types: Optional[Mapping[str, Any]] = None) -> Table:
+        """The columns of a CSV file in runs, as few as there can be: each of the type that `types` has for its name,
+        else of that which all of its fields have; floats, dates, times and timestamps too. An empty field is null.
+        BadFile for a file that is not a CSV, and for a field that is not of the type asked for."""
+        return cls(_table_making.read_csv(path, batch_rows, types))
 
     @classmethod
     def from_arrow(cls, source: Any) -> Table:

@@ -2,6 +2,8 @@
 import csv
 import ctypes
 import os
+import re
+import struct
 import subprocess
 import sys
 from datetime import date, datetime, time, timedelta, timezone
@@ -18,6 +20,7 @@ from hivevigil import ArrowArray, ArrowArrayStream, ArrowSchema, Column, Table, 
 from hivevigil.csv_files import BadFile
 from hivevigil.pandas import RunEndArray
 from hypothesis import given
+from hypothesis import strategies as st
 from tables import tables
 
 
@@ -240,6 +243,65 @@ def test_a_csv_file_is_the_table_again(tmp_path):
     Table({"a": Column.of(["x", None, ""], "utf8?")}).to_csv(tmp_path / "rows.csv")
     assert (tmp_path / "rows.csv").read_text() == 'a\nx\n""\n""\n'
     assert Table.from_csv(tmp_path / "rows.csv")["a"].to_list() == ["x", None, None]
+
+
+def bits(rows):
+    """The bits of floats, so that -0.0 and NaN can be compared."""
+    return [row if row is None else struct.pack("<d", row) for row in rows]
+
+
+def test_floats_of_a_csv_file(tmp_path):
+    rows = [0.1, None, -0.0, 0.0, float("inf"), -float("inf"), 5e-324, 1.7976931348623157e308, 2.0**53, 1.5, 1.5]
+    file = tmp_path / "floats.csv"
+    for batch_rows in (1, 3, 100):
+        Table({"level": rows, "place": ["x"] * len(rows)}).to_csv(file)
+        again = Table.from_csv(file, batch_rows)["level"]
+        assert str(again.logical_type) == "float64" and bits(again.to_list()) == bits(rows)
+    file.write_text("level,place\n1.5,x\nNaN,x\n,x\n")
+    level = Table.from_csv(file)["level"]
+    assert level[0] == 1.5 and level[1] != level[1] and level[2] is None and level.run_count() == 3
+
+
+@given(rows=st.lists(st.one_of(st.none(), st.floats(allow_nan=False)), max_size=30))
+def test_floats_are_floats_again(folder, rows):
+    """A float next to each list, so that no list is one of decimals or of nothing."""
+    Table({"a": [1e300, *rows], "b": [1] * (len(rows) + 1)}).to_csv(folder / "floats.csv")
+    assert bits(Table.from_csv(folder / "floats.csv")["a"].to_list()) == bits([1e300, *rows])
+
+
+def test_types_of_a_csv_file_by_name(tmp_path):
+    file = tmp_path / "typed.csv"
+    file.write_text(
+        "id,level,price,day,at,here,for,open,data,small\n"
+        "007,1.5,2,2024-01-01,2024-01-01 10:00,2024-01-01T10:00:00.5+01:00,-1.5,true,00FF,255\n"
+        "008,2,2.50,2024-01-02,,,,,,\n"
+    )
+    asked = {"id": str, "level": float, "price": "decimal(9, 2)", "day": "date[ms]", "at": "timestamp[ns]", "data": bytes,
+             "here": "timestamp[ms, Europe/Berlin]", "for": "duration[ms]", "open": bool, "small": "u8"}  # fmt: skip
+    for batch_rows in (1, 9):
+        table = Table.from_csv(file, batch_rows, types=asked)
+        assert table.types == {
+            "id": "utf8?", "level": "i64?", "price": "decimal(9, 2)?", "day": "i64?", "at": "i64?", "here": "i64?",
+            "for": "i64?", "open": "bool?", "data": "binary?", "small": "u8?",
+        }  # fmt: skip
+        assert table.logical_types == {"level": "g", "day": "tdm", "at": "tsn:", "here": "tsm:Europe/Berlin", "for": "tDm"}
+        assert [table[name][0] for name in ("id", "level", "data", "small")] == ["007", 1.5, b"\0\xff", 255]
+        assert [str(row) for row in table["price"]] == ["2.00", "2.50"]
+        assert [row and row.timestamp() for row in table["here"]] == [1704099600.5, None]
+        assert table["for"].to_list() == [timedelta(seconds=-1, milliseconds=-500), None]
+    assert Table.from_csv(file, types={"id": "i32"} | dict.fromkeys(asked, str))["small"].to_list() == ["255", None]
+    for given_types, kind, said in (
+        ({"id": int}, BadFile, "column 'id': row 0 is '007', which is not of i64?"),
+        ({"small": "i8"}, BadFile, "column 'small', a row from 0 to 1: "),
+        ({"level": "float32", "day": "i32"}, BadFile, "column 'day': row 0 is '2024-01-01', which is not of i32?"),
+        ({"at": "timestamp[us, UTC]"}, BadFile, "column 'at': row 0 is '2024-01-01 10:00', which is not of timestamp"),
+        ({"here": "timestamp[s, UTC]"}, BadFile, "column 'here': row 0 is '2024-01-01T10:00:00.5+01:00', which is not of"),
+        ({"open": "float64"}, BadFile, "column 'open': row 0 is 'true', which is not of float64?"),
+        ({"none": int}, ValueError, "a type for column 'none', and "),
+        ({"id": "list"}, TypeError, "'list' is not a type of columns"), ([("id", int)], TypeError, "types are a mapping"),
+    ):  # fmt: skip
+        with pytest.raises(kind, match=re.escape(said)):
+            Table.from_csv(file, types=given_types)
 
 
 def test_what_is_not_written_to_csv(tmp_path):
