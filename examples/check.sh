@@ -213,6 +213,11 @@ if found=$(python_with pytest,hypothesis,numpy,pandas); then
 else
     skip "python, its tests" "pytest, Hypothesis, NumPy and pandas for Python"
 fi
+if found=$(python_with pandas); then
+    run "bench/readings.py, few rows" timeout 120 "$found" bench/readings.py --rows 5000 --turns 1
+else
+    skip "bench/readings.py" "pandas for Python"
+fi
 if has "$python"; then
     "$python" examples/gdal_csv/make_readings.py 2000 >"$work/few.csv"
     run "python -m hivevigil" env PYTHONPATH=python timeout 60 "$python" -m hivevigil "$work/few.csv" --reader csv
