@@ -27,9 +27,9 @@ MEANS = "| Line | Integers | Decimals | Booleans | Texts | Nested runs | Why abo
 WITH_NULL = ", with null"
 
 
-def results() -> Path:
-    """The newest page of results: pages are named by their dates."""
-    return max((ROOT / "bench/results").glob("*.md"))
+def results(folder: Path = ROOT / "bench/results") -> Path:
+    """The newest page of results, which is named by its date; pages of other tables have a word after it."""
+    return max(folder.glob("????-??-??.md"))
 
 
 def cells(row: str) -> list[str]:

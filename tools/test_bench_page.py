@@ -1,6 +1,8 @@
 """Tests of bench_page.py."""
 
+import tempfile
 import unittest
+from pathlib import Path
 
 from bench_page import MEANS, MEMORY, PAGE, RATIOS, SINGLE, merged, place_of, ratios_of, results, with_means, with_tables
 
@@ -53,6 +55,12 @@ class BenchPage(unittest.TestCase):
         raw = table(RATIOS, "| sum | 2.00 | 1.00 | 1.00 | 1.26 |", "| sum of texts, with null | 1.00 | 1.00 | 1.00 | 1.00 |")
         page = table(MEANS, "| sum | 9.99 / - | | | | | tested |") + "\ntext"
         self.assertEqual(with_means(page, raw), table(MEANS, "| sum | 1.26 / - | | | - / 1.00 | | tested |") + "\ntext")
+
+    def test_the_newest_page_is_named_by_its_date_only(self) -> None:
+        with tempfile.TemporaryDirectory() as folder:
+            for name in ("2026-11-26.md", "2026-11-27.md", "2026-11-28-columns.md"):
+                Path(folder, name).touch()
+            self.assertEqual(results(Path(folder)).name, "2026-11-27.md")
 
     def test_the_page_on_performance_has_the_newest_means(self) -> None:
         page = PAGE.read_text(encoding="utf-8")
