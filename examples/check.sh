@@ -201,8 +201,9 @@ fi
 
 if found=$(python_with numpy); then
     run "python/demo.py with NumPy" timeout 60 "$found" examples/python/demo.py
+    run "bench/columns, few rows" env PYTHON="$found" timeout 300 sh bench/columns/run.sh --smoke
 else
-    skip "python/demo.py with NumPy" "NumPy for Python"
+    skip "python/demo.py with NumPy, bench/columns" "NumPy for Python"
 fi
 if found=$(python_with pytest,hypothesis,numpy,pandas); then
     quick="env HYPOTHESIS_PROFILE=few HYPOTHESIS_STORAGE_DIRECTORY=$work/hypothesis timeout 600"
