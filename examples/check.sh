@@ -254,6 +254,12 @@ if found=$(python_with dask.array,distributed,numpy); then
 else
     skip "dask_chunks/chunks.py" "Dask for Python"
 fi
+if found=$(python_with dask.dataframe,distributed,numpy,pandas); then
+    few="--rows 200000 --files 5 --turns 1"
+    run "dask_chunks/figures.py, few rows" timeout 300 "$found" examples/dask_chunks/figures.py $few
+else
+    skip "dask_chunks/figures.py" "Dask and pandas for Python"
+fi
 
 # SQLite: the extension linked with its test, under the sanitizers, and as SQLite loads it
 sqlite_parts="$(echo examples/sqlite/functions.c examples/sqlite/pairs.c examples/sqlite/appends.c examples/sqlite/steps.c \
