@@ -6,14 +6,22 @@ mod columns;
 #[cfg(test)]
 mod dice;
 #[cfg(test)]
+mod equal;
+#[cfg(test)]
+mod picked;
+#[cfg(test)]
 mod plain;
 #[cfg(test)]
 mod refused;
+#[cfg(test)]
+mod single;
 #[cfg(test)]
 mod sort_refused;
 #[cfg(test)]
 mod sort_trials;
 #[cfg(test)]
 mod texts;
+#[cfg(test)]
+mod totals;
 #[cfg(test)]
 mod trials;

@@ -5,7 +5,10 @@ use column_core::VortexResult;
 use column_ops::CompareOperator;
 use refusing::{Calls, are_answered_in_turn};
 use runend_array::{ArrayRef, ExecutionCtx, ScalarView, VortexSession};
-use runend_pairs::{BooleanOperator, NumericOperator, ZipError, boolean, compare, numeric};
+use runend_pairs::{
+    BooleanOperator, NumericOperator, ZipError, boolean, coalesce, compare, equals, hash, if_else,
+    is_null, not, numeric,
+};
 use std::alloc::Allocator;
 use std::test::Fail;
 
@@ -87,6 +90,112 @@ impl Calls for Connections {
         drop(truths);
         Ok(is_due)
     }
+}
+
+struct NullTests {}
+
+impl Calls for NullTests {
+    fn are_answered<A: Allocator + Copy>(alloc: A) -> VortexResult<bool> {
+        let mut ctx = ExecutionCtx::new(VortexSession::empty(), alloc);
+        let (left, right) = columns(&mut ctx)?;
+        drop(right);
+        let nulls = is_null(&left, &mut ctx);
+        drop(left);
+        let nulls = nulls?;
+        let valid = not(&nulls, &mut ctx);
+        drop(nulls);
+        let valid = valid?;
+        let is_due = matches!(valid.scalar_at(2), Ok(ScalarView::Bool(false)))
+            && matches!(valid.scalar_at(3), Ok(ScalarView::Bool(true)));
+        drop(valid);
+        Ok(is_due)
+    }
+}
+
+struct Picks {}
+
+impl Calls for Picks {
+    fn are_answered<A: Allocator + Copy>(alloc: A) -> VortexResult<bool> {
+        let mut ctx = ExecutionCtx::new(VortexSession::empty(), alloc);
+        let (left, right) = columns(&mut ctx)?;
+        let first = coalesce(&left, &right, &mut ctx);
+        drop(left);
+        drop(right);
+        let first = first?;
+        let is_due = matches!(first.scalar_at(2), Ok(ScalarView::Signed(3))) && ends_in(&first, 4);
+        drop(first);
+        Ok(is_due)
+    }
+}
+
+// The rows of the greater of two columns at each place.
+fn chosen<A: Allocator + Copy>(
+    ctx: &mut ExecutionCtx<A>,
+    left: &ArrayRef<A>,
+    right: &ArrayRef<A>,
+) -> VortexResult<ArrayRef<A>> {
+    let mask = compare(left, CompareOperator::Gt, right, ctx)?;
+    let chosen = if_else(&mask, left, right, ctx);
+    drop(mask);
+    chosen
+}
+
+struct Choices {}
+
+impl Calls for Choices {
+    fn are_answered<A: Allocator + Copy>(alloc: A) -> VortexResult<bool> {
+        let mut ctx = ExecutionCtx::new(VortexSession::empty(), alloc);
+        let (left, right) = columns(&mut ctx)?;
+        let chosen = chosen(&mut ctx, &left, &right);
+        drop(left);
+        drop(right);
+        let chosen = chosen?;
+        let is_due = matches!(chosen.scalar_at(0), Ok(ScalarView::Signed(2)))
+            && matches!(chosen.scalar_at(2), Ok(ScalarView::Null))
+            && ends_in(&chosen, 4);
+        drop(chosen);
+        Ok(is_due)
+    }
+}
+
+struct Equalities {}
+
+impl Calls for Equalities {
+    fn are_answered<A: Allocator + Copy>(alloc: A) -> VortexResult<bool> {
+        let mut ctx = ExecutionCtx::new(VortexSession::empty(), alloc);
+        let (left, right) = columns(&mut ctx)?;
+        let same = equals(&left, &left, &mut ctx);
+        let other = equals(&left, &right, &mut ctx);
+        let hashed = hash(&right, &mut ctx);
+        drop(left);
+        drop(right);
+        let _hash = hashed?;
+        Ok(same? && !other?)
+    }
+}
+
+#[test]
+fn single_columns_are_refused_for_memory(rt: HostRuntime) -> Result<(), Fail> {
+    assert!(rt; are_answered_in_turn::<NullTests>(rt.alloc()));
+    Ok(())
+}
+
+#[test]
+fn picks_are_refused_for_memory(rt: HostRuntime) -> Result<(), Fail> {
+    assert!(rt; are_answered_in_turn::<Picks>(rt.alloc()));
+    Ok(())
+}
+
+#[test]
+fn choices_are_refused_for_memory(rt: HostRuntime) -> Result<(), Fail> {
+    assert!(rt; are_answered_in_turn::<Choices>(rt.alloc()));
+    Ok(())
+}
+
+#[test]
+fn equalities_are_refused_for_memory(rt: HostRuntime) -> Result<(), Fail> {
+    assert!(rt; are_answered_in_turn::<Equalities>(rt.alloc()));
+    Ok(())
 }
 
 #[test]

@@ -9,18 +9,18 @@ use std::alloc::{Allocator, Global};
 use std::test::Fail;
 
 /// Holds the answer of a row as a number: 1 for true, 0 for false.
-type Row = Option<i128>;
+pub(crate) type Row = Option<i128>;
 
-// Rows and a column of them, in a form.
+/// Holds rows and a column of them, in a form.
 #[derive(Drop)]
-struct Column<A: Allocator> {
-    rows: Vec<Option<i64>, A>,
-    form: Form,
-    array: ArrayRef<A>,
+pub(crate) struct Column<A: Allocator> {
+    pub(crate) rows: Vec<Option<i64>, A>,
+    pub(crate) form: Form,
+    pub(crate) array: ArrayRef<A>,
 }
 
-// A random column of `count` rows of a kind.
-fn random_column<K: Kind, A: Allocator + Copy>(
+/// Returns a random column of `count` rows of a kind.
+pub(crate) fn random_column<K: Kind, A: Allocator + Copy>(
     ctx: &mut ExecutionCtx<A>,
     dice: &mut Dice,
     count: usize,
@@ -52,16 +52,28 @@ fn number_of(operator: NumericOperator, left: Option<i64>, right: Option<i64>) -
 // What a row of an array shows.
 fn shown<A: Allocator + Copy>(array: &ArrayRef<A>, row: usize) -> Option<Row> {
     match array.scalar_at(row) {
-        Ok(ScalarView::Null) => Some(None),
-        Ok(ScalarView::Signed(number)) => Some(Some(i128::from(number))),
-        Ok(ScalarView::Unsigned(number)) => Some(Some(i128::from(number))),
-        Ok(ScalarView::Bool(truth)) => Some(Some(i128::from(truth))),
+        Ok(view) => shown_in(view),
+        Err(_) => None,
+    }
+}
+
+/// Returns what a row shows, if that is null, an integer or a boolean.
+pub(crate) fn shown_in<A: Allocator + Copy>(view: ScalarView<'_, A>) -> Option<Row> {
+    match view {
+        ScalarView::Null => Some(None),
+        ScalarView::Signed(number) => Some(Some(i128::from(number))),
+        ScalarView::Unsigned(number) => Some(Some(i128::from(number))),
+        ScalarView::Bool(truth) => Some(Some(i128::from(truth))),
         _ => None,
     }
 }
 
-// Does the array show these rows, in as few runs as can be, or as a constant where that is due?
-fn is_due<A: Allocator + Copy>(array: &ArrayRef<A>, rows: &[Row], constant: bool) -> bool {
+/// Returns whether the array shows these rows, in as few runs as can be, or as a constant where that is due.
+pub(crate) fn is_due<A: Allocator + Copy>(
+    array: &ArrayRef<A>,
+    rows: &[Row],
+    constant: bool,
+) -> bool {
     let mut runs = 0usize;
     for row in 0..rows.len() {
         if shown(array, row) != Some(rows[row]) {
@@ -80,8 +92,8 @@ fn is_due<A: Allocator + Copy>(array: &ArrayRef<A>, rows: &[Row], constant: bool
     is_form && array.len() == rows.len()
 }
 
-// Whether a native type of integers from `least` to `greatest` has the number of a row.
-fn is_within(row: Option<Row>, least: i128, greatest: i128) -> bool {
+/// Returns whether a native type of integers from `least` to `greatest` has the number of a row.
+pub(crate) fn is_within(row: Option<Row>, least: i128, greatest: i128) -> bool {
     match row {
         Some(Some(number)) => least <= number && number <= greatest,
         Some(None) => true,
