@@ -4,6 +4,12 @@
 #[cfg(test)]
 mod columns;
 #[cfg(test)]
+mod decimal_columns;
+#[cfg(test)]
+mod decimal_refused;
+#[cfg(test)]
+mod decimal_sums;
+#[cfg(test)]
 mod dice;
 #[cfg(test)]
 mod equal;
